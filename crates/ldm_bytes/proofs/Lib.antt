@@ -1,0 +1,4 @@
+pub mod Written
+pub mod NumberLaws
+pub mod BigLaws
+pub mod GuidLaws

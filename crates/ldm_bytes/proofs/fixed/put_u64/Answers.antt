@@ -1,0 +1,5 @@
+use Rattle.ldm_bytes.proofs.Written.{written}
+use Rattle.ldm_bytes.proofs.fixed.put_u64.Goals as goal
+
+pub returns : goal.returns
+returns c = written c.args.buf.now c.args.at 8 _ c.write_u64.new.buf c.requires c.write_u64.ensures

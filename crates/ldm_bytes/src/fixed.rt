@@ -1,0 +1,74 @@
+ghost use Rattle.std.specs.Prelude.{◌≡◌, ◌+◌, ◌≤◌, length};
+ghost use Rattle.byteorder.specs.Endian.{big_bytes};
+ghost use Rattle.ldm_bytes.specs.Places.{u16_at, u32_at, u64_at, put};
+
+use byteorder::{BigEndian, ByteOrder};
+
+/// The big-endian number of 16 bits at a place.
+pub fn get_u16(bytes: &[u8], at: usize) -> u16
+    requires { at + 2 ≤ length bytes.now }
+    ensures { result ≡ u16_at bytes.now at }
+{
+    BigEndian::read_u16(&bytes[at..])
+}
+
+/// The big-endian number of 32 bits at a place.
+pub fn get_u32(bytes: &[u8], at: usize) -> u32
+    requires { at + 4 ≤ length bytes.now }
+    ensures { result ≡ u32_at bytes.now at }
+{
+    BigEndian::read_u32(&bytes[at..])
+}
+
+/// The big-endian number of 64 bits at a place.
+pub fn get_u64(bytes: &[u8], at: usize) -> u64
+    requires { at + 8 ≤ length bytes.now }
+    ensures { result ≡ u64_at bytes.now at }
+{
+    BigEndian::read_u64(&bytes[at..])
+}
+
+/// Writes a big-endian number of 16 bits at a place. All other bytes stay.
+pub fn put_u16(buf: &mut [u8], at: usize, v: u16)
+    requires { at + 2 ≤ length buf.old }
+    ensures { buf.new ≡ put buf.old at (big_bytes 2 v) }
+{
+    BigEndian::write_u16(&mut buf[at..], v);
+}
+
+/// Writes a big-endian number of 32 bits at a place. All other bytes stay.
+pub fn put_u32(buf: &mut [u8], at: usize, v: u32)
+    requires { at + 4 ≤ length buf.old }
+    ensures { buf.new ≡ put buf.old at (big_bytes 4 v) }
+{
+    BigEndian::write_u32(&mut buf[at..], v);
+}
+
+/// Writes a big-endian number of 64 bits at a place. All other bytes stay.
+pub fn put_u64(buf: &mut [u8], at: usize, v: u64)
+    requires { at + 8 ≤ length buf.old }
+    ensures { buf.new ≡ put buf.old at (big_bytes 8 v) }
+{
+    BigEndian::write_u64(&mut buf[at..], v);
+}
+
+#[cfg(test)]
+mod tests {
+    use super::*;
+
+    #[test]
+    fn high_byte_first(rt: HostRuntime) {
+        let bytes = [0xFF, 0x01, 0x02, 0x03, 0x04, 0x05, 0x06, 0x07, 0x08];
+        assert_eq!(rt; get_u16(&bytes, 1), 0x0102);
+        assert_eq!(rt; get_u32(&bytes, 1), 0x0102_0304);
+        assert_eq!(rt; get_u64(&bytes, 1), 0x0102_0304_0506_0708);
+        let mut written = [0xFFu8; 16];
+        put_u16(&mut written, 0, 0x0102);
+        put_u32(&mut written, 3, 0x0304_0506);
+        put_u64(&mut written, 8, 0x0708_090A_0B0C_0D0E);
+        let want = [
+            1, 2, 0xFF, 3, 4, 5, 6, 0xFF, 7, 8, 9, 0x0A, 0x0B, 0x0C, 0x0D, 0x0E,
+        ];
+        assert_eq!(rt; written.as_slice(), want.as_slice());
+    }
+}
