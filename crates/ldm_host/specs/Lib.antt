@@ -1,0 +1,4 @@
+pub use Rattle.ldm_bytes.specs.Places
+pub mod Seen
+pub mod Moves
+pub mod Acts
