@@ -1,0 +1,152 @@
+ghost use Rattle.std.specs.Prelude.{◌≡◌, ◌≤◌, IfOk, IfSome, length, map, string_bytes};
+ghost use Rattle.std.specs.List.{position_or_len};
+ghost use Rattle.ldm_words.specs.Jobs.{texts, is_on, images_of, job_of, job_form, HasCount};
+ghost use Rattle.ldm_words.specs.Readings.{Reads};
+
+use ldm_bytes::NoMemory;
+use std::alloc::Global;
+use thiserror::Error;
+
+/// What a command line asks for.
+#[derive(Debug, Drop)]
+pub enum Job {
+    /// The private header of one disk.
+    Disk,
+}
+
+/// Why words give no job.
+#[derive(Clone, Copy, Debug, PartialEq, Eq, Error)]
+pub enum WordsError {
+    /// The words have no reading.
+    #[error("usage: ldm JOB on IMAGE...")]
+    Usage,
+    #[error("no memory")]
+    NoMemory,
+}
+
+impl From<NoMemory> for WordsError {
+    ghost use Rattle.std.specs.Prelude.{◌≡◌};
+    ghost use Rattle.ldm_words.specs.declared.job.WordsError.TheVariants.{NoMemory};
+
+    ghost from_gives = { λ _ error. error ≡ NoMemory };
+
+    fn from(_error: NoMemory) -> Self {
+        WordsError::NoMemory
+    }
+}
+
+// The place of the first `on`, or the number of words.
+fn on_place(words: &[String]) -> usize
+    ensures is { result ≡ position_or_len is_on (texts words.now) }
+    ensures within { result ≤ length words.now }
+{
+    for (place, word) in words.iter().enumerate() {
+        if word.as_bytes() == b"on".as_slice() {
+            return place;
+        }
+    }
+    words.len()
+}
+
+/// How many words follow the first word `on`; 0 where there is no such word.
+pub fn image_count(words: &[String]) -> usize
+    ensures is { result ≡ images_of (texts words.now) }
+    ensures within { result ≤ length words.now }
+{
+    let place = on_place(words);
+    if place < words.len() {
+        words.len() - place - 1
+    } else {
+        0
+    }
+}
+
+// The job that stands before `on`.
+fn read_job(words: &[String], images: usize) -> Option<Job>
+    ensures is { result ≡ job_form (map string_bytes words.now) images }
+    ensures count { IfSome result (λ job. HasCount job images) }
+{
+    let [word] = words else {
+        return None;
+    };
+    if word.as_bytes() == b"disk".as_slice() && images == 1 {
+        Some(Job::Disk)
+    } else {
+        None
+    }
+}
+
+/// The job of the words, and the number of its images. Usage comes exactly where they have no
+/// reading.
+#[tactic(auto, unfolding(crate::specs::Jobs::job_of))]
+pub fn read_words(_alloc: Global, words: &[String]) -> Result<(Job, usize), WordsError>
+    ensures reads { Reads result (job_of (texts words.now)) }
+    ensures count { IfOk result (λ reading. HasCount reading.0 reading.1) }
+    ensures images { IfOk result (λ reading. reading.1 ≡ images_of (texts words.now)) }
+    ensures within { IfOk result (λ reading. reading.1 ≤ length words.now) }
+{
+    let place = on_place(words);
+    let images = image_count(words);
+    match read_job(&words[..place], images) {
+        Some(job) => Ok((job, images)),
+        None => Err(WordsError::Usage),
+    }
+}
+
+#[cfg(test)]
+mod tests {
+    use super::*;
+    use std::test::Fail;
+
+    #[test]
+    fn reads_disk_alone(rt: HostRuntime) -> Result<(), Fail> {
+        let alloc = rt.alloc();
+        let lines = [
+            ("disk on A", true),
+            ("disk on on", true),
+            ("disk on", false),
+            ("disk on A B", false),
+            ("disk A", false),
+            ("on A", false),
+            ("frob on A", false),
+            ("Disk on A", false),
+            ("disk disk on A", false),
+            ("", false),
+        ];
+        for (line, reads) in lines {
+            let mut words = Vec::new(alloc);
+            for word in line.split(' ') {
+                words.push(String::from_str(alloc, word)?)?;
+            }
+            match read_words(alloc, &words) {
+                Ok((Job::Disk, count)) => {
+                    assert!(rt; reads, "{line}");
+                    assert_eq!(rt; count, 1, "{line}");
+                }
+                Err(error) => {
+                    assert!(rt; !reads, "{line}");
+                    assert_eq!(rt; error, WordsError::Usage, "{line}");
+                }
+            }
+        }
+        Ok(())
+    }
+
+    #[test]
+    fn counts_images(rt: HostRuntime) -> Result<(), Fail> {
+        let alloc = rt.alloc();
+        for (line, count) in [
+            ("show on A B C", 3),
+            ("show A B", 0),
+            ("show on", 0),
+            ("on on on", 2),
+        ] {
+            let mut words = Vec::new(alloc);
+            for word in line.split(' ') {
+                words.push(String::from_str(alloc, word)?)?;
+            }
+            assert_eq!(rt; image_count(&words), count, "{line}");
+        }
+        Ok(())
+    }
+}
