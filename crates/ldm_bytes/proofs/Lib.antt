@@ -2,3 +2,4 @@ pub mod Written
 pub mod NumberLaws
 pub mod BigLaws
 pub mod GuidLaws
+pub mod PlaceLaws

@@ -131,12 +131,13 @@ width_fewest v n some fits =
     below v (2 ^ 48) 6 _ n (λ h. more v 5 n h5 fits) (λ h6.
     below v (2 ^ 56) 7 8 n (λ h. more v 6 n h6 fits) (λ h7. more v 7 n h7 fits)))))))
   where
-  below : (v bound w r n : ℕ) → (v < bound → w ≤ n) → (bound ≤ v → r ≤ n) → cond (ltb v bound) w r ≤ n
-  below v bound w r n f g =
-      elim (cases_lt v bound) [ inl lt ↦ rw (lt-ltb v bound lt) (f lt) | inr le ↦ rw (le-ltb v bound le) (g le) ]
-  more : (v k n : ℕ) → 256 ^ k ≤ v → v < 256 ^ n → k + 1 ≤ n
-  more v k n low fits =
-      elim (cases_lt k n) [ inl lt ↦ omega (arith, lt) | inr le ↦ let grows : 256 ^ n ≤ 256 ^ k = pow-le-pow_right {n = 256} (omega arith) le in absurd (omega arith) ]
+    below : (v bound w r n : ℕ) → (v < bound → w ≤ n) → (bound ≤ v → r ≤ n) → cond (ltb v bound) w r ≤ n
+    below v bound w r n f g =
+        elim (cases_lt v bound) [ inl lt ↦ rw (lt-ltb v bound lt) (f lt) | inr le ↦ rw (le-ltb v bound le) (g le) ]
+
+    more : (v k n : ℕ) → 256 ^ k ≤ v → v < 256 ^ n → k + 1 ≤ n
+    more v k n low fits =
+        elim (cases_lt k n) [ inl lt ↦ omega (arith, lt) | inr le ↦ let grows : 256 ^ n ≤ 256 ^ k = pow-le-pow_right {n = 256} (omega arith) le in absurd (omega arith) ]
 
 pub own_number-is_number : (v : ℕ) → v < 2 ^ 64 → IsNumber v (own_number v)
 unfolding own_number

@@ -52,6 +52,14 @@ pub fn put_u64(buf: &mut [u8], at: usize, v: u64)
     BigEndian::write_u64(&mut buf[at..], v);
 }
 
+/// Writes bytes at a place. All other bytes stay.
+pub fn put_bytes(buf: &mut [u8], at: usize, bytes: &[u8])
+    requires { at + length bytes.now ≤ length buf.old }
+    ensures { buf.new ≡ put buf.old at bytes.now }
+{
+    buf[at..at + bytes.len()].copy_from_slice(bytes);
+}
+
 #[cfg(test)]
 mod tests {
     use super::*;
