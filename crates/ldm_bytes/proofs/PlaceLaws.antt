@@ -1,9 +1,10 @@
 -- Bytes that were put into a list, and bytes and numbers read from it at plain offsets.
 use Rattle.std.proofs.Common.{◌≡◌, ◌⊎◌, inl, inr, ℕ, zero, suc, ◌+◌, ◌-◌, ◌*◌, ◌^◌, ◌<◌, ◌≤◌, List, ◌++◌, length, take, drop, get_or, slice_range, min, refl, sym, ◌∙◌, ap, arith, append_assoc, length-append, length-take, length-drop}
-use Rattle.std.proofs.lemmas.List.{get_or-take, get_or-drop, get_or_append_left, get_or-append_right, drop_at}
+use Rattle.std.proofs.lemmas.List.{get_or-take, get_or-drop, get_or_append_left, get_or-append_right, drop_at, take_at, drop-drop, take-append-drop}
 use Rattle.std.proofs.lemmas.Grind.{same_number_lists}
-use Rattle.byteorder.specs.Endian.{big_from, big_number}
+use Rattle.byteorder.specs.Endian.{big_from, big_number, big_bytes}
 use Rattle.ldm_bytes.specs.Places.{put}
+use Rattle.ldm_bytes.proofs.BigLaws.{big_back}
 
 pub length-put : (old : List ℕ) (at : ℕ) (bytes : List ℕ) → at + length bytes ≤ length old → length (put old at bytes) ≡ length old
 length-put old at bytes fits =
@@ -65,3 +66,32 @@ same_range xs ys from to size same =
     get_or-take (to - from) (drop from xs) k 0 near ∙ get_or-drop from xs k 0
     ∙ same (from + k) (omega arith) (omega arith)
     ∙ sym (get_or-take (to - from) (drop from ys) k 0 near ∙ get_or-drop from ys k 0))
+
+-- bytes that are put behind one another
+pub put-put : (old : List ℕ) (at : ℕ) (first second : List ℕ) → at + length first ≤ length old
+    → put (put old at first) (at + length first) second ≡ put old at (first ++ second)
+put-put old at first second fits =
+    let n : ℕ = at + length first in
+    let len = front old at first fits in
+    let before : take n (put old at first) ≡ take at old ++ first = take_at (take at old ++ first) (drop n old) n len in
+    let behind : drop (n + length second) (put old at first) ≡ drop (at + length (first ++ second)) old =
+    sym (drop-drop (length second) n (put old at first))
+    ∙ ap (drop (length second)) (drop_at (take at old ++ first) (drop n old) n len)
+    ∙ drop-drop (length second) n old
+    ∙ ap (λ (k : ℕ). drop k old) (omega (arith, length-append first second)) in
+    ap (λ (r : List ℕ). r ++ second ++ drop (n + length second) (put old at first)) before
+    ∙ ap (λ (r : List ℕ). (take at old ++ first) ++ second ++ r) behind
+    ∙ ap (λ (r : List ℕ). r ++ drop (at + length (first ++ second)) old) (append_assoc (take at old) first second)
+
+-- the bytes of the number that stands at a place, put there again
+pub put_again : (old : List ℕ) (at n : ℕ) → at + n ≤ length old → ((i : ℕ) → get_or old i 0 < 256) → put old at (big_bytes n (big_number n (drop at old))) ≡ old
+put_again old at n fits small =
+    let bytes : big_bytes n (big_number n (drop at old)) ≡ take n (drop at old) =
+    big_back n (drop at old) (omega (arith, length-drop at old)) (λ i. omega (arith, get_or-drop at old i 0, small (at + i))) in
+    let len : length (take n (drop at old)) ≡ n = omega (arith, length-take n (drop at old), length-drop at old) in
+    ap (put old at) bytes
+    ∙ append_assoc (take at old) (take n (drop at old)) (drop (at + length (take n (drop at old))) old)
+    ∙ ap (λ (k : ℕ). take at old ++ (take n (drop at old) ++ drop (at + k) old)) len
+    ∙ ap (λ (r : List ℕ). take at old ++ (take n (drop at old) ++ r)) (sym (drop-drop n at old))
+    ∙ ap (λ (r : List ℕ). take at old ++ r) (take-append-drop n (drop at old))
+    ∙ take-append-drop at old
