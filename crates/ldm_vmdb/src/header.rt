@@ -1,0 +1,66 @@
+ghost use Rattle.ldm_vmdb.specs.Sectors.{IsKept};
+
+use ldm_bytes::{Bytes, NoMemory};
+
+/// The header of a database. It keeps the sector that it was read from, but for what changes with
+/// each commit.
+#[derive(Debug, Drop)]
+pub struct Header {
+    /// The last VBLK sequence.
+    pub last: u32,
+    /// The committed sequence.
+    pub seq: u64,
+    /// The name of the group.
+    pub name: Bytes,
+    /// The GUID of the group.
+    pub guid: u128,
+    /// The carried header bytes: the sector with both sequences and all counts zero.
+    pub raw: [u8; 512],
+    pub ghost kept: { IsKept last name guid raw },
+}
+
+/// How many records of each kind a database has, as its header counts them.
+#[derive(Clone, Copy, Debug, PartialEq, Eq)]
+pub struct Counts {
+    pub volumes: u32,
+    pub components: u32,
+    pub partitions: u32,
+    pub disks: u32,
+}
+
+/// What is wrong with a header sector.
+#[derive(Clone, Copy, Debug, PartialEq, Eq)]
+pub enum VmdbFault {
+    /// It doesn't begin with `VMDB`.
+    Magic,
+    /// The version isn't 4.10.
+    Version,
+    /// VBLKs don't have 128 bytes.
+    BlockSize,
+    /// The first VBLK isn't at byte 512.
+    Offset,
+    /// The update status isn't 1.
+    Unsettled,
+    /// The last VBLK lies behind the config area.
+    Last,
+    /// There is no text of the group's GUID.
+    Guid,
+}
+
+/// Why a header can't be read.
+#[derive(Clone, Copy, Debug, PartialEq, Eq)]
+pub enum VmdbError {
+    Fault(VmdbFault),
+    NoMemory,
+}
+
+impl From<NoMemory> for VmdbError {
+    ghost use Rattle.std.specs.Prelude.{◌≡◌};
+    ghost use Rattle.ldm_vmdb.specs.declared.header.VmdbError.TheVariants.{NoMemory};
+
+    ghost from_gives = { λ _ error. error ≡ NoMemory };
+
+    fn from(_error: NoMemory) -> Self {
+        VmdbError::NoMemory
+    }
+}

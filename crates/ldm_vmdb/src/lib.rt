@@ -1,0 +1,10 @@
+//! The header sector of the database (VMDB): read, and written with a new sequence.
+#![tactic(auto)]
+
+mod header;
+mod reading;
+mod writing;
+
+pub use header::{Counts, Header, VmdbError, VmdbFault};
+pub use reading::read_header;
+pub use writing::write_header;
