@@ -1,1 +1,12 @@
 pub mod Relations
+mod Grows
+mod Handed
+mod Heard
+mod HowEnds
+mod InRange
+mod Ranges
+mod StillKept
+pub mod Endings
+mod EachStep
+mod Fresh
+mod Vectors

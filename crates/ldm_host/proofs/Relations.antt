@@ -1,9 +1,9 @@
 -- How relations between states of a host follow one another.
-use Rattle.std.proofs.Common.{◌≡◌, ◌≢◌, ◌⊎◌, inl, inr, ⊎_elim, ◌↔◌, ℕ, ◌+◌, ◌<◌, ◌≤◌, ◌^◌, ◌-◌, List, [], ◌++◌, length, set, slice_index, refl, sym, ◌∙◌, ap, subst, arith, append_assoc}
+use Rattle.std.proofs.Common.{◌≡◌, ◌≢◌, inl, inr, ⊎_elim, ◌↔◌, ℕ, ◌+◌, ◌<◌, ◌≤◌, List, [], ◌++◌, length, set, slice_index, refl, sym, ◌∙◌, ap, subst, arith, append_assoc}
 use Rattle.std.proofs.lemmas.List.{append-nil, get_or-set_same, get_or-set_other, length-set, length-append, nil_from_length}
 use Rattle.std.proofs.lemmas.Bool.{cases_eq}
 use Rattle.ldm_host.specs.Seen.{Seen, Leaves, image}
-use Rattle.ldm_host.specs.Moves.{Rose, Begins, Torn, TornAt, Later, Quiet, SameLeft, Still, Writes, Syncs, Settled, Settles, Ticks}
+use Rattle.ldm_host.specs.Moves.{Rose, Begins, Torn, TornAt, Later, Quiet, Still, Writes, Syncs, Settled, Settles, Ticks}
 
 pub rose_later : (a b c : ℕ) → Rose a b → b ≤ c → Rose a c
 rose_later a b c (inl less) le = inl (omega arith)

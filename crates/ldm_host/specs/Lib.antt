@@ -2,3 +2,11 @@ pub use Rattle.ldm_bytes.specs.Places
 pub mod Seen
 pub mod Moves
 pub mod Acts
+pub mod Images
+pub mod Plan
+pub mod Story
+pub mod StoryLaws
+pub mod Kept
+pub mod Memory
+pub mod Ending
+pub mod Laws

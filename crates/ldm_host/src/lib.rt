@@ -2,8 +2,18 @@
 //!
 //! The clauses of a host are relations between what is seen of it before a call and after it
 //! (`specs/Seen.antt`, `specs/Moves.antt`). What a stop may leave on the disks is part of that.
+//!
+//! `MemoryHost` is a host in memory that tells everything and whose failures are exact
+//! (`specs/Story.antt`, `specs/Ending.antt`).
 #![tactic(auto)]
 
+mod call;
 mod host;
+mod in_memory;
+mod made;
+mod memory;
+mod outcome;
+mod steps;
 
 pub use host::{Failed, Host};
+pub use memory::MemoryHost;

@@ -1,0 +1,112 @@
+-- What a host in memory is after a list of calls.
+use Rattle.std.specs.Prelude.{◌≡◌, ◌⊎◌, ℕ, ◌+◌, ◌/◌, ◌<◌, ◌≤◌, List, [], ◌∷◌, ◌++◌, length, get_or, set, map, take, drop, slice_index}
+use Rattle.ldm_host.specs.Seen.{Seen, image}
+use Rattle.ldm_bytes.specs.Places.{put}
+use Rattle.ldm_host.specs.Moves.{Begins}
+use Rattle.ldm_host.specs.declared.call.Call.{Call}
+use Rattle.ldm_host.specs.declared.call.Call.TheVariants.{Write, Sync, Hear, Say, Nothing}
+
+-- a disk: its bytes, and the places and lengths of the ranges that are pending
+pub record Disk : Type 0 where
+  pub content : List ℕ
+  pub pending : List (ℕ × ℕ)
+
+pub record State : Type 0 where
+  pub disks : List Disk
+  pub said : List ℕ
+  pub heard : ℕ
+
+abbrev pub no_disk : Disk
+no_disk = record { content = []; pending = [] }
+
+abbrev pub disk_at : List Disk → ℕ → Disk
+disk_at disks disk = get_or disks disk no_disk
+
+-- the place is in none of the ranges
+abbrev pub Outside : List (ℕ × ℕ) → ℕ → Type 0
+Outside [] k = Unit {0}
+Outside (range ∷ ranges) k = ((k < range.0) ⊎ (range.0 + range.1 ≤ k)) × Outside ranges k
+
+-- a stop may leave this of a disk: the content, but for any bytes in the pending ranges
+pub record Agrees (disk : Disk) (c : List ℕ) : Type 0 where
+  pub size : length c ≡ length disk.content
+  pub outside : (k : ℕ) → Outside disk.pending k → slice_index c k ≡ slice_index disk.content k
+
+abbrev pub written : Disk → ℕ → List ℕ → ℕ → Disk
+written disk at bytes asked = record { content = put disk.content at bytes; pending = (at, asked) ∷ disk.pending }
+
+abbrev pub synced : Disk → Disk
+synced disk = record { content = disk.content; pending = [] }
+
+abbrev pub after : State → Call → State
+after s (Write disk at bytes asked) = record { disks = set s.disks disk (written (disk_at s.disks disk) at bytes.items asked); said = s.said; heard = s.heard }
+after s (Sync disk) = record { disks = set s.disks disk (synced (disk_at s.disks disk)); said = s.said; heard = s.heard }
+after s (Hear count) = record { disks = s.disks; said = s.said; heard = s.heard + count }
+after s (Say bytes) = record { disks = s.disks; said = s.said ++ bytes.items; heard = s.heard }
+after s Nothing = s
+
+abbrev pub run : State → List Call → State
+run s [] = s
+run s (call ∷ calls) = run (after s call) calls
+
+abbrev pub sizes_of : List Disk → List ℕ
+sizes_of disks = map (λ disk. length disk.content / 512) disks
+
+abbrev pub contents : List Disk → List (List ℕ)
+contents disks = map (λ disk. disk.content) disks
+
+-- a stop in this state may leave these images
+pub record MayLeave (s : State) (images : List (List ℕ)) : Type 0 where
+  pub one_each : length images ≡ length (sizes_of s.disks)
+  pub each : (disk : ℕ) → disk < length (sizes_of s.disks) → Agrees (disk_at s.disks disk) (image images disk)
+
+-- the state after the first k calls
+abbrev pub state_at : State → List Call → ℕ → State
+state_at first calls k = run first (take k calls)
+
+-- After some number of calls, t at least, a stop could leave these images. By then was said what those calls said, and
+-- some of what the next call said.
+pub record LeftSince (first : State) (calls : List Call) (t : ℕ) (images : List (List ℕ)) (said : List ℕ) : Type 0 where
+  pub k : ℕ
+  pub from : t ≤ k
+  pub to : k ≤ length calls
+  pub may : MayLeave (state_at first calls k) images
+  pub said_before : Begins (state_at first calls k).said said
+  pub said_after : Begins said (state_at first calls (k + 1)).said
+
+-- how often a call of a disk, and of the talk, has failed; how many calls found no memory; and the bytes that were
+-- handed to each disk
+pub record Counts : Type 0 where
+  pub disk_faults : ℕ
+  pub talk_faults : ℕ
+  pub dry : ℕ
+  pub wrote : List ℕ
+
+abbrev pub seen_from : State → List Call → List ℕ → Counts → Seen
+seen_from first calls script counts = record {
+  sizes = sizes_of (run first calls).disks;
+  content = contents (run first calls).disks;
+  may_leave = λ disk c. Agrees (disk_at (run first calls).disks disk) c;
+  clock = length calls;
+  left_since = LeftSince first calls;
+  said = (run first calls).said;
+  heard = take (run first calls).heard script;
+  input = drop (run first calls).heard script;
+  disk_faults = counts.disk_faults;
+  talk_faults = counts.talk_faults;
+  wrote = counts.wrote;
+}
+
+-- these images, with nothing pending, said or heard
+abbrev pub fresh : List (List ℕ) → State
+fresh images = record { disks = map (λ bytes. record { content = bytes; pending = [] }) images; said = []; heard = 0 }
+
+-- the images and the input at the start, and the calls since
+pub record Story : Type 0 where
+  pub first : List (List ℕ)
+  pub calls : List Call
+  pub script : List ℕ
+
+-- what is seen after a story
+abbrev pub seen_of : Story → Counts → Seen
+seen_of story counts = seen_from (fresh story.first) story.calls story.script counts

@@ -1,0 +1,25 @@
+/// What a call did, as a host in memory keeps it.
+#[derive(Drop)]
+pub enum Call {
+    /// These bytes were taken at the front of a range of this length, which is pending from then on.
+    Write {
+        disk: usize,
+        at: usize,
+        bytes: Vec<u8>,
+        asked: usize,
+    },
+    /// Nothing is pending on the disk from then on.
+    Sync {
+        disk: usize,
+    },
+    /// So many bytes of the input were heard.
+    Hear {
+        count: usize,
+    },
+    /// These bytes were said.
+    Say {
+        bytes: Vec<u8>,
+    },
+    /// A call that failed and took nothing.
+    Nothing,
+}

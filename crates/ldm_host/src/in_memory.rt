@@ -1,0 +1,176 @@
+// A host in memory is a host that tells everything.
+use crate::outcome::{Outcome, next_outcome, read_bytes};
+use crate::{Failed, Host, MemoryHost};
+
+impl Host for MemoryHost {
+    ghost use Rattle.std.specs.Prelude.{⊤};
+    ghost use Rattle.ldm_host.specs.Memory.{memory_seen};
+    ghost use Rattle.ldm_host.specs.Ending.{Ends};
+    ghost use Rattle.ldm_host.specs.Laws.{law_one_each, law_counts_each, law_lengths, law_may_stay, law_same_length, law_counts_now, law_only_now};
+
+    ghost seen = { memory_seen };
+
+    ghost tells_disks = { ⊤ };
+
+    ghost tells_talk = { ⊤ };
+
+    ghost ending = { Ends };
+
+    ghost tells_both = { λ both. both };
+
+    ghost one_each = { λ tells m. law_one_each m };
+
+    ghost counts_each = { λ m. law_counts_each m };
+
+    ghost lengths = { λ tells m disk lt. law_lengths m disk lt };
+
+    ghost may_stay = { λ tells m disk lt. law_may_stay m disk };
+
+    ghost same_length = { λ m disk c left. law_same_length m disk c left };
+
+    ghost counts_now = { λ m t images le left. law_counts_now m t images le left };
+
+    ghost only_now = { λ m images said left. law_only_now m images said left };
+
+    fn disks(&self) -> usize {
+        self.held.len()
+    }
+
+    fn sectors(&self, disk: usize) -> u64 {
+        (self.held[disk].len() / 512) as u64
+    }
+
+    fn read_at(&mut self, disk: usize, at: u64, buf: &mut [u8]) -> Result<(), Failed> {
+        match next_outcome(&self.chosen, self.stop, &mut self.number) {
+            Outcome::Whole => {
+                read_bytes(&self.held[disk], at as usize, buf);
+                Ok(())
+            }
+            _ => Err(self.count_disk(false)),
+        }
+    }
+
+    fn write_at(&mut self, disk: usize, at: u64, bytes: &[u8]) -> Result<(), Failed> {
+        match next_outcome(&self.chosen, self.stop, &mut self.number) {
+            Outcome::Whole => match self.take_bytes(disk, at as usize, bytes, bytes.len()) {
+                Ok(()) => Ok(()),
+                Err(_) => Err(self.count_disk(true)),
+            },
+            Outcome::Half => {
+                let dry = self
+                    .take_bytes(disk, at as usize, &bytes[..bytes.len() / 2], bytes.len())
+                    .is_err();
+                Err(self.count_disk(dry))
+            }
+            Outcome::Nothing => {
+                let dry = self.pass_bytes(disk, at as usize, bytes.len()).is_err();
+                Err(self.count_disk(dry))
+            }
+        }
+    }
+
+    fn sync(&mut self, disk: usize) -> Result<(), Failed> {
+        match next_outcome(&self.chosen, self.stop, &mut self.number) {
+            Outcome::Whole => match self.keep_sync(disk) {
+                Ok(()) => Ok(()),
+                Err(_) => Err(self.count_disk(true)),
+            },
+            _ => Err(self.fail_disk()),
+        }
+    }
+
+    fn hear(&mut self, buf: &mut [u8]) -> Result<usize, Failed> {
+        match next_outcome(&self.chosen, self.stop, &mut self.number) {
+            Outcome::Whole => match self.hear_bytes(buf) {
+                Ok(count) => Ok(count),
+                Err(_) => Err(self.count_talk(true)),
+            },
+            _ => Err(self.fail_talk()),
+        }
+    }
+
+    fn say(&mut self, bytes: &[u8]) -> Result<(), Failed> {
+        match next_outcome(&self.chosen, self.stop, &mut self.number) {
+            Outcome::Whole => match self.say_bytes(bytes) {
+                Ok(()) => Ok(()),
+                Err(_) => Err(self.count_talk(true)),
+            },
+            Outcome::Half => {
+                let dry = self.say_bytes(&bytes[..bytes.len() / 2]).is_err();
+                Err(self.count_talk(dry))
+            }
+            Outcome::Nothing => Err(self.fail_talk()),
+        }
+    }
+}
+
+#[cfg(test)]
+mod tests {
+    use super::*;
+    use std::alloc::Global;
+    use std::test::Fail;
+
+    fn host(alloc: Global) -> Result<MemoryHost, Fail> {
+        let mut images = Vec::new(alloc);
+        images.push(vec![in alloc; 0; 1024]?)?;
+        images.push(vec![in alloc; 0; 513]?)?;
+        Ok(MemoryHost::new(alloc, images, b"abc".to_vec(alloc)?)?)
+    }
+
+    #[test]
+    fn serves_each_call(rt: HostRuntime) -> Result<(), Fail> {
+        let mut host = host(rt.alloc())?;
+        assert!(rt; host.disks() == 2 && host.sectors(0) == 2 && host.sectors(1) == 1);
+        assert_eq!(rt; host.write_at(0, 100, &[1, 2, 3]), Ok(()));
+        let mut two = [0; 2];
+        assert_eq!(rt; host.read_at(0, 101, &mut two), Ok(()));
+        assert_eq!(rt; two, [2, 3]);
+        assert_eq!(rt; host.sync(0), Ok(()));
+        let mut four = [0; 4];
+        assert_eq!(rt; host.hear(&mut four), Ok(3));
+        assert_eq!(rt; four, [b'a', b'b', b'c', 0]);
+        assert_eq!(rt; host.hear(&mut four), Ok(0));
+        assert_eq!(rt; host.say(b"hello"), Ok(()));
+        assert_eq!(rt; host.said(), b"hello".as_slice());
+        assert_eq!(rt; host.handed(0), 3);
+        assert_eq!(rt; host.handed(1), 0);
+        assert_eq!(rt; host.dry(), 0);
+        Ok(())
+    }
+
+    #[test]
+    fn fails_the_chosen_calls(rt: HostRuntime) -> Result<(), Fail> {
+        let mut chosen = Vec::new(rt.alloc());
+        chosen.extend_from_slice(&[1, 3, 5])?;
+        let mut host = host(rt.alloc())?.with_failures(chosen);
+        assert!(rt; host.disks() == 2 && host.sectors(0) == 2);
+        let mut four = [9; 4];
+        assert_eq!(rt; host.write_at(0, 0, &[1, 2, 3, 4, 5]), Err(Failed));
+        assert_eq!(rt; host.handed(0), 5);
+        assert_eq!(rt; host.read_at(0, 0, &mut four), Ok(()));
+        assert_eq!(rt; four, [1, 2, 0, 0]);
+        assert_eq!(rt; host.say(b"hello"), Err(Failed));
+        assert_eq!(rt; host.said(), b"he".as_slice());
+        assert_eq!(rt; host.say(b"!"), Ok(()));
+        assert_eq!(rt; host.said(), b"he!".as_slice());
+        assert!(rt; host.disks() == 2 && host.sectors(0) == 2);
+        assert_eq!(rt; host.read_at(0, 0, &mut [0; 4]), Err(Failed));
+        assert_eq!(rt; host.dry(), 0);
+        Ok(())
+    }
+
+    #[test]
+    fn stops_after_a_call(rt: HostRuntime) -> Result<(), Fail> {
+        let mut host = host(rt.alloc())?.stop_after(1);
+        assert!(rt; host.disks() == 2 && host.sectors(1) == 1);
+        assert_eq!(rt; host.write_at(1, 0, &[1, 2]), Ok(()));
+        assert_eq!(rt; host.write_at(1, 0, &[3, 4]), Err(Failed));
+        assert_eq!(rt; host.sync(1), Err(Failed));
+        assert_eq!(rt; host.say(b"hello"), Err(Failed));
+        assert_eq!(rt; host.said(), b"".as_slice());
+        let image = host.image(1);
+        assert!(rt; image.len() == 513);
+        assert_eq!(rt; &image[..3], [1, 2, 0].as_slice());
+        Ok(())
+    }
+}

@@ -1,0 +1,34 @@
+ghost use Rattle.ldm_host.specs.Images.{items_of};
+ghost use Rattle.ldm_host.specs.Kept.{IsKept};
+
+use crate::call::Call;
+use std::alloc::Global;
+
+/// A host in memory, which tells everything.
+///
+/// It keeps a list of its calls of `write_at`, `sync`, `hear` and `say`, so that what a stop could
+/// have left at any time is known. Such a call may find no memory for the list: it then answers
+/// `Failed`, takes nothing and is counted by `dry`.
+#[derive(Drop)]
+pub struct MemoryHost {
+    pub(crate) alloc: Global,
+    /// The images and the input at the start, and the calls since.
+    pub(crate) first: Vec<Vec<u8>>,
+    pub(crate) script: Vec<u8>,
+    pub(crate) calls: Vec<Call>,
+    /// What they made of the images and the talk.
+    pub(crate) held: Vec<Vec<u8>>,
+    pub(crate) said: Vec<u8>,
+    pub(crate) heard: usize,
+    /// The bytes handed to each disk.
+    pub(crate) handed: Vec<u64>,
+    /// The numbers of the calls that fail, the last call that isn't past the stop, and the number
+    /// of the last call.
+    pub(crate) chosen: Vec<u64>,
+    pub(crate) stop: u64,
+    pub(crate) number: u64,
+    pub(crate) disk_faults: u64,
+    pub(crate) talk_faults: u64,
+    pub(crate) dry: u64,
+    ghost kept: { IsKept (items_of first.items) calls.items script.items held.items said.items heard handed.items },
+}
