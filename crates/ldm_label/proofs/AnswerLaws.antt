@@ -1,0 +1,36 @@
+-- The first fault of a table that is another table and then more rows.
+use Rattle.std.proofs.Common.{◌≡◌, Bool, true, false, cond, List, [], ◌∷◌, ◌++◌, Result, Ok, Err, refl, sym, ◌∙◌}
+use Rattle.ldm_label.specs.declared.LabelFault.{LabelFault}
+use Rattle.ldm_label.specs.Answer.{answer}
+
+row_err : {A B : Type 0} (there : Bool) (fault first : LabelFault) (x : Result A LabelFault) (y : Result B LabelFault)
+    → (x ≡ Err first → y ≡ Err first) → cond there (Err fault) x ≡ Err first → cond there (Err fault) y ≡ Err first
+row_err true fault first x y h e = cc
+row_err false fault first x y h e = h e
+
+-- the first fault of the front is the first of all
+pub front_err : {A B : Type 0} (front rest : List (LabelFault × Bool)) (a : A) (b : B) (first : LabelFault)
+    → answer front a ≡ Err first → answer (front ++ rest) b ≡ Err first
+front_err [] rest a b first e = absurd cc
+front_err (row ∷ front) rest a b first e = row_err row.1 row.0 first (answer front a) (answer (front ++ rest) b) (front_err front rest a b first) e
+
+row_ok : {A B : Type 0} (there : Bool) (fault : LabelFault) (a : A) (x : Result A LabelFault) (y z : Result B LabelFault)
+    → (x ≡ Ok a → y ≡ z) → cond there (Err fault) x ≡ Ok a → cond there (Err fault) y ≡ z
+row_ok true fault a x y z h e = absurd cc
+row_ok false fault a x y z h e = h e
+
+-- where the front has none, the rest decides
+pub front_ok : {A B : Type 0} (front rest : List (LabelFault × Bool)) (a value : A) (b : B)
+    → answer front a ≡ Ok value → answer (front ++ rest) b ≡ answer rest b
+front_ok [] rest a value b e = refl
+front_ok (row ∷ front) rest a value b e = row_ok row.1 row.0 value (answer front a) (answer (front ++ rest) b) (answer rest b) (front_ok front rest a value b) e
+
+value_row : {A : Type 0} (there : Bool) (fault : LabelFault) (a value : A) (x : Result A LabelFault)
+    → (x ≡ Ok value → a ≡ value) → cond there (Err fault) x ≡ Ok value → a ≡ value
+value_row true fault a value x h e = absurd cc
+value_row false fault a value x h e = h e
+
+-- and the answer is the value
+pub ok_value : {A : Type 0} (rows : List (LabelFault × Bool)) (a value : A) → answer rows a ≡ Ok value → a ≡ value
+ok_value [] a value e = cc
+ok_value (row ∷ rows) a value e = value_row row.1 row.0 a value (answer rows a) (ok_value rows a value) e

@@ -1,0 +1,28 @@
+-- What passes its range test fits.
+use Rattle.std.proofs.Common.{◌≡◌, ◌≢◌, ℕ, ◌+◌, ◌<◌, ◌≤◌, Bool, true, false, ◌||◌, arith}
+use Rattle.std.specs.Prelude.{nat_eq, nat_lt}
+use Rattle.std.proofs.lemmas.Bool.Decides.{nat_tests}
+use Rattle.ldm_label.specs.declared.header.PrivateHeader.{PrivateHeader}
+use Rattle.ldm_label.specs.declared.toc.Toc.{Toc}
+use Rattle.ldm_label.specs.Fields.{is_out_of_range, is_out_of_database}
+use Rattle.ldm_label.specs.Parts.{HeaderFits, TocFits}
+
+in_range : (size start config n : ℕ) → (nat_eq size 0 || nat_lt config (start + size) || nat_lt config 7 || nat_lt n (config + 2048)) ≡ false
+    → (size ≢ 0) × (start + size ≤ config) × (7 ≤ config) × (config + 2048 ≤ n)
+in_range size start config n e = grind (arith, nat_tests)
+
+pub header_fits : (header : PrivateHeader) (n : ℕ) → is_out_of_range header n ≡ false → HeaderFits header n
+unfolding is_out_of_range
+header_fits header n e =
+    let r = in_range header.data_size header.data_start header.config_start n e in
+    record { some_data = r.0; before = r.1; room = r.2; inside = r.3 }
+
+in_database : (sectors start size log : ℕ) → (nat_eq sectors 0 || nat_lt 2048 (start + sectors) || nat_lt 2048 (log + size)) ≡ false
+    → (sectors ≢ 0) × (start + sectors ≤ 2048) × (log + size ≤ 2048)
+in_database sectors start size log e = grind (arith, nat_tests)
+
+pub toc_fits : (toc : Toc) → is_out_of_database toc ≡ false → TocFits toc
+unfolding is_out_of_database
+toc_fits toc e =
+    let r = in_database toc.area_sectors toc.area_start toc.log_sectors toc.log_start e in
+    record { some_area = r.0; area = r.1; log = r.2 }

@@ -1,0 +1,22 @@
+-- What a step answers where a step of its own ended it.
+use Rattle.std.proofs.Common.{◌≡◌, Result, Ok, Err, refl, IsErrAnd}
+use Rattle.std.proofs.lemmas.Result.{err_from_is_err_and}
+use Rattle.ldm_label.specs.declared.LabelFault.{LabelFault}
+use Rattle.ldm_label.specs.declared.LabelError.{LabelError}
+use Rattle.ldm_label.specs.declared.LabelError.TheVariants.{Fault, Disk}
+use Rattle.ldm_label.specs.Answer.{Gives}
+
+pub failed : {A : Type 0} (r : Result A LabelError) (is : Result A LabelFault) → IsErrAnd r (λ e. e ≡ Disk) → Gives r is
+failed r is h = let p = err_from_is_err_and r h in rw (p.1, p.2) tt
+
+pub faulty : {A : Type 0} (r : Result A LabelError) (is : Result A LabelFault) (fault : LabelFault) → IsErrAnd r (λ e. e ≡ Fault fault) → is ≡ Err fault → Gives r is
+faulty r is fault h e = let p = err_from_is_err_and r h in rw (p.1, p.2) e
+
+error_passed : {A B : Type 0} (error : LabelError) (first : Result A LabelFault) (is : Result B LabelFault)
+    → Gives {A = A} (Err error) first → ((fault : LabelFault) → first ≡ Err fault → is ≡ Err fault) → Gives {A = B} (Err error) is
+error_passed (Fault fault) first is gives more = more fault gives
+error_passed Disk first is gives more = tt
+
+pub passed : {A B : Type 0} (r : Result B LabelError) (error : LabelError) (first : Result A LabelFault) (is : Result B LabelFault)
+    → IsErrAnd r (λ e. e ≡ error) → Gives {A = A} (Err error) first → ((fault : LabelFault) → first ≡ Err fault → is ≡ Err fault) → Gives r is
+passed {A = A} {B = B} r error first is h gives more = let p = err_from_is_err_and r h in rw (p.1, p.2) (error_passed {A = A} {B = B} error first is gives more)

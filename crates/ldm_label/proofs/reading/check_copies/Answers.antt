@@ -1,0 +1,34 @@
+use Rattle.std.proofs.Common.{rules, ◌≡◌, ◌+◌, ◌/◌, ◌<◌, Bool, true, false, List, ℕ, length, slice_index, sym, ◌∙◌, ap, refl}
+use Rattle.ldm_host.specs.Seen.{image}
+use Rattle.ldm_label.specs.Fields.{sector, sectors_of}
+use Rattle.ldm_label.specs.LabelOf.{copy_faults, differs}
+use Rattle.ldm_label.proofs.CopyLaws.{copy_there}
+use Rattle.ldm_label.proofs.reading.check_copies.Goals as goal
+
+pub returns-then-differs_from-clause-is : goal.returns-then-differs_from-clause-is
+unfolding copy_faults
+returns-then-differs_from-clause-is g c tells =
+    let disk = image (g.H.Host.seen c.args.host.now).content c.args.disk in
+    let count : c.sectors-sectors.result ≡ sectors_of disk = c.sectors-sectors.ensures.size ∙ sym (g.met.H.Host.lengths tells c.args.host.now c.args.disk c.requires.disk) in
+    let second = copy_there c.args.header.now c.in_ok-second.second (sector disk (c.args.header.now.config_start + 1856)) c.sectors-sectors.result (sectors_of disk) c.differs_from.result true c.differs_from.ensures (c.in_ok-second.ensures.bytes tells) count c.if-differs_from.true in
+    rw second refl
+
+pub returns-then-differs_from-2-clause-is : goal.returns-then-differs_from-2-clause-is
+unfolding copy_faults
+returns-then-differs_from-2-clause-is g c tells =
+    let disk = image (g.H.Host.seen c.args.host.now).content c.args.disk in
+    let count : c.sectors-sectors.result ≡ sectors_of disk = c.sectors-sectors.ensures.size ∙ sym (g.met.H.Host.lengths tells c.args.host.now c.args.disk c.requires.disk) in
+    let second = copy_there c.args.header.now c.in_ok-second.second (sector disk (c.args.header.now.config_start + 1856)) c.sectors-sectors.result (sectors_of disk) c.differs_from.result false c.differs_from.ensures (c.in_ok-second.ensures.bytes tells) count c.if-differs_from.false in
+    let there = rw c.in_ok-second.ensures.still.content at (c.in_ok-third.ensures.bytes tells) in
+    let third = copy_there c.args.header.now c.in_ok-third.third (sector disk (c.args.header.now.config_start + 2047)) c.sectors-sectors.result (sectors_of disk) c.differs_from-2.result true c.differs_from-2.ensures there count c.if-differs_from-2.true in
+    rw (second, third) refl
+
+pub returns-clause-is : goal.returns-clause-is
+unfolding copy_faults
+returns-clause-is g c tells =
+    let disk = image (g.H.Host.seen c.args.host.now).content c.args.disk in
+    let count : c.sectors-sectors.result ≡ sectors_of disk = c.sectors-sectors.ensures.size ∙ sym (g.met.H.Host.lengths tells c.args.host.now c.args.disk c.requires.disk) in
+    let second = copy_there c.args.header.now c.in_ok-second.second (sector disk (c.args.header.now.config_start + 1856)) c.sectors-sectors.result (sectors_of disk) c.differs_from.result false c.differs_from.ensures (c.in_ok-second.ensures.bytes tells) count c.if-differs_from.false in
+    let there = rw c.in_ok-second.ensures.still.content at (c.in_ok-third.ensures.bytes tells) in
+    let third = copy_there c.args.header.now c.in_ok-third.third (sector disk (c.args.header.now.config_start + 2047)) c.sectors-sectors.result (sectors_of disk) c.differs_from-2.result false c.differs_from-2.ensures there count c.if-differs_from-2.false in
+    rw (second, third) refl

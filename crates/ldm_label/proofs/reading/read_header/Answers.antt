@@ -1,0 +1,42 @@
+use Rattle.std.proofs.Common.{rules, ◌≡◌, ◌+◌, ◌*◌, ◌<◌, List, [], ◌∷◌, ◌++◌, ℕ, length, slice_index, sym, ◌∙◌, ap}
+use Rattle.ldm_host.specs.Seen.{image}
+use Rattle.ldm_host.proofs.Relations.{still_trans}
+use Rattle.ldm_label.specs.Answer.{answer}
+use Rattle.ldm_label.specs.Fields.{sector, header_of}
+use Rattle.ldm_label.specs.LabelOf.{mbr_faults, header_faults}
+use Rattle.ldm_label.proofs.AnswerLaws.{front_err, front_ok}
+use Rattle.ldm_label.proofs.GivesLaws.{faulty}
+use Rattle.ldm_label.proofs.reading.read_header.Goals as goal
+
+pub returns-in_err-check_mbr-clause-is : goal.returns-in_err-check_mbr-clause-is
+returns-in_err-check_mbr-clause-is g c tells =
+    let disk = image (g.H.Host.seen c.args.host.now).content c.args.disk in
+    let first : c.in_ok-mbr.mbr ≡ sector disk 0 = c.in_ok-mbr.ensures.bytes tells in
+    let found = rw first at c.in_err-check_mbr.ensures in
+    faulty c.from_residual-in_err-check_mbr.result _ c.in_err-check_mbr.field-0.0 c.from_residual-in_err-check_mbr.ensures.1
+    (front_err (mbr_faults (sector disk 0)) (header_faults (sector disk 6) c.args.sectors) tt (header_of (sector disk 6)) c.in_err-check_mbr.field-0.0 (sym found))
+
+pub returns-in_err-read-clause-is : goal.returns-in_err-read-clause-is
+returns-in_err-read-clause-is g c tells =
+    let disk = image (g.H.Host.seen c.args.host.now).content c.args.disk in
+    let first : c.in_ok-mbr.mbr ≡ sector disk 0 = c.in_ok-mbr.ensures.bytes tells in
+    let sixth : c.in_ok-head.head ≡ sector disk 6 = rw c.in_ok-mbr.ensures.still.content at (c.in_ok-head.ensures.bytes tells) in
+    let good = rw first at c.in_ok-check_mbr.ensures in
+    let found = rw sixth at c.in_err-read.ensures.is in
+    faulty c.from_residual-in_err-read.result _ c.in_err-read.field-0.0 c.from_residual-in_err-read.ensures.1
+    (front_ok (mbr_faults (sector disk 0)) (header_faults (sector disk 6) c.args.sectors) tt tt (header_of (sector disk 6)) (sym good) ∙ sym found)
+
+pub returns-in_err-read-clause-still : goal.returns-in_err-read-clause-still
+returns-in_err-read-clause-still g c = still_trans (g.H.Host.seen c.args.host.now) (g.H.Host.seen c.read_sector.new.host) (g.H.Host.seen c.read_sector-2.new.host) c.in_ok-mbr.ensures.still c.in_ok-head.ensures.still
+
+pub returns-clause-is : goal.returns-clause-is
+returns-clause-is g c tells =
+    let disk = image (g.H.Host.seen c.args.host.now).content c.args.disk in
+    let first : c.in_ok-mbr.mbr ≡ sector disk 0 = c.in_ok-mbr.ensures.bytes tells in
+    let sixth : c.in_ok-head.head ≡ sector disk 6 = rw c.in_ok-mbr.ensures.still.content at (c.in_ok-head.ensures.bytes tells) in
+    let good = rw first at c.in_ok-check_mbr.ensures in
+    let found = rw sixth at c.in_ok-read.ensures.is in
+    front_ok (mbr_faults (sector disk 0)) (header_faults (sector disk 6) c.args.sectors) tt tt (header_of (sector disk 6)) (sym good) ∙ sym found
+
+pub returns-clause-still : goal.returns-clause-still
+returns-clause-still g c = still_trans (g.H.Host.seen c.args.host.now) (g.H.Host.seen c.read_sector.new.host) (g.H.Host.seen c.read_sector-2.new.host) c.in_ok-mbr.ensures.still c.in_ok-head.ensures.still

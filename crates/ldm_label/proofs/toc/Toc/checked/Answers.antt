@@ -1,0 +1,10 @@
+use Rattle.std.proofs.Common.{sym, ◌∙◌, ◌≡◌, false}
+use Rattle.ldm_label.specs.declared.toc.Toc.{Toc}
+use Rattle.ldm_label.specs.Fields.{is_out_of_database}
+use Rattle.ldm_label.proofs.FitLaws.{toc_fits}
+use Rattle.ldm_label.proofs.toc.Toc.checked.Goals as goal
+
+pub returns-in-Some-2-clause-fits : goal.returns-in-Some-2-clause-fits
+returns-in-Some-2-clause-fits c =
+    let same : c.in-Some.toc ≡ c.in-Some-2.toc = cc in
+    toc_fits c.in-Some-2.toc (let h = c.exceeds.ensures in let r = c.if-exceeds.false in cc)

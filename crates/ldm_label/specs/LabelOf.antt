@@ -1,0 +1,103 @@
+-- The label of an image, or its first fault. The tables stand in the order in which faults are looked for.
+use Rattle.std.specs.Prelude.{◌≡◌, ◌≢◌, ◌⊎◌, ℕ, ◌+◌, ◌*◌, ◌<◌, ◌≤◌, ◌==◌, ◌&&◌, Bool, List, [], ◌∷◌, ◌++◌, length, map, not, nat_lt, is_none, is_ok, unwrap_or, slice_get, Option, Some, None, Result, Ok, Err, if◌then◌else◌}
+use Rattle.std.specs.List.{filter_map, list_any}
+use Rattle.ldm_label.specs.declared.header.PrivateHeader.{PrivateHeader}
+use Rattle.ldm_label.specs.declared.toc.Toc.{Toc}
+use Rattle.ldm_label.specs.declared.LabelFault.{LabelFault}
+use Rattle.ldm_label.specs.declared.LabelFault.TheVariants.{Short, NoSignature, NoLdmEntry, NoPrivhead, Version, DatabaseSize, Range, Guid, PrivheadsDiffer, NoToc, TocsDiffer, TocRange}
+use Rattle.ldm_label.specs.declared.Label.{Label}
+use Rattle.ldm_label.specs.Answer.{answer}
+use Rattle.ldm_label.specs.Fields.{sectors_of, sector, has_signature, has_ldm_entry, is_privhead, has_version, config_size, disk_guid, header_of, is_out_of_range, same_header, toc_of, is_out_of_database, same_toc}
+
+unfoldable pub mbr_faults : List ℕ → List (LabelFault × Bool)
+mbr_faults mbr =
+    (NoSignature, not (has_signature mbr))
+    ∷ (NoLdmEntry, not (has_ldm_entry mbr))
+    ∷ []
+
+-- of a private header on a disk of so many sectors
+unfoldable pub header_faults : List ℕ → ℕ → List (LabelFault × Bool)
+header_faults head sectors =
+    (NoPrivhead, not (is_privhead head))
+    ∷ (Version, not (has_version head))
+    ∷ (DatabaseSize, not (config_size head == 2048))
+    ∷ (Range, is_out_of_range (header_of head) sectors)
+    ∷ (Guid, is_none (disk_guid head))
+    ∷ []
+
+-- A copy of the private header that has one of those five faults itself is ignored. Another one has to have the same values.
+unfoldable pub differs : PrivateHeader → List ℕ → ℕ → Bool
+differs header copy sectors = is_ok (answer (header_faults copy sectors) (header_of copy)) && not (same_header header (header_of copy))
+
+-- of copies 2 and 3 of the private header, on a disk whose copy 1 has those values
+unfoldable pub copy_faults : PrivateHeader → List ℕ → List (LabelFault × Bool)
+copy_faults header image =
+    (PrivheadsDiffer 2, differs header (sector image (header.config_start + 1856)) (sectors_of image))
+    ∷ (PrivheadsDiffer 3, differs header (sector image (header.config_start + 2047)) (sectors_of image))
+    ∷ []
+
+-- the values of those of the four tables of contents that parse, in the database that begins at a sector
+unfoldable pub tocs_in : ℕ → List ℕ → List Toc
+tocs_in start image = filter_map (λ a. toc_of (sector image (start + a))) (1 ∷ 2 ∷ 2045 ∷ 2046 ∷ [])
+
+unfoldable pub some_differ : List Toc → Bool
+some_differ tocs = list_any (λ a. list_any (λ b. not (same_toc a b)) tocs) tocs
+
+-- the values of the first
+abbrev pub first_toc : List Toc → Toc
+first_toc tocs = unwrap_or (slice_get tocs 0) (record { area_start = 0; area_sectors = 0; log_start = 0; log_sectors = 0 })
+
+-- of the tables of contents that parse
+unfoldable pub toc_faults : List Toc → List (LabelFault × Bool)
+toc_faults tocs =
+    (NoToc, length tocs == 0)
+    ∷ (TocsDiffer, some_differ tocs)
+    ∷ (TocRange, is_out_of_database (first_toc tocs))
+    ∷ []
+
+-- ---- an image
+
+abbrev pub label_with : PrivateHeader → Toc → Label
+label_with header toc = record {
+  disk_guid = header.disk_guid;
+  minor = header.minor;
+  data_start = header.data_start;
+  data_size = header.data_size;
+  config_start = header.config_start;
+  area_start = toc.area_start;
+  area_sectors = toc.area_sectors;
+  log_start = toc.log_start;
+  log_sectors = toc.log_sectors;
+}
+
+-- all faults in their order
+abbrev pub label_faults : List ℕ → List (LabelFault × Bool)
+label_faults image =
+    let header = header_of (sector image 6) in
+    (Short, nat_lt (sectors_of image) 7)
+    ∷ mbr_faults (sector image 0)
+    ++ header_faults (sector image 6) (sectors_of image)
+    ++ copy_faults header image
+    ++ toc_faults (tocs_in header.config_start image)
+
+-- The database begins where copy 1 of the private header says.
+unfoldable pub label_of : List ℕ → Result Label LabelFault
+label_of image =
+    let header = header_of (sector image 6) in
+    answer (label_faults image) (label_with header (first_toc (tocs_in header.config_start image)))
+
+-- A label fits a disk of so many sectors.
+pub record Fits (label : Label) (sectors : ℕ) : Type 0 where
+  pub some_data : label.data_size ≢ 0
+  pub before : label.data_start + label.data_size ≤ label.config_start
+  pub room : 7 ≤ label.config_start
+  pub inside : label.config_start + 2048 ≤ sectors
+  pub some_area : label.area_sectors ≢ 0
+  pub area : label.area_start + label.area_sectors ≤ 2048
+  pub log : label.log_start + label.log_sectors ≤ 2048
+
+-- A place of an image, in bytes, isn't in the config area.
+abbrev pub IsOutsideArea : Label → ℕ → Type 0
+IsOutsideArea label k =
+    let area = label.config_start + label.area_start in
+    (k < 512 * area) ⊎ (512 * (area + label.area_sectors) ≤ k)

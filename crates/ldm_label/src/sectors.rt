@@ -1,0 +1,21 @@
+ghost use Rattle.std.specs.Prelude.{◌≡◌, ◌+◌, ◌*◌, ◌^◌, ◌<◌, List, ℕ, length, slice_index, IfOk, IsErr};
+ghost use Rattle.ldm_host.specs.Moves.{Rose, Still, Quiet};
+ghost use Rattle.ldm_host.specs.Seen.{image};
+ghost use Rattle.ldm_label.specs.Fields.{sector};
+
+use ldm_host::{Failed, Host};
+
+/// The bytes of a sector of a disk.
+pub fn read_sector<H: Host>(host: &mut H, disk: usize, at: u64) -> Result<[u8; 512], Failed>
+    requires disk { disk < length (H.seen host.old).sizes }
+    requires inside { at < slice_index (H.seen host.old).sizes disk }
+    requires few { at < 2 ^ 55 }
+    ensures bytes { H.tells_disks → IfOk result (λ bytes. bytes ≡ sector (image (H.seen host.old).content disk) at) }
+    ensures still { Still (H.seen host.old) (H.seen host.new) }
+    ensures quiet { Quiet (H.seen host.old) (H.seen host.new) }
+    ensures cause { IsErr result → Rose (H.seen host.old).disk_faults (H.seen host.new).disk_faults }
+{
+    let mut bytes = [0u8; 512];
+    host.read_at(disk, 512 * at, &mut bytes)?;
+    Ok(bytes)
+}
