@@ -1,0 +1,60 @@
+ghost use Rattle.std.specs.Prelude.{◌≡◌, ◌++◌, List, [], ℕ, OnOk, decimal};
+ghost use Rattle.ldm_bytes.specs.Guid.{own_guid};
+
+use ldm_bytes::{Bytes, NoMemory, write_guid};
+use std::alloc::Global;
+use std::marker::Model;
+
+/// A text that grows at its end. Contracts see it as its bytes.
+#[derive(Drop)]
+pub(crate) struct Text {
+    alloc: Global,
+    bytes: Vec<u8>,
+}
+
+impl Model for Text {
+    ghost Value = { List ℕ };
+
+    ghost view = { λ text. text.bytes.items };
+}
+
+impl Text {
+    pub(crate) fn new(alloc: Global) -> Text
+        ensures { result ≡ [] }
+    {
+        Text {
+            alloc,
+            bytes: Vec::new(alloc),
+        }
+    }
+
+    pub(crate) fn push(&mut self, text: &[u8]) -> Result<(), NoMemory>
+        ensures { OnOk result (self.new ≡ self.old ++ text.now) }
+    {
+        self.bytes.extend_from_slice(text)?;
+        Ok(())
+    }
+
+    /// A number in decimal.
+    pub(crate) fn push_number(&mut self, number: u64) -> Result<(), NoMemory>
+        ensures { OnOk result (self.new ≡ self.old ++ decimal number) }
+    {
+        let text = format!(in self.alloc; "{number}")?;
+        self.push(text.as_bytes())
+    }
+
+    /// A GUID text in lower case.
+    pub(crate) fn push_guid(&mut self, guid: u128) -> Result<(), NoMemory>
+        ensures { OnOk result (self.new ≡ self.old ++ own_guid guid) }
+    {
+        let mut text = [0u8; 36];
+        write_guid(guid, &mut text);
+        self.push(&text)
+    }
+
+    pub(crate) fn into_bytes(self) -> Bytes
+        ensures { result ≡ self }
+    {
+        Bytes::from_vec(self.bytes)
+    }
+}

@@ -1,0 +1,30 @@
+-- A host over files tells how long they are and what was counted, and nothing else.
+use Rattle.std.specs.Prelude.{◌≡◌, ℕ, ◌<◌, List, [], length, refl}
+use Rattle.std.proofs.Common.{sym, ◌∙◌}
+use Rattle.ldm_host.specs.Seen.{Seen, Leaves}
+
+abbrev pub file_seen : List ℕ → ℕ → ℕ → List ℕ → Seen
+file_seen sizes disk_faults talk_faults wrote = record {
+  sizes = sizes;
+  content = [];
+  may_leave = λ disk c. ⊥;
+  clock = 0;
+  left_since = λ t images said. (length images ≡ length sizes) × ((disk : ℕ) → disk < length sizes → ⊥) × (said ≡ []);
+  said = [];
+  heard = [];
+  input = [];
+  disk_faults = disk_faults;
+  talk_faults = talk_faults;
+  wrote = wrote;
+}
+
+pub file_counts_each : (sizes wrote : List ℕ) (files : ℕ) → length sizes ≡ files → length wrote ≡ files → length wrote ≡ length sizes
+file_counts_each sizes wrote files sized counted = counted ∙ sym sized
+
+pub file_counts_now : (sizes : List ℕ) (disk_faults talk_faults : ℕ) (wrote : List ℕ) (t : ℕ) (images : List (List ℕ))
+    → Leaves (file_seen sizes disk_faults talk_faults wrote) images → (file_seen sizes disk_faults talk_faults wrote).left_since t images []
+file_counts_now sizes disk_faults talk_faults wrote t images left = (left.one_each, left.each, refl)
+
+pub file_only_now : (sizes : List ℕ) (disk_faults talk_faults : ℕ) (wrote : List ℕ) (t : ℕ) (images : List (List ℕ)) (said : List ℕ)
+    → (file_seen sizes disk_faults talk_faults wrote).left_since t images said → Leaves (file_seen sizes disk_faults talk_faults wrote) images × (said ≡ [])
+file_only_now sizes disk_faults talk_faults wrote t images said left = (record { one_each = left.0; each = left.1 }, left.2)

@@ -1,0 +1,3 @@
+pub mod FileSeen
+pub mod Answer
+pub mod Runs

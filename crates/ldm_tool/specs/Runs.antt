@@ -1,0 +1,72 @@
+-- How a run of the program ends.
+use Rattle.std.specs.Prelude.{◌≡◌, ℕ, List, ◌++◌, length, Option, Some, None}
+use Rattle.ldm_host.specs.Seen.{Seen}
+use Rattle.ldm_host.specs.Moves.{Rose, Begins, Still}
+use Rattle.ldm_words.specs.declared.job.Job.{Job}
+use Rattle.ldm_words.specs.declared.job.Job.TheVariants.{Disk}
+use Rattle.ldm_tool.specs.declared.run.Status.{Status}
+use Rattle.ldm_tool.specs.declared.run.Status.TheVariants.{Done, Refused, Usage, DiskFault, NoMemory, TalkFault}
+
+-- the statuses that an answer may have
+abbrev pub IsAnswer : Status → Type 0
+IsAnswer Done = Unit {0}
+IsAnswer Refused = Unit {0}
+IsAnswer Usage = ⊥
+IsAnswer DiskFault = ⊥
+IsAnswer NoMemory = ⊥
+IsAnswer TalkFault = ⊥
+
+-- the status is the answer's, and since the old state just the answer's text was said
+pub record Whole (old new : Seen) (answer : List ℕ × Status) (status : Status) : Type 0 where
+  pub status_is : status ≡ answer.1
+  pub said : new.said ≡ old.said ++ answer.0
+
+-- Done and Refused are the answer, whole. Whatever the status, what was said is the beginning of the answer's text.
+pub record Answers (old new : Seen) (answer : List ℕ × Status) (status : Status) : Type 0 where
+  pub whole : IsAnswer status → Whole old new answer status
+  pub since : Begins old.said new.said
+  pub front : Begins new.said (old.said ++ answer.0)
+
+-- A fault comes only where its count rose in the run, or stands at its last value.
+pub record Causes (old new : Seen) (status : Status) : Type 0 where
+  pub disk : status ≡ DiskFault → Rose old.disk_faults new.disk_faults
+  pub talk : status ≡ TalkFault → Rose old.talk_faults new.talk_faults
+
+-- no count rose
+pub record NoFault (old new : Seen) : Type 0 where
+  pub disk : Rose old.disk_faults new.disk_faults → ⊥
+  pub talk : Rose old.talk_faults new.talk_faults → ⊥
+
+-- the host has just as many disks as the words name images
+abbrev pub HasImages : Option (Job × ℕ) → Seen → Type 0
+HasImages None host = Unit {0}
+HasImages (Some reading) host = length host.sizes ≡ reading.1
+
+-- What a job asks of the disks for its answer to be that of their content: nothing, where it only reads.
+abbrev pub JobPremise : Job → Seen → Type 0
+JobPremise Disk host = Unit {0}
+
+abbrev pub Premise : Option (Job × ℕ) → Seen → Type 0
+Premise None host = Unit {0}
+Premise (Some reading) host = JobPremise reading.0 host
+
+-- What becomes of the disks: a job that only reads leaves them as they are.
+abbrev pub JobDisks : Job → Seen → Seen → Type 0
+JobDisks Disk old new = Still old new
+
+abbrev pub DisksAfter : Option (Job × ℕ) → Seen → Seen → Type 0
+DisksAfter None old new = Still old new
+DisksAfter (Some reading) old new = JobDisks reading.0 old new
+
+-- the input is left as it was
+pub record SameInput (old new : Seen) : Type 0 where
+  pub input : new.input ≡ old.input
+  pub heard : new.heard ≡ old.heard
+
+-- What is left of the input: all of it, by a job that hears no script.
+abbrev pub JobInput : Job → Seen → Seen → Type 0
+JobInput Disk old new = SameInput old new
+
+abbrev pub InputAfter : Option (Job × ℕ) → Seen → Seen → Type 0
+InputAfter None old new = SameInput old new
+InputAfter (Some reading) old new = JobInput reading.0 old new

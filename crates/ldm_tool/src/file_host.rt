@@ -1,0 +1,175 @@
+//! A host over files, standard input and standard output.
+ghost use Rattle.std.specs.Prelude.{◌≡◌, ◌≤◌, ◌<◌, ◌+◌, ◌*◌, ◌^◌, ◌∷◌, ℕ, length, slice_index, OnOk, IfOk, vec_len};
+
+use ldm_host::{Failed, Host};
+use std::alloc::Global;
+use std::fs::File;
+use std::io::{ErrorKind, Read, Write};
+use std::os::unix::fs::FileExt;
+
+/// Why files give no host.
+#[derive(Clone, Copy, Debug, PartialEq, Eq)]
+pub enum FilesError {
+    NoMemory,
+    /// The length of a file can't be had.
+    NoLength,
+}
+
+/// The images are files. It tells nothing of what is in them, of what is said and of what is heard:
+/// what the clauses say of it is how long the files are, which counts rose, and what it was handed.
+#[derive(Drop)]
+pub struct FileHost<I, O> {
+    files: Vec<File>,
+    sizes: Vec<u64>,
+    wrote: Vec<u64>,
+    input: I,
+    output: O,
+    disk_faults: u64,
+    talk_faults: u64,
+    ghost sized: { length sizes.items ≡ length files.items },
+    ghost counted: { length wrote.items ≡ length files.items },
+    ghost small: { (k : ℕ) → slice_index sizes.items k < 2 ^ 55 },
+}
+
+impl<I, O> FileHost<I, O> {
+    /// A host over the files in their order. It reads their lengths alone.
+    pub fn new(alloc: Global, files: Vec<File>, input: I, output: O) -> Result<Self, FilesError>
+    where
+        I: Drop,
+        O: Drop,
+        ensures { IfOk result (λ host. length host.sizes.items ≡ length files.items) }
+    {
+        let mut sizes = Vec::new(alloc);
+        let mut wrote = Vec::new(alloc);
+        for file in &files {
+            let Ok(metadata) = file.metadata() else {
+                return Err(FilesError::NoLength);
+            };
+            if sizes.push(metadata.len() / 512).is_err() || wrote.push(0).is_err() {
+                return Err(FilesError::NoMemory);
+            }
+        }
+        Ok(FileHost {
+            files,
+            sizes,
+            wrote,
+            input,
+            output,
+            disk_faults: 0,
+            talk_faults: 0,
+        })
+    }
+}
+
+// Reads what comes next of the input.
+fn read_some<I: Read>(input: &mut I, buf: &mut [u8]) -> Result<usize, Failed>
+    ensures { IfOk result (λ n. n ≤ length buf.old) }
+{
+    for _ in 0..u64::MAX {
+        match input.read(buf) {
+            Ok(n) => return Ok(n),
+            Err(error) => {
+                if error.kind() != ErrorKind::Interrupted {
+                    return Err(Failed);
+                }
+            }
+        }
+    }
+    Err(Failed)
+}
+
+// Writes all bytes to the output.
+fn write_out<O: Write>(output: &mut O, bytes: &[u8]) -> Result<(), Failed> {
+    output
+        .write_all(bytes)
+        .and_then(|()| output.flush())
+        .map_err(|_| Failed)
+}
+
+impl<I: Read, O: Write> Host for FileHost<I, O> {
+    ghost use Rattle.ldm_tool.specs.FileSeen.{file_seen, file_counts_each, file_counts_now, file_only_now};
+
+    ghost seen = { λ host. file_seen host.sizes.items host.disk_faults host.talk_faults host.wrote.items };
+
+    ghost tells_disks = { ⊥ };
+
+    ghost tells_talk = { ⊥ };
+
+    ghost tells_both = { λ tells. tells };
+
+    ghost one_each = { λ tells. absurd tells };
+
+    ghost counts_each = { λ host. file_counts_each host.sizes.items host.wrote.items (length host.files.items) host.sized host.counted };
+
+    ghost lengths = { λ tells. absurd tells };
+
+    ghost may_stay = { λ tells. absurd tells };
+
+    ghost same_length = { λ host disk c left. absurd left };
+
+    ghost counts_now = { λ host t images le left. file_counts_now host.sizes.items host.disk_faults host.talk_faults host.wrote.items t images left };
+
+    ghost only_now = { λ host images said left. file_only_now host.sizes.items host.disk_faults host.talk_faults host.wrote.items 0 images said left };
+
+    fn disks(&self) -> usize {
+        self.files.len()
+    }
+
+    fn sectors(&self, disk: usize) -> u64 {
+        self.sizes[disk]
+    }
+
+    fn read_at(&mut self, disk: usize, at: u64, buf: &mut [u8]) -> Result<(), Failed> {
+        match self.files[disk].read_exact_at(buf, at) {
+            Ok(()) => Ok(()),
+            Err(_) => {
+                self.disk_faults = self.disk_faults.saturating_add(1);
+                Err(Failed)
+            }
+        }
+    }
+
+    fn write_at(&mut self, disk: usize, at: u64, bytes: &[u8]) -> Result<(), Failed> {
+        self.wrote[disk] = self.wrote[disk].saturating_add(bytes.len() as u64);
+        match self.files[disk].write_all_at(bytes, at) {
+            Ok(()) => Ok(()),
+            Err(_) => {
+                self.disk_faults = self.disk_faults.saturating_add(1);
+                Err(Failed)
+            }
+        }
+    }
+
+    fn sync(&mut self, disk: usize) -> Result<(), Failed> {
+        match self.files[disk].sync_all() {
+            Ok(()) => Ok(()),
+            Err(_) => {
+                self.disk_faults = self.disk_faults.saturating_add(1);
+                Err(Failed)
+            }
+        }
+    }
+
+    fn hear(&mut self, buf: &mut [u8]) -> Result<usize, Failed> {
+        let done = read_some(&mut self.input, buf);
+        if done.is_err() {
+            self.talk_faults = self.talk_faults.saturating_add(1);
+        }
+        done
+    }
+
+    fn say(&mut self, bytes: &[u8]) -> Result<(), Failed> {
+        let done = write_out(&mut self.output, bytes);
+        if done.is_err() {
+            self.talk_faults = self.talk_faults.saturating_add(1);
+        }
+        done
+    }
+}
+
+#[cfg(test)]
+impl<I, O> FileHost<I, O> {
+    pub fn output(&self) -> &O {
+        &self.output
+    }
+}

@@ -1,0 +1,113 @@
+//! Looks at the disks of a Windows dynamic disk group: `ldm JOB on IMAGE...`.
+//!
+//! The top call is `run`. Its contract is the theorem of the program; `FileHost` and `main` are the
+//! trusted edge.
+#![tactic(auto)]
+
+ghost use Rattle.std.specs.Prelude.{◌≡◌, IfOk, length, vec_len};
+
+mod file_host;
+mod run;
+
+use file_host::{FileHost, FilesError};
+use ldm_words::{WordsError, read_words};
+use run::{Status, run};
+use std::alloc::Global;
+use std::fs::File;
+use std::io::ErrorKind;
+use std::process::ExitCode;
+use std::{env, io};
+
+// How the program ends before a run.
+#[derive(Clone, Copy, Debug, PartialEq, Eq)]
+enum Stop {
+    Usage,
+    CannotOpen,
+    NoMemory,
+}
+
+// Want of memory, or else the other stop.
+fn stop_for(error: &io::Error, other: Stop) -> Stop {
+    if error.kind() == ErrorKind::OutOfMemory {
+        Stop::NoMemory
+    } else {
+        other
+    }
+}
+
+// The words of the command line, without the program's name. A word that isn't UTF-8 has no reading.
+fn words_of(alloc: Global, rt: &HostRuntime) -> Result<Vec<String>, Stop> {
+    let args = match env::args(rt) {
+        Ok(args) => args,
+        Err(error) => return Err(stop_for(&error, Stop::Usage)),
+    };
+    let mut words = Vec::new(alloc);
+    for word in args.skip(1) {
+        if words.push(word).is_err() {
+            return Err(Stop::NoMemory);
+        }
+    }
+    Ok(words)
+}
+
+// Opens the images that the words name, in their order, for reading.
+fn open_images(alloc: Global, rt: &HostRuntime, names: &[String]) -> Result<Vec<File>, Stop>
+    ensures { IfOk result (λ files. vec_len files ≡ length names.now) }
+{
+    let mut files = Vec::new(alloc);
+    for name in names {
+        let file = match File::open(rt, name.as_str()) {
+            Ok(file) => file,
+            Err(error) => return Err(stop_for(&error, Stop::CannotOpen)),
+        };
+        if files.push(file).is_err() {
+            return Err(Stop::NoMemory);
+        }
+    }
+    Ok(files)
+}
+
+// Opens the images, and runs the words over them.
+fn run_words(rt: &HostRuntime, words: &[String]) -> Result<Status, Stop> {
+    let alloc = rt.alloc();
+    let count = match read_words(alloc, words) {
+        Err(WordsError::Usage) => return Err(Stop::Usage),
+        Err(WordsError::NoMemory) => return Err(Stop::NoMemory),
+        Ok((_, count)) => count,
+    };
+    let files = open_images(alloc, rt, &words[words.len() - count..])?;
+    match FileHost::new(alloc, files, rt.stdin(), rt.stdout()) {
+        Ok(mut host) => Ok(run(alloc, words, &mut host)),
+        Err(FilesError::NoMemory) => Err(Stop::NoMemory),
+        Err(FilesError::NoLength) => Err(Stop::CannotOpen),
+    }
+}
+
+// The line for standard error, and the exit status.
+fn ending(done: Result<Status, Stop>) -> (&'static str, u8) {
+    let line = match done {
+        Ok(Status::Done) | Ok(Status::Refused) => "",
+        Ok(Status::Usage) | Err(Stop::Usage) => "ldm: usage: ldm JOB on IMAGE...\n",
+        Ok(Status::DiskFault) => "ldm: disk fault\n",
+        Ok(Status::NoMemory) | Err(Stop::NoMemory) => "ldm: no memory\n",
+        Ok(Status::TalkFault) => "ldm: talk fault\n",
+        Err(Stop::CannotOpen) => "ldm: cannot open\n",
+    };
+    let status = match done {
+        Ok(status) => status,
+        Err(Stop::Usage) => Status::Usage,
+        Err(Stop::CannotOpen) => Status::DiskFault,
+        Err(Stop::NoMemory) => Status::NoMemory,
+    };
+    (line, status as u8)
+}
+
+fn main(rt: HostRuntime) -> ExitCode {
+    let done = words_of(rt.alloc(), &rt).and_then(|words| run_words(&rt, &words));
+    let (line, status) = ending(done);
+    let _ = eprint!(rt; "{line}");
+    ExitCode::from(status)
+}
+
+#[cfg(test)]
+mod tests;
