@@ -10,7 +10,7 @@ use Rattle.ldm_bytes.specs.Places.{put}
 use Rattle.ldm_host.proofs.Relations.{begins_itself, torn_itself, torn_at_itself, torn_from}
 use Rattle.ldm_host.specs.declared.call.Call.{Call}
 use Rattle.ldm_host.specs.declared.call.Call.TheVariants.{Write, Sync, Hear, Say, Nothing}
-use Rattle.ldm_host.specs.Story.{Disk, State, Agrees, MayLeave, LeftSince, Counts, disk_at, no_disk, written, synced, sizes_of, contents, after, run, seen_from}
+use Rattle.ldm_host.specs.Story.{Disk, State, Agrees, MayLeave, LeftSince, Counts, disk_at, no_disk, written_disk, synced_disk, sizes_of, contents, after, run, seen_from}
 use Rattle.ldm_host.specs.StoryLaws.{image_at, one_each, stays, begins_both, counts_now, only_now}
 use Rattle.ldm_host.proofs.Grows.{CountsRise, run_push, moments, later}
 use Rattle.ldm_host.proofs.Ranges.{unwritten, torn_agrees, length-put, torn_put}
@@ -103,7 +103,7 @@ module _ (first : State) (calls : List Call) (script : List ℕ) (old new : Coun
     call = Write disk at bytes asked
 
     abbrev wrote_to : Disk
-    wrote_to = written (disk_at now.disks disk) at bytes.items asked
+    wrote_to = written_disk (disk_at now.disks disk) at bytes.items asked
 
     abbrev later_seen : Seen
     later_seen = seen_from first (calls ++ call ∷ []) script new
@@ -231,21 +231,21 @@ module _ (first : State) (calls : List Call) (script : List ℕ) (old new : Coun
     sync_pushed : run first (calls ++ Sync disk ∷ []) ≡ after now (Sync disk)
     sync_pushed = run_push first calls (Sync disk)
 
-    sync_disks : (run first (calls ++ Sync disk ∷ [])).disks ≡ set now.disks disk (synced (disk_at now.disks disk))
+    sync_disks : (run first (calls ++ Sync disk ∷ [])).disks ≡ set now.disks disk (synced_disk (disk_at now.disks disk))
     sync_disks = ap (λ (s : State). s.disks) sync_pushed
 
-    sync_here : disk_at (run first (calls ++ Sync disk ∷ [])).disks disk ≡ synced (disk_at now.disks disk)
-    sync_here = ap (λ (l : List Disk). disk_at l disk) sync_disks ∙ disk_there now.disks disk (synced (disk_at now.disks disk)) in_range
+    sync_here : disk_at (run first (calls ++ Sync disk ∷ [])).disks disk ≡ synced_disk (disk_at now.disks disk)
+    sync_here = ap (λ (l : List Disk). disk_at l disk) sync_disks ∙ disk_there now.disks disk (synced_disk (disk_at now.disks disk)) in_range
 
     sync_other : (other : ℕ) → other ≢ disk → disk_at (run first (calls ++ Sync disk ∷ [])).disks other ≡ disk_at now.disks other
-    sync_other other ne = ap (λ (l : List Disk). disk_at l other) sync_disks ∙ disk_other now.disks disk other (synced (disk_at now.disks disk)) ne
+    sync_other other ne = ap (λ (l : List Disk). disk_at l other) sync_disks ∙ disk_other now.disks disk other (synced_disk (disk_at now.disks disk)) ne
 
     -- what may be left of a disk that was synced is its content
-    only_content : (d : Disk) (c : List ℕ) → Agrees (synced d) c → c ≡ d.content
+    only_content : (d : Disk) (c : List ℕ) → Agrees (synced_disk d) c → c ≡ d.content
     only_content d c agrees = ext_get_or 0 c d.content agrees.size (λ k lt. agrees.outside k tt)
 
     sync_content : contents (run first (calls ++ Sync disk ∷ [])).disks ≡ contents now.disks
-    sync_content = ap contents sync_disks ∙ contents_set now.disks disk (synced (disk_at now.disks disk)) ∙ ap (λ (l : List ℕ). set (contents now.disks) disk l) (sym (image_at now.disks disk)) ∙ set-get_or (contents now.disks) disk []
+    sync_content = ap contents sync_disks ∙ contents_set now.disks disk (synced_disk (disk_at now.disks disk)) ∙ ap (λ (l : List ℕ). set (contents now.disks) disk l) (sym (image_at now.disks disk)) ∙ set-get_or (contents now.disks) disk []
 
     sync_left : (c : List ℕ) → sync_seen.may_leave disk c → before.may_leave disk c
     sync_left c left = subst (λ (l : List ℕ). Agrees (disk_at now.disks disk) l) (sym (only_content (disk_at now.disks disk) c (subst (λ (d : Disk). Agrees d c) sync_here left))) (stays (disk_at now.disks disk))
@@ -255,7 +255,7 @@ module _ (first : State) (calls : List Call) (script : List ℕ) (old new : Coun
 
     pub syncs_push : Syncs disk before sync_seen
     syncs_push = record {
-      later = later first calls (Sync disk) script old new rise (sizes_set now.disks disk (synced (disk_at now.disks disk)) refl);
+      later = later first calls (Sync disk) script old new rise (sizes_set now.disks disk (synced_disk (disk_at now.disks disk)) refl);
       quiet = record { said = ap (λ (s : State). s.said) sync_pushed; heard = ap (λ (s : State). take s.heard script) sync_pushed; input = ap (λ (s : State). drop s.heard script) sync_pushed };
       content = sync_content;
       wrote = wrote;
@@ -267,8 +267,8 @@ module _ (first : State) (calls : List Call) (script : List ℕ) (old new : Coun
           (moments first calls (Sync disk) images said left);
     }
       where
-        sizes_same : sizes_of (set now.disks disk (synced (disk_at now.disks disk))) ≡ sizes_of now.disks
-        sizes_same = sizes_set now.disks disk (synced (disk_at now.disks disk)) refl
+        sizes_same : sizes_of (set now.disks disk (synced_disk (disk_at now.disks disk))) ≡ sizes_of now.disks
+        sizes_same = sizes_set now.disks disk (synced_disk (disk_at now.disks disk)) refl
 
         was : (images : List (List ℕ)) → MayLeave (after now (Sync disk)) images → Leaves before images
         was images may = record { one_each = there.one_each ∙ ap length longer_sizes; each = each }

@@ -6,25 +6,25 @@ use Rattle.ldm_host.specs.Seen.{image}
 use Rattle.ldm_host.specs.declared.call.Call.{Call}
 use Rattle.ldm_host.specs.Images.{items_of}
 use Rattle.ldm_host.specs.Kept.{IsKept}
-use Rattle.ldm_host.specs.Story.{fresh, Agrees, Outside, contents, disk_at, run}
+use Rattle.ldm_host.specs.Story.{fresh_state, Agrees, Outside, contents, disk_at, run}
 use Rattle.ldm_host.specs.StoryLaws.{image_at}
 
-pub contents_fresh : (images : List (List ℕ)) → contents (fresh images).disks ≡ images
+pub contents_fresh : (images : List (List ℕ)) → contents (fresh_state images).disks ≡ images
 contents_fresh [] = refl
 contents_fresh (bytes ∷ images) = ap (λ (l : List (List ℕ)). bytes ∷ l) (contents_fresh images)
 
-none_pending : (images : List (List ℕ)) (i : ℕ) → (disk_at (fresh images).disks i).pending ≡ []
+none_pending : (images : List (List ℕ)) (i : ℕ) → (disk_at (fresh_state images).disks i).pending ≡ []
 none_pending [] i = refl
 none_pending (bytes ∷ images) zero = refl
 none_pending (bytes ∷ images) (suc i) = none_pending images i
 
-pub fresh_settled : (images : List (List ℕ)) (calls : List Call) → calls ≡ [] → (disk : ℕ) (c : List ℕ) → Agrees (disk_at (run (fresh images) calls).disks disk) c → c ≡ image (contents (run (fresh images) calls).disks) disk
+pub fresh_settled : (images : List (List ℕ)) (calls : List Call) → calls ≡ [] → (disk : ℕ) (c : List ℕ) → Agrees (disk_at (run (fresh_state images) calls).disks disk) c → c ≡ image (contents (run (fresh_state images) calls).disks) disk
 fresh_settled images calls is disk c agrees =
-    subst (λ (l : List Call). c ≡ image (contents (run (fresh images) l).disks) disk) (sym is)
-    (whole (subst (λ (l : List Call). Agrees (disk_at (run (fresh images) l).disks disk) c) is agrees) ∙ sym (image_at (fresh images).disks disk))
+    subst (λ (l : List Call). c ≡ image (contents (run (fresh_state images) l).disks) disk) (sym is)
+    (whole (subst (λ (l : List Call). Agrees (disk_at (run (fresh_state images) l).disks disk) c) is agrees) ∙ sym (image_at (fresh_state images).disks disk))
   where
-    whole : Agrees (disk_at (fresh images).disks disk) c → c ≡ (disk_at (fresh images).disks disk).content
-    whole a = ext_get_or 0 c (disk_at (fresh images).disks disk).content a.size (λ k lt. a.outside k (subst (λ (l : List (ℕ × ℕ)). Outside l k) (sym (none_pending images disk)) tt))
+    whole : Agrees (disk_at (fresh_state images).disks disk) c → c ≡ (disk_at (fresh_state images).disks disk).content
+    whole a = ext_get_or 0 c (disk_at (fresh_state images).disks disk).content a.size (λ k lt. a.outside k (subst (λ (l : List (ℕ × ℕ)). Outside l k) (sym (none_pending images disk)) tt))
 
 pub fresh_kept : (images : List (List ℕ)) (calls : List Call) (script : List ℕ) (held : List (Vec ℕ Global)) (said : List ℕ) (handed : List ℕ)
     → calls ≡ [] → said ≡ [] → images ≡ items_of held → length handed ≡ length held → IsKept images calls script held said 0 handed

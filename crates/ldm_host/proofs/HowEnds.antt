@@ -6,7 +6,7 @@ use Rattle.ldm_host.specs.Acts.{Act}
 use Rattle.ldm_host.specs.declared.memory.MemoryHost.{MemoryHost}
 use Rattle.ldm_host.specs.declared.outcome.Outcome.{Outcome}
 use Rattle.ldm_host.specs.declared.outcome.Outcome.TheVariants.{Whole, Half, Nothing}
-use Rattle.ldm_host.specs.Plan.{Plan, next, count_call, is_past, is_chosen, outcome_of}
+use Rattle.ldm_host.specs.Plan.{Plan, next, next_plan, is_past, is_chosen, outcome_of}
 use Rattle.ldm_host.specs.Memory.{memory_seen, plan_of, CountsFault}
 use Rattle.ldm_host.specs.Ending.{Ends, Pends, TakesNothing, TakesHalf, takes_half, is_talk, is_read}
 use Rattle.ldm_host.proofs.Relations.{iff_trans, quiet_trans}
@@ -38,12 +38,12 @@ on_err P (Err e) is failed = is
 abbrev numbered : MemoryHost → ℕ → Plan
 numbered m number = record { number = number; chosen = m.chosen.items; stop = m.stop }
 
-pub plan_is : (m : MemoryHost) (now : ℕ) → now ≡ next m.number → numbered m now ≡ count_call (plan_of m)
+pub plan_is : (m : MemoryHost) (now : ℕ) → now ≡ next m.number → numbered m now ≡ next_plan (plan_of m)
 plan_is m now is = ap (λ (n : ℕ). numbered m n) is
 
 -- the outcome of a call, by the plan before it
 pub outcome_is : (m : MemoryHost) (given : List ℕ) (now : ℕ) (outcome : Outcome) → outcome ≡ outcome_of (record { number = now; chosen = given; stop = m.stop })
-    → given ≡ m.chosen.items → now ≡ next m.number → outcome_of (count_call (plan_of m)) ≡ outcome
+    → given ≡ m.chosen.items → now ≡ next m.number → outcome_of (next_plan (plan_of m)) ≡ outcome
 outcome_is m given now outcome is same count =
     sym (is ∙ ap (λ (l : List ℕ). outcome_of (record { number = now; chosen = l; stop = m.stop })) same ∙ ap (λ (n : ℕ). outcome_of (numbered m n)) count)
 
@@ -91,9 +91,9 @@ not_false : (b : Bool) → IsFalse (not b) → IsTrue b
 not_false true is = refl
 not_false false is = absurd (cc is)
 
-module _ (act : Act) (old new : MemoryHost) (plan : plan_of new ≡ count_call (plan_of old)) where
+module _ (act : Act) (old new : MemoryHost) (plan : plan_of new ≡ next_plan (plan_of old)) where
   abbrev called : Plan
-  called = count_call (plan_of old)
+  called = next_plan (plan_of old)
 
   pub ends_ok : outcome_of called ≡ Whole → new.disk_faults ≡ old.disk_faults → new.talk_faults ≡ old.talk_faults → new.dry ≡ old.dry → Pends act (memory_seen old) (memory_seen new) → Ends act old new true
   ends_ok is disk talk dry pending = record {
@@ -117,11 +117,11 @@ module _ (act : Act) (old new : MemoryHost) (plan : plan_of new ≡ count_call (
       none : IsTrue (is_past called || is_chosen called || false) → ⊥
       none = neither (is_past called) (is_chosen called) (whole (is_past called) (is_chosen called) is)
 
-module _ (act : Act) (old mid new : MemoryHost) (ran_dry : Bool) (plan : plan_of mid ≡ count_call (plan_of old))
+module _ (act : Act) (old mid new : MemoryHost) (ran_dry : Bool) (plan : plan_of mid ≡ next_plan (plan_of old))
     (disk : mid.disk_faults ≡ old.disk_faults) (talk : mid.talk_faults ≡ old.talk_faults) (dry : mid.dry ≡ old.dry)
     (fault : CountsFault (is_talk act) ran_dry mid new) (read : IsTrue (is_read act) → IsFalse ran_dry) where
   abbrev call : Plan
-  call = count_call (plan_of old)
+  call = next_plan (plan_of old)
 
   counted : plan_of new ≡ call
   counted = fault.plan ∙ plan

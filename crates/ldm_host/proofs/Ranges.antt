@@ -3,7 +3,7 @@ use Rattle.std.proofs.Common.{◌≡◌, ◌⊎◌, inl, inr, ⊎_elim, ℕ, ◌
 use Rattle.std.proofs.lemmas.List.{places, get_or-take, get_or-drop}
 use Rattle.ldm_host.specs.Moves.{Torn}
 use Rattle.ldm_bytes.specs.Places.{put}
-use Rattle.ldm_host.specs.Story.{Disk, Agrees, Outside, written}
+use Rattle.ldm_host.specs.Story.{Disk, Agrees, Outside, written_disk}
 
 module _ (old bytes : List ℕ) (at : ℕ) (fits : at + length bytes ≤ length old) where
   pub length-put : length (put old at bytes) ≡ length old
@@ -22,7 +22,7 @@ sides : (k at n : ℕ) → (k < at) ⊎ ((at ≤ k) × (k < at + n)) ⊎ (at + n
 sides k at n = grind arith
 
 -- What may be left after a write, from what could be left before it: the content stood in the range.
-pub unwritten : (disk : Disk) (at asked : ℕ) (bytes c : List ℕ) → length bytes ≤ asked → at + asked ≤ length disk.content → Agrees (written disk at bytes asked) c
+pub unwritten : (disk : Disk) (at asked : ℕ) (bytes c : List ℕ) → length bytes ≤ asked → at + asked ≤ length disk.content → Agrees (written_disk disk at bytes asked) c
     → (b : List ℕ) × Agrees disk b × Torn at asked b c
 unwritten disk at asked bytes c short fits agrees = (b, before, torn)
   where
@@ -76,7 +76,7 @@ torn_put old bytes at asked short fits = record {
 }
 
 -- What may be left after a write: anything in the range, round what could be left before it.
-pub torn_agrees : (disk : Disk) (at asked : ℕ) (bytes before after : List ℕ) → length bytes ≤ asked → at + asked ≤ length disk.content → Agrees disk before → Torn at asked before after → Agrees (written disk at bytes asked) after
+pub torn_agrees : (disk : Disk) (at asked : ℕ) (bytes before after : List ℕ) → length bytes ≤ asked → at + asked ≤ length disk.content → Agrees disk before → Torn at asked before after → Agrees (written_disk disk at bytes asked) after
 torn_agrees disk at asked bytes before after short fits agrees torn = record {
   size = torn.size ∙ agrees.size ∙ sym whole.size;
   outside = λ k free. torn.outside k free.0 ∙ agrees.outside k free.1 ∙ sym (whole.outside k free.0);

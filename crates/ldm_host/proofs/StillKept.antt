@@ -8,7 +8,7 @@ use Rattle.ldm_host.specs.declared.call.Call.{Call}
 use Rattle.ldm_host.specs.declared.call.Call.TheVariants.{Write, Sync, Hear, Say}
 use Rattle.ldm_host.specs.Images.{items_of}
 use Rattle.ldm_host.specs.Kept.{IsKept}
-use Rattle.ldm_host.specs.Story.{fresh, State, after, run, contents, written, disk_at, synced}
+use Rattle.ldm_host.specs.Story.{fresh_state, State, after, run, contents, written_disk, disk_at, synced_disk}
 use Rattle.ldm_host.specs.StoryLaws.{image_at}
 use Rattle.ldm_host.proofs.Grows.{run_push}
 use Rattle.ldm_host.proofs.EachStep.{contents_set}
@@ -20,7 +20,7 @@ kept_or_not P false calls longer new is = λ yes no. subst P (sym is) no
 
 module _ (first : List (List ℕ)) (calls longer : List Call) (script : List ℕ) (now : List (Vec ℕ Global)) (said : List ℕ) (heard : ℕ) (handed : List ℕ) (kept : IsKept first calls script now said heard handed) where
   abbrev there : State
-  there = run (fresh first) calls
+  there = run (fresh_state first) calls
 
   pub kept_handed : (other : List ℕ) → length other ≡ length handed → IsKept first calls script now said heard other
   kept_handed other same = record { content = kept.content; said_is = kept.said_is; heard_is = kept.heard_is; heard_fits = kept.heard_fits; each = same ∙ kept.each }
@@ -37,17 +37,17 @@ module _ (first : List (List ℕ)) (calls longer : List Call) (script : List ℕ
     each = counts ∙ kept.each ∙ sym lengths;
   }
     where
-      ran : run (fresh first) longer ≡ after there (Write disk at bytes asked)
-      ran = ap (λ (l : List Call). run (fresh first) l) is ∙ run_push (fresh first) calls (Write disk at bytes asked)
+      ran : run (fresh_state first) longer ≡ after there (Write disk at bytes asked)
+      ran = ap (λ (l : List Call). run (fresh_state first) l) is ∙ run_push (fresh_state first) calls (Write disk at bytes asked)
 
-      made : contents (run (fresh first) longer).disks ≡ set (contents there.disks) disk (put (image (contents there.disks) disk) at bytes.items)
-      made = ap (λ (s : State). contents s.disks) ran ∙ contents_set there.disks disk (written (disk_at there.disks disk) at bytes.items asked) ∙ ap (λ (l : List ℕ). set (contents there.disks) disk (put l at bytes.items)) (sym (image_at there.disks disk))
+      made : contents (run (fresh_state first) longer).disks ≡ set (contents there.disks) disk (put (image (contents there.disks) disk) at bytes.items)
+      made = ap (λ (s : State). contents s.disks) ran ∙ contents_set there.disks disk (written_disk (disk_at there.disks disk) at bytes.items asked) ∙ ap (λ (l : List ℕ). set (contents there.disks) disk (put l at bytes.items)) (sym (image_at there.disks disk))
 
       lengths : length next ≡ length now
       lengths = omega (arith, length-map next (λ v. v.items), length-map now (λ v. v.items), ap length put_there, length-set (items_of now) disk (put (image (items_of now) disk) at taken))
 
-  ran_to : (call : Call) → run (fresh first) (calls ++ call ∷ []) ≡ after there call
-  ran_to call = run_push (fresh first) calls call
+  ran_to : (call : Call) → run (fresh_state first) (calls ++ call ∷ []) ≡ after there call
+  ran_to call = run_push (fresh_state first) calls call
 
   pub kept_same : (call : Call) → contents (after there call).disks ≡ contents there.disks → (after there call).said ≡ there.said → (after there call).heard ≡ there.heard
       → IsKept first (calls ++ call ∷ []) script now said heard handed
@@ -61,7 +61,7 @@ module _ (first : List (List ℕ)) (calls longer : List Call) (script : List ℕ
 
   pub kept_sync : (disk : ℕ) → IsKept first (calls ++ Sync disk ∷ []) script now said heard handed
   kept_sync disk = kept_same (Sync disk)
-      (contents_set there.disks disk (synced (disk_at there.disks disk)) ∙ ap (λ (l : List ℕ). set (contents there.disks) disk l) (sym (image_at there.disks disk)) ∙ set-get_or (contents there.disks) disk [])
+      (contents_set there.disks disk (synced_disk (disk_at there.disks disk)) ∙ ap (λ (l : List ℕ). set (contents there.disks) disk l) (sym (image_at there.disks disk)) ∙ set-get_or (contents there.disks) disk [])
       refl refl
 
   pub kept_say : (bytes : Vec ℕ Global) (longer_said : List ℕ) → longer_said ≡ said ++ bytes.items → IsKept first (calls ++ Say bytes ∷ []) script now longer_said heard handed

@@ -5,7 +5,7 @@ use Rattle.ldm_host.specs.Seen.{Seen, image}
 use Rattle.ldm_host.specs.Moves.{Quiet, SameLeft, Torn}
 use Rattle.ldm_host.specs.Acts.{Act, Read, Write, Sync, Hear, Say}
 use Rattle.ldm_host.specs.declared.memory.MemoryHost.{MemoryHost}
-use Rattle.ldm_host.specs.Plan.{Plan, next, count_call, is_past, is_chosen}
+use Rattle.ldm_host.specs.Plan.{Plan, next, next_plan, is_past, is_chosen}
 use Rattle.ldm_host.specs.Memory.{counts_of, plan_of, memory_seen}
 
 -- the call hears or says
@@ -24,8 +24,8 @@ is_read Hear = false
 is_read (Say bytes) = false
 
 -- the first half of the bytes, rounded down
-abbrev pub half : List ℕ → List ℕ
-half bytes = take (length bytes / 2) bytes
+abbrev pub first_half : List ℕ → List ℕ
+first_half bytes = take (length bytes / 2) bytes
 
 -- the content, what a stop may leave, and the talk are as they were
 pub record TakesNothing (old new : Seen) : Type 0 where
@@ -37,10 +37,10 @@ pub record TakesNothing (old new : Seen) : Type 0 where
 -- clauses of a host say what stays. A call that neither writes nor says takes nothing.
 abbrev pub TakesHalf : Act → Seen → Seen → Type 0
 TakesHalf Read old new = TakesNothing old new
-TakesHalf (Write disk at bytes) old new = new.content ≡ set old.content disk (put (image old.content disk) at (half bytes))
+TakesHalf (Write disk at bytes) old new = new.content ≡ set old.content disk (put (image old.content disk) at (first_half bytes))
 TakesHalf (Sync disk) old new = TakesNothing old new
 TakesHalf Hear old new = TakesNothing old new
-TakesHalf (Say bytes) old new = new.said ≡ old.said ++ half bytes
+TakesHalf (Say bytes) old new = new.said ≡ old.said ++ first_half bytes
 
 -- A stop may leave any bytes in the range of a write, besides what it could leave before.
 abbrev pub Pends : Act → Seen → Seen → Type 0
@@ -59,7 +59,7 @@ pub record Ends (act : Act) (old new : MemoryHost) (ok : Bool) : Type 0 where
   -- the call found no memory
   pub ran_dry : Bool
   -- it was counted
-  pub plan : plan_of new ≡ count_call (plan_of old)
+  pub plan : plan_of new ≡ next_plan (plan_of old)
   -- it failed exactly where it is past the stop, was chosen, or found no memory
   pub fails : IsFalse ok ↔ IsTrue (is_past (plan_of new) || is_chosen (plan_of new) || ran_dry)
   -- that it found no memory was counted, up to the counter's last value, and never befalls a read

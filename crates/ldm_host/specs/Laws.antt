@@ -5,29 +5,29 @@ use Rattle.ldm_host.specs.Images.{items_of}
 use Rattle.ldm_host.specs.Seen.{Leaves, image}
 use Rattle.ldm_host.specs.declared.memory.MemoryHost.{MemoryHost}
 use Rattle.ldm_host.specs.Memory.{memory_seen, counts_of}
-use Rattle.ldm_host.specs.Story.{fresh, run}
+use Rattle.ldm_host.specs.Story.{fresh_state, run}
 use Rattle.ldm_host.specs.StoryLaws.{image_at, size_at, one_each, counts_now, only_now}
 
 pub law_one_each : (m : MemoryHost) → length (memory_seen m).content ≡ length (memory_seen m).sizes
-law_one_each m = one_each (run (fresh (items_of m.first.items)) m.calls.items).disks
+law_one_each m = one_each (run (fresh_state (items_of m.first.items)) m.calls.items).disks
 
 pub law_counts_each : (m : MemoryHost) → length (memory_seen m).wrote ≡ length (memory_seen m).sizes
 law_counts_each m =
-    m.kept.each ∙ sym (length-map m.held.items (λ v. v.items)) ∙ ap length m.kept.content ∙ one_each (run (fresh (items_of m.first.items)) m.calls.items).disks
+    m.kept.each ∙ sym (length-map m.held.items (λ v. v.items)) ∙ ap length m.kept.content ∙ one_each (run (fresh_state (items_of m.first.items)) m.calls.items).disks
 
 pub law_lengths : (m : MemoryHost) (disk : ℕ) → disk < length (memory_seen m).sizes → length (image (memory_seen m).content disk) / 512 ≡ slice_index (memory_seen m).sizes disk
-law_lengths m disk lt = size_at (run (fresh (items_of m.first.items)) m.calls.items).disks disk lt
+law_lengths m disk lt = size_at (run (fresh_state (items_of m.first.items)) m.calls.items).disks disk lt
 
 pub law_same_length : (m : MemoryHost) (disk : ℕ) (c : List ℕ) → (memory_seen m).may_leave disk c → length c ≡ length (image (memory_seen m).content disk)
-law_same_length m disk c left = left.size ∙ sym (ap length (image_at (run (fresh (items_of m.first.items)) m.calls.items).disks disk))
+law_same_length m disk c left = left.size ∙ sym (ap length (image_at (run (fresh_state (items_of m.first.items)) m.calls.items).disks disk))
 
 pub law_may_stay : (m : MemoryHost) (disk : ℕ) → (memory_seen m).may_leave disk (image (memory_seen m).content disk)
 law_may_stay m disk =
-    let is = image_at (run (fresh (items_of m.first.items)) m.calls.items).disks disk in
+    let is = image_at (run (fresh_state (items_of m.first.items)) m.calls.items).disks disk in
     record { size = ap length is; outside = λ k out. ap (λ (l : List ℕ). slice_index l k) is }
 
 pub law_counts_now : (m : MemoryHost) (t : ℕ) (images : List (List ℕ)) → t ≤ (memory_seen m).clock → Leaves (memory_seen m) images → (memory_seen m).left_since t images (memory_seen m).said
-law_counts_now m t images le left = counts_now (fresh (items_of m.first.items)) m.calls.items m.script.items (counts_of m) t images le left
+law_counts_now m t images le left = counts_now (fresh_state (items_of m.first.items)) m.calls.items m.script.items (counts_of m) t images le left
 
 pub law_only_now : (m : MemoryHost) (images : List (List ℕ)) (said : List ℕ) → (memory_seen m).left_since (memory_seen m).clock images said → Leaves (memory_seen m) images × (said ≡ (memory_seen m).said)
-law_only_now m images said left = only_now (fresh (items_of m.first.items)) m.calls.items m.script.items (counts_of m) images said left
+law_only_now m images said left = only_now (fresh_state (items_of m.first.items)) m.calls.items m.script.items (counts_of m) images said left

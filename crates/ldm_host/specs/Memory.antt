@@ -6,12 +6,15 @@ use Rattle.ldm_host.specs.Images.{items_of}
 use Rattle.ldm_host.specs.Story.{Story, Counts, seen_of}
 use Rattle.ldm_host.specs.Plan.{Plan, next}
 
+-- the images and the input at its start, and its calls since
 abbrev pub story_of : MemoryHost → Story
 story_of m = record { first = items_of m.first.items; calls = m.calls.items; script = m.script.items }
 
+-- its counts of failures and of bytes handed
 abbrev pub counts_of : MemoryHost → Counts
 counts_of m = record { disk_faults = m.disk_faults; talk_faults = m.talk_faults; dry = m.dry; wrote = m.handed.items }
 
+-- which of its calls fail
 abbrev pub plan_of : MemoryHost → Plan
 plan_of m = record { number = m.number; chosen = m.chosen.items; stop = m.stop }
 

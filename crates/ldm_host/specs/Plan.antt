@@ -21,8 +21,8 @@ abbrev pub next : ℕ → ℕ
 next count = min (count + 1) (2 ^ 64 - 1)
 
 -- one call more
-abbrev pub count_call : Plan → Plan
-count_call plan = record { number = next plan.number; chosen = plan.chosen; stop = plan.stop }
+abbrev pub next_plan : Plan → Plan
+next_plan plan = record { number = next plan.number; chosen = plan.chosen; stop = plan.stop }
 
 -- the last call is past the stop
 abbrev pub is_past : Plan → Bool

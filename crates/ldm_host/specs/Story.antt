@@ -11,6 +11,7 @@ pub record Disk : Type 0 where
   pub content : List ℕ
   pub pending : List (ℕ × ℕ)
 
+-- the disks, what was said, and how many bytes of the script were heard
 pub record State : Type 0 where
   pub disks : List Disk
   pub said : List ℕ
@@ -32,23 +33,28 @@ pub record Agrees (disk : Disk) (c : List ℕ) : Type 0 where
   pub size : length c ≡ length disk.content
   pub outside : (k : ℕ) → Outside disk.pending k → slice_index c k ≡ slice_index disk.content k
 
-abbrev pub written : Disk → ℕ → List ℕ → ℕ → Disk
-written disk at bytes asked = record { content = put disk.content at bytes; pending = (at, asked) ∷ disk.pending }
+-- after a write of so many bytes, of which these were taken at their front
+abbrev pub written_disk : Disk → ℕ → List ℕ → ℕ → Disk
+written_disk disk at bytes asked = record { content = put disk.content at bytes; pending = (at, asked) ∷ disk.pending }
 
-abbrev pub synced : Disk → Disk
-synced disk = record { content = disk.content; pending = [] }
+-- after a sync
+abbrev pub synced_disk : Disk → Disk
+synced_disk disk = record { content = disk.content; pending = [] }
 
+-- after one call more
 abbrev pub after : State → Call → State
-after s (Write disk at bytes asked) = record { disks = set s.disks disk (written (disk_at s.disks disk) at bytes.items asked); said = s.said; heard = s.heard }
-after s (Sync disk) = record { disks = set s.disks disk (synced (disk_at s.disks disk)); said = s.said; heard = s.heard }
+after s (Write disk at bytes asked) = record { disks = set s.disks disk (written_disk (disk_at s.disks disk) at bytes.items asked); said = s.said; heard = s.heard }
+after s (Sync disk) = record { disks = set s.disks disk (synced_disk (disk_at s.disks disk)); said = s.said; heard = s.heard }
 after s (Hear count) = record { disks = s.disks; said = s.said; heard = s.heard + count }
 after s (Say bytes) = record { disks = s.disks; said = s.said ++ bytes.items; heard = s.heard }
 after s Nothing = s
 
+-- after these calls
 abbrev pub run : State → List Call → State
 run s [] = s
 run s (call ∷ calls) = run (after s call) calls
 
+-- the lengths of the disks in sectors, rounded down
 abbrev pub sizes_of : List Disk → List ℕ
 sizes_of disks = map (λ disk. length disk.content / 512) disks
 
@@ -82,6 +88,7 @@ pub record Counts : Type 0 where
   pub dry : ℕ
   pub wrote : List ℕ
 
+-- What is seen after these calls. What a stop may leave is all that agrees with the content outside what is pending.
 abbrev pub seen_from : State → List Call → List ℕ → Counts → Seen
 seen_from first calls script counts = record {
   sizes = sizes_of (run first calls).disks;
@@ -98,8 +105,8 @@ seen_from first calls script counts = record {
 }
 
 -- these images, with nothing pending, said or heard
-abbrev pub fresh : List (List ℕ) → State
-fresh images = record { disks = map (λ bytes. record { content = bytes; pending = [] }) images; said = []; heard = 0 }
+abbrev pub fresh_state : List (List ℕ) → State
+fresh_state images = record { disks = map (λ bytes. record { content = bytes; pending = [] }) images; said = []; heard = 0 }
 
 -- the images and the input at the start, and the calls since
 pub record Story : Type 0 where
@@ -109,4 +116,4 @@ pub record Story : Type 0 where
 
 -- what is seen after a story
 abbrev pub seen_of : Story → Counts → Seen
-seen_of story counts = seen_from (fresh story.first) story.calls story.script counts
+seen_of story counts = seen_from (fresh_state story.first) story.calls story.script counts

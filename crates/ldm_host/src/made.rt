@@ -10,6 +10,7 @@ use crate::MemoryHost;
 use ldm_bytes::NoMemory;
 use std::alloc::{AllocError, Global};
 
+// A copy of each image.
 fn copies(alloc: Global, images: &[Vec<u8>]) -> Result<Vec<Vec<u8>>, AllocError>
     ensures { IfOk result (λ all. items_of all.items ≡ items_of images.now) }
 {
@@ -23,6 +24,7 @@ fn copies(alloc: Global, images: &[Vec<u8>]) -> Result<Vec<Vec<u8>>, AllocError>
     Ok(all)
 }
 
+// So many counts of 0.
 fn zeros(alloc: Global, count: usize) -> Result<Vec<u64>, AllocError>
     ensures { IfOk result (λ all. all.items ≡ replicate count 0) }
 {

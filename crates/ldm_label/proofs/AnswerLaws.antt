@@ -1,5 +1,5 @@
 -- The first fault of a table that is another table and then more rows.
-use Rattle.std.proofs.Common.{◌≡◌, Bool, true, false, cond, List, [], ◌∷◌, ◌++◌, Result, Ok, Err, refl, sym, ◌∙◌}
+use Rattle.std.proofs.Common.{◌≡◌, Bool, true, false, cond, List, [], ◌∷◌, ◌++◌, Result, Ok, Err, refl}
 use Rattle.ldm_label.specs.declared.LabelFault.{LabelFault}
 use Rattle.ldm_label.specs.Answer.{answer}
 
@@ -34,3 +34,19 @@ value_row false fault a value x h e = h e
 pub ok_value : {A : Type 0} (rows : List (LabelFault × Bool)) (a value : A) → answer rows a ≡ Ok value → a ≡ value
 ok_value [] a value e = cc
 ok_value (row ∷ rows) a value e = value_row row.1 row.0 a value (answer rows a) (ok_value rows a value) e
+
+absent : {A : Type 0} (there : Bool) (fault : LabelFault) (x : Result A LabelFault) (value : A) → cond there (Err fault) x ≡ Ok value → (there ≡ false) × (x ≡ Ok value)
+absent true fault x value e = absurd cc
+absent false fault x value e = (refl, e)
+
+-- in a table without a fault neither the front nor the rest has one
+pub both_ok : {A : Type 0} (front rest : List (LabelFault × Bool)) (a value : A) → answer (front ++ rest) a ≡ Ok value → (answer front a ≡ Ok a) × (answer rest a ≡ Ok value)
+both_ok [] rest a value e = (refl, e)
+both_ok (row ∷ front) rest a value e =
+    let here = absent row.1 row.0 (answer (front ++ rest) a) value e in
+    let more = both_ok front rest a value here.1 in
+    (rw (here.0) more.0, more.1)
+
+-- nor does its last row
+pub last_absent : {A : Type 0} (front : List (LabelFault × Bool)) (fault : LabelFault) (there : Bool) (a value : A) → answer (front ++ (fault, there) ∷ []) a ≡ Ok value → there ≡ false
+last_absent front fault there a value e = (absent there fault (Ok a) value (both_ok front ((fault, there) ∷ []) a value e).1).0

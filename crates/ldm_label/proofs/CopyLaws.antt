@@ -1,5 +1,5 @@
 -- What copies 2 and 3 of the private header say.
-use Rattle.std.proofs.Common.{◌≡◌, ℕ, Bool, true, false, cond, ◌&&◌, List, [], ◌∷◌, Result, Ok, Err, refl, sym, ◌∙◌, ap}
+use Rattle.std.proofs.Common.{◌≡◌, ℕ, Bool, true, List, Result, Ok, refl, sym, ap}
 use Rattle.std.specs.Prelude.{not, is_ok}
 use Rattle.ldm_label.specs.declared.LabelFault.{LabelFault}
 use Rattle.ldm_label.specs.declared.header.PrivateHeader.{PrivateHeader}

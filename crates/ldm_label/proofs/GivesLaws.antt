@@ -1,5 +1,5 @@
 -- What a step answers where a step of its own ended it.
-use Rattle.std.proofs.Common.{◌≡◌, Result, Ok, Err, refl, IsErrAnd}
+use Rattle.std.proofs.Common.{◌≡◌, Result, Err, IsErrAnd}
 use Rattle.std.proofs.lemmas.Result.{err_from_is_err_and}
 use Rattle.ldm_label.specs.declared.LabelFault.{LabelFault}
 use Rattle.ldm_label.specs.declared.LabelError.{LabelError}

@@ -4,3 +4,4 @@ pub mod CopyLaws
 pub mod TocLaws
 pub mod LabelLaws
 pub mod GivesLaws
+pub mod OkLaws

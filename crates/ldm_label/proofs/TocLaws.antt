@@ -1,12 +1,12 @@
 -- What the tables of contents that parse say together.
-use Rattle.std.proofs.Common.{◌≡◌, ℕ, zero, suc, ◌+◌, ◌<◌, ◌≤◌, Bool, true, false, cond, ◌&&◌, ◌||◌, List, [], ◌∷◌, length, get_or, drop, Option, Some, None, Result, Ok, Err, refl, sym, ◌∙◌, ap, subst, arith, drop-cons, add-one}
+use Rattle.std.proofs.Common.{◌≡◌, ℕ, zero, suc, ◌+◌, ◌<◌, ◌≤◌, Bool, true, false, cond, ◌&&◌, ◌||◌, List, [], ◌∷◌, length, get_or, drop, Option, Some, None, Result, Ok, Err, refl, sym, ◌∙◌, ap, arith, drop-cons, add-one}
 use Rattle.std.specs.Prelude.{not, nat_eq, slice_get, unwrap_or}
 use Rattle.std.specs.List.{cons_option, filter_map, list_any}
 use Rattle.std.proofs.lemmas.Bool.{ne_eqb}
 use Rattle.std.proofs.lemmas.List.{drop_all}
 use Rattle.std.proofs.lemmas.Bool.Decides.{nat_tests}
 use Rattle.ldm_label.specs.declared.LabelFault.{LabelFault}
-use Rattle.ldm_label.specs.declared.LabelFault.TheVariants.{NoToc, TocsDiffer, TocRange}
+use Rattle.ldm_label.specs.declared.LabelFault.TheVariants.{TocsDiffer, TocRange}
 use Rattle.ldm_label.specs.declared.toc.Toc.{Toc}
 use Rattle.ldm_label.specs.Answer.{answer}
 use Rattle.ldm_label.specs.Fields.{sector, toc_of, same_toc, is_out_of_database}

@@ -1,6 +1,6 @@
 -- The fields of the sectors that a label is read from: the MBR, the private header (PRIVHEAD) and the table of contents
 -- (TOCBLOCK). Offsets are those of the format, in the sector. All numbers are big-endian.
-use Rattle.std.specs.Prelude.{ℕ, ◌+◌, ◌*◌, ◌/◌, ◌==◌, ◌&&◌, ◌||◌, Bool, List, [], ◌∷◌, length, take, slice_index, slice_range, codes, nat_lt, Option, Some, None, unwrap_or, if◌then◌else◌}
+use Rattle.std.specs.Prelude.{ℕ, ◌+◌, ◌*◌, ◌/◌, ◌==◌, ◌&&◌, ◌||◌, Bool, List, length, slice_index, slice_range, codes, nat_lt, Option, Some, None, unwrap_or, if◌then◌else◌}
 use Rattle.std.specs.Str.{bytes_eq}
 use Rattle.ldm_bytes.specs.Guid.{guid_of}
 use Rattle.ldm_bytes.specs.Places.{u16_at, u64_at}
@@ -50,7 +50,8 @@ header_of head = record {
   config_start = u64_at head 0x12B;
 }
 
--- there are no data, or data and database aren't one behind the other on a disk of so many sectors
+-- There are no data, they end behind the start of the database, the database begins in front of sector 7, or it ends
+-- behind the disk, which has so many sectors.
 unfoldable pub is_out_of_range : PrivateHeader → ℕ → Bool
 is_out_of_range header sectors = (header.data_size == 0)
     || nat_lt header.config_start (header.data_start + header.data_size)
@@ -62,7 +63,7 @@ same_header a b = (a.disk_guid == b.disk_guid) && (a.minor == b.minor) && (a.dat
 
 -- ---- the table of contents
 
--- the text of the magic, and the names of the two areas, each with a zero byte behind it
+-- it begins with TOCBLOCK, and the names of the two areas stand there, each with a zero byte behind it
 unfoldable pub parses : List ℕ → Bool
 parses toc = bytes_eq (slice_range toc 0 8) (codes "TOCBLOCK")
     && bytes_eq (slice_range toc 0x24 0x2B) (codes "config\0")

@@ -1,5 +1,6 @@
--- The label of an image, or its first fault. The tables stand in the order in which faults are looked for.
-use Rattle.std.specs.Prelude.{◌≡◌, ◌≢◌, ◌⊎◌, ℕ, ◌+◌, ◌*◌, ◌<◌, ◌≤◌, ◌==◌, ◌&&◌, Bool, List, [], ◌∷◌, ◌++◌, length, map, not, nat_lt, is_none, is_ok, unwrap_or, slice_get, Option, Some, None, Result, Ok, Err, if◌then◌else◌}
+-- The label of an image, or its first fault: tables of the faults, in the order in which they are looked for. Each row says
+-- where its fault is there.
+use Rattle.std.specs.Prelude.{◌≡◌, ◌≢◌, ◌⊎◌, ℕ, ◌+◌, ◌*◌, ◌<◌, ◌≤◌, ◌==◌, ◌&&◌, Bool, List, [], ◌∷◌, ◌++◌, length, slice_index, not, nat_lt, is_none, is_ok, unwrap_or, slice_get, Result}
 use Rattle.std.specs.List.{filter_map, list_any}
 use Rattle.ldm_label.specs.declared.header.PrivateHeader.{PrivateHeader}
 use Rattle.ldm_label.specs.declared.toc.Toc.{Toc}
@@ -43,7 +44,7 @@ tocs_in start image = filter_map (λ a. toc_of (sector image (start + a))) (1 �
 unfoldable pub some_differ : List Toc → Bool
 some_differ tocs = list_any (λ a. list_any (λ b. not (same_toc a b)) tocs) tocs
 
--- the values of the first
+-- the values of the first, and zeros where there is none
 abbrev pub first_toc : List Toc → Toc
 first_toc tocs = unwrap_or (slice_get tocs 0) (record { area_start = 0; area_sectors = 0; log_start = 0; log_sectors = 0 })
 
@@ -70,7 +71,7 @@ label_with header toc = record {
   log_sectors = toc.log_sectors;
 }
 
--- all faults in their order
+-- All faults in their order. The database begins where copy 1 of the private header says.
 abbrev pub label_faults : List ℕ → List (LabelFault × Bool)
 label_faults image =
     let header = header_of (sector image 6) in
@@ -80,7 +81,6 @@ label_faults image =
     ++ copy_faults header image
     ++ toc_faults (tocs_in header.config_start image)
 
--- The database begins where copy 1 of the private header says.
 unfoldable pub label_of : List ℕ → Result Label LabelFault
 label_of image =
     let header = header_of (sector image 6) in
@@ -101,3 +101,8 @@ abbrev pub IsOutsideArea : Label → ℕ → Type 0
 IsOutsideArea label k =
     let area = label.config_start + label.area_start in
     (k < 512 * area) ⊎ (512 * (area + label.area_sectors) ≤ k)
+
+-- the same image, but for any bytes in the config area
+pub record SameOutsideArea (label : Label) (old new : List ℕ) : Type 0 where
+  pub size : length new ≡ length old
+  pub outside : (k : ℕ) → IsOutsideArea label k → slice_index new k ≡ slice_index old k

@@ -1,5 +1,5 @@
 -- What the steps of reading a label answer.
-use Rattle.std.specs.Prelude.{◌≡◌, ◌≢◌, ℕ, ◌+◌, ◌≤◌, Option, Some, None, Result, Ok, Err, if◌then◌else◌}
+use Rattle.std.specs.Prelude.{◌≢◌, ℕ, ◌+◌, ◌≤◌, Option, Some, None, Result, Ok, Err, if◌then◌else◌}
 use Rattle.ldm_label.specs.declared.header.PrivateHeader.{PrivateHeader}
 use Rattle.ldm_label.specs.declared.toc.Toc.{Toc}
 use Rattle.ldm_label.specs.declared.LabelFault.{LabelFault}

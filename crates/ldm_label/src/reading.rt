@@ -95,8 +95,8 @@ fn read_toc<H: Host>(host: &mut H, disk: usize, start: u64) -> Result<Toc, Label
     Ok(Toc::checked(common)?)
 }
 
-/// The label of a disk, or its first fault. `Disk` comes only where a call of the disk failed. It reads
-/// no sector behind the first fault.
+/// The label of a disk, or its first fault. `Disk` comes only where a call of the disk failed. It takes
+/// no memory, reads sector by sector, and reads no more once a fault is found.
 pub fn read_label<H: Host>(host: &mut H, disk: usize) -> Result<Label, LabelError>
     requires { disk < length (H.seen host.old).sizes }
     ensures is { H.tells_disks → Gives result (label_of (image (H.seen host.old).content disk)) }

@@ -1,4 +1,4 @@
-ghost use Rattle.std.specs.Prelude.{◌≡◌, ◌+◌, ◌*◌, ◌/◌, ◌≤◌, ◌∷◌, [], ℕ, length, refl, ⊤};
+ghost use Rattle.std.specs.Prelude.{◌≡◌, ◌<◌, ◌/◌, ◌∷◌, [], ℕ, length, refl};
 
 use super::*;
 use crate::LabelFault::*;
@@ -15,15 +15,6 @@ struct OneDisk {
     wrote: u64,
     disk_faults: u64,
     talk_faults: u64,
-}
-
-impl OneDisk {
-    fn fault(&mut self) -> Failed
-        ensures kept { self.new ≡ record self.old { disk_faults = self.new.disk_faults } }
-    {
-        self.disk_faults = self.disk_faults.saturating_add(1);
-        Failed
-    }
 }
 
 impl Host for OneDisk {
@@ -71,7 +62,8 @@ impl Host for OneDisk {
 
     fn read_at(&mut self, _disk: usize, at: u64, buf: &mut [u8]) -> Result<(), Failed> {
         if self.good == 0 {
-            return Err(self.fault());
+            self.disk_faults = self.disk_faults.saturating_add(1);
+            return Err(Failed);
         }
         self.good -= 1;
         let at = at as usize;
@@ -81,11 +73,13 @@ impl Host for OneDisk {
 
     fn write_at(&mut self, _disk: usize, _at: u64, bytes: &[u8]) -> Result<(), Failed> {
         self.wrote = self.wrote.saturating_add(bytes.len() as u64);
-        Err(self.fault())
+        self.disk_faults = self.disk_faults.saturating_add(1);
+        Err(Failed)
     }
 
     fn sync(&mut self, _disk: usize) -> Result<(), Failed> {
-        Err(self.fault())
+        self.disk_faults = self.disk_faults.saturating_add(1);
+        Err(Failed)
     }
 
     fn hear(&mut self, _buf: &mut [u8]) -> Result<usize, Failed> {

@@ -169,7 +169,9 @@ impl<I: Read, O: Write> Host for FileHost<I, O> {
 
 #[cfg(test)]
 impl<I, O> FileHost<I, O> {
-    pub fn output(&self) -> &O {
+    pub fn output(&self) -> &O
+        ensures { result.now ≡ self.now.output }
+    {
         &self.output
     }
 }

@@ -1,7 +1,7 @@
-use Rattle.std.proofs.Common.{rules, ◌≡◌, ◌+◌, ◌/◌, ◌<◌, Bool, true, false, List, ℕ, length, slice_index, sym, ◌∙◌, ap, refl}
+use Rattle.std.proofs.Common.{◌≡◌, ◌+◌, true, false, sym, ◌∙◌, refl}
 use Rattle.ldm_host.specs.Seen.{image}
 use Rattle.ldm_label.specs.Fields.{sector, sectors_of}
-use Rattle.ldm_label.specs.LabelOf.{copy_faults, differs}
+use Rattle.ldm_label.specs.LabelOf.{copy_faults}
 use Rattle.ldm_label.proofs.CopyLaws.{copy_there}
 use Rattle.ldm_label.proofs.reading.check_copies.Goals as goal
 

@@ -1,4 +1,4 @@
-use Rattle.std.proofs.Common.{◌≡◌, ◌+◌, ℕ, drop, Option, None}
+use Rattle.std.proofs.Common.{◌≡◌, drop, None}
 use Rattle.ldm_host.specs.Moves.{Still, Quiet}
 use Rattle.ldm_host.specs.Seen.{image}
 use Rattle.ldm_label.proofs.TocLaws.{all_joined, reads, places}

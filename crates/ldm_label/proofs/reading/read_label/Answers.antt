@@ -1,4 +1,4 @@
-use Rattle.std.proofs.Common.{rules, ◌≡◌, ◌+◌, ◌/◌, ◌<◌, ◌≤◌, List, ℕ, length, slice_index, sym, ◌∙◌, arith}
+use Rattle.std.proofs.Common.{◌≡◌, ◌≤◌, sym, ◌∙◌, arith}
 use Rattle.ldm_host.specs.Seen.{image}
 use Rattle.ldm_host.proofs.Relations.{still_trans}
 use Rattle.ldm_label.specs.Fields.{sectors_of}

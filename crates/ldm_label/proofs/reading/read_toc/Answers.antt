@@ -1,6 +1,4 @@
-use Rattle.std.proofs.Common.{rules, ◌≡◌, List, ℕ, sym, ◌∙◌}
 use Rattle.ldm_host.specs.Seen.{image}
-use Rattle.ldm_label.specs.Answer.{answer}
 use Rattle.ldm_label.specs.LabelOf.{tocs_in, first_toc}
 use Rattle.ldm_label.proofs.TocLaws.{tocs_err, toc_err, toc_ok}
 use Rattle.ldm_label.proofs.GivesLaws.{faulty, passed}

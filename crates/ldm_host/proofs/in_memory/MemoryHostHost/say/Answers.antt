@@ -4,7 +4,7 @@ use Rattle.ldm_host.proofs.Relations.{still_trans, ticks_still}
 use Rattle.ldm_host.specs.Memory.{memory_seen}
 use Rattle.std.proofs.Common.{true}
 use Rattle.ldm_host.specs.Acts.{Act}
-use Rattle.ldm_host.specs.Ending.{half}
+use Rattle.ldm_host.specs.Ending.{first_half}
 use Rattle.ldm_host.proofs.HowEnds.{outcome_is, ends_ok, ends_dry, ends_half, ends_past, plan_is, nothing_of, nothing_still, on_ok, on_err}
 use Rattle.ldm_host.proofs.in_memory.MemoryHostHost.say.Goals as goal
 
@@ -56,7 +56,7 @@ returns-in-Half-clause-ending c =
     let is_dry = sym c.is_err-dry.ensures.value in
     ends_half (Act.Say c.args.bytes.now) m mid new c.is_err-dry.result (same.plan ∙ plan_is m c.next_outcome.new.number c.next_outcome.ensures.number) same.disk_faults same.talk_faults same.dry fault.plan
     (λ is. absurd (cc is)) (outcome_is m c.deref.result.now c.next_outcome.new.number c.next_outcome.result c.next_outcome.ensures.outcome c.deref.ensures.value c.next_outcome.ensures.number ∙ c.in-Half.is)
-    (λ found. (fault.quiet.said ∙ on_ok ((memory_seen mid).said ≡ (memory_seen m).said ++ half c.args.bytes.now) c.say_bytes-in-Half.result step.said (is_dry ∙ found), tt))
+    (λ found. (fault.quiet.said ∙ on_ok ((memory_seen mid).said ≡ (memory_seen m).said ++ first_half c.args.bytes.now) c.say_bytes-in-Half.result step.said (is_dry ∙ found), tt))
     (λ dry.
     let unsaid = on_err ((memory_seen mid).said ≡ (memory_seen m).said) c.say_bytes-in-Half.result step.unsaid (is_dry ∙ dry) in
     nothing_still (memory_seen m) (memory_seen mid) (memory_seen new) (nothing_of (memory_seen m) (memory_seen mid) step.still (record { said = unsaid; heard = step.heard; input = step.input })) fault.still fault.quiet)

@@ -4,24 +4,24 @@ use Rattle.ldm_bytes.specs.Places.{put}
 use Rattle.ldm_host.proofs.Relations.{ticks_still, writes_still}
 use Rattle.ldm_host.specs.Images.{items_of}
 use Rattle.ldm_host.specs.Memory.{memory_seen}
-use Rattle.ldm_host.specs.Story.{fresh, run}
+use Rattle.ldm_host.specs.Story.{fresh_state, run}
 use Rattle.ldm_host.proofs.InRange.{fits}
 use Rattle.std.proofs.Common.{true}
 use Rattle.ldm_host.specs.Acts.{Act}
-use Rattle.ldm_host.specs.Ending.{TakesNothing, Pends, half}
+use Rattle.ldm_host.specs.Ending.{TakesNothing, Pends, first_half}
 use Rattle.ldm_host.proofs.HowEnds.{outcome_is, ends_ok, ends_dry, ends_half, ends_past, plan_is, pends_still, nothing_still, on_ok, on_err}
 use Rattle.ldm_host.proofs.in_memory.MemoryHostHost.write_at.Goals as goal
 
 pub take_bytes-requires-clause-range : goal.take_bytes-requires-clause-range
 take_bytes-requires-clause-range c =
     let m = c.args.self.now in
-    let disks = (run (fresh (items_of m.first.items)) m.calls.items).disks in
+    let disks = (run (fresh_state (items_of m.first.items)) m.calls.items).disks in
     fits m.held.items disks m.kept.content c.args.disk c.requires.disk c.args.at (length c.args.bytes.now) c.requires.range
 
 pub take_bytes-requires-in-Half-clause-range : goal.take_bytes-requires-in-Half-clause-range
 take_bytes-requires-in-Half-clause-range c =
     let m = c.args.self.now in
-    let disks = (run (fresh (items_of m.first.items)) m.calls.items).disks in
+    let disks = (run (fresh_state (items_of m.first.items)) m.calls.items).disks in
     fits m.held.items disks m.kept.content c.args.disk c.requires.disk c.args.at (length c.args.bytes.now) c.requires.range
 
 pub returns-in-Err-clause-writes : goal.returns-in-Err-clause-writes
@@ -73,7 +73,7 @@ returns-in-Half-clause-ending c =
     ends_half (Act.Write c.args.disk c.args.at c.args.bytes.now) m mid new c.is_err-dry.result (same.plan ∙ plan_is m c.next_outcome.new.number c.next_outcome.ensures.number) same.disk_faults same.talk_faults same.dry fault.plan
     (λ is. absurd (cc is)) (outcome_is m c.deref.result.now c.next_outcome.new.number c.next_outcome.result c.next_outcome.ensures.outcome c.deref.ensures.value c.next_outcome.ensures.number ∙ c.in-Half.is)
     (λ found. let is = sym c.is_err-dry.ensures.value ∙ found in let r = c.take_bytes-in-Half.result in (
-      fault.still.content ∙ on_ok ((memory_seen mid).content ≡ set (memory_seen m).content c.args.disk (put (image (memory_seen m).content c.args.disk) c.args.at (half c.args.bytes.now))) r c.take_bytes-in-Half.ensures.placed is,
+      fault.still.content ∙ on_ok ((memory_seen mid).content ≡ set (memory_seen m).content c.args.disk (put (image (memory_seen m).content c.args.disk) c.args.at (first_half c.args.bytes.now))) r c.take_bytes-in-Half.ensures.placed is,
       pends_still c.args.disk c.args.at c.args.bytes.now (memory_seen m) (memory_seen mid) (memory_seen new) (on_ok (Pends (Act.Write c.args.disk c.args.at c.args.bytes.now) (memory_seen m) (memory_seen mid)) r c.take_bytes-in-Half.ensures.pending is) fault.still,
     ))
     (λ dry. nothing_still (memory_seen m) (memory_seen mid) (memory_seen new) (on_err (TakesNothing (memory_seen m) (memory_seen mid)) c.take_bytes-in-Half.result c.take_bytes-in-Half.ensures.untaken (sym c.is_err-dry.ensures.value ∙ dry)) fault.still fault.quiet)

@@ -5,7 +5,7 @@ use Rattle.ldm_host.specs.declared.call.Call.{Call}
 use Rattle.ldm_host.specs.declared.call.Call.TheVariants.{Nothing}
 use Rattle.ldm_host.specs.Kept.{IsKept}
 use Rattle.ldm_host.specs.Memory.{memory_seen, counts_of}
-use Rattle.ldm_host.specs.Story.{fresh, seen_from}
+use Rattle.ldm_host.specs.Story.{fresh_state, seen_from}
 use Rattle.ldm_host.proofs.StillKept.{kept_or_not, kept_same}
 use Rattle.ldm_host.proofs.EachStep.{still_counts, still_push}
 use Rattle.ldm_host.proofs.Relations.{still_trans}
@@ -23,7 +23,7 @@ invariant_of-self c =
 pub returns-clause-still : goal.returns-clause-still
 returns-clause-still c =
     let m = c.args.self.now in
-    let first = fresh (items_of m.first.items) in
+    let first = fresh_state (items_of m.first.items) in
     let counts = counts_of m in
     let kept = kept_or_not (λ (l : List Call). Still (memory_seen m) (seen_from first l m.script.items counts))
     (is_ok c.push.result) m.calls.items (m.calls.items ++ Nothing ∷ []) c.push.new.self.items c.push.ensures.items

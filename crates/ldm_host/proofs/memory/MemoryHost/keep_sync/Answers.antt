@@ -6,7 +6,7 @@ use Rattle.ldm_host.specs.declared.call.Call.{Call}
 use Rattle.ldm_host.specs.declared.call.Call.TheVariants.{Sync}
 use Rattle.ldm_host.specs.Kept.{IsKept}
 use Rattle.ldm_host.specs.Memory.{memory_seen, counts_of}
-use Rattle.ldm_host.specs.Story.{fresh, run, seen_from, sizes_of}
+use Rattle.ldm_host.specs.Story.{fresh_state, run, seen_from, sizes_of}
 use Rattle.ldm_host.specs.StoryLaws.{one_each}
 use Rattle.ldm_host.proofs.StillKept.{kept_or_not, kept_sync}
 use Rattle.ldm_host.proofs.EachStep.{syncs_counts, syncs_push, settled}
@@ -24,21 +24,21 @@ invariant_of-self c =
 pub returns-in_err-push-clause-syncs : goal.returns-in_err-push-clause-syncs
 returns-in_err-push-clause-syncs c =
     let m = c.args.self.now in
-    subst (λ (l : List Call). Syncs c.args.disk (memory_seen m) (seen_from (fresh (items_of m.first.items)) l m.script.items (counts_of m))) (sym c.in_err-push.ensures.items)
-    (syncs_counts (fresh (items_of m.first.items)) m.calls.items m.script.items (counts_of m) (counts_of m) (record { disk_faults = omega arith; talk_faults = omega arith }) c.args.disk refl)
+    subst (λ (l : List Call). Syncs c.args.disk (memory_seen m) (seen_from (fresh_state (items_of m.first.items)) l m.script.items (counts_of m))) (sym c.in_err-push.ensures.items)
+    (syncs_counts (fresh_state (items_of m.first.items)) m.calls.items m.script.items (counts_of m) (counts_of m) (record { disk_faults = omega arith; talk_faults = omega arith }) c.args.disk refl)
 
 pub returns-clause-syncs : goal.returns-clause-syncs
 returns-clause-syncs c =
     let m = c.args.self.now in
-    let disks = (run (fresh (items_of m.first.items)) m.calls.items).disks in
+    let disks = (run (fresh_state (items_of m.first.items)) m.calls.items).disks in
     let in_range : c.args.disk < length (sizes_of disks) = omega (arith, c.requires, length-map m.held.items (λ v. v.items), ap length m.kept.content, one_each disks) in
-    subst (λ (l : List Call). Syncs c.args.disk (memory_seen m) (seen_from (fresh (items_of m.first.items)) l m.script.items (counts_of m))) (sym c.in_ok-push.ensures.items)
-    (syncs_push (fresh (items_of m.first.items)) m.calls.items m.script.items (counts_of m) (counts_of m) (record { disk_faults = omega arith; talk_faults = omega arith }) c.args.disk in_range refl)
+    subst (λ (l : List Call). Syncs c.args.disk (memory_seen m) (seen_from (fresh_state (items_of m.first.items)) l m.script.items (counts_of m))) (sym c.in_ok-push.ensures.items)
+    (syncs_push (fresh_state (items_of m.first.items)) m.calls.items m.script.items (counts_of m) (counts_of m) (record { disk_faults = omega arith; talk_faults = omega arith }) c.args.disk in_range refl)
 
 pub returns-clause-settled : goal.returns-clause-settled
 returns-clause-settled c =
     let m = c.args.self.now in
-    let disks = (run (fresh (items_of m.first.items)) m.calls.items).disks in
+    let disks = (run (fresh_state (items_of m.first.items)) m.calls.items).disks in
     let in_range : c.args.disk < length (sizes_of disks) = omega (arith, c.requires, length-map m.held.items (λ v. v.items), ap length m.kept.content, one_each disks) in
-    subst (λ (l : List Call). Settled (seen_from (fresh (items_of m.first.items)) l m.script.items (counts_of m)) c.args.disk) (sym c.in_ok-push.ensures.items)
-    (settled (fresh (items_of m.first.items)) m.calls.items m.script.items (counts_of m) (counts_of m) (record { disk_faults = omega arith; talk_faults = omega arith }) c.args.disk in_range refl)
+    subst (λ (l : List Call). Settled (seen_from (fresh_state (items_of m.first.items)) l m.script.items (counts_of m)) c.args.disk) (sym c.in_ok-push.ensures.items)
+    (settled (fresh_state (items_of m.first.items)) m.calls.items m.script.items (counts_of m) (counts_of m) (record { disk_faults = omega arith; talk_faults = omega arith }) c.args.disk in_range refl)

@@ -5,7 +5,7 @@ use Rattle.ldm_host.specs.declared.call.Call.{Call}
 use Rattle.ldm_host.specs.declared.call.Call.TheVariants.{Say}
 use Rattle.ldm_host.specs.Kept.{IsKept}
 use Rattle.ldm_host.specs.Memory.{memory_seen, counts_of}
-use Rattle.ldm_host.specs.Story.{fresh, seen_from}
+use Rattle.ldm_host.specs.Story.{fresh_state, seen_from}
 use Rattle.ldm_host.proofs.StillKept.{kept_say}
 use Rattle.ldm_host.proofs.EachStep.{still_push}
 use Rattle.ldm_host.proofs.memory.MemoryHost.say_bytes.Goals as goal
@@ -22,5 +22,5 @@ invariant_of-self-2 c =
 pub returns-clause-still : goal.returns-clause-still
 returns-clause-still c =
     let m = c.args.self.now in
-    subst (λ (l : List Call). Still (memory_seen m) (seen_from (fresh (items_of m.first.items)) l m.script.items (counts_of m))) (sym c.in_ok-push.ensures.items)
-    (still_push (fresh (items_of m.first.items)) m.calls.items m.script.items (counts_of m) (counts_of m) (record { disk_faults = omega arith; talk_faults = omega arith }) (Say c.in_ok-copy.copy) refl refl)
+    subst (λ (l : List Call). Still (memory_seen m) (seen_from (fresh_state (items_of m.first.items)) l m.script.items (counts_of m))) (sym c.in_ok-push.ensures.items)
+    (still_push (fresh_state (items_of m.first.items)) m.calls.items m.script.items (counts_of m) (counts_of m) (record { disk_faults = omega arith; talk_faults = omega arith }) (Say c.in_ok-copy.copy) refl refl)

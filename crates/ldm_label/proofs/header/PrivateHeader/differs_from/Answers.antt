@@ -1,4 +1,4 @@
-use Rattle.std.proofs.Common.{ap, ◌∙◌, ◌≡◌, Bool}
+use Rattle.std.proofs.Common.{ap, ◌∙◌, Bool}
 use Rattle.std.specs.Prelude.{not}
 use Rattle.ldm_label.proofs.CopyLaws.{good_differs}
 use Rattle.ldm_label.proofs.header.PrivateHeader.differs_from.Goals as goal

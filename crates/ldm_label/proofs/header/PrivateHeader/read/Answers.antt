@@ -1,5 +1,4 @@
-use Rattle.std.proofs.Common.{sym, ◌∙◌, ◌≡◌, false}
-use Rattle.ldm_label.specs.Fields.{is_out_of_range}
+use Rattle.std.proofs.Common.{sym, ◌∙◌}
 use Rattle.ldm_label.proofs.FitLaws.{header_fits}
 use Rattle.ldm_label.proofs.header.PrivateHeader.read.Goals as goal
 

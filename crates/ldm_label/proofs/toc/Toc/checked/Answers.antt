@@ -1,6 +1,4 @@
-use Rattle.std.proofs.Common.{sym, ◌∙◌, ◌≡◌, false}
-use Rattle.ldm_label.specs.declared.toc.Toc.{Toc}
-use Rattle.ldm_label.specs.Fields.{is_out_of_database}
+use Rattle.std.proofs.Common.{◌≡◌}
 use Rattle.ldm_label.proofs.FitLaws.{toc_fits}
 use Rattle.ldm_label.proofs.toc.Toc.checked.Goals as goal
 
