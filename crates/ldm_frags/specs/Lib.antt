@@ -1,0 +1,6 @@
+pub mod Blocks
+pub mod Faults
+pub mod Joins
+pub mod Answers
+pub mod Groups
+pub mod Written

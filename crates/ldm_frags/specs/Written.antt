@@ -1,0 +1,87 @@
+-- Blocks as they are written: the sequence of a block is its number, a record takes as few blocks as hold
+-- it, its group is the number of the block that holds part 0, and its last payload is filled with zeros.
+use Rattle.std.specs.Prelude.{◌≡◌, ◌≢◌, ℕ, zero, suc, ◌+◌, ◌-◌, ◌*◌, ◌/◌, ◌<◌, ◌≤◌, ◌==◌, List, [], ◌∷◌, ◌++◌, length, take, drop, map, filter, replicate, slice_index, sum_by, codes, All, AllPairs}
+use Rattle.byteorder.specs.Endian.{big_bytes}
+use Rattle.ldm_frags.specs.declared.faults.Joined.{Joined}
+use Rattle.ldm_frags.specs.Blocks.{count}
+
+-- how many blocks n bytes take: n / 112 rounded up
+abbrev pub parts_of : ℕ → ℕ
+parts_of n = (n + 111) / 112
+
+-- a payload with the zeros that fill its last block
+abbrev pub filled : List ℕ → List ℕ
+filled bytes = bytes ++ replicate (112 * parts_of (length bytes) - length bytes) 0
+
+-- the 112 bytes of one part
+abbrev pub part_bytes : List ℕ → ℕ → List ℕ
+part_bytes bytes i = take 112 (drop (112 * i) (filled bytes))
+
+-- the text `VBLK`, sequence, group, part and parts
+abbrev pub head : ℕ → ℕ → ℕ → ℕ → List ℕ
+head number group part parts =
+    codes "VBLK" ++ big_bytes 4 number ++ big_bytes 4 group ++ big_bytes 2 part ++ big_bytes 2 parts
+
+-- a head, and then 112 bytes
+unfoldable pub written_block : ℕ → ℕ → ℕ → ℕ → List ℕ → List ℕ
+written_block number group part parts bytes = head number group part parts ++ bytes
+
+abbrev pub unused_block : ℕ → List ℕ
+unused_block number = written_block number 0 0 0 (replicate 112 0)
+
+-- the block of that number, where number 4 is the first of the list
+abbrev pub block_at : List ℕ → ℕ → List ℕ
+block_at blocks number = take 128 (drop (128 * (number - 4)) blocks)
+
+abbrev pub IsInUse : List ℕ → ℕ → Type 0
+IsInUse blocks number = (4 ≤ number) × (number < count blocks + 4)
+
+-- a record's payload, and the numbers of the blocks that hold it, by part
+pub record Placed : Type 0 where
+  pub payload : List ℕ
+  pub slots : List ℕ
+
+abbrev pub slot : Placed → ℕ → ℕ
+slot r i = slice_index r.slots i
+
+-- each part of the record stands at its slot, wherever that is
+pub record IsPlaced (blocks : List ℕ) (r : Placed) : Type 0 where
+  pub some : 1 ≤ length r.payload
+  pub few : length r.payload ≤ 448
+  pub whole : length r.slots ≡ parts_of (length r.payload)
+  pub within : (i : ℕ) → i < length r.slots → IsInUse blocks (slot r i)
+  pub written : (i : ℕ) → i < length r.slots → block_at blocks (slot r i) ≡ written_block (slot r i) (slot r 0) i (length r.slots) (part_bytes r.payload i)
+
+-- the blocks hold these records: each at its slots, in groups that differ, and all other blocks are unused
+pub record Holds (blocks : List ℕ) (records : List Placed) : Type 0 where
+  pub placed : All (IsPlaced blocks) records
+  pub apart : AllPairs (λ r s. slot r 0 ≢ slot s 0) records
+  pub unused : (number : ℕ) → IsInUse blocks number → All (λ r. All (λ s. s ≢ number) r.slots) records → block_at blocks number ≡ unused_block number
+
+-- what a record joins to
+abbrev pub joined_of : Placed → Joined
+joined_of r = record { block = slot r 0; payload = filled r.payload }
+
+-- what the records join to whose part 0 stands below number k + 4, in rising number
+unfoldable pub joined_below : List Placed → ℕ → List Joined
+joined_below records zero = []
+joined_below records (suc k) = joined_below records k ++ map joined_of (filter (λ r. slot r 0 == k + 4) records)
+
+-- n numbers from this one on
+abbrev pub numbers_from : ℕ → ℕ → List ℕ
+numbers_from number zero = []
+numbers_from number (suc n) = number ∷ numbers_from (number + 1) n
+
+-- the records of these payloads one after the other without gaps, from this block on
+abbrev pub in_order : ℕ → List (List ℕ) → List Placed
+in_order number [] = []
+in_order number (bytes ∷ more) =
+    record { payload = bytes; slots = numbers_from number (parts_of (length bytes)) } ∷ in_order (number + parts_of (length bytes)) more
+
+-- a payload that a record may have: 1 to 448 bytes, which take 1 to 4 blocks
+abbrev pub IsSized : List ℕ → Type 0
+IsSized bytes = (1 ≤ length bytes) × (length bytes ≤ 448)
+
+-- how many blocks the payloads take together
+abbrev pub need_of : List (List ℕ) → ℕ
+need_of payloads = sum_by (λ bytes. parts_of (length bytes)) payloads

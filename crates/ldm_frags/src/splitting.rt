@@ -1,0 +1,132 @@
+ghost use Rattle.std.specs.Prelude.{◌≡◌, ℕ, ◌+◌, ◌*◌, ◌≤◌, ◌<◌, length, map, All, IfOk};
+ghost use Rattle.ldm_frags.specs.Blocks.{count};
+ghost use Rattle.ldm_frags.specs.Joins.{Joins};
+ghost use Rattle.ldm_frags.specs.Written.{parts_of, need_of, IsSized, IsPlaced, Holds, in_order, joined_of};
+ghost use Rattle.ldm_frags.specs.Answers.{SplitAnswers};
+
+use crate::SplitError;
+use crate::writing::{write_record, write_unused};
+use ldm_bytes::Bytes;
+use std::alloc::Global;
+
+/// How many blocks a payload of so many bytes takes.
+pub fn parts_of(len: usize) -> u32
+    requires some { 1 ≤ len }
+    requires few { len ≤ 448 }
+    ensures { result ≡ parts_of len }
+{
+    len.div_ceil(112) as u32
+}
+
+// How many blocks the payloads take together.
+fn need_of(payloads: &Vec<Bytes>) -> u64
+    requires { All IsSized payloads.now.items }
+    ensures { result ≡ need_of payloads.now.items }
+{
+    let mut need = 0;
+    for payload in payloads {
+        need += u64::from(parts_of(payload.as_slice().len()));
+    }
+    need
+}
+
+// Writes the records one after the other from block 4 on, and answers the number of the next block.
+fn write_records(out: &mut [u8], payloads: &Vec<Bytes>) -> u32
+    requires sized { All IsSized payloads.now.items }
+    requires small { length out.old ≤ 1048576 }
+    requires room { need_of payloads.now.items ≤ count out.old }
+    ensures next { result ≡ 4 + need_of payloads.now.items }
+    ensures placed { All (IsPlaced out.new) (in_order 4 payloads.now.items) }
+{
+    let mut number = 4;
+    for payload in payloads {
+        let bytes = payload.as_slice();
+        write_record(out, number, bytes);
+        number += parts_of(bytes.len());
+    }
+    number
+}
+
+// Writes the records one after the other, and then unused blocks. `out` begins with block 4.
+fn write_all(out: &mut [u8], payloads: &Vec<Bytes>)
+    requires sized { All IsSized payloads.now.items }
+    requires small { length out.old ≤ 1048576 }
+    requires room { need_of payloads.now.items ≤ count out.old }
+    ensures { Holds out.new (in_order 4 payloads.now.items) }
+{
+    let next = write_records(out, payloads);
+    let end = (out.len() / 128) as u32 + 4;
+    write_unused(out, next, end);
+}
+
+/// The blocks from number 4 on that hold records of these payloads, in their order and without gaps,
+/// and then unused blocks.
+pub fn split(alloc: Global, payloads: &Vec<Bytes>, blocks: u32) -> Result<Bytes, SplitError>
+    requires sized { All IsSized payloads.now.items }
+    requires few { blocks ≤ 8192 }
+    ensures answers { SplitAnswers payloads.now.items blocks result }
+    // What is written joins to the payloads in their order, each filled with zeros.
+    ensures joins { IfOk result (λ out. Joins out (map joined_of (in_order 4 payloads.now.items))) }
+{
+    let need = need_of(payloads);
+    let have = u64::from(blocks);
+    if need > have {
+        return Err(SplitError::NoRoom { need, have });
+    }
+    let mut out = Vec::new(alloc);
+    out.resize(128 * blocks as usize, 0u8)?;
+    write_all(&mut out, payloads);
+    Ok(Bytes::from_vec(out))
+}
+
+#[cfg(test)]
+mod tests {
+    use super::*;
+    use std::test::Fail;
+
+    // A partition record with a name of 255 letters.
+    fn long_record() -> [u8; 301] {
+        let mut record = [0u8; 301];
+        record[..11].copy_from_slice(&[0, 0, 0, 0x33, 0, 0, 1, 0x25, 1, 7, 0xFF]);
+        record[11..266].fill(b'x');
+        record[294..].copy_from_slice(&[2, 8, 0, 1, 6, 1, 2]);
+        record
+    }
+
+    #[test]
+    fn counts_parts(rt: HostRuntime) {
+        assert_eq!(rt; parts_of(1), 1);
+        assert_eq!(rt; parts_of(112), 1);
+        assert_eq!(rt; parts_of(113), 2);
+        assert_eq!(rt; parts_of(448), 4);
+    }
+
+    #[test]
+    fn splits_a_long_record(rt: HostRuntime) -> Result<(), Fail> {
+        let record = long_record();
+        let mut payloads = Vec::new(rt.alloc());
+        payloads.push(Bytes::from_slice(rt.alloc(), &record)?)?;
+        let out = split(rt.alloc(), &payloads, 4)?;
+        let bytes = out.as_slice();
+        assert_eq!(rt; bytes.len(), 512);
+        assert_eq!(rt; &bytes[..16], b"VBLK\0\0\0\x04\0\0\0\x04\0\0\0\x03".as_slice());
+        assert_eq!(rt; &bytes[16..128], &record[0..112]);
+        assert_eq!(rt; &bytes[128..144], b"VBLK\0\0\0\x05\0\0\0\x04\0\x01\0\x03".as_slice());
+        assert_eq!(rt; &bytes[144..256], &record[112..224]);
+        assert_eq!(rt; &bytes[256..272], b"VBLK\0\0\0\x06\0\0\0\x04\0\x02\0\x03".as_slice());
+        assert_eq!(rt; &bytes[272..349], &record[224..]);
+        assert!(rt; bytes[349..384].iter().all(|byte| *byte == 0));
+        assert_eq!(rt; &bytes[384..392], b"VBLK\0\0\0\x07".as_slice());
+        assert!(rt; bytes[392..].iter().all(|byte| *byte == 0));
+        Ok(())
+    }
+
+    #[test]
+    fn needs_three_blocks(rt: HostRuntime) -> Result<(), Fail> {
+        let mut payloads = Vec::new(rt.alloc());
+        payloads.push(Bytes::from_slice(rt.alloc(), &long_record())?)?;
+        let answer = split(rt.alloc(), &payloads, 2);
+        assert_eq!(rt; answer.err(), Some(SplitError::NoRoom { need: 3, have: 2 }));
+        Ok(())
+    }
+}
