@@ -9,11 +9,13 @@ ghost use Rattle.std.specs.Prelude.{◌≡◌};
 ghost use Rattle.ldm_label.specs.declared.LabelError.TheVariants.{Fault, Disk};
 
 mod header;
+mod labels;
 mod mbr;
 mod reading;
 mod sectors;
 mod toc;
 
+pub use labels::Labels;
 use ldm_host::Failed;
 pub use reading::read_label;
 
