@@ -1,14 +1,14 @@
 -- Blocks that hold records join to these records, wherever the parts stand.
-use Rattle.std.proofs.Common.{◌≡◌, ◌≢◌, ◌⊎◌, ◌==◌, ℕ, zero, suc, ◌+◌, ◌-◌, ◌*◌, ◌/◌, ◌^◌, ◌<◌, ◌≤◌, Bool, true, false, cond, eqb, leb, List, [], ◌∷◌, ◌++◌, length, take, drop, map, filter, replicate, get_or, slice_index, nat_eq, All, AllPairs, refl, sym, ap, subst, ◌∙◌, arith, inl, inr, add-one}
+use Rattle.std.proofs.Common.{◌≡◌, ◌≢◌, ◌⊎◌, ◌==◌, ℕ, zero, suc, ◌+◌, ◌-◌, ◌*◌, ◌<◌, ◌≤◌, Bool, true, false, eqb, List, [], ◌∷◌, ◌++◌, length, take, drop, map, filter, replicate, get_or, slice_index, All, AllPairs, refl, sym, ap, subst, ◌∙◌, arith, inl, inr, add-one}
 use Rattle.std.proofs.Math.Seq.{take-add}
-use Rattle.std.proofs.lemmas.Bool.{cases_lt, eqb-true, eq-eqb, leb-true, le-leb, lt-leb, eqb-false, ne_eqb, cases_eq}
-use Rattle.std.proofs.lemmas.List.{length-append, length-replicate, length-drop, length-take-le, take_all, append-nil}
-use Rattle.std.specs.Prelude.{◌&&◌, slice_range}
+use Rattle.std.proofs.lemmas.Bool.{cases_lt, eqb-true, eq-eqb, leb-true, le-leb, ne_eqb, cases_eq}
+use Rattle.std.proofs.lemmas.List.{length-append, length-replicate, length-drop, length-take-le, take_all}
+use Rattle.std.specs.Prelude.{◌&&◌}
 use Rattle.ldm_frags.specs.declared.faults.Joined.{Joined}
-use Rattle.ldm_frags.specs.Blocks.{count, has_magic, group, part, parts, payload, is_fragment, is_of, is_part, some_below, least_below}
+use Rattle.ldm_frags.specs.Blocks.{count, has_magic, group, part, parts, payload, is_fragment, is_of, is_part, least_below}
 use Rattle.ldm_frags.specs.Joins.{gathered, entry, entries, Joins}
-use Rattle.ldm_frags.specs.Written.{parts_of, filled, part_bytes, written_block, unused_block, block_at, IsInUse, Placed, slot, IsPlaced, Holds, joined_of, joined_below}
-use Rattle.ldm_frags.proofs.Below.{none_from, least_is}
+use Rattle.ldm_frags.specs.Written.{parts_of, filled, part_bytes, Placed, slot, IsPlaced, Holds, joined_of, joined_below}
+use Rattle.ldm_frags.proofs.Below.{flat_map_below, none_from, least_is}
 use Rattle.ldm_frags.proofs.JoinLaws.{gathered_none, gathered_more, entries_none, entries_more, frag_is}
 use Rattle.ldm_frags.proofs.Fields.{HasFields, fields_of}
 
@@ -117,7 +117,7 @@ parts_more bytes i = sym (ap (λ (n : ℕ). take n (filled bytes)) (omega arith)
 -- block k holds part i of record m, or it is free
 data Stands (blocks : List ℕ) (records : List Placed) (k : ℕ) : Type 0 where
   in_record : (m i : ℕ) → m < length records → i < length (record_at records m).slots → slot (record_at records m) i ≡ k + 4
-    → HasFields blocks k (slot (record_at records m) 0) i (length (record_at records m).slots) (part_bytes (record_at records m).payload i) → Stands blocks records k
+      → HasFields blocks k (slot (record_at records m) 0) i (length (record_at records m).slots) (part_bytes (record_at records m).payload i) → Stands blocks records k
   free : IsFree records (k + 4) → HasFields blocks k 0 0 0 (replicate 112 0) → Stands blocks records k
 
 few_slots : (blocks : List ℕ) (r : Placed) → IsPlaced blocks r → (1 ≤ length r.slots) × (length r.slots ≤ 4)
@@ -145,10 +145,10 @@ stands : (blocks : List ℕ) (records : List Placed) → length blocks ≤ 10485
 stands blocks records small holds k lt =
     elim (find_slot records (k + 4)) [
       | inl found ↦
-        in_record found.m found.i found.in_records found.in_slots found.there
-        (part_fields blocks (record_at records found.m) found.i k small (holds.placed found.m nowhere found.in_records) found.in_slots found.there)
+          in_record found.m found.i found.in_records found.in_slots found.there
+          (part_fields blocks (record_at records found.m) found.i k small (holds.placed found.m nowhere found.in_records) found.in_slots found.there)
       | inr none ↦
-        free none (fields_of blocks k (k + 4) 0 0 0 (replicate 112 0) refl (holds.unused (k + 4) (omega arith, omega arith) none) (omega arith) (omega arith) (omega arith))
+          free none (fields_of blocks k (k + 4) 0 0 0 (replicate 112 0) refl (holds.unused (k + 4) (omega arith, omega arith) none) (omega arith) (omega arith) (omega arith))
     ]
 
 not_free : (blocks : List ℕ) (k g p : ℕ) (bytes : List ℕ) → HasFields blocks k g p 0 bytes → is_fragment blocks k ≡ true → ⊥
@@ -240,13 +240,13 @@ least_of blocks records m p j small holds lm lp two lj e =
     let frag : is_fragment blocks j ≡ true = frag_is blocks j (length (record_at records m).slots) (sym has.parts) two in
     least_is (count blocks) j (is_part blocks (slot (record_at records m) 0) p) lj
     (none_from j (is_part blocks (slot (record_at records m) 0) p) (λ l below.
-        elim (false_or_true (is_part blocks (slot (record_at records m) 0) p l)) [
-          | inl not ↦ not
-          | inr is ↦
-            let is_j : is_part blocks (group blocks j) (part blocks j) l ≡ true = subst (λ (g : ℕ). is_part blocks g (part blocks j) l ≡ true) (sym has.group) (subst (λ (q : ℕ). is_part blocks (slot (record_at records m) 0) q l ≡ true) (sym has.part) is) in
-            let same = once_held blocks records l j holds frag is_j (stands blocks records small holds l (omega arith)) (stands blocks records small holds j lj) in
-            absurd (omega arith)
-        ]))
+    elim (false_or_true (is_part blocks (slot (record_at records m) 0) p l)) [
+      | inl not ↦ not
+      | inr is ↦
+          let is_j : is_part blocks (group blocks j) (part blocks j) l ≡ true = subst (λ (g : ℕ). is_part blocks g (part blocks j) l ≡ true) (sym has.group) (subst (λ (q : ℕ). is_part blocks (slot (record_at records m) 0) q l ≡ true) (sym has.part) is) in
+          let same = once_held blocks records l j holds frag is_j (stands blocks records small holds l (omega arith)) (stands blocks records small holds j lj) in
+          absurd (omega arith)
+    ]))
     here
 
 gathered_held : (blocks : List ℕ) (records : List Placed) (m p : ℕ) → length blocks ≤ 1048576 → Holds blocks records → m < length records → 2 ≤ length (record_at records m).slots → p ≤ length (record_at records m).slots
@@ -309,23 +309,23 @@ entry_begun blocks records k m small holds lm li e has =
     let n = has.parts in
     elim (cases_lt 1 (length (record_at records m).slots)) [
       | inl two ↦
-        let all : gathered blocks (group blocks k) (parts blocks k) ≡ filled (record_at records m).payload =
-        ap (λ (g : ℕ). gathered blocks g (parts blocks k)) has.group ∙ ap (gathered blocks (slot (record_at records m) 0)) has.parts
-        ∙ gathered_held blocks records m (length (record_at records m).slots) small holds lm (omega arith) (omega arith)
-        ∙ all_parts blocks (record_at records m) (length (record_at records m).slots) (holds.placed m nowhere lm) refl in
-        entry_first blocks k (omega arith) has.part ∙ one_entry _ _ _ _ (sym e) all
+          let all : gathered blocks (group blocks k) (parts blocks k) ≡ filled (record_at records m).payload =
+          ap (λ (g : ℕ). gathered blocks g (parts blocks k)) has.group ∙ ap (gathered blocks (slot (record_at records m) 0)) has.parts
+          ∙ gathered_held blocks records m (length (record_at records m).slots) small holds lm (omega arith) (omega arith)
+          ∙ all_parts blocks (record_at records m) (length (record_at records m).slots) (holds.placed m nowhere lm) refl in
+          entry_first blocks k (omega arith) has.part ∙ one_entry _ _ _ _ (sym e) all
       | inr one ↦
-        let single : 1 ≡ length (record_at records m).slots = omega arith in
-        entry_whole blocks k (omega arith) ∙ one_entry _ _ _ _ (sym e) (has.payload ∙ all_parts blocks (record_at records m) 1 (holds.placed m nowhere lm) single)
+          let single : 1 ≡ length (record_at records m).slots = omega arith in
+          entry_whole blocks k (omega arith) ∙ one_entry _ _ _ _ (sym e) (has.payload ∙ all_parts blocks (record_at records m) 1 (holds.placed m nowhere lm) single)
     ]
 
 -- block k adds the records that begin there
 entry_held : (blocks : List ℕ) (records : List Placed) (k : ℕ) → length blocks ≤ 1048576 → Holds blocks records → k < count blocks → Stands blocks records k → entry blocks k ≡ map joined_of (begin_at records (k + 4))
 entry_held blocks records k small holds lt (free none has) =
     let nothing : begin_at records (k + 4) ≡ [] = begin_none records (k + 4) (λ m d lm.
-        let few = few_slots blocks (get_or records m d) (holds.placed m d lm) in
-        let few_0 = few.0 in
-        none m d lm 0 0 (omega arith)) in
+    let few = few_slots blocks (get_or records m d) (holds.placed m d lm) in
+    let few_0 = few.0 in
+    none m d lm 0 0 (omega arith)) in
     entry_none blocks k has.parts ∙ sym (ap (map joined_of) nothing)
 entry_held blocks records k small holds lt (in_record m zero lm li e has) =
     let r : Placed = record_at records m in
@@ -335,11 +335,11 @@ entry_held blocks records k small holds lt (in_record m (suc i) lm li e has) =
     let n = has.parts in
     let p = has.part in
     let nothing : begin_at records (k + 4) ≡ [] = begin_none records (k + 4) (λ l d ll. λ first.
-        let few = few_slots blocks (get_or records l d) (holds.placed l d ll) in
-        let few_0 = few.0 in
-        let has_l = part_fields blocks (get_or records l d) 0 k small (holds.placed l d ll) (omega arith) first in
-        let p_l = has_l.part in
-        absurd (omega arith)) in
+    let few = few_slots blocks (get_or records l d) (holds.placed l d ll) in
+    let few_0 = few.0 in
+    let has_l = part_fields blocks (get_or records l d) 0 k small (holds.placed l d ll) (omega arith) first in
+    let p_l = has_l.part in
+    absurd (omega arith)) in
     entry_later blocks k (omega arith) (omega arith) ∙ sym (ap (map joined_of) nothing)
 
 joined_none : (records : List Placed) → joined_below records 0 ≡ []
@@ -348,7 +348,7 @@ joined_none records = refl
 
 joined_more : (records : List Placed) (k : ℕ) → joined_below records (suc k) ≡ joined_below records k ++ map joined_of (begin_at records (k + 4))
 unfolding joined_below
-joined_more records k = refl
+joined_more records k = sym (ap (joined_below records) (add-one k)) ∙ flat_map_below (λ (j : ℕ). map joined_of (begin_at records (j + 4))) k
 
 entries_held : (blocks : List ℕ) (records : List Placed) (n : ℕ) → length blocks ≤ 1048576 → Holds blocks records → n ≤ count blocks → joined_below records n ≡ entries blocks n
 entries_held blocks records zero small holds le = joined_none records ∙ sym (entries_none blocks)
@@ -365,14 +365,14 @@ pub holds_joins : (blocks : List ℕ) (records : List Placed) → length blocks 
 holds_joins blocks records small holds =
     let s = λ (k : ℕ) (lt : k < count blocks). stands blocks records small holds k lt in
     record {
-    magic = λ k lt. has_magic_held blocks records k (s k lt);
-    few = λ k lt. few_held blocks records k holds (s k lt);
-    below = λ k lt frag. below_held blocks records k frag (s k lt);
-    one_count = λ j k lj lk frag of. one_count_held blocks records j k holds frag of (s j lj) (s k lk);
-    once = λ j k lj lk frag is. once_held blocks records j k holds frag is (s j lj) (s k lk);
-    complete = λ k p lt frag lp. complete_held blocks records k p small holds frag lp (s k lt);
-    entries_are = entries_held blocks records (count blocks) small holds (omega arith);
-}
+      magic = λ k lt. has_magic_held blocks records k (s k lt);
+      few = λ k lt. few_held blocks records k holds (s k lt);
+      below = λ k lt frag. below_held blocks records k frag (s k lt);
+      one_count = λ j k lj lk frag of. one_count_held blocks records j k holds frag of (s j lj) (s k lk);
+      once = λ j k lj lk frag is. once_held blocks records j k holds frag is (s j lj) (s k lk);
+      complete = λ k p lt frag lp. complete_held blocks records k p small holds frag lp (s k lt);
+      entries_are = entries_held blocks records (count blocks) small holds (omega arith);
+    }
 
 -- ---- records in rising order of their first blocks
 
@@ -390,23 +390,23 @@ joined_first r rs zero later low high = absurd (omega arith)
 joined_first r rs (suc n) later low high =
     elim (cases_lt (slot r 0) (n + 4)) [
       | inl lt ↦
-        let other : eqb (slot r 0) (n + 4) ≡ false = ne_eqb _ _ (λ e. absurd (omega arith)) in
-        let skip : begin_at (r ∷ rs) (n + 4) ≡ begin_at rs (n + 4) = rw other refl in
-        joined_more (r ∷ rs) n
-        ∙ ap (λ (x : List Joined). x ++ map joined_of (begin_at (r ∷ rs) (n + 4))) (joined_first r rs n later low lt)
-        ∙ ap (λ (x : List Placed). joined_of r ∷ joined_below rs n ++ map joined_of x) skip
-        ∙ ap (λ (x : List Joined). joined_of r ∷ x) (sym (joined_more rs n))
+          let other : eqb (slot r 0) (n + 4) ≡ false = ne_eqb _ _ (λ e. absurd (omega arith)) in
+          let skip : begin_at (r ∷ rs) (n + 4) ≡ begin_at rs (n + 4) = rw other refl in
+          joined_more (r ∷ rs) n
+          ∙ ap (λ (x : List Joined). x ++ map joined_of (begin_at (r ∷ rs) (n + 4))) (joined_first r rs n later low lt)
+          ∙ ap (λ (x : List Placed). joined_of r ∷ joined_below rs n ++ map joined_of x) skip
+          ∙ ap (λ (x : List Joined). joined_of r ∷ x) (sym (joined_more rs n))
       | inr ge ↦
-        let at : slot r 0 ≡ n + 4 = omega arith in
-        let same : eqb (slot r 0) (n + 4) ≡ true = eq-eqb _ _ at in
-        let none : begin_at rs (n + 4) ≡ [] = begin_none rs (n + 4) (λ k d lt e. let after = later k d lt in absurd (omega arith)) in
-        let only : begin_at (r ∷ rs) (n + 4) ≡ r ∷ [] = rw (same, none) refl in
-        let before : joined_below (r ∷ rs) n ≡ [] = joined_before (r ∷ rs) n (All-cons (λ (s : Placed). n + 4 ≤ slot s 0) r rs (omega arith) (λ k d lt. let after = later k d lt in omega arith)) in
-        let rest : joined_below rs (suc n) ≡ [] = joined_before rs (suc n) (λ k d lt. let after = later k d lt in omega arith) in
-        joined_more (r ∷ rs) n
-        ∙ ap (λ (x : List Joined). x ++ map joined_of (begin_at (r ∷ rs) (n + 4))) before
-        ∙ ap (map joined_of) only
-        ∙ ap (λ (x : List Joined). joined_of r ∷ x) (sym rest)
+          let at : slot r 0 ≡ n + 4 = omega arith in
+          let same : eqb (slot r 0) (n + 4) ≡ true = eq-eqb _ _ at in
+          let none : begin_at rs (n + 4) ≡ [] = begin_none rs (n + 4) (λ k d lt e. let after = later k d lt in absurd (omega arith)) in
+          let only : begin_at (r ∷ rs) (n + 4) ≡ r ∷ [] = rw (same, none) refl in
+          let before : joined_below (r ∷ rs) n ≡ [] = joined_before (r ∷ rs) n (All-cons (λ (s : Placed). n + 4 ≤ slot s 0) r rs (omega arith) (λ k d lt. let after = later k d lt in omega arith)) in
+          let rest : joined_below rs (suc n) ≡ [] = joined_before rs (suc n) (λ k d lt. let after = later k d lt in omega arith) in
+          joined_more (r ∷ rs) n
+          ∙ ap (λ (x : List Joined). x ++ map joined_of (begin_at (r ∷ rs) (n + 4))) before
+          ∙ ap (map joined_of) only
+          ∙ ap (λ (x : List Joined). joined_of r ∷ x) (sym rest)
     ]
 
 -- records that stand in rising order join to themselves

@@ -1,6 +1,6 @@
 -- Lists of blocks with no fault are joined, and those with one are not.
-use Rattle.std.proofs.Common.{◌≡◌, ℕ, zero, suc, ◌+◌, ◌<◌, ◌≤◌, Bool, true, false, not, cond, eqb, ltb, leb, List, [], ◌∷◌, ◌++◌, Option, Some, None, refl, sym, ap, subst, ◌∙◌, arith, inl, inr, add-one}
-use Rattle.std.specs.Prelude.{◌||◌, ◌&&◌, ◌⊎◌, ◌↔◌, Result, Ok, Err, IsErrAnd}
+use Rattle.std.proofs.Common.{◌≡◌, ℕ, ◌+◌, ◌<◌, ◌≤◌, Bool, true, false, not, cond, eqb, ltb, leb, List, [], ◌++◌, Option, Some, None, refl, sym, ap, subst, ◌∙◌, arith, inl, inr}
+use Rattle.std.specs.Prelude.{◌&&◌, ◌⊎◌, ◌↔◌, Result, Ok, Err, IsErrAnd}
 use Rattle.std.proofs.lemmas.Bool.{cases_lt, ltb-false, le-ltb, leb-false, lt-leb, le-leb, eqb-true, eq-eqb, false≢true}
 use Rattle.ldm_frags.specs.declared.faults.FragFault.{FragFault}
 use Rattle.ldm_frags.specs.declared.faults.FragFault.TheVariants.{NoMagic, Parts, Part, Mixed, Repeated, Missing}
@@ -8,11 +8,11 @@ use Rattle.std.specs.Global.{Vec}
 use Rattle.ldm_frags.specs.declared.faults.FragError.{FragError}
 use Rattle.ldm_frags.specs.declared.faults.FragError.TheVariants.{Fault, NoMemory}
 use Rattle.ldm_frags.specs.Answers.{Answers, Gives, Refuses, IsFault}
-use Rattle.ldm_frags.specs.Blocks.{count, has_magic, group, part, parts, payload, is_fragment, is_of, is_part, is_mixed, some_below, all_below, is_there, has_parts, least_below}
+use Rattle.ldm_frags.specs.Blocks.{count, has_magic, group, part, parts, payload, is_fragment, is_of, is_part, is_mixed, some_below, is_there, has_parts, least_below}
 use Rattle.ldm_frags.specs.declared.faults.Joined.{Joined}
 use Rattle.ldm_frags.specs.Faults.{block_fault, has_all, missing_fault, first_below, first_block_fault}
 use Rattle.ldm_frags.specs.Joins.{gathered, entry, entries, Joins}
-use Rattle.ldm_frags.proofs.Below.{some_there, none_there, none_from, least_passes, all_there, all_from, or_none, faultless_below, faultless_from}
+use Rattle.ldm_frags.proofs.Below.{flat_map_below, some_there, none_there, none_from, least_passes, all_there, all_from, or_none, faultless_below, faultless_from}
 
 pub gathered_none : (blocks : List ℕ) (g : ℕ) → gathered blocks g 0 ≡ []
 unfolding gathered
@@ -20,7 +20,7 @@ gathered_none blocks g = refl
 
 pub gathered_more : (blocks : List ℕ) (g p : ℕ) → gathered blocks g (p + 1) ≡ gathered blocks g p ++ payload blocks (least_below (count blocks) (is_part blocks g p))
 unfolding gathered
-gathered_more blocks g p = rw add-one refl
+gathered_more blocks g p = flat_map_below (λ (q : ℕ). payload blocks (least_below (count blocks) (is_part blocks g q))) p
 
 pub entries_none : (blocks : List ℕ) → entries blocks 0 ≡ []
 unfolding entries
@@ -28,7 +28,7 @@ entries_none blocks = refl
 
 pub entries_more : (blocks : List ℕ) (k : ℕ) → entries blocks (k + 1) ≡ entries blocks k ++ entry blocks k
 unfolding entries
-entries_more blocks k = rw add-one refl
+entries_more blocks k = flat_map_below (entry blocks) k
 
 no_fault : (a b : Bool) (f : FragFault) → cond (a && not b) (Some f) None ≡ None → a ≡ true → b ≡ true
 no_fault true true f e h = refl
@@ -82,12 +82,12 @@ sound_of blocks k e =
     let d = λ (h : is_fragment blocks k ≡ true). cond_none mixed (Mixed (k + 4)) tail_3 (c h).1 in
     let f = λ (h : is_fragment blocks k ≡ true). cond_none again (Repeated (k + 4)) None (d h).1 in
     record {
-    magic = not_false (has_magic blocks k) a.0;
-    few = ltb-false _ _ b.0;
-    below = λ h. leb-false _ _ (c h).0;
-    unmixed = λ h. (d h).0;
-    new = λ h. (f h).0;
-}
+      magic = not_false (has_magic blocks k) a.0;
+      few = ltb-false _ _ b.0;
+      below = λ h. leb-false _ _ (c h).0;
+      unmixed = λ h. (d h).0;
+      new = λ h. (f h).0;
+    }
 
 pub both_of : (a b : Bool) → (a && b) ≡ true → (a ≡ true) × (b ≡ true)
 both_of true b e = (refl, e)
@@ -120,8 +120,8 @@ one_count blocks s j k lj lk frag of =
       | inl lt ↦ count_before blocks j k (s k lk) lt frag of
       | inr le ↦ elim (cases_lt k j) [
         | inl lt ↦
-          let both = both_of (is_fragment blocks j) (eqb (group blocks j) (group blocks k)) of in
-          sym (count_before blocks k j (s j lj) lt both.0 (turned blocks j k frag of))
+            let both = both_of (is_fragment blocks j) (eqb (group blocks j) (group blocks k)) of in
+            sym (count_before blocks k j (s j lj) lt both.0 (turned blocks j k frag of))
         | inr ge ↦ let same : j ≡ k = omega arith in ap (parts blocks) same
       ]
     ]
@@ -138,11 +138,11 @@ once blocks s j k lj lk frag of =
       | inl lt ↦ absurd (not_before blocks j k (s k lk) lt frag of)
       | inr le ↦ elim (cases_lt k j) [
         | inl lt ↦
-          let two = both_of (is_of blocks (group blocks k) j) (eqb (part blocks j) (part blocks k)) of in
-          let both = both_of (is_fragment blocks j) (eqb (group blocks j) (group blocks k)) two.0 in
-          let of_j = turned blocks j k frag two.0 in
-          let part_j = eqb_sym (part blocks j) (part blocks k) two.1 in
-          absurd (not_before blocks k j (s j lj) lt both.0 (rw (of_j, part_j) refl))
+            let two = both_of (is_of blocks (group blocks k) j) (eqb (part blocks j) (part blocks k)) of in
+            let both = both_of (is_fragment blocks j) (eqb (group blocks j) (group blocks k)) two.0 in
+            let of_j = turned blocks j k frag two.0 in
+            let part_j = eqb_sym (part blocks j) (part blocks k) two.1 in
+            absurd (not_before blocks k j (s j lj) lt both.0 (rw (of_j, part_j) refl))
         | inr ge ↦ omega arith
       ]
     ]
@@ -151,18 +151,18 @@ pub clean_joins : (blocks : List ℕ) → first_below (count blocks) (block_faul
 clean_joins blocks clean full list e =
     let s = λ (k : ℕ) (lt : k < count blocks). sound_of blocks k (faultless_below (count blocks) k (block_fault blocks) clean lt) in
     record {
-    magic = λ k lt. (s k lt).magic;
-    few = λ k lt. (s k lt).few;
-    below = λ k lt. (s k lt).below;
-    one_count = one_count blocks s;
-    once = once blocks s;
-    complete = λ k p lt frag below.
-        let full_k = faultless_below (count blocks) k (missing_fault blocks) full lt in
-        let there = part_there blocks (group blocks k) (parts blocks k) p (has_all_of blocks k full_k frag) below in
-        let least = least_passes (count blocks) (is_part blocks (group blocks k) p) there in
-        (least_below (count blocks) (is_part blocks (group blocks k) p), least.0, least.1);
-    entries_are = e;
-}
+      magic = λ k lt. (s k lt).magic;
+      few = λ k lt. (s k lt).few;
+      below = λ k lt. (s k lt).below;
+      one_count = one_count blocks s;
+      once = once blocks s;
+      complete = λ k p lt frag below.
+          let full_k = faultless_below (count blocks) k (missing_fault blocks) full lt in
+          let there = part_there blocks (group blocks k) (parts blocks k) p (has_all_of blocks k full_k frag) below in
+          let least = least_passes (count blocks) (is_part blocks (group blocks k) p) there in
+          (least_below (count blocks) (is_part blocks (group blocks k) p), least.0, least.1);
+      entries_are = e;
+    }
 
 pub few_parts : (blocks : List ℕ) (k : ℕ) → first_below (count blocks) (block_fault blocks) ≡ None → k < count blocks → parts blocks k ≤ 4
 few_parts blocks k clean lt = (sound_of blocks k (faultless_below (count blocks) k (block_fault blocks) clean lt)).few
@@ -178,9 +178,9 @@ unmixed : (blocks : List ℕ) (list : List Joined) → Joins blocks list → (j 
 unmixed blocks list joins j k lt lk frag =
     elim (true_or_false (is_of blocks (group blocks k) j)) [
       | inl of ↦
-        let same : parts blocks j ≡ parts blocks k = joins.one_count j k (omega arith) lk frag of in
-        let equal : eqb (parts blocks j) (parts blocks k) ≡ true = eq-eqb _ _ same in
-        rw (of, equal) refl
+          let same : parts blocks j ≡ parts blocks k = joins.one_count j k (omega arith) lk frag of in
+          let equal : eqb (parts blocks j) (parts blocks k) ≡ true = eq-eqb _ _ same in
+          rw (of, equal) refl
       | inr other ↦ rw other refl
     ]
 
@@ -199,10 +199,10 @@ joins_sound blocks list joins k lt =
     let few : ltb 4 (parts blocks k) ≡ false = le-ltb _ _ (joins.few k lt) in
     elim (true_or_false (is_fragment blocks k)) [
       | inl frag ↦
-        let below : leb (parts blocks k) (part blocks k) ≡ false = lt-leb _ _ (joins.below k lt frag) in
-        let mixed : some_below k (is_mixed blocks (group blocks k) (parts blocks k)) ≡ false = none_from k _ (λ j before. unmixed blocks list joins j k before lt frag) in
-        let again : some_below k (is_part blocks (group blocks k) (part blocks k)) ≡ false = none_from k _ (λ j before. unrepeated blocks list joins j k before lt frag) in
-        rw (magic, few, frag, below, mixed, again) refl
+          let below : leb (parts blocks k) (part blocks k) ≡ false = lt-leb _ _ (joins.below k lt frag) in
+          let mixed : some_below k (is_mixed blocks (group blocks k) (parts blocks k)) ≡ false = none_from k _ (λ j before. unmixed blocks list joins j k before lt frag) in
+          let again : some_below k (is_part blocks (group blocks k) (part blocks k)) ≡ false = none_from k _ (λ j before. unrepeated blocks list joins j k before lt frag) in
+          rw (magic, few, frag, below, mixed, again) refl
       | inr other ↦ rw (magic, few, other) refl
     ]
 
@@ -211,10 +211,10 @@ unfolding missing_fault has_parts
 joins_full blocks list joins k lt =
     elim (true_or_false (is_fragment blocks k)) [
       | inl frag ↦
-        let all : has_all blocks k ≡ true = all_from (parts blocks k) (is_there blocks (group blocks k)) (λ p below.
-            let there = joins.complete k p lt frag below in
-            some_there (count blocks) there.0 (is_part blocks (group blocks k) p) there.1 there.2) in
-        rw (frag, all) refl
+          let all : has_all blocks k ≡ true = all_from (parts blocks k) (is_there blocks (group blocks k)) (λ p below.
+          let there = joins.complete k p lt frag below in
+          some_there (count blocks) there.0 (is_part blocks (group blocks k) p) there.1 there.2) in
+          rw (frag, all) refl
       | inr other ↦ rw other refl
     ]
 
@@ -249,9 +249,9 @@ pub block_error : (blocks : List ℕ) (r : Result (Vec Joined) FragError) (e : F
 block_error blocks (Ok v) e is found = absurd is
 block_error blocks (Err given) e is found = go given (subst (λ (x : FragError). IsFault x (first_below (count blocks) (block_fault blocks))) (sym is) found)
   where
-  go : (x : FragError) → IsFault x (first_below (count blocks) (block_fault blocks)) → Answers blocks (Err x)
-  go NoMemory h = tt
-  go (Fault f) h = block_first blocks f h
+    go : (x : FragError) → IsFault x (first_below (count blocks) (block_fault blocks)) → Answers blocks (Err x)
+    go NoMemory h = tt
+    go (Fault f) h = block_first blocks f h
 
 -- ---- what an answer says of each list and each fault
 

@@ -1,13 +1,13 @@
 -- Records that stand one after the other without gaps.
-use Rattle.std.proofs.Common.{◌≡◌, ◌≢◌, ℕ, zero, suc, ◌+◌, ◌-◌, ◌*◌, ◌/◌, ◌<◌, ◌≤◌, List, [], ◌∷◌, ◌++◌, length, take, map, get_or, slice_index, All, AllPairs, refl, sym, ap, subst, ◌∙◌, arith, inl, inr, add_assoc}
+use Rattle.std.proofs.Common.{◌≡◌, ℕ, zero, suc, ◌+◌, ◌-◌, ◌<◌, ◌≤◌, List, [], ◌∷◌, ◌++◌, length, take, map, get_or, slice_index, All, AllPairs, refl, sym, ap, subst, ◌∙◌, arith, inl, inr}
 use Rattle.std.proofs.lemmas.Bool.{cases_lt}
 use Rattle.std.proofs.lemmas.List.Sums.{sum_by-cons, sum_by_push, sum_by-take-le}
 use Rattle.std.proofs.lemmas.List.{take_more}
 use Rattle.std.proofs.lemmas.List.Elements.{All-append}
 use Rattle.std.proofs.lemmas.List.Kept.{AllPairs-cons}
-use Rattle.ldm_frags.specs.Blocks.{count}
+use Rattle.ldm_frags.specs.Blocks.{count, numbers_from}
 use Rattle.ldm_frags.specs.Joins.{Joins}
-use Rattle.ldm_frags.specs.Written.{parts_of, need_of, IsSized, IsInUse, Placed, slot, IsPlaced, Holds, block_at, unused_block, part_bytes, written_block, joined_of, joined_below, numbers_from, in_order}
+use Rattle.ldm_frags.specs.Written.{parts_of, need_of, IsSized, Placed, slot, IsPlaced, Holds, block_at, unused_block, part_bytes, written_block, joined_of, in_order}
 use Rattle.ldm_frags.proofs.HoldLaws.{All-cons, IsFree, holds_joins, joined_rising}
 
 pub numbers_length : (a n : ℕ) → length (numbers_from a n) ≡ n
@@ -22,7 +22,6 @@ numbers_at a (suc n) (suc i) lt = numbers_at (a + 1) n i (omega arith) ∙ omega
 -- the record of one payload, from a block on
 abbrev pub placed_from : ℕ → List ℕ → Placed
 placed_from a bytes = record { payload = bytes; slots = numbers_from a (parts_of (length bytes)) }
-
 
 pub need_cons : (bytes : List ℕ) (more : List (List ℕ)) → need_of (bytes ∷ more) ≡ parts_of (length bytes) + need_of more
 need_cons bytes more = sum_by-cons (λ (b : List ℕ). parts_of (length b)) bytes more
@@ -59,12 +58,12 @@ in_order_free a b (bytes ∷ more) free from =
     let need = need_cons bytes more in
     elim (cases_lt b (a + parts_of (length bytes))) [
       | inl here ↦
-        let n = numbers_length a (parts_of (length bytes)) in
-        let at = numbers_at a (parts_of (length bytes)) (b - a) (omega arith) in
-        absurd (free 0 (placed_from a bytes) (omega arith) (b - a) 0 (omega arith) (at ∙ omega arith))
+          let n = numbers_length a (parts_of (length bytes)) in
+          let at = numbers_at a (parts_of (length bytes)) (b - a) (omega arith) in
+          absurd (free 0 (placed_from a bytes) (omega arith) (b - a) 0 (omega arith) (at ∙ omega arith))
       | inr later ↦
-        let rest = in_order_free (a + parts_of (length bytes)) b more (λ k d lt. free (suc k) d (omega arith)) later in
-        omega arith
+          let rest = in_order_free (a + parts_of (length bytes)) b more (λ k d lt. free (suc k) d (omega arith)) later in
+          omega arith
     ]
 
 -- the records begin in rising order
@@ -78,27 +77,27 @@ in_order_rising a (bytes ∷ more) sized =
     (λ k d lt. let later = begins (a + parts_of (length bytes)) more (λ i e li. sized (suc i) e (omega arith)) k d lt in omega arith)
     (in_order_rising (a + parts_of (length bytes)) more (λ i e li. sized (suc i) e (omega arith)))
   where
-  begins : (a : ℕ) (payloads : List (List ℕ)) → All IsSized payloads → All (λ r. a ≤ slot r 0) (in_order a payloads)
-  begins a [] sized k d lt = absurd (omega arith)
-  begins a (bytes ∷ more) sized zero d lt =
-      let here = sized 0 [] (omega arith) in
-      let some = here.0 in
-      let at = numbers_at a (parts_of (length bytes)) 0 (omega arith) in
-      omega arith
-  begins a (bytes ∷ more) sized (suc k) d lt =
-      let rest = begins (a + parts_of (length bytes)) more (λ i e li. sized (suc i) e (omega arith)) k d (omega arith) in
-      omega arith
+    begins : (a : ℕ) (payloads : List (List ℕ)) → All IsSized payloads → All (λ r. a ≤ slot r 0) (in_order a payloads)
+    begins a [] sized k d lt = absurd (omega arith)
+    begins a (bytes ∷ more) sized zero d lt =
+        let here = sized 0 [] (omega arith) in
+        let some = here.0 in
+        let at = numbers_at a (parts_of (length bytes)) 0 (omega arith) in
+        omega arith
+    begins a (bytes ∷ more) sized (suc k) d lt =
+        let rest = begins (a + parts_of (length bytes)) more (λ i e li. sized (suc i) e (omega arith)) k d (omega arith) in
+        omega arith
 
 -- ---- what a step of writing keeps
 
 -- the blocks of a record did not change
 pub placed_kept : (old new : List ℕ) (r : Placed) → length new ≡ length old → ((i : ℕ) → i < length r.slots → block_at new (slot r i) ≡ block_at old (slot r i)) → IsPlaced old r → IsPlaced new r
 placed_kept old new r len same is = record {
-    some = is.some;
-    few = is.few;
-    whole = is.whole;
-    within = λ i lt. let in_use = is.within i lt in let low = in_use.0 in let high = in_use.1 in (omega arith, omega arith);
-    written = λ i lt. same i lt ∙ is.written i lt;
+  some = is.some;
+  few = is.few;
+  whole = is.whole;
+  within = λ i lt. let in_use = is.within i lt in let low = in_use.0 in let high = in_use.1 in (omega arith, omega arith);
+  written = λ i lt. same i lt ∙ is.written i lt;
 }
 
 -- one more record is written behind the others
@@ -122,16 +121,16 @@ placed_more old new before bytes number len sized at room placed below written =
           ap (block_at new) (at_slot i lt') ∙ written i lt' ∙ sym (same_block bytes i (at_slot i lt') (at_slot 0 (omega arith) ∙ omega arith) slots);
     } in
     let kept : All (IsPlaced new) (in_order 4 before) = λ k d lt.
-        placed_kept old new (get_or (in_order 4 before) k d) len (λ i li.
-            let in_need = in_order_within 4 before k d lt i li in
-            let low = in_need.0 in
-            let high = in_need.1 in
-            below (slot (get_or (in_order 4 before) k d) i) (omega arith) (omega arith)) (placed k d lt) in
+    placed_kept old new (get_or (in_order 4 before) k d) len (λ i li.
+    let in_need = in_order_within 4 before k d lt i li in
+    let low = in_need.0 in
+    let high = in_need.1 in
+    below (slot (get_or (in_order 4 before) k d) i) (omega arith) (omega arith)) (placed k d lt) in
     subst (All (IsPlaced new)) (sym (in_order_push 4 before bytes ∙ ap (λ (m : ℕ). in_order 4 before ++ placed_from m bytes ∷ []) (sym at)))
     (All-append (IsPlaced new) (in_order 4 before) (placed_from number bytes ∷ []) kept (All-cons (IsPlaced new) (placed_from number bytes) [] here (λ k d lt. absurd (omega arith))))
   where
-  same_block : {s first m number n : ℕ} (bytes : List ℕ) (i : ℕ) → s ≡ number + i → first ≡ number → m ≡ n → written_block s first i m (part_bytes bytes i) ≡ written_block (number + i) number i n (part_bytes bytes i)
-  same_block bytes i e f g = λ t. written_block (e t) (f t) i (g t) (part_bytes bytes i)
+    same_block : {s first m number n : ℕ} (bytes : List ℕ) (i : ℕ) → s ≡ number + i → first ≡ number → m ≡ n → written_block s first i m (part_bytes bytes i) ≡ written_block (number + i) number i n (part_bytes bytes i)
+    same_block bytes i e f g = λ t. written_block (e t) (f t) i (g t) (part_bytes bytes i)
 
 -- the payload at an index, which is written next
 pub need_next : (payloads : List (List ℕ)) (i : ℕ) (bytes : List ℕ) → i < length payloads → bytes ≡ get_or payloads i bytes → take (i + 1) payloads ≡ take i payloads ++ bytes ∷ []
@@ -147,16 +146,16 @@ need_within payloads i bytes lt is =
 
 pub order_holds : (out : List ℕ) (payloads : List (List ℕ)) → All IsSized payloads → All (IsPlaced out) (in_order 4 payloads) → ((b : ℕ) → 4 + need_of payloads ≤ b → b < count out + 4 → block_at out b ≡ unused_block b) → Holds out (in_order 4 payloads)
 order_holds out payloads sized placed unused = record {
-    placed = placed;
-    apart = λ i j d below lt e. let rise = in_order_rising 4 payloads sized i j d below lt in absurd (omega arith);
-    unused = λ number in_use free. let low = in_use.0 in unused number (in_order_free 4 number payloads free low) in_use.1;
+  placed = placed;
+  apart = λ i j d below lt e. let rise = in_order_rising 4 payloads sized i j d below lt in absurd (omega arith);
+  unused = λ number in_use free. let low = in_use.0 in unused number (in_order_free 4 number payloads free low) in_use.1;
 }
 
 pub order_joins : (out : List ℕ) (payloads : List (List ℕ)) → length out ≤ 1048576 → All IsSized payloads → Holds out (in_order 4 payloads) → Joins out (map joined_of (in_order 4 payloads))
 order_joins out payloads small sized holds =
     let within = λ (k : ℕ) (d : Placed) (lt : k < length (in_order 4 payloads)).
-        let is = holds.placed k d lt in
-        let some = is.some in
-        let whole = is.whole in
-        is.within 0 (omega arith) in
+    let is = holds.placed k d lt in
+    let some = is.some in
+    let whole = is.whole in
+    is.within 0 (omega arith) in
     subst (Joins out) (joined_rising (in_order 4 payloads) (count out) (in_order_rising 4 payloads sized) within) (holds_joins out (in_order 4 payloads) small holds)

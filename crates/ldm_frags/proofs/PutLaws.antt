@@ -1,5 +1,5 @@
 -- Blocks that are put into a list of blocks.
-use Rattle.std.proofs.Common.{◌≡◌, ◌⊎◌, ℕ, suc, ◌+◌, ◌-◌, ◌*◌, ◌/◌, ◌<◌, ◌≤◌, List, [], ◌∷◌, ◌++◌, length, take, drop, replicate, min, refl, sym, ap, ◌∙◌, arith, append_assoc, inl, inr}
+use Rattle.std.proofs.Common.{◌≡◌, ℕ, suc, ◌+◌, ◌-◌, ◌*◌, ◌<◌, ◌≤◌, List, ◌++◌, length, take, drop, replicate, min, sym, ap, ◌∙◌, arith, append_assoc, inl, inr}
 use Rattle.std.proofs.lemmas.Bool.{cases_lt}
 use Rattle.std.proofs.lemmas.List.{append-nil, drop-drop, drop-take, drop_at, take_at, take-append-le, take-take, take_all, take_rest, drop-append-le, drop-replicate, length-append, length-take-le, length-drop, length-replicate}
 use Rattle.ldm_bytes.specs.Places.{put}
@@ -44,22 +44,22 @@ block_at-put_other old number b x from_n from_b apart le len =
       ]
     ]
   where
-  before : (old : List ℕ) (at a : ℕ) (x : List ℕ) → a + 128 ≤ at → at ≤ length old → take 128 (drop a (put old at x)) ≡ take 128 (drop a old)
-  before old at a x le in_old =
-      let rest : List ℕ = drop (at + length x) old in
-      let front = put_front old at x in_old in
-      let kept : take (a + 128) (put old at x) ≡ take (a + 128) old =
-      take-append-le (a + 128) (take at old ++ x) rest (omega arith)
-      ∙ take-append-le (a + 128) (take at old) x (omega (arith, length-take-le at old in_old))
-      ∙ take-take (a + 128) at old le in
-      sym (drop-take a 128 (put old at x)) ∙ ap (drop a) kept ∙ drop-take a 128 old
+    before : (old : List ℕ) (at a : ℕ) (x : List ℕ) → a + 128 ≤ at → at ≤ length old → take 128 (drop a (put old at x)) ≡ take 128 (drop a old)
+    before old at a x le in_old =
+        let rest : List ℕ = drop (at + length x) old in
+        let front = put_front old at x in_old in
+        let kept : take (a + 128) (put old at x) ≡ take (a + 128) old =
+        take-append-le (a + 128) (take at old ++ x) rest (omega arith)
+        ∙ take-append-le (a + 128) (take at old) x (omega (arith, length-take-le at old in_old))
+        ∙ take-take (a + 128) at old le in
+        sym (drop-take a 128 (put old at x)) ∙ ap (drop a) kept ∙ drop-take a 128 old
 
-  behind : (old : List ℕ) (at a : ℕ) (x : List ℕ) → at + length x ≤ a → at ≤ length old → drop a (put old at x) ≡ drop a old
-  behind old at a x le in_old =
-      let n : ℕ = at + length x in
-      let more : a ≡ n + (a - n) = omega arith in
-      let step : drop n (put old at x) ≡ drop n old = drop_at (take at old ++ x) (drop n old) n (put_front old at x in_old) in
-      ap (λ (m : ℕ). drop m (put old at x)) more ∙ sym (drop-drop (a - n) n (put old at x)) ∙ ap (drop (a - n)) step ∙ drop-drop (a - n) n old ∙ ap (λ (m : ℕ). drop m old) (sym more)
+    behind : (old : List ℕ) (at a : ℕ) (x : List ℕ) → at + length x ≤ a → at ≤ length old → drop a (put old at x) ≡ drop a old
+    behind old at a x le in_old =
+        let n : ℕ = at + length x in
+        let more : a ≡ n + (a - n) = omega arith in
+        let step : drop n (put old at x) ≡ drop n old = drop_at (take at old ++ x) (drop n old) n (put_front old at x in_old) in
+        ap (λ (m : ℕ). drop m (put old at x)) more ∙ sym (drop-drop (a - n) n (put old at x)) ∙ ap (drop (a - n)) step ∙ drop-drop (a - n) n old ∙ ap (λ (m : ℕ). drop m old) (sym more)
 
 pub written_length : (number group part parts : ℕ) (bytes : List ℕ) → length bytes ≡ 112 → length (written_block number group part parts bytes) ≡ 128
 unfolding written_block
@@ -96,24 +96,24 @@ part_filled bytes i end part lt e is =
     let rest = length-drop (112 * i) bytes in
     elim (cases_lt (length bytes) (112 * i + 112)) [
       | inl last ↦
-        let span : end - 112 * i ≡ length bytes - 112 * i = omega arith in
-        let all : part ≡ drop (112 * i) bytes = is ∙ ap (λ (n : ℕ). take n (drop (112 * i) bytes)) span ∙ take_rest bytes (112 * i) in
-        let len = ap length all in
-        let parts : parts_of (length bytes) ≡ i + 1 = omega arith in
-        let count : length zeros ≡ 112 * parts_of (length bytes) - length bytes = length-replicate (112 * parts_of (length bytes) - length bytes) 0 in
-        let whole = length-append (drop (112 * i) bytes) zeros in
-        ap (λ (r : List ℕ). r ++ replicate (112 - length part) 0) all
-        ∙ ap (λ (n : ℕ). drop (112 * i) bytes ++ replicate n 0) (omega arith)
-        ∙ sym (take_all 112 (drop (112 * i) bytes ++ zeros) (omega arith))
-        ∙ ap (take 112) (sym split)
+          let span : end - 112 * i ≡ length bytes - 112 * i = omega arith in
+          let all : part ≡ drop (112 * i) bytes = is ∙ ap (λ (n : ℕ). take n (drop (112 * i) bytes)) span ∙ take_rest bytes (112 * i) in
+          let len = ap length all in
+          let parts : parts_of (length bytes) ≡ i + 1 = omega arith in
+          let count : length zeros ≡ 112 * parts_of (length bytes) - length bytes = length-replicate (112 * parts_of (length bytes) - length bytes) 0 in
+          let whole = length-append (drop (112 * i) bytes) zeros in
+          ap (λ (r : List ℕ). r ++ replicate (112 - length part) 0) all
+          ∙ ap (λ (n : ℕ). drop (112 * i) bytes ++ replicate n 0) (omega arith)
+          ∙ sym (take_all 112 (drop (112 * i) bytes ++ zeros) (omega arith))
+          ∙ ap (take 112) (sym split)
       | inr more ↦
-        let span : end - 112 * i ≡ 112 = omega arith in
-        let chunk : part ≡ take 112 (drop (112 * i) bytes) = is ∙ ap (λ (n : ℕ). take n (drop (112 * i) bytes)) span in
-        let len : length part ≡ 112 = ap length chunk ∙ length-take-le 112 (drop (112 * i) bytes) (omega arith) in
-        let full : 112 - length part ≡ 0 = omega arith in
-        ap (λ (n : ℕ). part ++ replicate n 0) full ∙ append-nil part ∙ chunk
-        ∙ sym (take-append-le 112 (drop (112 * i) bytes) zeros (omega arith))
-        ∙ ap (take 112) (sym split)
+          let span : end - 112 * i ≡ 112 = omega arith in
+          let chunk : part ≡ take 112 (drop (112 * i) bytes) = is ∙ ap (λ (n : ℕ). take n (drop (112 * i) bytes)) span in
+          let len : length part ≡ 112 = ap length chunk ∙ length-take-le 112 (drop (112 * i) bytes) (omega arith) in
+          let full : 112 - length part ≡ 0 = omega arith in
+          ap (λ (n : ℕ). part ++ replicate n 0) full ∙ append-nil part ∙ chunk
+          ∙ sym (take-append-le 112 (drop (112 * i) bytes) zeros (omega arith))
+          ∙ ap (take 112) (sym split)
     ]
 
 pub zeros_length : (bytes : List ℕ) → length bytes ≤ 112 → length (bytes ++ replicate (112 - length bytes) 0) ≡ 112

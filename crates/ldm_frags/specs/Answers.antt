@@ -41,6 +41,8 @@ list_of (Some joined) = joined ∷ []
 
 -- so many blocks, which hold the records of the payloads in their order, or no room, with both numbers
 abbrev pub SplitAnswers : List (List ℕ) → ℕ → Result (List ℕ) SplitError → Type 0
-SplitAnswers payloads blocks (Ok out) = (need_of payloads ≤ blocks) × (length out ≡ 128 * blocks) × Holds out (in_order 4 payloads)
+SplitAnswers payloads blocks (Ok out) =
+    (need_of payloads ≤ blocks) × (length out ≡ 128 * blocks) × Holds out (in_order 4 payloads)
 SplitAnswers payloads blocks (Err split_errors.NoMemory) = Unit {0}
-SplitAnswers payloads blocks (Err (split_errors.NoRoom need have)) = (need ≡ need_of payloads) × (have ≡ blocks) × (blocks < need_of payloads)
+SplitAnswers payloads blocks (Err (split_errors.NoRoom need have)) =
+    (need ≡ need_of payloads) × (have ≡ blocks) × (blocks < need_of payloads)

@@ -1,7 +1,7 @@
 -- The blocks of a database, in bytes, and the fields of a block's head: the text `VBLK`, sequence u32
 -- at 4, group u32 at 8, part u16 at 12 and parts u16 at 14. Block k of the list has the number k + 4,
 -- since the blocks in use begin with number 4.
-use Rattle.std.specs.Prelude.{ℕ, zero, suc, ◌+◌, ◌*◌, ◌/◌, ◌==◌, Bool, true, false, not, ◌&&◌, ◌||◌, List, length, nat_le, slice_range, if◌then◌else◌}
+use Rattle.std.specs.Prelude.{ℕ, zero, suc, ◌+◌, ◌*◌, ◌/◌, ◌==◌, Bool, true, false, not, ◌&&◌, ◌||◌, List, [], ◌∷◌, length, nat_le, slice_range, if◌then◌else◌}
 use Rattle.ldm_bytes.specs.Places.{u16_at, u32_at}
 
 abbrev pub count : List ℕ → ℕ
@@ -38,6 +38,11 @@ is_part blocks g p j = is_of blocks g j && (part blocks j == p)
 -- block j is a fragment of the group g whose number of parts isn't n
 abbrev pub is_mixed : List ℕ → ℕ → ℕ → ℕ → Bool
 is_mixed blocks g n j = is_of blocks g j && not (parts blocks j == n)
+
+-- n numbers from this one on
+abbrev pub numbers_from : ℕ → ℕ → List ℕ
+numbers_from number zero = []
+numbers_from number (suc n) = number ∷ numbers_from (number + 1) n
 
 -- some number below n passes
 abbrev pub some_below : ℕ → (ℕ → Bool) → Bool

@@ -22,7 +22,8 @@ has_all blocks k = has_parts blocks (group blocks k) (parts blocks k)
 
 -- block k is of a group that lacks a part
 unfoldable pub missing_fault : List ℕ → ℕ → Option FragFault
-missing_fault blocks k = if is_fragment blocks k && not (has_all blocks k) then Some (Missing (k + 4)) else None
+missing_fault blocks k =
+    if is_fragment blocks k && not (has_all blocks k) then Some (Missing (k + 4)) else None
 
 abbrev pub or_else : Option FragFault → Option FragFault → Option FragFault
 or_else (Some fault) other = Some fault
@@ -35,4 +36,5 @@ first_below (suc n) fault = or_else (first_below n fault) (fault n)
 
 -- the first fault of a block, or after all blocks that of the first block whose group lacks a part
 unfoldable pub first_block_fault : List ℕ → Option FragFault
-first_block_fault blocks = or_else (first_below (count blocks) (block_fault blocks)) (first_below (count blocks) (missing_fault blocks))
+first_block_fault blocks =
+    or_else (first_below (count blocks) (block_fault blocks)) (first_below (count blocks) (missing_fault blocks))

@@ -1,9 +1,10 @@
 -- Blocks as they are written: the sequence of a block is its number, a record takes as few blocks as hold
 -- it, its group is the number of the block that holds part 0, and its last payload is filled with zeros.
-use Rattle.std.specs.Prelude.{◌≡◌, ◌≢◌, ℕ, zero, suc, ◌+◌, ◌-◌, ◌*◌, ◌/◌, ◌<◌, ◌≤◌, ◌==◌, List, [], ◌∷◌, ◌++◌, length, take, drop, map, filter, replicate, slice_index, sum_by, codes, All, AllPairs}
+use Rattle.std.specs.Prelude.{◌≡◌, ◌≢◌, ℕ, ◌+◌, ◌-◌, ◌*◌, ◌/◌, ◌<◌, ◌≤◌, ◌==◌, List, [], ◌∷◌, ◌++◌, length, take, drop, map, filter, replicate, slice_index, sum_by, codes, All, AllPairs}
+use Rattle.std.specs.List.{flat_map}
 use Rattle.byteorder.specs.Endian.{big_bytes}
 use Rattle.ldm_frags.specs.declared.faults.Joined.{Joined}
-use Rattle.ldm_frags.specs.Blocks.{count}
+use Rattle.ldm_frags.specs.Blocks.{count, numbers_from}
 
 -- how many blocks n bytes take: n / 112 rounded up
 abbrev pub parts_of : ℕ → ℕ
@@ -50,33 +51,31 @@ pub record IsPlaced (blocks : List ℕ) (r : Placed) : Type 0 where
   pub few : length r.payload ≤ 448
   pub whole : length r.slots ≡ parts_of (length r.payload)
   pub within : (i : ℕ) → i < length r.slots → IsInUse blocks (slot r i)
-  pub written : (i : ℕ) → i < length r.slots → block_at blocks (slot r i) ≡ written_block (slot r i) (slot r 0) i (length r.slots) (part_bytes r.payload i)
+  pub written : (i : ℕ) → i < length r.slots
+      → block_at blocks (slot r i) ≡ written_block (slot r i) (slot r 0) i (length r.slots) (part_bytes r.payload i)
 
 -- the blocks hold these records: each at its slots, in groups that differ, and all other blocks are unused
 pub record Holds (blocks : List ℕ) (records : List Placed) : Type 0 where
   pub placed : All (IsPlaced blocks) records
   pub apart : AllPairs (λ r s. slot r 0 ≢ slot s 0) records
-  pub unused : (number : ℕ) → IsInUse blocks number → All (λ r. All (λ s. s ≢ number) r.slots) records → block_at blocks number ≡ unused_block number
+  pub unused : (number : ℕ) → IsInUse blocks number → All (λ r. All (λ s. s ≢ number) r.slots) records
+      → block_at blocks number ≡ unused_block number
 
 -- what a record joins to
 abbrev pub joined_of : Placed → Joined
 joined_of r = record { block = slot r 0; payload = filled r.payload }
 
--- what the records join to whose part 0 stands below number k + 4, in rising number
+-- what the records join to whose part 0 stands below number n + 4, in rising number
 unfoldable pub joined_below : List Placed → ℕ → List Joined
-joined_below records zero = []
-joined_below records (suc k) = joined_below records k ++ map joined_of (filter (λ r. slot r 0 == k + 4) records)
-
--- n numbers from this one on
-abbrev pub numbers_from : ℕ → ℕ → List ℕ
-numbers_from number zero = []
-numbers_from number (suc n) = number ∷ numbers_from (number + 1) n
+joined_below records n =
+    flat_map (λ k. map joined_of (filter (λ r. slot r 0 == k + 4) records)) (numbers_from 0 n)
 
 -- the records of these payloads one after the other without gaps, from this block on
 abbrev pub in_order : ℕ → List (List ℕ) → List Placed
 in_order number [] = []
 in_order number (bytes ∷ more) =
-    record { payload = bytes; slots = numbers_from number (parts_of (length bytes)) } ∷ in_order (number + parts_of (length bytes)) more
+    record { payload = bytes; slots = numbers_from number (parts_of (length bytes)) }
+    ∷ in_order (number + parts_of (length bytes)) more
 
 -- a payload that a record may have: 1 to 448 bytes, which take 1 to 4 blocks
 abbrev pub IsSized : List ℕ → Type 0

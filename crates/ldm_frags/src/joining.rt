@@ -5,6 +5,7 @@ ghost use Rattle.ldm_frags.specs.Blocks.{count, parts, has_parts};
 ghost use Rattle.ldm_frags.specs.Faults.{block_fault, missing_fault, first_below, first_block_fault};
 ghost use Rattle.ldm_frags.specs.Joins.{gathered, entry, entries, Joins};
 ghost use Rattle.ldm_frags.specs.Groups.{IsTable};
+ghost use Rattle.ldm_frags.specs.Written.{Placed, Holds, joined_below};
 ghost use Rattle.ldm_frags.specs.Answers.{Answers, Gives, Refuses, IsFault, list_of};
 
 use crate::blocks::{group, has_magic, part, parts, payload};
@@ -49,10 +50,8 @@ fn fault_of(groups: &Groups, blocks: &[u8], k: usize) -> Option<FragFault>
 fn groups_of(alloc: Global, blocks: &[u8]) -> Result<Groups, FragError>
     requires { length blocks.now ≤ 1048576 }
     ensures table { IfOk result (λ groups. IsTable blocks.now (count blocks.now) groups) }
-    ensures fault {
-        MatchResult result (λ _. first_below (count blocks.now) (block_fault blocks.now) ≡ None)
-            (λ e. IsFault e (first_below (count blocks.now) (block_fault blocks.now)))
-    }
+    ensures fault { let found = first_below (count blocks.now) (block_fault blocks.now) in
+        MatchResult result (λ _. found ≡ None) (λ e. IsFault e found) }
 {
     let mut groups = BTreeMap::new(alloc);
     for k in 0..blocks.len() / 128 {
@@ -95,7 +94,13 @@ fn first_missing(groups: &Groups, blocks: &[u8]) -> Option<FragFault>
 }
 
 // The payloads of a group, by part.
-fn gather(alloc: Global, groups: &Groups, blocks: &[u8], number: u32, parts: u16) -> Result<Bytes, NoMemory>
+fn gather(
+    alloc: Global,
+    groups: &Groups,
+    blocks: &[u8],
+    number: u32,
+    parts: u16,
+) -> Result<Bytes, NoMemory>
     requires table { IsTable blocks.now (count blocks.now) groups.now }
     requires few { parts ≤ 4 }
     requires complete { has_parts blocks.now number parts ≡ true }
@@ -111,7 +116,12 @@ fn gather(alloc: Global, groups: &Groups, blocks: &[u8], number: u32, parts: u16
 
 // What block `k` adds to the list.
 #[tactic(auto, unfolding(crate::specs::Joins::entry))]
-fn entry_of(alloc: Global, groups: &Groups, blocks: &[u8], k: usize) -> Result<Option<Joined>, NoMemory>
+fn entry_of(
+    alloc: Global,
+    groups: &Groups,
+    blocks: &[u8],
+    k: usize,
+) -> Result<Option<Joined>, NoMemory>
     requires table { IsTable blocks.now (count blocks.now) groups.now }
     requires within { k < count blocks.now }
     requires small { length blocks.now ≤ 1048576 }
@@ -194,6 +204,9 @@ pub fn join(alloc: Global, blocks: &[u8]) -> Result<Vec<Joined>, FragError>
     // There is a fault exactly where no list is joined, and at most one list is.
     ensures faultless { (first_block_fault blocks.now ≡ None) ↔ ((list : List Joined) × Joins blocks.now list) }
     ensures one { (a b : List Joined) → Joins blocks.now a → Joins blocks.now b → a ≡ b }
+    // Blocks that hold records join to these, wherever their parts stand.
+    ensures held { (records : List Placed) → Holds blocks.now records
+        → Joins blocks.now (joined_below records (count blocks.now)) }
 {
     join_all(alloc, blocks)
 }
@@ -272,6 +285,9 @@ mod tests {
         let mut blocks = blocks_of(&GROUP_9);
         blocks[128 * 7] = b'X';
         let answer = join(rt.alloc(), &blocks);
-        assert_eq!(rt; answer.err(), Some(FragError::Fault(FragFault::NoMagic(11))));
+        assert_eq!(rt;
+            answer.err(),
+            Some(FragError::Fault(FragFault::NoMagic(11)))
+        );
     }
 }

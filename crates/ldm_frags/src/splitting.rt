@@ -109,11 +109,20 @@ mod tests {
         let out = split(rt.alloc(), &payloads, 4)?;
         let bytes = out.as_slice();
         assert_eq!(rt; bytes.len(), 512);
-        assert_eq!(rt; &bytes[..16], b"VBLK\0\0\0\x04\0\0\0\x04\0\0\0\x03".as_slice());
+        assert_eq!(rt;
+            &bytes[..16],
+            b"VBLK\0\0\0\x04\0\0\0\x04\0\0\0\x03".as_slice()
+        );
         assert_eq!(rt; &bytes[16..128], &record[0..112]);
-        assert_eq!(rt; &bytes[128..144], b"VBLK\0\0\0\x05\0\0\0\x04\0\x01\0\x03".as_slice());
+        assert_eq!(rt;
+            &bytes[128..144],
+            b"VBLK\0\0\0\x05\0\0\0\x04\0\x01\0\x03".as_slice()
+        );
         assert_eq!(rt; &bytes[144..256], &record[112..224]);
-        assert_eq!(rt; &bytes[256..272], b"VBLK\0\0\0\x06\0\0\0\x04\0\x02\0\x03".as_slice());
+        assert_eq!(rt;
+            &bytes[256..272],
+            b"VBLK\0\0\0\x06\0\0\0\x04\0\x02\0\x03".as_slice()
+        );
         assert_eq!(rt; &bytes[272..349], &record[224..]);
         assert!(rt; bytes[349..384].iter().all(|byte| *byte == 0));
         assert_eq!(rt; &bytes[384..392], b"VBLK\0\0\0\x07".as_slice());

@@ -42,10 +42,8 @@ fn write_block(out: &mut [u8], number: u32, group: u32, part: u16, parts: u16, b
     requires first { 4 ≤ number }
     requires within { number < count out.old + 4 }
     requires short { length bytes.now ≤ 112 }
-    ensures {
-        out.new ≡ put out.old (128 * (number - 4))
-            (written_block number group part parts (bytes.now ++ replicate (112 - length bytes.now) 0))
-    }
+    ensures { out.new ≡ put out.old (128 * (number - 4))
+        (written_block number group part parts (bytes.now ++ replicate (112 - length bytes.now) 0)) }
 {
     let at = 128 * (number as usize - 4);
     put_bytes(out, at, &head_of(number, group, part, parts));
@@ -56,9 +54,7 @@ fn write_block(out: &mut [u8], number: u32, group: u32, part: u16, parts: u16, b
 fn part_of(payload: &[u8], part: usize) -> &[u8]
     requires { part < parts_of (length payload.now) }
     ensures short { length result.now ≤ 112 }
-    ensures bytes {
-        result.now ++ replicate (112 - length result.now) 0 ≡ part_bytes payload.now part
-    }
+    ensures bytes { result.now ++ replicate (112 - length result.now) 0 ≡ part_bytes payload.now part }
 {
     let at = 112 * part;
     &payload[at..payload.len().min(at + 112)]
@@ -71,14 +67,10 @@ pub fn write_record(out: &mut [u8], first: u32, payload: &[u8])
     requires small { length out.old ≤ 1048576 }
     requires after { 4 ≤ first }
     requires within { first + parts_of (length payload.now) ≤ count out.old + 4 }
-    ensures written {
-        (i : ℕ) → i < parts_of (length payload.now) → block_at out.new (first + i)
-            ≡ written_block (first + i) first i (parts_of (length payload.now)) (part_bytes payload.now i)
-    }
+    ensures written { (i : ℕ) → i < parts_of (length payload.now) → block_at out.new (first + i)
+        ≡ written_block (first + i) first i (parts_of (length payload.now)) (part_bytes payload.now i) }
     ensures below { (b : ℕ) → 4 ≤ b → b < first → block_at out.new b ≡ block_at out.old b }
-    ensures above {
-        (b : ℕ) → first + parts_of (length payload.now) ≤ b → block_at out.new b ≡ block_at out.old b
-    }
+    ensures above { (b : ℕ) → first + parts_of (length payload.now) ≤ b → block_at out.new b ≡ block_at out.old b }
 {
     let parts = parts_of(payload.len());
     for part in 0..parts {

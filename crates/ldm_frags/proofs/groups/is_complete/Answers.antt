@@ -1,6 +1,5 @@
-use Rattle.std.proofs.Common.{◌≡◌, ◌∙◌, ◌<◌, ◌≤◌, ℕ, Bool, ap, sym, true, false, is_some, refl, add-one, arith}
-use Rattle.ldm_frags.specs.Blocks.{count, group, parts, is_part, has_parts, is_there, all_below}
-use Rattle.ldm_frags.specs.Faults.{has_all}
+use Rattle.std.proofs.Common.{◌≡◌, ◌∙◌, ◌<◌, ℕ, ap, sym, false, arith}
+use Rattle.ldm_frags.specs.Blocks.{group, parts, has_parts, is_there, all_below}
 use Rattle.ldm_frags.proofs.Below.{not_all, all_more}
 use Rattle.ldm_frags.proofs.TableLaws.{part_in}
 use Rattle.ldm_frags.proofs.groups.is_complete.Goals as goal

@@ -1,10 +1,10 @@
-use Rattle.std.proofs.Common.{◌≡◌, ◌∙◌, ◌<◌, ◌≤◌, true, Some, set, subst, arith}
+use Rattle.std.proofs.Common.{◌≡◌, true, Some, set, subst, arith}
 use Rattle.std.specs.Ordering.{nat_cmp}
 use Rattle.std.specs.BTreeMap.{Updates}
 use Rattle.ldm_frags.specs.declared.groups.Group.{Group}
-use Rattle.ldm_frags.specs.Blocks.{group, part, parts, is_fragment}
-use Rattle.ldm_frags.proofs.JoinLaws.{Sound, sound_of, frag_is}
-use Rattle.ldm_frags.proofs.TableLaws.{table_skip, table_add}
+use Rattle.ldm_frags.specs.Blocks.{is_fragment}
+use Rattle.ldm_frags.proofs.JoinLaws.{sound_of, frag_is}
+use Rattle.ldm_frags.proofs.TableLaws.{table_add}
 use Rattle.ldm_frags.proofs.groups.note.Goals as goal
 
 pub bounds-found-part : goal.bounds-found-part

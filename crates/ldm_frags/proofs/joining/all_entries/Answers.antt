@@ -1,8 +1,8 @@
-use Rattle.std.proofs.Common.{◌≡◌, ◌++◌, ◌∙◌, List, ℕ, ap, sym, arith}
+use Rattle.std.proofs.Common.{◌++◌, ◌∙◌, List, ap, sym}
 use Rattle.ldm_frags.specs.Blocks.{count}
 use Rattle.ldm_frags.specs.Faults.{missing_fault}
 use Rattle.ldm_frags.proofs.Below.{faultless_below}
-use Rattle.ldm_frags.specs.Joins.{entry, entries}
+use Rattle.ldm_frags.specs.Joins.{entry}
 use Rattle.ldm_frags.specs.declared.faults.Joined.{Joined}
 use Rattle.ldm_frags.proofs.JoinLaws.{entries_none, entries_more, few_parts}
 use Rattle.ldm_frags.proofs.joining.all_entries.Goals as goal

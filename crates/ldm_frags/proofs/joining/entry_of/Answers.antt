@@ -1,4 +1,3 @@
-use Rattle.std.proofs.Common.{arith}
 use Rattle.ldm_frags.proofs.JoinLaws.{has_all_of, frag_is}
 use Rattle.ldm_frags.proofs.joining.entry_of.Goals as goal
 

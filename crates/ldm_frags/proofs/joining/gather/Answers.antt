@@ -1,7 +1,7 @@
-use Rattle.std.proofs.Common.{◌≡◌, ◌++◌, ◌∙◌, List, ℕ, ap, sym, subst, ◌<◌}
-use Rattle.ldm_frags.specs.Blocks.{count, payload, is_part, some_below, least_below}
+use Rattle.std.proofs.Common.{◌++◌, ◌∙◌, List, ℕ, ap, sym, subst, ◌<◌}
+use Rattle.ldm_frags.specs.Blocks.{count, payload, is_part}
 use Rattle.ldm_frags.specs.Joins.{gathered}
-use Rattle.ldm_frags.proofs.Below.{least_passes, all_there}
+use Rattle.ldm_frags.proofs.Below.{least_passes}
 use Rattle.ldm_frags.proofs.JoinLaws.{gathered_none, gathered_more, part_there}
 use Rattle.ldm_frags.proofs.joining.gather.Goals as goal
 

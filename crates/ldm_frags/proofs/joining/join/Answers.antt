@@ -1,4 +1,5 @@
 use Rattle.ldm_frags.proofs.JoinLaws.{answers_gives, answers_refuses, faultless, one_list}
+use Rattle.ldm_frags.proofs.HoldLaws.{holds_joins}
 use Rattle.ldm_frags.proofs.joining.join.Goals as goal
 
 pub returns-clause-joined : goal.returns-clause-joined
@@ -12,3 +13,6 @@ returns-clause-faultless c = faultless c.args.blocks.now
 
 pub returns-clause-one : goal.returns-clause-one
 returns-clause-one c = one_list c.args.blocks.now
+
+pub returns-clause-held : goal.returns-clause-held
+returns-clause-held c = λ records. holds_joins c.args.blocks.now records c.requires.small

@@ -1,4 +1,4 @@
-use Rattle.std.proofs.Common.{◌≡◌, ◌≤◌, ◌*◌, ◌∙◌, List, ℕ, ap, sym, subst, length, map, arith}
+use Rattle.std.proofs.Common.{◌≡◌, ◌*◌, ◌∙◌, List, ℕ, ap, sym, subst, length, map, arith}
 use Rattle.std.proofs.lemmas.List.{with_items_is}
 use Rattle.ldm_frags.specs.Joins.{Joins}
 use Rattle.ldm_frags.specs.Written.{Holds, in_order, joined_of}

@@ -1,4 +1,4 @@
-use Rattle.std.proofs.Common.{◌≡◌, ◌+◌, ◌≤◌, ◌∙◌, List, [], ◌∷◌, ◌++◌, ℕ, All, ap, sym, subst, length, take, get_or, arith}
+use Rattle.std.proofs.Common.{◌≡◌, ◌+◌, ◌≤◌, ◌∙◌, List, ℕ, All, ap, sym, subst, length, take, get_or, arith}
 use Rattle.std.proofs.lemmas.List.{get_or_read}
 use Rattle.ldm_frags.specs.Blocks.{count}
 use Rattle.ldm_frags.specs.Written.{parts_of, need_of, IsSized, IsPlaced, in_order}
@@ -30,5 +30,5 @@ loop-payload-preserved c =
       next = omega arith;
       placed = subst (λ (before : List (List ℕ)). All (IsPlaced c.write_record.new.out) (in_order 4 before)) (sym next)
           (placed_more c.loop-payload.out c.write_record.new.out (take i payloads) bytes c.loop-payload.number c.write_record.auto.out sized c.loop-payload.invariant.next room
-              c.loop-payload.invariant.placed c.write_record.ensures.below c.write_record.ensures.written);
+          c.loop-payload.invariant.placed c.write_record.ensures.below c.write_record.ensures.written);
     }

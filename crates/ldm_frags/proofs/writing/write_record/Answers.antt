@@ -1,6 +1,6 @@
 use Rattle.std.proofs.Common.{◌≡◌, ◌+◌, ◌-◌, ◌*◌, ◌<◌, ◌++◌, ◌∙◌, ℕ, List, ap, length, replicate, arith, below_more}
 use Rattle.ldm_bytes.specs.Places.{put}
-use Rattle.ldm_frags.specs.Written.{parts_of, part_bytes, written_block, block_at}
+use Rattle.ldm_frags.specs.Written.{parts_of, part_bytes, written_block}
 use Rattle.ldm_frags.proofs.HoldLaws.{part_length}
 use Rattle.ldm_frags.proofs.PutLaws.{Writes, written_here, written_other, written_length}
 use Rattle.ldm_frags.proofs.writing.write_record.Goals as goal

@@ -1,4 +1,4 @@
-use Rattle.std.proofs.Common.{◌≡◌, ◌<◌, ◌≤◌, ◌∙◌, ℕ, arith, replicate, inl, inr, refl, ap}
+use Rattle.std.proofs.Common.{◌≡◌, ◌∙◌, arith, replicate, inl, inr, refl, ap}
 use Rattle.std.proofs.lemmas.Bool.{cases_lt}
 use Rattle.ldm_frags.specs.Written.{unused_block, block_at}
 use Rattle.ldm_frags.proofs.PutLaws.{Writes, written_here, written_other, written_length}
@@ -18,8 +18,8 @@ loop-number-preserved c =
       unused = λ b from lt. elim (cases_lt b number) [
         | inl below ↦ written_other c.loop-number.out c.write_block.new.out number b block w (omega arith) (λ e. omega arith) ∙ c.loop-number.invariant.unused b from below
         | inr above ↦
-          let same : b ≡ number = omega arith in
-          ap (block_at c.write_block.new.out) same ∙ written_here c.loop-number.out c.write_block.new.out number block w ∙ ap unused_block (omega arith)
+            let same : b ≡ number = omega arith in
+            ap (block_at c.write_block.new.out) same ∙ written_here c.loop-number.out c.write_block.new.out number block w ∙ ap unused_block (omega arith)
       ];
       below = λ b from lt. written_other c.loop-number.out c.write_block.new.out number b block w from (λ e. omega arith) ∙ c.loop-number.invariant.below b from lt;
     }
