@@ -162,9 +162,6 @@ first_there (suc n) k fault f lt none e =
           rw (before, here) refl
     ]
 
-pub first_more : (n : ℕ) (fault : ℕ → Option FragFault) → first_below n fault ≡ None → fault n ≡ None → first_below (n + 1) fault ≡ None
-first_more n fault before here = rw (add-one, before, here) refl
-
 pub some_more : (n : ℕ) (p : ℕ → Bool) → p n ≡ false → some_below (n + 1) p ≡ some_below n p
 some_more n p e = rw (add-one, e) (or_false_right (some_below n p))
   where
@@ -183,9 +180,6 @@ passing_skip n p e = go (some_below n p) refl
 
 pub passing_here : (n : ℕ) (p : ℕ → Bool) → p n ≡ true → some_below n p ≡ false → first_passing (n + 1) p ≡ Some n
 passing_here n p e none = rw (add-one, none, e) refl
-
-pub passing_none : (n : ℕ) (p : ℕ → Bool) → some_below n p ≡ false → first_passing n p ≡ None
-passing_none n p e = rw e refl
 
 pub passing_some : (n : ℕ) (p : ℕ → Bool) → is_some (first_passing n p) ≡ some_below n p
 passing_some n p = go (some_below n p) refl

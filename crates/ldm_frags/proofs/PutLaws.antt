@@ -115,6 +115,3 @@ part_filled bytes i end part lt e is =
           ∙ sym (take-append-le 112 (drop (112 * i) bytes) zeros (omega arith))
           ∙ ap (take 112) (sym split)
     ]
-
-pub zeros_length : (bytes : List ℕ) → length bytes ≤ 112 → length (bytes ++ replicate (112 - length bytes) 0) ≡ 112
-zeros_length bytes le = simp (length-append, length-replicate) (omega arith)

@@ -57,13 +57,6 @@ known_kept blocks k g (Some group) other met = record {
     differs : is_of blocks g k ≡ true → ⊥
     differs is = cc
 
--- a block that is no fragment adds nothing
-pub table_skip : (blocks : List ℕ) (k : ℕ) (groups : BTreeMap ℕ Group) → IsTable blocks k groups → is_fragment blocks k ≡ false → IsTable blocks (k + 1) groups
-table_skip blocks k groups table other = record {
-  known = λ g. known_kept blocks k g (get nat_cmp groups g) (rw other refl) (table.known g);
-  places = λ g p lt. table.places g p lt ∙ sym (passing_skip k (is_part blocks g p) (rw other refl));
-}
-
 -- the group of block k, as the table has it, or without any part
 abbrev pub found_of : BTreeMap ℕ Group → ℕ → ℕ → Group
 found_of groups g n = unwrap_or (get nat_cmp groups g) (empty_group n)
