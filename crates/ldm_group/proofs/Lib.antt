@@ -1,4 +1,0 @@
-pub mod Rise
-pub mod OrderLaws
-pub mod NeedLaws
-pub mod LeastLaws

@@ -1,4 +1,0 @@
-pub mod Order
-pub mod Database
-pub mod Looks
-pub mod Room

@@ -1,6 +1,0 @@
-pub mod ValueLaws
-pub mod PlainLaws
-pub mod OneRecord
-pub mod WholeLaws
-pub mod Sound
-pub mod FieldLaws
