@@ -1,29 +1,56 @@
 -- What the program is to answer to a command line: a text and a status.
-use Rattle.std.specs.Prelude.{ℕ, List, [], Option, Some, None, Result, Ok, Err}
+use Rattle.std.specs.Prelude.{◌≡◌, ℕ, List, [], Option, Some, None, Result, Ok, Err}
 use Rattle.ldm_host.specs.Seen.{image}
 use Rattle.ldm_label.specs.declared.Label.{Label}
 use Rattle.ldm_label.specs.declared.LabelFault.{LabelFault}
 use Rattle.ldm_label.specs.LabelOf.{label_of}
+use Rattle.ldm_copy.specs.declared.answer.CopyState.{CopyState}
+use Rattle.ldm_copy.specs.declared.answer.CopyFault.{CopyFault}
+use Rattle.ldm_copy.specs.Copy.{IsCopyOf, config_area}
 use Rattle.ldm_words.specs.declared.job.Job.{Job}
-use Rattle.ldm_words.specs.declared.job.Job.TheVariants.{Disk}
+use Rattle.ldm_words.specs.declared.job.Job.TheVariants.{Disk, Records}
 use Rattle.ldm_words.specs.Jobs.{job_of}
 use Rattle.ldm_text.specs.Texts.{text_of_label, text_of_label_fault, text_of_image_fault, text_of_refusal}
+use Rattle.ldm_text.specs.Records.{text_of_copy, text_of_copy_fault}
 use Rattle.ldm_tool.specs.declared.run.Status.{Status}
 use Rattle.ldm_tool.specs.declared.run.Status.TheVariants.{Done, Refused, Usage}
 
+-- a text and a status
+abbrev pub Answer : Type 0
+Answer = List ℕ × Status
+
+-- the refusal of an image for this fault
+abbrev pub refusal : ℕ → List ℕ → Answer
+refusal image fault = (text_of_refusal (text_of_image_fault image fault), Refused)
+
 -- the label of the only image, or its first fault
-abbrev pub disk_answer : Result Label LabelFault → List ℕ × Status
+abbrev pub disk_answer : Result Label LabelFault → Answer
 disk_answer (Ok label) = (text_of_label label, Done)
-disk_answer (Err fault) = (text_of_refusal (text_of_image_fault 0 (text_of_label_fault fault)), Refused)
+disk_answer (Err fault) = refusal 0 (text_of_label_fault fault)
+
+-- a copy of the database, or its first fault
+abbrev pub copy_answer : Result CopyState CopyFault → Answer
+copy_answer (Ok state) = (text_of_copy state, Done)
+copy_answer (Err fault) = refusal 0 (text_of_copy_fault fault)
+
+-- the copy in the config area that the label says
+abbrev pub IsCopyAnswer : Label → List ℕ → Answer → Type 0
+IsCopyAnswer label bytes answer = (copy : Result CopyState CopyFault) × IsCopyOf (config_area label bytes) label.area_sectors copy × (answer ≡ copy_answer copy)
+
+-- that copy, or the label's first fault
+abbrev pub IsRecordsAnswer : Result Label LabelFault → List ℕ → Answer → Type 0
+IsRecordsAnswer (Ok label) bytes answer = IsCopyAnswer label bytes answer
+IsRecordsAnswer (Err fault) bytes answer = answer ≡ refusal 0 (text_of_label_fault fault)
 
 -- what a job answers, with this content of the disks and this input
-abbrev pub job_answer : Job → List (List ℕ) → List ℕ → List ℕ × Status
-job_answer Disk images input = disk_answer (label_of (image images 0))
+abbrev pub IsJobAnswer : Job → List (List ℕ) → List ℕ → Answer → Type 0
+IsJobAnswer Disk images input answer = answer ≡ disk_answer (label_of (image images 0))
+IsJobAnswer Records images input answer = IsRecordsAnswer (label_of (image images 0)) (image images 0) answer
 
-abbrev pub reading_answer : Option (Job × ℕ) → List (List ℕ) → List ℕ → List ℕ × Status
-reading_answer None images input = ([], Usage)
-reading_answer (Some reading) images input = job_answer reading.0 images input
+abbrev pub IsReadingAnswer : Option (Job × ℕ) → List (List ℕ) → List ℕ → Answer → Type 0
+IsReadingAnswer None images input answer = answer ≡ ([], Usage)
+IsReadingAnswer (Some reading) images input answer = IsJobAnswer reading.0 images input answer
 
--- what is answered to these words
-abbrev pub answer_to : List (List ℕ) → List (List ℕ) → List ℕ → List ℕ × Status
-answer_to words images input = reading_answer (job_of words) images input
+-- what is answered to these words; there is one answer
+abbrev pub IsAnswerTo : List (List ℕ) → List (List ℕ) → List ℕ → Answer → Type 0
+IsAnswerTo words images input answer = IsReadingAnswer (job_of words) images input answer

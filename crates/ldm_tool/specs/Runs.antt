@@ -1,31 +1,36 @@
 -- How a run of the program ends.
-use Rattle.std.specs.Prelude.{◌≡◌, ℕ, List, ◌++◌, length, Option, Some, None}
+use Rattle.std.specs.Prelude.{◌≡◌, ◌⊎◌, ℕ, List, ◌++◌, length, Option, Some, None}
 use Rattle.ldm_host.specs.Seen.{Seen}
 use Rattle.ldm_host.specs.Moves.{Rose, Begins, Still}
 use Rattle.ldm_words.specs.declared.job.Job.{Job}
-use Rattle.ldm_words.specs.declared.job.Job.TheVariants.{Disk}
+use Rattle.ldm_words.specs.declared.job.Job.TheVariants.{Disk, Records}
+use Rattle.ldm_tool.specs.Answer.{Answer}
 use Rattle.ldm_tool.specs.declared.run.Status.{Status}
 use Rattle.ldm_tool.specs.declared.run.Status.TheVariants.{Done, Refused, Usage, DiskFault, NoMemory, TalkFault}
 
 -- the statuses that an answer may have
-abbrev pub IsAnswer : Status → Type 0
-IsAnswer Done = Unit {0}
-IsAnswer Refused = Unit {0}
-IsAnswer Usage = ⊥
-IsAnswer DiskFault = ⊥
-IsAnswer NoMemory = ⊥
-IsAnswer TalkFault = ⊥
+abbrev pub HasAnswer : Status → Type 0
+HasAnswer Done = Unit {0}
+HasAnswer Refused = Unit {0}
+HasAnswer Usage = ⊥
+HasAnswer DiskFault = ⊥
+HasAnswer NoMemory = ⊥
+HasAnswer TalkFault = ⊥
 
 -- the status is the answer's, and since the old state just the answer's text was said
-pub record Whole (old new : Seen) (answer : List ℕ × Status) (status : Status) : Type 0 where
+pub record Whole (old new : Seen) (answer : Answer) (status : Status) : Type 0 where
   pub status_is : status ≡ answer.1
   pub said : new.said ≡ old.said ++ answer.0
 
--- Done and Refused are the answer, whole. Whatever the status, what was said is the beginning of the answer's text.
-pub record Answers (old new : Seen) (answer : List ℕ × Status) (status : Status) : Type 0 where
-  pub whole : IsAnswer status → Whole old new answer status
+-- Done and Refused are an answer of these, whole. Whatever the status, what was said is the beginning of the text of one.
+pub record Answers (old new : Seen) (IsOne : Answer → Type 0) (status : Status) : Type 0 where
+  pub whole : HasAnswer status → (answer : Answer) × IsOne answer × Whole old new answer status
   pub since : Begins old.said new.said
-  pub front : Begins new.said (old.said ++ answer.0)
+  pub front : (new.said ≡ old.said) ⊎ ((answer : Answer) × IsOne answer × Begins new.said (old.said ++ answer.0))
+
+-- an answer of these came, whole
+abbrev pub Completes : Seen → Seen → (Answer → Type 0) → Status → Type 0
+Completes old new IsOne status = (answer : Answer) × IsOne answer × Whole old new answer status
 
 -- A fault comes only where its count rose in the run, or stands at its last value.
 pub record Causes (old new : Seen) (status : Status) : Type 0 where
@@ -45,6 +50,7 @@ HasImages (Some reading) host = length host.sizes ≡ reading.1
 -- What a job asks of the disks for its answer to be that of their content: nothing, where it only reads.
 abbrev pub JobPremise : Job → Seen → Type 0
 JobPremise Disk host = Unit {0}
+JobPremise Records host = Unit {0}
 
 abbrev pub Premise : Option (Job × ℕ) → Seen → Type 0
 Premise None host = Unit {0}
@@ -53,6 +59,7 @@ Premise (Some reading) host = JobPremise reading.0 host
 -- What becomes of the disks: a job that only reads leaves them as they are.
 abbrev pub JobDisks : Job → Seen → Seen → Type 0
 JobDisks Disk old new = Still old new
+JobDisks Records old new = Still old new
 
 abbrev pub DisksAfter : Option (Job × ℕ) → Seen → Seen → Type 0
 DisksAfter None old new = Still old new
@@ -66,6 +73,7 @@ pub record SameInput (old new : Seen) : Type 0 where
 -- What is left of the input: all of it, by a job that hears no script.
 abbrev pub JobInput : Job → Seen → Seen → Type 0
 JobInput Disk old new = SameInput old new
+JobInput Records old new = SameInput old new
 
 abbrev pub InputAfter : Option (Job × ℕ) → Seen → Seen → Type 0
 InputAfter None old new = SameInput old new

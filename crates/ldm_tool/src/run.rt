@@ -1,16 +1,21 @@
-ghost use Rattle.std.specs.Prelude.{◌≡◌, ◌≢◌, ◌↔◌, List, ℕ, length, IfOk, None};
+ghost use Rattle.std.specs.Prelude.{◌≡◌, ◌≢◌, ◌↔◌, List, ℕ, length, slice_index, IfOk, None, Ok};
 ghost use Rattle.ldm_host.specs.Seen.{image};
+ghost use Rattle.ldm_label.specs.LabelOf.{label_of, Fits};
 ghost use Rattle.ldm_host.specs.Moves.{Still};
-ghost use Rattle.ldm_label.specs.LabelOf.{label_of};
 ghost use Rattle.ldm_words.specs.Jobs.{texts, job_of, HasCount};
+ghost use Rattle.ldm_words.specs.declared.job.Job.TheVariants as jobs;
 ghost use Rattle.ldm_text.specs.Texts.{text_of_label_fault, text_of_image_fault, text_of_refusal};
-ghost use Rattle.ldm_tool.specs.Answer.{answer_to, disk_answer, job_answer};
-ghost use Rattle.ldm_tool.specs.Runs.{IsAnswer, Whole, Answers, Causes, NoFault, HasImages, Premise, JobPremise, JobDisks, DisksAfter, SameInput, JobInput, InputAfter};
+ghost use Rattle.ldm_text.specs.Records.{text_of_copy_fault};
+ghost use Rattle.ldm_tool.specs.Answer.{Answer, IsAnswerTo, IsJobAnswer, IsCopyAnswer, refusal};
+ghost use Rattle.ldm_tool.specs.Runs.{HasAnswer, Whole, Answers, Completes, Causes, NoFault, HasImages, Premise, JobPremise, JobDisks, DisksAfter, SameInput, JobInput, InputAfter};
 
 use ldm_bytes::{Bytes, NoMemory};
+use ldm_copy::{CopyError, CopyFault, read_copy};
 use ldm_host::Host;
-use ldm_label::{LabelError, LabelFault, read_label};
-use ldm_text::{image_fault_text, label_fault_text, label_text, refusal_text};
+use ldm_label::{Label, LabelError, LabelFault, read_label};
+use ldm_text::{
+    copy_fault_text, image_fault_text, label_fault_text, label_text, records_text, refusal_text,
+};
 use ldm_words::{Job, WordsError, read_words};
 use std::alloc::Global;
 
@@ -32,8 +37,8 @@ pub enum Status {
 
 // Says a text that was made, whole.
 fn say_made<H: Host>(host: &mut H, made: Result<Bytes, NoMemory>, status: Status) -> Status
-    requires { IsAnswer status }
-    ensures answers { H.tells_talk → (text : List ℕ) → IfOk made (λ m. m ≡ text) → Answers (H.seen host.old) (H.seen host.new) (text, status) result }
+    requires { HasAnswer status }
+    ensures answers { H.tells_talk → (text : List ℕ) → IfOk made (λ m. m ≡ text) → Answers (H.seen host.old) (H.seen host.new) (λ answer. answer ≡ (text, status)) result }
     ensures no_usage { result ≢ Status.Usage }
     ensures causes { Causes (H.seen host.old) (H.seen host.new) result }
     ensures still { Still (H.seen host.old) (H.seen host.new) }
@@ -48,19 +53,42 @@ fn say_made<H: Host>(host: &mut H, made: Result<Bytes, NoMemory>, status: Status
     }
 }
 
-// The line that refuses an image for the fault of its label.
-fn label_refusal(alloc: Global, image: usize, fault: LabelFault) -> Result<Bytes, NoMemory>
-    ensures { IfOk result (λ text. text ≡ text_of_refusal (text_of_image_fault image (text_of_label_fault fault))) }
+// The line that refuses an image for a fault, whose text was made.
+fn refusal(alloc: Global, image: usize, made: Result<Bytes, NoMemory>) -> Result<Bytes, NoMemory>
+    ensures { (text : List ℕ) → IfOk made (λ m. m ≡ text) → IfOk result (λ line. line ≡ text_of_refusal (text_of_image_fault image text)) }
 {
-    let text = label_fault_text(alloc, fault)?;
-    let of_image = image_fault_text(alloc, image, text.as_slice())?;
+    let of_image = image_fault_text(alloc, image, made?.as_slice())?;
     refusal_text(alloc, of_image.as_slice())
+}
+
+// Refuses image 0 for the fault of its label.
+fn refuse_label<H: Host>(alloc: Global, host: &mut H, fault: LabelFault) -> Status
+    ensures answers { H.tells_talk → Answers (H.seen host.old) (H.seen host.new) (λ answer. answer ≡ refusal 0 (text_of_label_fault fault)) result }
+    ensures no_usage { result ≢ Status.Usage }
+    ensures causes { Causes (H.seen host.old) (H.seen host.new) result }
+    ensures still { Still (H.seen host.old) (H.seen host.new) }
+    ensures input { SameInput (H.seen host.old) (H.seen host.new) }
+{
+    let line = refusal(alloc, 0, label_fault_text(alloc, fault));
+    say_made(host, line, Status::Refused)
+}
+
+// Refuses image 0 for the fault of its copy.
+fn refuse_copy<H: Host>(alloc: Global, host: &mut H, fault: CopyFault) -> Status
+    ensures answers { H.tells_talk → Answers (H.seen host.old) (H.seen host.new) (λ answer. answer ≡ refusal 0 (text_of_copy_fault fault)) result }
+    ensures no_usage { result ≢ Status.Usage }
+    ensures causes { Causes (H.seen host.old) (H.seen host.new) result }
+    ensures still { Still (H.seen host.old) (H.seen host.new) }
+    ensures input { SameInput (H.seen host.old) (H.seen host.new) }
+{
+    let line = refusal(alloc, 0, copy_fault_text(alloc, fault));
+    say_made(host, line, Status::Refused)
 }
 
 // disk on IMAGE
 fn disk<H: Host>(alloc: Global, host: &mut H) -> Status
     requires { length (H.seen host.old).sizes ≡ 1 }
-    ensures answers { H.tells_disks → Answers (H.seen host.old) (H.seen host.new) (disk_answer (label_of (image (H.seen host.old).content 0))) result }
+    ensures answers { H.tells_disks → Answers (H.seen host.old) (H.seen host.new) (IsJobAnswer jobs.Disk (H.seen host.old).content (H.seen host.old).input) result }
     ensures no_usage { result ≢ Status.Usage }
     ensures causes { Causes (H.seen host.old) (H.seen host.new) result }
     ensures still { Still (H.seen host.old) (H.seen host.new) }
@@ -68,10 +96,43 @@ fn disk<H: Host>(alloc: Global, host: &mut H) -> Status
 {
     match read_label(host, 0) {
         Err(LabelError::Disk) => Status::DiskFault,
+        Err(LabelError::Fault(fault)) => refuse_label(alloc, host, fault),
         Ok(label) => say_made(host, label_text(alloc, &label), Status::Done),
-        Err(LabelError::Fault(fault)) => {
-            say_made(host, label_refusal(alloc, 0, fault), Status::Refused)
-        }
+    }
+}
+
+// The copy in the config area of image 0, whose label this is.
+fn copy_of_label<H: Host>(alloc: Global, host: &mut H, label: &Label) -> Status
+    requires one { length (H.seen host.old).sizes ≡ 1 }
+    requires fits { Fits label.now (slice_index (H.seen host.old).sizes 0) }
+    requires label { H.tells_disks → label_of (image (H.seen host.old).content 0) ≡ Ok label.now }
+    ensures answers { H.tells_disks → Answers (H.seen host.old) (H.seen host.new) (IsCopyAnswer label.now (image (H.seen host.old).content 0)) result }
+    ensures no_usage { result ≢ Status.Usage }
+    ensures causes { Causes (H.seen host.old) (H.seen host.new) result }
+    ensures still { Still (H.seen host.old) (H.seen host.new) }
+    ensures input { SameInput (H.seen host.old) (H.seen host.new) }
+{
+    match read_copy(alloc, host, 0, label) {
+        Err(CopyError::Disk) => Status::DiskFault,
+        Err(CopyError::NoMemory) => Status::NoMemory,
+        Err(CopyError::Fault(fault)) => refuse_copy(alloc, host, fault),
+        Ok(state) => say_made(host, records_text(alloc, &state), Status::Done),
+    }
+}
+
+// records on IMAGE
+fn records<H: Host>(alloc: Global, host: &mut H) -> Status
+    requires { length (H.seen host.old).sizes ≡ 1 }
+    ensures answers { H.tells_disks → Answers (H.seen host.old) (H.seen host.new) (IsJobAnswer jobs.Records (H.seen host.old).content (H.seen host.old).input) result }
+    ensures no_usage { result ≢ Status.Usage }
+    ensures causes { Causes (H.seen host.old) (H.seen host.new) result }
+    ensures still { Still (H.seen host.old) (H.seen host.new) }
+    ensures input { SameInput (H.seen host.old) (H.seen host.new) }
+{
+    match read_label(host, 0) {
+        Err(LabelError::Disk) => Status::DiskFault,
+        Err(LabelError::Fault(fault)) => refuse_label(alloc, host, fault),
+        Ok(label) => copy_of_label(alloc, host, &label),
     }
 }
 
@@ -79,7 +140,7 @@ fn disk<H: Host>(alloc: Global, host: &mut H) -> Status
 fn do_job<H: Host>(alloc: Global, job: Job, host: &mut H) -> Status
     requires { HasCount job (length (H.seen host.old).sizes) }
     ensures answers { H.tells_disks → JobPremise job (H.seen host.old)
-        → Answers (H.seen host.old) (H.seen host.new) (job_answer job (H.seen host.old).content (H.seen host.old).input) result }
+        → Answers (H.seen host.old) (H.seen host.new) (IsJobAnswer job (H.seen host.old).content (H.seen host.old).input) result }
     ensures no_usage { result ≢ Status.Usage }
     ensures causes { Causes (H.seen host.old) (H.seen host.new) result }
     ensures disks { JobDisks job (H.seen host.old) (H.seen host.new) }
@@ -87,24 +148,28 @@ fn do_job<H: Host>(alloc: Global, job: Job, host: &mut H) -> Status
 {
     match job {
         Job::Disk => disk(alloc, host),
+        Job::Records => records(alloc, host),
     }
 }
 
 /// Runs a command line over the images that it names: the disks of the host, in their order.
+#[tactic(auto, using(crate::proofs::OneAnswer::one_answer))]
 pub fn run<H: Host>(alloc: Global, words: &[String], host: &mut H) -> Status
     requires { HasImages (job_of (texts words.now)) (H.seen host.old) }
     // Usage comes exactly where the words have no reading, and then no call of the host is made.
     ensures usage { result ≢ Status.NoMemory → (result ≡ Status.Usage) ↔ (job_of (texts words.now) ≡ None) }
     ensures nothing { job_of (texts words.now) ≡ None → host.new ≡ host.old }
-    // Done and Refused are the answer, and nothing is said but the beginning of its text.
+    // Done and Refused are the answer, and nothing is said but the beginning of its text. There is one answer.
     ensures answers { H.tells_disks → Premise (job_of (texts words.now)) (H.seen host.old)
-        → Answers (H.seen host.old) (H.seen host.new) (answer_to (texts words.now) (H.seen host.old).content (H.seen host.old).input) result }
+        → Answers (H.seen host.old) (H.seen host.new) (IsAnswerTo (texts words.now) (H.seen host.old).content (H.seen host.old).input) result }
+    ensures one { (a b : Answer) → IsAnswerTo (texts words.now) (H.seen host.old).content (H.seen host.old).input a
+        → IsAnswerTo (texts words.now) (H.seen host.old).content (H.seen host.old).input b → a ≡ b }
     // A fault comes only where its count rose.
     ensures causes { Causes (H.seen host.old) (H.seen host.new) result }
     // Where no count rose, the answer comes, or NoMemory.
     ensures complete { H.tells_disks → Premise (job_of (texts words.now)) (H.seen host.old)
         → NoFault (H.seen host.old) (H.seen host.new) → result ≢ Status.NoMemory
-        → Whole (H.seen host.old) (H.seen host.new) (answer_to (texts words.now) (H.seen host.old).content (H.seen host.old).input) result }
+        → Completes (H.seen host.old) (H.seen host.new) (IsAnswerTo (texts words.now) (H.seen host.old).content (H.seen host.old).input) result }
     ensures disks { DisksAfter (job_of (texts words.now)) (H.seen host.old) (H.seen host.new) }
     ensures input { InputAfter (job_of (texts words.now)) (H.seen host.old) (H.seen host.new) }
 {

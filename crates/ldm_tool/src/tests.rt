@@ -52,6 +52,9 @@ fn image_with(alloc: Global, changes: &[(usize, &[u8])]) -> Result<Vec<u8>, Fail
 const LABEL: &str =
     "disk 11111111-1111-1111-1111-111111111111 version 2.11 data 63+6081 database 6144+2048\narea 17+1481 log 1498+224\n";
 
+const RECORDS: &str =
+    "vmdb Dg0 aaaaaaaa-aaaa-aaaa-aaaa-aaaaaaaaaaaa sequence 7 last 64\ndgr3 1 Dg0 63\ndsk3 2 Disk1 66\n";
+
 // Changes of the image, what `disk` says of it, and its status.
 type Case = (&'static [(usize, &'static [u8])], &'static str, Status);
 
@@ -108,6 +111,93 @@ fn says_the_label_or_its_fault(rt: HostRuntime) -> Result<(), Fail> {
         assert_eq!(rt; run_over(alloc, &words, &mut host), Some(status), "{text}");
         assert_eq!(rt; host.said(), text.as_bytes(), "{text}");
     }
+    Ok(())
+}
+
+// The config area of the image begins at this byte.
+const AREA: usize = 512 * 6161;
+
+#[test]
+fn says_the_records_or_the_fault_of_the_copy(rt: HostRuntime) -> Result<(), Fail> {
+    let alloc = rt.alloc();
+    let cases: [Case; 7] = [
+        (&[], RECORDS, Status::Done),
+        (&[(AREA, b"\x00")], "closed\n", Status::Done),
+        (
+            &[(AREA + 0x11, b"\x02")],
+            "refused: image 0: VMDB not settled\n",
+            Status::Refused,
+        ),
+        (
+            &[(AREA + 128 * 8, b"VBLL")],
+            "refused: image 0: block 8: no VBLK\n",
+            Status::Refused,
+        ),
+        (
+            &[
+                (AREA + 128 * 8 + 0x0F, b"\x01"),
+                (AREA + 128 * 8 + 0x13, b"\x36"),
+            ],
+            "refused: image 0: block 8: type 0x36\n",
+            Status::Refused,
+        ),
+        (
+            &[
+                (AREA + 128 * 8 + 0x0F, b"\x01"),
+                (AREA + 128 * 8 + 0x13, b"\x33\x00\x00\x01\xf4"),
+            ],
+            "refused: image 0: block 8: malformed\n",
+            Status::Refused,
+        ),
+        (
+            &[(0x1FE, b"\x00")],
+            "refused: image 0: no signature\n",
+            Status::Refused,
+        ),
+    ];
+    let words = words_in(alloc, "records on A")?;
+    for (changes, text, status) in cases {
+        let mut host = host_of(alloc, image_with(alloc, changes)?)?;
+        assert_eq!(rt; run_over(alloc, &words, &mut host), Some(status), "{text}");
+        assert_eq!(rt; host.said(), text.as_bytes(), "{text}");
+    }
+    Ok(())
+}
+
+// The image of the third disk of the sample group.
+fn third_image(alloc: Global) -> Result<Vec<u8>, Fail> {
+    let Ok(mut images) = sample_images(alloc, 3, 64) else {
+        return Err(Fail::from("no memory"));
+    };
+    let Some(image) = images.pop() else {
+        return Err(Fail::from("no image"));
+    };
+    Ok(image)
+}
+
+const THREE_DISKS: &str =
+    "vmdb Dg0 aaaaaaaa-aaaa-aaaa-aaaa-aaaaaaaaaaaa sequence 7 last 64\ndgr3 1 Dg0 63\ndsk3 2 Disk1 66\ndsk3 3 Disk2 66\ndsk3 4 Disk3 66\n";
+
+#[test]
+fn refuses_an_id_that_two_disks_have(rt: HostRuntime) -> Result<(), Fail> {
+    let alloc = rt.alloc();
+    let words = words_in(alloc, "records on C")?;
+    let mut host = host_of(alloc, third_image(alloc)?)?;
+    assert_eq!(rt; run_over(alloc, &words, &mut host), Some(Status::Done));
+    assert_eq!(rt; host.said(), THREE_DISKS.as_bytes());
+
+    let mut image = third_image(alloc)?;
+    // The id of the second disk record.
+    let id = AREA + 128 * 6 + 0x19;
+    if id < image.len() {
+        image[id] = 2;
+    }
+    let mut host = host_of(alloc, image)?;
+    assert_eq!(rt; run_over(alloc, &words, &mut host), Some(Status::Refused));
+    assert_eq!(rt;
+        host.said(),
+        b"refused: image 0: kind 2 id 2 twice\n".as_slice()
+    );
     Ok(())
 }
 

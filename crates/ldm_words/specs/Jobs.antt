@@ -3,7 +3,7 @@ use Rattle.std.specs.Prelude.{◌≡◌, ℕ, ◌==◌, ◌&&◌, Bool, List, []
 use Rattle.std.specs.List.{before_first, after_first}
 use Rattle.std.specs.declared.alloc.Global.{Global}
 use Rattle.ldm_words.specs.declared.job.Job.{Job}
-use Rattle.ldm_words.specs.declared.job.Job.TheVariants.{Disk}
+use Rattle.ldm_words.specs.declared.job.Job.TheVariants.{Disk, Records}
 
 -- the words, as lists of bytes
 abbrev pub texts : List (String Global) → List (List ℕ)
@@ -18,7 +18,10 @@ images_of words = length (after_first is_on words)
 
 -- the job that stands before `on`, with so many images behind it
 abbrev pub job_form : List (List ℕ) → ℕ → Option Job
-job_form (word ∷ []) images = if bytes_eq word (codes "disk") && (images == 1) then Some Disk else None
+job_form (word ∷ []) images =
+    if bytes_eq word (codes "disk") && (images == 1) then Some Disk
+    else if bytes_eq word (codes "records") && (images == 1) then Some Records
+    else None
 job_form words images = None
 
 abbrev pub with_count : ℕ → Option Job → Option (Job × ℕ)
@@ -32,3 +35,4 @@ job_of words = with_count (images_of words) (job_form (before_first is_on words)
 -- how many images a job may have
 abbrev pub HasCount : Job → ℕ → Type 0
 HasCount Disk images = images ≡ 1
+HasCount Records images = images ≡ 1

@@ -12,6 +12,8 @@ use thiserror::Error;
 pub enum Job {
     /// The private header of one disk.
     Disk,
+    /// The copy of the database on one disk.
+    Records,
 }
 
 /// Why words give no job.
@@ -71,6 +73,8 @@ fn read_job(words: &[String], images: usize) -> Option<Job>
     };
     if word.as_bytes() == b"disk".as_slice() && images == 1 {
         Some(Job::Disk)
+    } else if word.as_bytes() == b"records".as_slice() && images == 1 {
+        Some(Job::Records)
     } else {
         None
     }
@@ -99,11 +103,13 @@ mod tests {
     use std::test::Fail;
 
     #[test]
-    fn reads_disk_alone(rt: HostRuntime) -> Result<(), Fail> {
+    fn reads_the_jobs(rt: HostRuntime) -> Result<(), Fail> {
         let alloc = rt.alloc();
         let lines = [
             ("disk on A", true),
             ("disk on on", true),
+            ("records on A", true),
+            ("records on A B", false),
             ("disk on", false),
             ("disk on A B", false),
             ("disk A", false),
@@ -119,9 +125,14 @@ mod tests {
                 words.push(String::from_str(alloc, word)?)?;
             }
             match read_words(alloc, &words) {
-                Ok((Job::Disk, count)) => {
+                Ok((job, count)) => {
                     assert!(rt; reads, "{line}");
                     assert_eq!(rt; count, 1, "{line}");
+                    assert_eq!(rt;
+                        matches!(&job, Job::Disk),
+                        line.starts_with("disk"),
+                        "{line}"
+                    );
                 }
                 Err(error) => {
                     assert!(rt; !reads, "{line}");

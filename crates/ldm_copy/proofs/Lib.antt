@@ -1,0 +1,9 @@
+pub mod Counting
+pub mod FewBlocks
+pub mod RecordLaws
+pub mod OneOrder
+pub mod OneCopy
+pub mod AreaLaws
+pub mod SoundLaws
+pub mod AnswerLaws
+pub mod ReadLaws

@@ -1,0 +1,5 @@
+pub mod Records
+pub mod Copy
+pub mod Answers
+pub mod Errors
+pub mod Steps

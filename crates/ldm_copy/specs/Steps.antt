@@ -1,0 +1,59 @@
+-- What the steps of reading a copy answer.
+use Rattle.std.specs.Prelude.{◌≡◌, ◌^◌, ◌<◌, ◌≤◌, ℕ, List, slice_index, Option, Some, None, Result, Ok, Err, All}
+use Rattle.std.specs.Global.{Vec}
+use Rattle.ldm_vmdb.specs.declared.header.Header.{Header}
+use Rattle.ldm_vmdb.specs.Headers.{vmdb_fault, IsHeaderOf}
+use Rattle.ldm_frags.specs.declared.faults.Joined.{Joined}
+use Rattle.ldm_frags.specs.Faults.{first_block_fault}
+use Rattle.ldm_records.specs.declared.types.Record.{Record}
+use Rattle.ldm_records.specs.Plain.{Spells}
+use Rattle.ldm_records.specs.Views.{plain_of}
+use Rattle.ldm_group.specs.Order.{IsLeastTwice}
+use Rattle.ldm_group.specs.Database.{Database, IsDatabaseOf}
+use Rattle.ldm_group.specs.Room.{need_of, IsFitting}
+use Rattle.ldm_copy.specs.declared.answer.CopyFault.TheVariants.{Vmdb, Frag, BadRecord, SameId}
+use Rattle.ldm_copy.specs.declared.answer.CopyError.{CopyError}
+use Rattle.ldm_copy.specs.declared.answer.CopyError.TheVariants.{Fault, Disk, NoMemory}
+use Rattle.ldm_copy.specs.Records.{SpellRecords, HasFault, IsFirstFault, HoldRecords, HoldBadRecord}
+
+-- the header of an open copy, or nothing of a closed one
+abbrev pub OpensHeader : List ℕ → ℕ → Result (Option Header) CopyError → Type 0
+OpensHeader first sectors (Ok None) = slice_index first 0 ≡ 0x56 → ⊥
+OpensHeader first sectors (Ok (Some header)) = (slice_index first 0 ≡ 0x56) × (vmdb_fault first sectors ≡ None) × IsHeaderOf header first
+OpensHeader first sectors (Err (Fault (Vmdb fault))) = (slice_index first 0 ≡ 0x56) × (vmdb_fault first sectors ≡ Some fault)
+OpensHeader first sectors (Err NoMemory) = Unit {0}
+OpensHeader first sectors (Err _) = ⊥
+
+-- the record that a payload spells, or its fault
+abbrev pub ReadsRecord : Joined → Result Record CopyError → Type 0
+ReadsRecord joined (Ok r) = Spells (plain_of r) joined.payload
+ReadsRecord joined (Err (Fault (BadRecord block fault))) = HasFault joined.payload fault × (joined.block ≡ block)
+ReadsRecord joined (Err NoMemory) = Unit {0}
+ReadsRecord joined (Err _) = ⊥
+
+-- the records of a list, or the first fault
+abbrev pub ReadsRecords : List Joined → Result (Vec Record) CopyError → Type 0
+ReadsRecords list (Ok records) = SpellRecords list records.items
+ReadsRecords list (Err (Fault (BadRecord block fault))) = IsFirstFault list block fault
+ReadsRecords list (Err NoMemory) = Unit {0}
+ReadsRecords list (Err _) = ⊥
+
+-- the database of a header and blocks, or the first fault
+abbrev pub MakesDatabase : Header → List ℕ → Result Database CopyError → Type 0
+MakesDatabase header blocks (Ok db) = (records : List Record) × HoldRecords blocks records × IsDatabaseOf db header records
+MakesDatabase header blocks (Err (Fault (Frag fault))) = first_block_fault blocks ≡ Some fault
+MakesDatabase header blocks (Err (Fault (BadRecord block fault))) = HoldBadRecord blocks block fault
+MakesDatabase header blocks (Err (Fault (SameId kind id))) = (id < 2 ^ 64) × ((records : List Record) × HoldRecords blocks records × IsLeastTwice records kind id)
+MakesDatabase header blocks (Err NoMemory) = Unit {0}
+MakesDatabase header blocks (Err _) = ⊥
+
+-- the own spellings of the records take so many blocks at most, and each of them four at most
+pub record IsWithin (blocks : ℕ) (records : List Record) : Type 0 where
+  pub need : need_of records ≤ blocks
+  pub each : All IsFitting records
+
+-- the error is no fault of the copy
+abbrev pub IsNoFault : CopyError → Type 0
+IsNoFault (Fault fault) = ⊥
+IsNoFault Disk = Unit {0}
+IsNoFault NoMemory = Unit {0}

@@ -1,0 +1,15 @@
+//! One copy of a group's database, read whole from the config area of a disk.
+//!
+//! Sectors have 512 bytes, blocks 128. What a copy is, and its faults in their order, is in
+//! `specs/Copy.antt`.
+#![tactic(auto)]
+
+mod answer;
+mod database;
+mod reading;
+
+pub use answer::{CopyError, CopyFault, CopyState};
+pub use reading::read_copy;
+
+#[cfg(test)]
+mod tests;

@@ -1,0 +1,4 @@
+pub mod Rise
+pub mod OrderLaws
+pub mod NeedLaws
+pub mod LeastLaws

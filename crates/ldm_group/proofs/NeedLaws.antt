@@ -1,0 +1,33 @@
+-- The own spellings of a database's records, as payloads of blocks.
+use Rattle.std.proofs.Common.{◌≡◌, ◌+◌, ◌≤◌, List, [], ◌∷◌, length, map, refl, ap, sym, ◌∙◌, arith}
+use Rattle.std.specs.List.{All}
+use Rattle.std.proofs.lemmas.List.Sums.{sum_by-cons}
+use Rattle.std.proofs.lemmas.List.Elements.{All-nil, All-cons, All-head, All-tail}
+use Rattle.ldm_records.specs.declared.types.Record.{Record}
+use Rattle.ldm_records.specs.Plain.{Plain, own_spelling}
+use Rattle.ldm_records.specs.Views.{plain_of}
+use Rattle.ldm_frags.specs.Written.{parts_of, IsSized}
+use Rattle.ldm_frags.specs.Written as written
+use Rattle.ldm_group.specs.Room.{own_len, IsFitting, need_of}
+
+-- the payloads take as many blocks as the records need
+pub need_of-spellings : (records : List Record) → written.need_of (map (λ r. own_spelling (plain_of r)) records) ≡ need_of records
+unfolding own_len
+need_of-spellings [] = refl
+need_of-spellings (r ∷ rest) =
+    sum_by-cons (λ bytes. parts_of (length bytes)) (own_spelling (plain_of r)) (map (λ s. own_spelling (plain_of s)) rest)
+    ∙ ap (λ n. parts_of (own_len r) + n) (need_of-spellings rest)
+    ∙ sym (sum_by-cons (λ s. parts_of (own_len s)) r rest)
+
+-- an own spelling has its head at least
+own_spelling-some : (p : Plain) → 1 ≤ length (own_spelling p)
+own_spelling-some p = omega arith
+
+-- and each payload may be written where the records fit
+pub sized_spellings : (records : List Record) → All IsFitting records → All IsSized (map (λ r. own_spelling (plain_of r)) records)
+unfolding own_len
+sized_spellings [] fitting = All-nil IsSized
+sized_spellings (r ∷ rest) fitting =
+    All-cons IsSized (own_spelling (plain_of r)) (map (λ s. own_spelling (plain_of s)) rest)
+    (own_spelling-some (plain_of r), All-head IsFitting r rest fitting)
+    (sized_spellings rest (All-tail IsFitting r rest fitting))

@@ -1,0 +1,4 @@
+pub mod Order
+pub mod Database
+pub mod Looks
+pub mod Room

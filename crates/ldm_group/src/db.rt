@@ -1,0 +1,78 @@
+use crate::error::DbError;
+use crate::order::{first_twice, id_of, kind_of, place_of};
+use crate::records::Records;
+use ldm_records::Record;
+use ldm_vmdb::Header;
+use std::alloc::Global;
+use std::marker::Model;
+
+/// A group's header and its records, in rising order of kind and id.
+#[derive(Debug, Drop)]
+pub struct Db {
+    header: Header,
+    records: Records,
+}
+
+impl Model for Db {
+    ghost use Rattle.ldm_group.specs.Database.{Database};
+    ghost use Rattle.ldm_group.specs.Order.{Rising};
+
+    ghost Value = { Database };
+
+    ghost view = { λ d. record { header = d.header; records = d.records } };
+
+    ghost invariant = { λ d. Rising d.records };
+}
+
+impl Db {
+    ghost use Rattle.std.specs.Prelude.{◌≡◌, ◌<◌, length, slice_get, Some};
+    ghost use Rattle.ldm_group.specs.Order.{Rising};
+    ghost use Rattle.ldm_group.specs.Database.{Database, MakesDb};
+
+    /// The database of this header, with the records in their order.
+    pub fn new(_alloc: Global, header: Header, records: Vec<Record>) -> Result<Db, DbError>
+        ensures { MakesDb result header records.items }
+    {
+        let mut records = records;
+        records.sort_by_key(|r| place_of(r))?;
+        if let Some(at) = first_twice(records.as_slice()) {
+            return Err(DbError::SameId {
+                kind: kind_of(&records[at]),
+                id: id_of(&records[at]),
+            });
+        }
+        Ok(Db {
+            header,
+            records: Records::from_vec(records),
+        })
+    }
+
+    pub fn header(&self) -> &Header
+        ensures { result.now ≡ self.now.header }
+    {
+        &self.header
+    }
+
+    /// How many records there are.
+    pub fn count(&self) -> usize
+        ensures { result ≡ length self.now.records }
+    {
+        self.records.as_slice().len()
+    }
+
+    /// The records in their order.
+    pub fn as_slice(&self) -> &[Record]
+        ensures all { result.now ≡ self.now.records }
+        ensures rising { Rising self.now.records }
+    {
+        self.records.as_slice()
+    }
+
+    /// The record at a place of the list.
+    pub fn at(&self, place: usize) -> &Record
+        requires { place < length self.now.records }
+        ensures { slice_get self.now.records place ≡ Some result.now }
+    {
+        &self.records.as_slice()[place]
+    }
+}

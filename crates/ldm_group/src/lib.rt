@@ -1,0 +1,19 @@
+//! The database of a group: a header and the records of its disks, volumes, components and partitions.
+//!
+//! The records stand in rising order of kind and id. The look-ups walk them and take no memory.
+#![tactic(auto)]
+
+mod db;
+mod error;
+mod looks;
+mod order;
+mod records;
+mod room;
+
+pub use db::Db;
+pub use error::DbError;
+pub use order::{id_of, kind_of};
+pub use records::Records;
+
+#[cfg(test)]
+mod tests;

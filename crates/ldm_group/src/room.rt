@@ -1,0 +1,46 @@
+ghost use Rattle.std.specs.Prelude.{◌≡◌, ◌≤◌, All};
+ghost use Rattle.ldm_frags.specs.Written.{parts_of};
+ghost use Rattle.ldm_group.specs.Room.{own_len, IsFitting, need_of, room_of};
+
+use crate::db::Db;
+use ldm_frags::parts_of;
+use ldm_records::{Record, spelled_len};
+
+// The length of the record's own spelling.
+#[tactic(auto, unfolding(crate::specs::Room::own_len))]
+pub fn own_len(r: &Record) -> usize
+    ensures is { result ≡ own_len r.now }
+    ensures some { 1 ≤ result }
+{
+    spelled_len(r)
+}
+
+// How many blocks the record's own spelling takes.
+fn blocks_of(r: &Record) -> u32
+    requires { IsFitting r.now }
+    ensures is { result ≡ parts_of (own_len r.now) }
+    ensures few { result ≤ 4 }
+{
+    parts_of(own_len(r))
+}
+
+impl Db {
+    /// How many blocks the own spellings of the records take together.
+    pub fn need(&self) -> u64
+        requires { All IsFitting self.now.records }
+        ensures { result ≡ need_of self.now.records }
+    {
+        let mut need = 0;
+        for r in self.as_slice() {
+            need += u64::from(blocks_of(r));
+        }
+        need
+    }
+
+    /// How many blocks the header leaves to the records.
+    pub fn room(&self) -> u64
+        ensures { result ≡ room_of self.now.header.last }
+    {
+        (4 * u64::from(self.header().last / 4)).saturating_sub(4)
+    }
+}

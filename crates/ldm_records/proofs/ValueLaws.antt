@@ -1,0 +1,175 @@
+-- Fields that are read are spelled so, and fields that are spelled are read.
+use Rattle.std.proofs.Common.{◌≡◌, ℕ, zero, suc, ◌+◌, ◌^◌, ◌<◌, ◌≤◌, Bool, true, false, cond, ltb, List, [], ◌∷◌, ◌++◌, length, get_or, take, drop, Option, Some, None, refl, sym, ap, subst, ◌∙◌, append_assoc, arith, inl, inr}
+use Rattle.std.proofs.lemmas.Bool.{ltb-false, le-ltb, cases_lt}
+use Rattle.std.proofs.lemmas.List.{take_at, drop_at, take-append-drop, length-append, length-take, length-take-le, get_or-take, get_or_past, get_or-append-add, get_or_append_left}
+use Rattle.std.proofs.Math.Nat.{pow-le-pow_right}
+use Rattle.byteorder.specs.Endian.{big_number, big_bytes}
+use Rattle.byteorder.specs.Numbers.{big_from-lt, big_number-reads_back, length-bytes_high_first}
+use Rattle.ldm_bytes.specs.Numbers.{IsBytes, IsNumber, IsText, own_number, number_at, text_at}
+use Rattle.ldm_bytes.specs.Guid.{IsGuidText, guid_of, own_guid}
+use Rattle.ldm_bytes.proofs.GuidLaws.{guid_small, guid_again, own_guid-len}
+use Rattle.ldm_bytes.proofs.BigLaws.{big_back}
+use Rattle.ldm_bytes.proofs.NumberLaws.{guard_some, some_is, number_takes, number_again, text_takes, text_again, own_number-is_number}
+use Rattle.ldm_records.specs.Values.{Value, Fixed, Wide, GuidText, Number, Text, Absent, Kind, FixedKind, WideKind, GuidKind, NumberKind, TextKind, When, HasKind, HasKinds, SpellsValue, SpellsValues, own_value, own_values, value_len, values_len}
+use Rattle.ldm_records.specs.Steps.{◌>>=◌, read_value, read_values}
+
+pub IsBytes-take : (n : ℕ) (bytes : List ℕ) → IsBytes bytes → IsBytes (take n bytes)
+IsBytes-take n bytes h i =
+    elim (cases_lt i n) [
+      | inl lt ↦ rw (get_or-take n bytes i 0 lt) (h i)
+      | inr le ↦ rw (get_or_past (take n bytes) i 0 (omega (arith, length-take n bytes))) (omega arith)
+    ]
+
+pub IsBytes-back : (a b : List ℕ) → IsBytes (a ++ b) → IsBytes b
+IsBytes-back a b h i = rw (← get_or-append-add a b i 0) (h (length a + i))
+
+pub IsBytes-drop : (n : ℕ) (bytes : List ℕ) → IsBytes bytes → IsBytes (drop n bytes)
+IsBytes-drop n bytes h = IsBytes-back (take n bytes) (drop n bytes) (subst IsBytes (sym (take-append-drop n bytes)) h)
+
+IsBytes-front : (a b : List ℕ) → IsBytes (a ++ b) → IsBytes a
+IsBytes-front a b h i =
+    elim (cases_lt i (length a)) [
+      | inl lt ↦ rw (← get_or_append_left a b 0 i lt) (h i)
+      | inr le ↦ rw (get_or_past a i 0 le) (omega arith)
+    ]
+
+-- the value of a step that did not fail
+pub bind_some : {A B : Type 0} (r : Option A) (f : A → Option B) (y : B) → (r >>= f) ≡ Some y → (x : A) × (r ≡ Some x) × (f x ≡ Some y)
+bind_some (Some x) f y e = (x, refl, e)
+bind_some None f y e = absurd cc
+
+number_small : (v : ℕ) (w : List ℕ) → IsNumber v w → IsBytes w → v < 2 ^ 64
+number_small v [] n h = absurd n
+number_small v (c ∷ bytes) n h =
+    let below : big_number c bytes < 256 ^ c = big_from-lt 0 c bytes (λ i. h (suc i)) in
+    let few : c ≤ 8 = n.0 in
+    let top : 256 ^ c ≤ 256 ^ 8 = pow-le-pow_right (omega arith) few in
+    omega (arith, n.2)
+
+-- ---- one field
+
+-- what was read: the value, its kind and how it is spelled
+abbrev pub Takes : Kind → List ℕ → Value × List ℕ → Type 0
+Takes k bytes x = (w : List ℕ) × HasKind k x.0 × SpellsValue x.0 w × (bytes ≡ w ++ x.1)
+
+-- a text at the front is short and spelled
+text_front : (bytes t rest : List ℕ) → IsBytes bytes → text_at bytes ≡ Some (t, rest) → IsText t (length t ∷ t) × (bytes ≡ (length t ∷ t) ++ rest)
+text_front bytes t rest h e =
+    let whole = text_takes bytes t rest e in
+    let front : IsBytes (length t ∷ t) = IsBytes-front (length t ∷ t) rest (subst IsBytes whole h) in
+    let short : length t < 256 = front 0 in
+    ((omega arith, refl), whole)
+
+pub value_takes : (k : Kind) (bytes : List ℕ) (x : Value × List ℕ) → IsBytes bytes → read_value k bytes ≡ Some x → Takes k bytes x
+unfolding read_value
+value_takes (FixedKind n) bytes x h e =
+    let g = guard_some (ltb (length bytes) n) (Some (Fixed (take n bytes), drop n bytes)) x e in
+    let long : n ≤ length bytes = ltb-false _ _ g.0 in
+    subst (Takes (FixedKind n) bytes) (some_is (Fixed (take n bytes), drop n bytes) x g.1) (take n bytes, length-take-le n bytes long, refl, sym (take-append-drop n bytes))
+value_takes (WideKind n) bytes x h e =
+    let g = guard_some (ltb (length bytes) n) (Some (Wide n (big_number n bytes), drop n bytes)) x e in
+    let long : n ≤ length bytes = ltb-false _ _ g.0 in
+    subst (Takes (WideKind n) bytes) (some_is (Wide n (big_number n bytes), drop n bytes) x g.1) (take n bytes, (refl, big_from-lt 0 n bytes h), sym (big_back n bytes long h), sym (take-append-drop n bytes))
+value_takes GuidKind bytes x h e =
+    let b = bind_some (text_at bytes) (λ y. guid_of y.0 >>= λ v. Some (GuidText v, y.1)) x e in
+    let d = bind_some (guid_of b.0.0) (λ v. Some (GuidText v, b.0.1)) x b.2 in
+    let t = text_front bytes b.0.0 b.0.1 h b.1 in
+    subst (Takes GuidKind bytes) (some_is (GuidText d.0, b.0.1) x d.2) (length b.0.0 ∷ b.0.0, guid_small b.0.0 d.0 d.1, (b.0.0, t.0, d.1), t.1)
+value_takes NumberKind bytes x h e =
+    let b = bind_some (number_at bytes) (λ y. Some (Number y.0, y.1)) x e in
+    let t = number_takes bytes b.0.0 b.0.1 b.1 in
+    let front : IsBytes t.0 = IsBytes-front t.0 b.0.1 (subst IsBytes t.2 h) in
+    subst (Takes NumberKind bytes) (some_is (Number b.0.0, b.0.1) x b.2) (t.0, number_small b.0.0 t.0 t.1 front, t.1, t.2)
+value_takes TextKind bytes x h e =
+    let b = bind_some (text_at bytes) (λ y. Some (Text y.0, y.1)) x e in
+    let t = text_front bytes b.0.0 b.0.1 h b.1 in
+    subst (Takes TextKind bytes) (some_is (Text b.0.0, b.0.1) x b.2) (length b.0.0 ∷ b.0.0, t.0.0, t.0, t.1)
+value_takes (When true k) bytes x h e = value_takes k bytes x h e
+value_takes (When false k) bytes x h e = subst (Takes (When false k) bytes) (some_is (Absent, bytes) x e) ([], tt, refl, refl)
+
+pub value_again : (k : Kind) (x : Value) (w rest : List ℕ) → HasKind k x → SpellsValue x w → read_value k (w ++ rest) ≡ Some (x, rest)
+unfolding read_value
+value_again (FixedKind n) (Fixed bytes) w rest h s =
+    let len : length w ≡ n = ap length s ∙ h in
+    let long : ltb (length (w ++ rest)) n ≡ false = le-ltb _ _ (omega (arith, length-append w rest)) in
+    rw (long, take_at w rest n len, drop_at w rest n len, s) refl
+value_again (WideKind n) (Wide m v) w rest h s =
+    let same : m ≡ n = h.0 in
+    let bytes : w ≡ big_bytes n v = s ∙ ap (λ (k : ℕ). big_bytes k v) same in
+    let len : length w ≡ n = ap length bytes ∙ length-bytes_high_first n v in
+    let long : ltb (length (w ++ rest)) n ≡ false = le-ltb _ _ (omega (arith, length-append w rest)) in
+    let value : big_number n (w ++ rest) ≡ v = ap (λ (u : List ℕ). big_number n (u ++ rest)) bytes ∙ big_number-reads_back n v rest h.1 in
+    rw (long, value, drop_at w rest n len, same) refl
+value_again GuidKind (GuidText v) w rest h s = rw (s.1.1, text_again s.0 rest, s.2) refl
+value_again NumberKind (Number v) w rest h s = rw (number_again v w rest s) refl
+value_again TextKind (Text t) w rest h s = rw (s.1, text_again t rest) refl
+value_again (When true k) x w rest h s = value_again k x w rest h s
+value_again (When false k) Absent w rest h s = rw s refl
+value_again _ _ w rest h s = absurd h
+
+-- ---- all fields
+
+abbrev pub AllTake : List Kind → List ℕ → List Value × List ℕ → Type 0
+AllTake ks bytes x = (w : List ℕ) × HasKinds ks x.0 × SpellsValues x.0 w × (bytes ≡ w ++ x.1)
+
+pub values_take : (ks : List Kind) (bytes : List ℕ) (x : List Value × List ℕ) → IsBytes bytes → read_values ks bytes ≡ Some x → AllTake ks bytes x
+unfolding read_values
+values_take [] bytes x h e = subst (AllTake [] bytes) (some_is ([], bytes) x e) ([], tt, refl, refl)
+values_take (k ∷ ks) bytes x h e =
+    let a = bind_some (read_value k bytes) (λ y. read_values ks y.1 >>= λ ys. Some (y.0 ∷ ys.0, ys.1)) x e in
+    let b = bind_some (read_values ks a.0.1) (λ ys. Some (a.0.0 ∷ ys.0, ys.1)) x a.2 in
+    let first = value_takes k bytes a.0 h a.1 in
+    let others = values_take ks a.0.1 b.0 (IsBytes-back first.0 a.0.1 (subst IsBytes first.3 h)) b.1 in
+    let whole : bytes ≡ (first.0 ++ others.0) ++ b.0.1 = first.3 ∙ ap (λ (r : List ℕ). first.0 ++ r) others.3 ∙ sym (append_assoc first.0 others.0 b.0.1) in
+    subst (AllTake (k ∷ ks) bytes) (some_is (a.0.0 ∷ b.0.0, b.0.1) x b.2) (first.0 ++ others.0, (first.1, others.1), (first.0, others.0, first.2, others.2, refl), whole)
+
+pub values_again : (ks : List Kind) (xs : List Value) (w rest : List ℕ) → HasKinds ks xs → SpellsValues xs w → read_values ks (w ++ rest) ≡ Some (xs, rest)
+unfolding read_values
+values_again [] [] w rest h s = rw s refl
+values_again (k ∷ ks) (x ∷ xs) w rest h s =
+    let regrouped : w ++ rest ≡ s.0 ++ (s.1 ++ rest) = ap (λ (u : List ℕ). u ++ rest) s.4 ∙ append_assoc s.0 s.1 rest in
+    ap (read_values (k ∷ ks)) regrouped ∙ rw (value_again k x s.0 (s.1 ++ rest) h.0 s.2, values_again ks xs s.1 rest h.1 s.3) refl
+values_again _ _ w rest h s = absurd h
+
+-- ---- the own spelling
+
+number_kind : (k : Kind) (v : ℕ) → HasKind k (Number v) → v < 2 ^ 64
+number_kind NumberKind v h = h
+number_kind (When true k) v h = number_kind k v h
+number_kind _ v h = absurd h
+
+text_kind : (k : Kind) (t : List ℕ) → HasKind k (Text t) → length t ≤ 255
+text_kind TextKind t h = h
+text_kind (When true k) t h = text_kind k t h
+text_kind _ t h = absurd h
+
+guid_kind : (k : Kind) (v : ℕ) → HasKind k (GuidText v) → v < 2 ^ 128
+guid_kind GuidKind v h = h
+guid_kind (When true k) v h = guid_kind k v h
+guid_kind _ v h = absurd h
+
+own_value-spells : (k : Kind) (x : Value) → HasKind k x → SpellsValue x (own_value x)
+own_value-spells k (Fixed bytes) h = refl
+own_value-spells k (Wide n v) h = refl
+own_value-spells k (Number v) h = own_number-is_number v (number_kind k v h)
+own_value-spells k (Text t) h = (text_kind k t h, refl)
+own_value-spells k (GuidText v) h =
+    (own_guid v, (omega (arith, own_guid-len v), ap (λ (n : ℕ). n ∷ own_guid v) (sym (own_guid-len v))), guid_again v (guid_kind k v h))
+own_value-spells k Absent h = refl
+
+pub own_values-spell : (ks : List Kind) (xs : List Value) → HasKinds ks xs → SpellsValues xs (own_values xs)
+own_values-spell [] [] h = refl
+own_values-spell (k ∷ ks) (x ∷ xs) h = (own_value x, own_values xs, own_value-spells k x h.0, own_values-spell ks xs h.1, refl)
+own_values-spell _ _ h = absurd h
+
+own_value-len : (x : Value) → length (own_value x) ≡ value_len x
+own_value-len (Fixed bytes) = refl
+own_value-len (Wide n v) = length-bytes_high_first n v
+own_value-len (Number v) = refl
+own_value-len (Text t) = omega arith
+own_value-len (GuidText v) = omega (arith, own_guid-len v)
+own_value-len Absent = refl
+
+pub own_values-len : (xs : List Value) → length (own_values xs) ≡ values_len xs
+own_values-len [] = refl
+own_values-len (x ∷ xs) = omega (arith, length-append (own_value x) (own_values xs), own_value-len x, own_values-len xs)

@@ -1,0 +1,13 @@
+use Rattle.std.proofs.Common.{sym, ap, ◌∙◌, ◌++◌, append_assoc, List, ℕ}
+use Rattle.ldm_records.specs.Values.{own_value, own_values}
+use Rattle.ldm_records.specs.FieldViews.{value_of, values_of}
+use Rattle.ldm_records.proofs.FieldLaws.{own_more, short_at, no_field}
+use Rattle.ldm_records.proofs.writing.push_fields.Goals as goal
+
+pub loop-field-preserved : goal.loop-field-preserved
+loop-field-preserved c =
+    let more = own_more c.args.fields.now c.loop-field.field-index no_field c.loop-field-test.true in
+    c.in_ok-push_field.ensures ∙ rw c.loop-field.invariant (rw more (append_assoc c.args.out.now.items _ _))
+
+pub push_field-requires : goal.push_field-requires
+push_field-requires c = short_at c.args.fields.now c.loop-field.field-index no_field c.requires c.loop-field-test.true

@@ -1,0 +1,13 @@
+pub mod Values
+pub mod Table
+pub mod Fields
+pub mod Forms
+pub mod Plain
+pub mod Views
+pub mod Answers
+pub mod Steps
+pub mod Gives
+pub mod Whole
+pub mod FieldViews
+pub mod Seen
+pub mod VolumeViews

@@ -1,0 +1,41 @@
+ghost use Rattle.std.specs.Prelude.{◌≡◌};
+ghost use Rattle.ldm_records.specs.declared.fault.RecordError.TheVariants as errors;
+ghost use Rattle.ldm_records.specs.declared.fault.RecordFault.TheVariants as faults;
+
+use ldm_bytes::NoMemory;
+
+/// Why a payload is no record.
+#[derive(Clone, Copy, Debug, PartialEq, Eq)]
+pub enum RecordFault {
+    /// The type byte is none of the seven.
+    UnknownType(u8),
+    /// The payload spells no record, and its type byte is one of the seven, if it has one.
+    Malformed,
+}
+
+/// Why no record was read.
+#[derive(Clone, Copy, Debug, PartialEq, Eq)]
+pub enum RecordError {
+    Fault(RecordFault),
+    NoMemory,
+}
+
+impl From<NoMemory> for RecordError {
+    ghost from_gives = { λ _ e. e ≡ errors.NoMemory };
+
+    fn from(_error: NoMemory) -> RecordError {
+        RecordError::NoMemory
+    }
+}
+
+/// The bytes spell no such field, or the record's own spelling has no room.
+#[derive(Clone, Copy, Debug, PartialEq, Eq)]
+pub struct Malformed;
+
+impl From<Malformed> for RecordError {
+    ghost from_gives = { λ _ e. e ≡ errors.Fault faults.Malformed };
+
+    fn from(_error: Malformed) -> RecordError {
+        RecordError::Fault(RecordFault::Malformed)
+    }
+}

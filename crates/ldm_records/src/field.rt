@@ -1,0 +1,14 @@
+/// The value of a field, as it is written.
+#[derive(Clone, Copy, Debug)]
+pub enum Field<'a> {
+    Fixed(&'a [u8]),
+    /// Eight bytes, big-endian.
+    Wide(u64),
+    /// Sixteen bytes, big-endian.
+    Wide16(u128),
+    /// The text of a GUID.
+    Guid(u128),
+    Number(u64),
+    Text(&'a [u8]),
+    Absent,
+}

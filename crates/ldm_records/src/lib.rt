@@ -1,0 +1,29 @@
+//! The seven record types of the Logical Disk Manager's database, read from payloads and spelled again.
+//!
+//! A payload is the text of a record in the blocks of the database. All sizes, starts, offsets and
+//! stripe sizes are in sectors.
+#![tactic(auto)]
+
+mod component;
+mod disk;
+mod fault;
+mod field;
+mod fields;
+mod group;
+mod listing;
+mod partition;
+mod pieces;
+mod reading;
+mod types;
+mod volume;
+mod volume_text;
+mod writing;
+
+pub use fault::{RecordError, RecordFault};
+pub use pieces::{DiskForm, GroupForm, Head, Striping, TwoIds};
+pub use reading::read_record;
+pub use types::{Component, Disk, GroupRec, Partition, Record, Volume};
+pub use writing::{spelled_len, spelling};
+
+#[cfg(test)]
+mod tests;

@@ -1,0 +1,49 @@
+ghost use Rattle.std.specs.Prelude.{◌≡◌, ◌<◌, ◌++◌, OnOk};
+ghost use Rattle.ldm_text.specs.Names.{hex_digit, hex_byte, is_plain, esc_byte, esc};
+
+use crate::growing::Text;
+use ldm_bytes::NoMemory;
+
+fn hex_digit(d: u8) -> u8
+    requires { d < 16 }
+    ensures { result ≡ hex_digit d }
+{
+    if d < 10 { 48 + d } else { 87 + d }
+}
+
+fn is_plain(c: u8) -> bool
+    ensures { result ≡ is_plain c }
+{
+    c >= 0x21 && c <= 0x7E && c != b'\\'
+}
+
+/// Two lower-case hexadecimal digits.
+pub(crate) fn push_hex_byte(text: &mut Text, c: u8) -> Result<(), NoMemory>
+    ensures { OnOk result (text.new ≡ text.old ++ hex_byte c) }
+{
+    text.push(&[hex_digit(c / 16), hex_digit(c % 16)])
+}
+
+// A byte of a name, as it is written.
+fn push_esc_byte(text: &mut Text, c: u8) -> Result<(), NoMemory>
+    ensures { OnOk result (text.new ≡ text.old ++ esc_byte c) }
+{
+    if is_plain(c) {
+        text.push(&[c])
+    } else {
+        text.push(&[b'\\', b'x', hex_digit(c / 16), hex_digit(c % 16)])
+    }
+}
+
+/// A name, as it is written.
+pub(crate) fn push_esc(text: &mut Text, name: &[u8]) -> Result<(), NoMemory>
+    ensures { OnOk result (text.new ≡ text.old ++ esc name.now) }
+{
+    if name.is_empty() {
+        return text.push(b"\\e");
+    }
+    for c in name {
+        push_esc_byte(text, *c)?;
+    }
+    Ok(())
+}

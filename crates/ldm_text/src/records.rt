@@ -1,0 +1,135 @@
+ghost use Rattle.std.specs.Prelude.{◌≡◌, ◌++◌, OnOk, IfOk, flat_map, codes, decimal};
+ghost use Rattle.ldm_bytes.specs.Guid.{own_guid};
+ghost use Rattle.ldm_group.specs.Order.{id_of};
+ghost use Rattle.ldm_group.specs.Room.{own_len};
+ghost use Rattle.ldm_text.specs.Names.{esc};
+ghost use Rattle.ldm_text.specs.Records.{type_of, name_of, text_of_record, text_of_header, text_of_copy};
+
+use crate::growing::Text;
+use crate::naming::push_esc;
+use ldm_bytes::{Bytes, NoMemory};
+use ldm_copy::CopyState;
+use ldm_group::id_of;
+use ldm_records::{DiskForm, GroupForm, Record, spelled_len};
+use ldm_vmdb::Header;
+use std::alloc::Global;
+
+fn type_of(r: &Record) -> &'static [u8]
+    ensures { result.now ≡ type_of r.now }
+{
+    match r {
+        Record::Volume(_) => b"vol5",
+        Record::Component(_) => b"cmp3",
+        Record::Partition(_) => b"prt3",
+        Record::Disk(d) => match d.form {
+            DiskForm::V3 { .. } => b"dsk3",
+            DiskForm::V4 { .. } => b"dsk4",
+        },
+        Record::Group(g) => match g.form {
+            GroupForm::V3 { .. } => b"dgr3",
+            GroupForm::V4 { .. } => b"dgr4",
+        },
+    }
+}
+
+fn name_of(r: &Record) -> &[u8]
+    ensures { result.now ≡ name_of r.now }
+{
+    match r {
+        Record::Volume(v) => v.head.name.as_slice(),
+        Record::Component(c) => c.head.name.as_slice(),
+        Record::Partition(p) => p.head.name.as_slice(),
+        Record::Disk(d) => d.head.name.as_slice(),
+        Record::Group(g) => g.head.name.as_slice(),
+    }
+}
+
+// NAME and a number.
+fn push_number(text: &mut Text, name: &[u8], number: u64) -> Result<(), NoMemory>
+    ensures { OnOk result (text.new ≡ text.old ++ (name.now ++ decimal number)) }
+{
+    text.push(name)?;
+    text.push_number(number)
+}
+
+// TYPE ID
+fn push_type(text: &mut Text, r: &Record) -> Result<(), NoMemory>
+    ensures { OnOk result (text.new ≡ text.old ++ (type_of r.now ++ codes " " ++ decimal (id_of r.now))) }
+{
+    text.push(type_of(r))?;
+    text.push(b" ")?;
+    text.push_number(id_of(r))
+}
+
+// A name behind a word.
+fn push_name(text: &mut Text, word: &[u8], name: &[u8]) -> Result<(), NoMemory>
+    ensures { OnOk result (text.new ≡ text.old ++ (word.now ++ esc name.now)) }
+{
+    text.push(word)?;
+    push_esc(text, name)
+}
+
+// The length of the record's own spelling.
+#[tactic(auto, unfolding(ldm_group::specs::Room::own_len))]
+fn own_len(r: &Record) -> u64
+    ensures { result ≡ own_len r.now }
+{
+    spelled_len(r) as u64
+}
+
+// The line of a record.
+#[tactic(auto, unfolding(crate::specs::Records::text_of_record))]
+fn push_record(text: &mut Text, r: &Record) -> Result<(), NoMemory>
+    ensures { OnOk result (text.new ≡ text.old ++ text_of_record r.now) }
+{
+    push_type(text, r)?;
+    push_name(text, b" ", name_of(r))?;
+    push_number(text, b" ", own_len(r))?;
+    text.push(b"\n")
+}
+
+// The GUID of a group behind its name.
+fn push_group(text: &mut Text, header: &Header) -> Result<(), NoMemory>
+    ensures { OnOk result (text.new ≡ text.old ++ ((codes "vmdb " ++ esc header.now.name) ++ (codes " " ++ own_guid header.now.guid))) }
+{
+    push_name(text, b"vmdb ", header.name.as_slice())?;
+    text.push(b" ")?;
+    text.push_guid(header.guid)
+}
+
+// The line of a header.
+#[tactic(auto, unfolding(crate::specs::Records::text_of_header))]
+fn push_header(text: &mut Text, header: &Header) -> Result<(), NoMemory>
+    ensures { OnOk result (text.new ≡ text.old ++ text_of_header header.now) }
+{
+    push_group(text, header)?;
+    push_number(text, b" sequence ", header.seq)?;
+    push_number(text, b" last ", u64::from(header.last))?;
+    text.push(b"\n")
+}
+
+// The lines of records.
+fn push_records(text: &mut Text, records: &[Record]) -> Result<(), NoMemory>
+    ensures { OnOk result (text.new ≡ text.old ++ flat_map text_of_record records.now) }
+{
+    for r in records {
+        push_record(text, r)?;
+    }
+    Ok(())
+}
+
+/// The text of one copy of the database: its header and its records, each with the length of its own
+/// spelling in bytes.
+pub fn records_text(alloc: Global, state: &CopyState) -> Result<Bytes, NoMemory>
+    ensures { IfOk result (λ text. text ≡ text_of_copy state.now) }
+{
+    let mut text = Text::new(alloc);
+    match state {
+        CopyState::Closed => text.push(b"closed\n")?,
+        CopyState::Valid(db) => {
+            push_header(&mut text, db.header())?;
+            push_records(&mut text, db.as_slice())?;
+        }
+    }
+    Ok(text.into_bytes())
+}

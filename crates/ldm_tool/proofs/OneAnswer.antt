@@ -1,0 +1,27 @@
+-- There is one answer to the words.
+use Rattle.std.proofs.Common.{◌≡◌, ℕ, List, sym, ap, ◌∙◌, Option, Some, None, Result, Ok, Err}
+use Rattle.ldm_host.specs.Seen.{image}
+use Rattle.ldm_label.specs.declared.Label.{Label}
+use Rattle.ldm_label.specs.declared.LabelFault.{LabelFault}
+use Rattle.ldm_label.specs.LabelOf.{label_of}
+use Rattle.ldm_copy.specs.Copy.{config_area}
+use Rattle.ldm_copy.proofs.OneCopy.{one_copy}
+use Rattle.ldm_words.specs.declared.job.Job.{Job}
+use Rattle.ldm_words.specs.declared.job.Job.TheVariants.{Disk, Records}
+use Rattle.ldm_words.specs.Jobs.{job_of}
+use Rattle.ldm_tool.specs.Answer.{Answer, copy_answer, IsRecordsAnswer, IsJobAnswer, IsReadingAnswer, IsAnswerTo}
+
+one_records : (label : Result Label LabelFault) (bytes : List ℕ) (a b : Answer) → IsRecordsAnswer label bytes a → IsRecordsAnswer label bytes b → a ≡ b
+one_records (Ok label) bytes a b x y = x.2 ∙ ap copy_answer (one_copy (config_area label bytes) label.area_sectors x.0 y.0 x.1 y.1) ∙ sym y.2
+one_records (Err fault) bytes a b x y = x ∙ sym y
+
+one_job : (job : Job) (images : List (List ℕ)) (input : List ℕ) (a b : Answer) → IsJobAnswer job images input a → IsJobAnswer job images input b → a ≡ b
+one_job Disk images input a b x y = x ∙ sym y
+one_job Records images input a b x y = one_records (label_of (image images 0)) (image images 0) a b x y
+
+one_reading : (reading : Option (Job × ℕ)) (images : List (List ℕ)) (input : List ℕ) (a b : Answer) → IsReadingAnswer reading images input a → IsReadingAnswer reading images input b → a ≡ b
+one_reading None images input a b x y = x ∙ sym y
+one_reading (Some reading) images input a b x y = one_job reading.0 images input a b x y
+
+pub one_answer : (words images : List (List ℕ)) (input : List ℕ) (a b : Answer) → IsAnswerTo words images input a → IsAnswerTo words images input b → a ≡ b
+one_answer words images input a b x y = one_reading (job_of words) images input a b x y

@@ -1,0 +1,16 @@
+use Rattle.std.proofs.Common.{rules, ◌≡◌, List, ℕ, [], sym, refl, subst, Option, None}
+use Rattle.std.proofs.lemmas.List.{append-nil}
+use Rattle.ldm_words.specs.declared.job.Job.{Job}
+use Rattle.ldm_words.specs.Jobs.{texts, job_of}
+use Rattle.ldm_tool.specs.declared.run.Status.TheVariants.{Usage}
+use Rattle.ldm_tool.specs.Answer.{IsReadingAnswer}
+use Rattle.ldm_tool.proofs.run.run.Goals as goal
+
+pub returns-in-Err-Usage-clause-complete : goal.returns-in-Err-Usage-clause-complete
+returns-in-Err-Usage-clause-complete g c tells premise none memory =
+    let host = g.H.Host.seen c.args.host.now in
+    let unread : job_of (texts c.args.words.now) ≡ None = search rules in (
+      ([], Usage),
+      subst (λ (reading : Option (Job × ℕ)). IsReadingAnswer reading host.content host.input ([], Usage)) (sym unread) refl,
+      record { status_is = refl; said = sym (append-nil host.said) },
+    )
