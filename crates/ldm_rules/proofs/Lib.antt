@@ -1,0 +1,4 @@
+pub mod SpanLaws
+pub mod CountLaws
+pub mod NameLaws
+pub mod TableLaws

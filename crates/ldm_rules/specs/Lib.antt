@@ -1,0 +1,5 @@
+pub mod Rules
+pub mod Ends
+pub mod Table
+pub mod Counts
+pub mod Spans

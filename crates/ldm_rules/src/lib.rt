@@ -1,0 +1,21 @@
+//! The rules of a sound group.
+//!
+//! `check` tests them in their order, which `specs/Table.antt` has as a table, and answers the first
+//! that is broken, with the least id at which it is. What is counted is counted once, in a map.
+#![tactic(auto)]
+
+mod counted;
+mod counts;
+mod ends;
+mod fault;
+mod found;
+mod meetings;
+mod names;
+mod single;
+mod table;
+
+pub use fault::{RuleError, RuleFault};
+pub use table::check;
+
+#[cfg(test)]
+mod tests;

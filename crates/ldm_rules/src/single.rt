@@ -1,0 +1,83 @@
+ghost use Rattle.std.specs.Prelude.{◌≡◌, ◌==◌, IfOk, find, option_copied};
+ghost use Rattle.std.specs.List.{filter_map};
+ghost use Rattle.ldm_rules.specs.Rules.{first_broken, group_id, group_fault, is_empty, has_layout_fault};
+
+use crate::found::id_in;
+use ldm_bytes::NoMemory;
+use ldm_group::Db;
+use ldm_records::Record;
+use std::alloc::Global;
+
+// The ids of the group records.
+fn group_ids(alloc: Global, records: &[Record]) -> Result<Vec<u64>, NoMemory>
+    ensures { IfOk result (λ ids. ids.items ≡ filter_map group_id records.now) }
+{
+    let mut ids = Vec::new(alloc);
+    for r in records {
+        if let Record::Group(g) = r {
+            ids.push(g.head.id)?;
+        }
+    }
+    Ok(ids)
+}
+
+// Where these aren't the ids of one group record.
+fn not_one(ids: &[u64]) -> Option<u64>
+    ensures { result ≡ group_fault ids.now }
+{
+    match ids {
+        [] => Some(0),
+        [_] => None,
+        [_, second, ..] => Some(*second),
+    }
+}
+
+/// 0 where there is no group record, the second where there are more than one.
+pub fn not_one_group(alloc: Global, db: &Db) -> Result<Option<u64>, NoMemory>
+    ensures { IfOk result (λ id. id ≡ group_fault (filter_map group_id db.now.records)) }
+{
+    let ids = group_ids(alloc, db.as_slice())?;
+    Ok(not_one(ids.as_slice()))
+}
+
+fn is_empty(r: &Record) -> bool
+    ensures { result ≡ is_empty r.now }
+{
+    match r {
+        Record::Volume(v) => v.size == 0,
+        Record::Partition(p) => p.size == 0,
+        _ => false,
+    }
+}
+
+fn first_empty(records: &[Record]) -> Option<&Record>
+    ensures { option_copied result ≡ find is_empty records.now }
+{
+    records.iter().find(|r| is_empty(r))
+}
+
+/// The least volume of size 0, else the least partition.
+pub fn empty(db: &Db) -> Option<u64>
+    ensures { result ≡ first_broken is_empty db.now.records }
+{
+    id_in(first_empty(db.as_slice()))
+}
+
+fn has_layout_fault(r: &Record) -> bool
+    ensures { result ≡ has_layout_fault r.now }
+{
+    matches!(r, Record::Volume(_))
+}
+
+fn first_without_layout(records: &[Record]) -> Option<&Record>
+    ensures { option_copied result ≡ find has_layout_fault records.now }
+{
+    records.iter().find(|r| has_layout_fault(r))
+}
+
+/// The least volume with a layout fault. No layout is known yet, so that is the least volume.
+pub fn without_layout(db: &Db) -> Option<u64>
+    ensures { result ≡ first_broken has_layout_fault db.now.records }
+{
+    id_in(first_without_layout(db.as_slice()))
+}

@@ -1,0 +1,90 @@
+ghost use Rattle.std.specs.Prelude.{◌≡◌};
+ghost use Rattle.ldm_rules.specs.Table.{ChecksAs, first_fault, first_broken_rule, name_rules, tree_rules, sector_rules};
+ghost use Rattle.ldm_rules.specs.declared.fault.RuleError.TheVariants.{Fault};
+
+use crate::counted::{
+    miscounted_component, miscounted_volume, orphan_component, orphan_partition, stray_partition,
+    twin_guid,
+};
+use crate::ends::over_the_end;
+use crate::fault::{RuleError, RuleFault};
+use crate::meetings::meeting;
+use crate::names::namesake;
+use crate::single::{empty, not_one_group, without_layout};
+use ldm_group::Db;
+use ldm_label::Labels;
+use std::alloc::Global;
+
+fn broken(rule: u8, id: u64) -> RuleError
+    ensures { result ≡ Fault (record { rule = rule; id = id }) }
+{
+    RuleError::Fault(RuleFault { rule, id })
+}
+
+#[tactic(auto, unfolding(crate::specs::Table::name_rules))]
+fn check_names(alloc: Global, db: &Db) -> Result<(), RuleError>
+    ensures { ChecksAs result (first_fault (name_rules db.now.records)) }
+{
+    if let Some(id) = not_one_group(alloc, db)? {
+        return Err(broken(1, id));
+    }
+    if let Some(id) = twin_guid(alloc, db)? {
+        return Err(broken(2, id));
+    }
+    if let Some(id) = namesake(alloc, db)? {
+        return Err(broken(3, id));
+    }
+    Ok(())
+}
+
+#[tactic(auto, unfolding(crate::specs::Table::tree_rules))]
+fn check_tree(alloc: Global, db: &Db) -> Result<(), RuleError>
+    ensures { ChecksAs result (first_fault (tree_rules db.now.records)) }
+{
+    if let Some(id) = orphan_component(alloc, db)? {
+        return Err(broken(4, id));
+    }
+    if let Some(id) = orphan_partition(alloc, db)? {
+        return Err(broken(5, id));
+    }
+    if let Some(id) = stray_partition(alloc, db)? {
+        return Err(broken(6, id));
+    }
+    if let Some(id) = miscounted_volume(alloc, db)? {
+        return Err(broken(7, id));
+    }
+    if let Some(id) = miscounted_component(alloc, db)? {
+        return Err(broken(8, id));
+    }
+    Ok(())
+}
+
+#[tactic(auto, unfolding(crate::specs::Table::sector_rules))]
+fn check_sectors(alloc: Global, db: &Db, labels: &Labels) -> Result<(), RuleError>
+    ensures { ChecksAs result (first_fault (sector_rules db.now.records labels.now)) }
+{
+    if let Some(id) = empty(db) {
+        return Err(broken(9, id));
+    }
+    if let Some(id) = over_the_end(db, labels) {
+        return Err(broken(10, id));
+    }
+    if let Some(id) = meeting(alloc, db)? {
+        return Err(broken(11, id));
+    }
+    if let Some(id) = without_layout(db) {
+        return Err(broken(12, id));
+    }
+    Ok(())
+}
+
+/// Whether the group is sound on the disks that have these labels. A disk without a label is absent,
+/// and its data may end anywhere below 2^64. The error is the first broken rule, with the least id at
+/// which it is broken.
+pub fn check(alloc: Global, db: &Db, labels: &Labels) -> Result<(), RuleError>
+    ensures { ChecksAs result (first_broken_rule db.now.records labels.now) }
+{
+    check_names(alloc, db)?;
+    check_tree(alloc, db)?;
+    check_sectors(alloc, db, labels)
+}
