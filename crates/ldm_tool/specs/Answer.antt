@@ -8,10 +8,16 @@ use Rattle.ldm_copy.specs.declared.answer.CopyState.{CopyState}
 use Rattle.ldm_copy.specs.declared.answer.CopyFault.{CopyFault}
 use Rattle.ldm_copy.specs.Copy.{IsCopyOf, config_area}
 use Rattle.ldm_words.specs.declared.job.Job.{Job}
-use Rattle.ldm_words.specs.declared.job.Job.TheVariants.{Disk, Records}
+use Rattle.ldm_words.specs.declared.job.Job.TheVariants.{Disk, Records, Show, Check}
 use Rattle.ldm_words.specs.Jobs.{job_of}
+use Rattle.ldm_found.specs.declared.fault.OpenFault.{OpenFault}
+use Rattle.ldm_found.specs.declared.found.Found.{Found}
+use Rattle.ldm_found.specs.Opening.{IsGroupIn}
 use Rattle.ldm_text.specs.Texts.{text_of_label, text_of_label_fault, text_of_image_fault, text_of_refusal}
 use Rattle.ldm_text.specs.Records.{text_of_copy, text_of_copy_fault}
+use Rattle.ldm_text.specs.Faults.{text_of_open_fault}
+use Rattle.ldm_text.specs.Show.{text_of_show}
+use Rattle.ldm_text.specs.Check.{text_of_check}
 use Rattle.ldm_tool.specs.declared.run.Status.{Status}
 use Rattle.ldm_tool.specs.declared.run.Status.TheVariants.{Done, Refused, Usage}
 
@@ -42,10 +48,27 @@ abbrev pub IsRecordsAnswer : Result Label LabelFault → List ℕ → Answer →
 IsRecordsAnswer (Ok label) bytes answer = IsCopyAnswer label bytes answer
 IsRecordsAnswer (Err fault) bytes answer = answer ≡ refusal 0 (text_of_label_fault fault)
 
+-- what is answered of the group, or the refusal for its first fault
+abbrev pub group_answer : (Found → Answer) → Result Found OpenFault → Answer
+group_answer answer_of (Ok found) = answer_of found
+group_answer answer_of (Err fault) = (text_of_refusal (text_of_open_fault fault), Refused)
+
+-- the answer of the group that the images hold
+abbrev pub IsGroupAnswer : (Found → Answer) → List (List ℕ) → Answer → Type 0
+IsGroupAnswer answer_of images answer = (group : Result Found OpenFault) × IsGroupIn images group × (answer ≡ group_answer answer_of group)
+
+abbrev pub show_answer : Found → Answer
+show_answer found = (text_of_show found, Done)
+
+abbrev pub check_answer : Found → Answer
+check_answer found = (text_of_check found, Done)
+
 -- what a job answers, with this content of the disks and this input
 abbrev pub IsJobAnswer : Job → List (List ℕ) → List ℕ → Answer → Type 0
 IsJobAnswer Disk images input answer = answer ≡ disk_answer (label_of (image images 0))
 IsJobAnswer Records images input answer = IsRecordsAnswer (label_of (image images 0)) (image images 0) answer
+IsJobAnswer Show images input answer = IsGroupAnswer show_answer images answer
+IsJobAnswer Check images input answer = IsGroupAnswer check_answer images answer
 
 abbrev pub IsReadingAnswer : Option (Job × ℕ) → List (List ℕ) → List ℕ → Answer → Type 0
 IsReadingAnswer None images input answer = answer ≡ ([], Usage)

@@ -1,6 +1,7 @@
 -- A host over files tells how long they are and what was counted, and nothing else.
-use Rattle.std.specs.Prelude.{◌≡◌, ℕ, ◌<◌, List, [], length, refl}
+use Rattle.std.specs.Prelude.{◌≡◌, ℕ, ◌<◌, List, [], length, map, refl}
 use Rattle.std.proofs.Common.{sym, ◌∙◌}
+use Rattle.std.proofs.lemmas.List.{length-map}
 use Rattle.ldm_host.specs.Seen.{Seen, Leaves}
 
 abbrev pub file_seen : List ℕ → ℕ → ℕ → List ℕ → Seen
@@ -18,8 +19,8 @@ file_seen sizes disk_faults talk_faults wrote = record {
   wrote = wrote;
 }
 
-pub file_counts_each : (sizes wrote : List ℕ) (files : ℕ) → length sizes ≡ files → length wrote ≡ files → length wrote ≡ length sizes
-file_counts_each sizes wrote files sized counted = counted ∙ sym sized
+pub file_counts_each : {A : Type 0} (sectors : A → ℕ) (images : List A) (wrote : List ℕ) → length wrote ≡ length images → length wrote ≡ length (map sectors images)
+file_counts_each sectors images wrote counted = counted ∙ sym (length-map sectors images)
 
 pub file_counts_now : (sizes : List ℕ) (disk_faults talk_faults : ℕ) (wrote : List ℕ) (t : ℕ) (images : List (List ℕ))
     → Leaves (file_seen sizes disk_faults talk_faults wrote) images → (file_seen sizes disk_faults talk_faults wrote).left_since t images []

@@ -1,57 +1,53 @@
 //! A host over files, standard input and standard output.
-ghost use Rattle.std.specs.Prelude.{◌≡◌, ◌≤◌, ◌<◌, ◌+◌, ◌*◌, ◌^◌, ◌∷◌, ℕ, length, slice_index, OnOk, IfOk, vec_len};
+ghost use Rattle.std.specs.Prelude.{◌≡◌, ◌≤◌, ◌<◌, ◌^◌, length, map, IfOk};
 
+use ldm_bytes::NoMemory;
 use ldm_host::{Failed, Host};
 use std::alloc::Global;
 use std::fs::File;
-use std::io::{ErrorKind, Read, Write};
+use std::io::{self, ErrorKind, Read, Write};
 use std::os::unix::fs::FileExt;
 
-/// Why files give no host.
-#[derive(Clone, Copy, Debug, PartialEq, Eq)]
-pub enum FilesError {
-    NoMemory,
-    /// The length of a file can't be had.
-    NoLength,
+/// An image that is open for its disk, and how long it is.
+#[derive(Drop)]
+pub struct ImageFile {
+    file: File,
+    sectors: u64,
+    ghost small: { sectors < 2 ^ 55 },
+}
+
+impl ImageFile {
+    /// Takes an open file for an image, and asks for its length: whole sectors count.
+    pub fn of(file: File) -> io::Result<ImageFile> {
+        let sectors = file.metadata()?.len() / 512;
+        Ok(ImageFile { file, sectors })
+    }
 }
 
 /// The images are files. It tells nothing of what is in them, of what is said and of what is heard:
 /// what the clauses say of it is how long the files are, which counts rose, and what it was handed.
 #[derive(Drop)]
 pub struct FileHost<I, O> {
-    files: Vec<File>,
-    sizes: Vec<u64>,
+    images: Vec<ImageFile>,
     wrote: Vec<u64>,
     input: I,
     output: O,
     disk_faults: u64,
     talk_faults: u64,
-    ghost sized: { length sizes.items ≡ length files.items },
-    ghost counted: { length wrote.items ≡ length files.items },
-    ghost small: { (k : ℕ) → slice_index sizes.items k < 2 ^ 55 },
+    ghost counted: { length wrote.items ≡ length images.items },
 }
 
 impl<I, O> FileHost<I, O> {
-    /// A host over the files in their order. It reads their lengths alone.
-    pub fn new(alloc: Global, files: Vec<File>, input: I, output: O) -> Result<Self, FilesError>
+    /// A host over the images in their order.
+    pub fn new(alloc: Global, images: Vec<ImageFile>, input: I, output: O) -> Result<Self, NoMemory>
     where
         I: Drop,
         O: Drop,
-        ensures { IfOk result (λ host. length host.sizes.items ≡ length files.items) }
+        ensures { IfOk result (λ host. host.images.items ≡ images.items) }
     {
-        let mut sizes = Vec::new(alloc);
-        let mut wrote = Vec::new(alloc);
-        for file in &files {
-            let Ok(metadata) = file.metadata() else {
-                return Err(FilesError::NoLength);
-            };
-            if sizes.push(metadata.len() / 512).is_err() || wrote.push(0).is_err() {
-                return Err(FilesError::NoMemory);
-            }
-        }
+        let wrote = vec![in alloc; 0u64; images.len()]?;
         Ok(FileHost {
-            files,
-            sizes,
+            images,
             wrote,
             input,
             output,
@@ -89,7 +85,7 @@ fn write_out<O: Write>(output: &mut O, bytes: &[u8]) -> Result<(), Failed> {
 impl<I: Read, O: Write> Host for FileHost<I, O> {
     ghost use Rattle.ldm_tool.specs.FileSeen.{file_seen, file_counts_each, file_counts_now, file_only_now};
 
-    ghost seen = { λ host. file_seen host.sizes.items host.disk_faults host.talk_faults host.wrote.items };
+    ghost seen = { λ host. file_seen (map (λ image. image.sectors) host.images.items) host.disk_faults host.talk_faults host.wrote.items };
 
     ghost tells_disks = { ⊥ };
 
@@ -99,7 +95,7 @@ impl<I: Read, O: Write> Host for FileHost<I, O> {
 
     ghost one_each = { λ tells. absurd tells };
 
-    ghost counts_each = { λ host. file_counts_each host.sizes.items host.wrote.items (length host.files.items) host.sized host.counted };
+    ghost counts_each = { λ host. file_counts_each (λ image. image.sectors) host.images.items host.wrote.items host.counted };
 
     ghost lengths = { λ tells. absurd tells };
 
@@ -107,20 +103,20 @@ impl<I: Read, O: Write> Host for FileHost<I, O> {
 
     ghost same_length = { λ host disk c left. absurd left };
 
-    ghost counts_now = { λ host t images le left. file_counts_now host.sizes.items host.disk_faults host.talk_faults host.wrote.items t images left };
+    ghost counts_now = { λ host t images le left. file_counts_now (map (λ image. image.sectors) host.images.items) host.disk_faults host.talk_faults host.wrote.items t images left };
 
-    ghost only_now = { λ host images said left. file_only_now host.sizes.items host.disk_faults host.talk_faults host.wrote.items 0 images said left };
+    ghost only_now = { λ host images said left. file_only_now (map (λ image. image.sectors) host.images.items) host.disk_faults host.talk_faults host.wrote.items 0 images said left };
 
     fn disks(&self) -> usize {
-        self.files.len()
+        self.images.len()
     }
 
     fn sectors(&self, disk: usize) -> u64 {
-        self.sizes[disk]
+        self.images[disk].sectors
     }
 
     fn read_at(&mut self, disk: usize, at: u64, buf: &mut [u8]) -> Result<(), Failed> {
-        match self.files[disk].read_exact_at(buf, at) {
+        match self.images[disk].file.read_exact_at(buf, at) {
             Ok(()) => Ok(()),
             Err(_) => {
                 self.disk_faults = self.disk_faults.saturating_add(1);
@@ -131,7 +127,7 @@ impl<I: Read, O: Write> Host for FileHost<I, O> {
 
     fn write_at(&mut self, disk: usize, at: u64, bytes: &[u8]) -> Result<(), Failed> {
         self.wrote[disk] = self.wrote[disk].saturating_add(bytes.len() as u64);
-        match self.files[disk].write_all_at(bytes, at) {
+        match self.images[disk].file.write_all_at(bytes, at) {
             Ok(()) => Ok(()),
             Err(_) => {
                 self.disk_faults = self.disk_faults.saturating_add(1);
@@ -141,7 +137,7 @@ impl<I: Read, O: Write> Host for FileHost<I, O> {
     }
 
     fn sync(&mut self, disk: usize) -> Result<(), Failed> {
-        match self.files[disk].sync_all() {
+        match self.images[disk].file.sync_all() {
             Ok(()) => Ok(()),
             Err(_) => {
                 self.disk_faults = self.disk_faults.saturating_add(1);

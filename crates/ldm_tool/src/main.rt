@@ -9,7 +9,8 @@ ghost use Rattle.std.specs.Prelude.{◌≡◌, IfOk, length, vec_len};
 mod file_host;
 mod run;
 
-use file_host::{FileHost, FilesError};
+use file_host::{FileHost, ImageFile};
+use ldm_bytes::NoMemory;
 use ldm_words::{WordsError, read_words};
 use run::{Status, run};
 use std::alloc::Global;
@@ -51,20 +52,20 @@ fn words_of(alloc: Global, rt: &HostRuntime) -> Result<Vec<String>, Stop> {
 }
 
 // Opens the images that the words name, in their order, for reading.
-fn open_images(alloc: Global, rt: &HostRuntime, names: &[String]) -> Result<Vec<File>, Stop>
-    ensures { IfOk result (λ files. vec_len files ≡ length names.now) }
+fn open_images(alloc: Global, rt: &HostRuntime, names: &[String]) -> Result<Vec<ImageFile>, Stop>
+    ensures { IfOk result (λ images. vec_len images ≡ length names.now) }
 {
-    let mut files = Vec::new(alloc);
+    let mut images = Vec::new(alloc);
     for name in names {
-        let file = match File::open(rt, name.as_str()) {
-            Ok(file) => file,
+        let image = match File::open(rt, name.as_str()).and_then(ImageFile::of) {
+            Ok(image) => image,
             Err(error) => return Err(stop_for(&error, Stop::CannotOpen)),
         };
-        if files.push(file).is_err() {
+        if images.push(image).is_err() {
             return Err(Stop::NoMemory);
         }
     }
-    Ok(files)
+    Ok(images)
 }
 
 // Opens the images, and runs the words over them.
@@ -75,11 +76,10 @@ fn run_words(rt: &HostRuntime, words: &[String]) -> Result<Status, Stop> {
         Err(WordsError::NoMemory) => return Err(Stop::NoMemory),
         Ok((_, count)) => count,
     };
-    let files = open_images(alloc, rt, &words[words.len() - count..])?;
-    match FileHost::new(alloc, files, rt.stdin(), rt.stdout()) {
+    let images = open_images(alloc, rt, &words[words.len() - count..])?;
+    match FileHost::new(alloc, images, rt.stdin(), rt.stdout()) {
         Ok(mut host) => Ok(run(alloc, words, &mut host)),
-        Err(FilesError::NoMemory) => Err(Stop::NoMemory),
-        Err(FilesError::NoLength) => Err(Stop::CannotOpen),
+        Err(NoMemory) => Err(Stop::NoMemory),
     }
 }
 
@@ -109,5 +109,7 @@ fn main(rt: HostRuntime) -> ExitCode {
     ExitCode::from(status)
 }
 
+#[cfg(test)]
+mod group_tests;
 #[cfg(test)]
 mod tests;

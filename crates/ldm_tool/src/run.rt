@@ -1,20 +1,26 @@
-ghost use Rattle.std.specs.Prelude.{◌≡◌, ◌≢◌, ◌↔◌, List, ℕ, length, slice_index, IfOk, None, Ok};
+ghost use Rattle.std.specs.Prelude.{◌≡◌, ◌≢◌, ◌↔◌, ◌<◌, List, ℕ, length, slice_index, IfOk, IfErr, OnOk, None, Ok};
 ghost use Rattle.ldm_host.specs.Seen.{image};
 ghost use Rattle.ldm_label.specs.LabelOf.{label_of, Fits};
-ghost use Rattle.ldm_host.specs.Moves.{Still};
+ghost use Rattle.ldm_host.specs.Moves.{Still, Quiet};
 ghost use Rattle.ldm_words.specs.Jobs.{texts, job_of, HasCount};
 ghost use Rattle.ldm_words.specs.declared.job.Job.TheVariants as jobs;
 ghost use Rattle.ldm_text.specs.Texts.{text_of_label_fault, text_of_image_fault, text_of_refusal};
 ghost use Rattle.ldm_text.specs.Records.{text_of_copy_fault};
-ghost use Rattle.ldm_tool.specs.Answer.{Answer, IsAnswerTo, IsJobAnswer, IsCopyAnswer, refusal};
+ghost use Rattle.ldm_text.specs.Faults.{text_of_open_fault};
+ghost use Rattle.ldm_found.specs.declared.found.Found.{Found};
+ghost use Rattle.ldm_found.specs.Opening.{IsGroupIn};
+ghost use Rattle.ldm_found.specs.Facts.{IsSoundGroup};
+ghost use Rattle.ldm_tool.specs.Answer.{Answer, IsAnswerTo, IsJobAnswer, IsCopyAnswer, IsGroupAnswer, refusal};
 ghost use Rattle.ldm_tool.specs.Runs.{HasAnswer, Whole, Answers, Completes, Causes, NoFault, HasImages, Premise, JobPremise, JobDisks, DisksAfter, SameInput, JobInput, InputAfter};
 
 use ldm_bytes::{Bytes, NoMemory};
 use ldm_copy::{CopyError, CopyFault, read_copy};
+use ldm_found::{Found, OpenError, OpenFault, find_group};
 use ldm_host::Host;
 use ldm_label::{Label, LabelError, LabelFault, read_label};
 use ldm_text::{
-    copy_fault_text, image_fault_text, label_fault_text, label_text, records_text, refusal_text,
+    check_text, copy_fault_text, fault_text, image_fault_text, label_fault_text, label_text,
+    records_text, refusal_text, show_text,
 };
 use ldm_words::{Job, WordsError, read_words};
 use std::alloc::Global;
@@ -136,6 +142,78 @@ fn records<H: Host>(alloc: Global, host: &mut H) -> Status
     }
 }
 
+// The line that refuses images for a fault of opening.
+fn opening_refusal(alloc: Global, fault: &OpenFault) -> Result<Bytes, NoMemory>
+    ensures { IfOk result (λ line. line ≡ text_of_refusal (text_of_open_fault fault.now)) }
+{
+    let text = fault_text(alloc, fault)?;
+    refusal_text(alloc, text.as_slice())
+}
+
+// Refuses the images for a fault of opening.
+fn refuse_opening<H: Host>(alloc: Global, host: &mut H, fault: &OpenFault) -> Status
+    ensures answers { H.tells_talk → Answers (H.seen host.old) (H.seen host.new)
+        (λ answer. answer ≡ (text_of_refusal (text_of_open_fault fault.now), Status.Refused)) result }
+    ensures no_usage { result ≢ Status.Usage }
+    ensures causes { Causes (H.seen host.old) (H.seen host.new) result }
+    ensures still { Still (H.seen host.old) (H.seen host.new) }
+    ensures input { SameInput (H.seen host.old) (H.seen host.new) }
+{
+    let line = opening_refusal(alloc, fault);
+    say_made(host, line, Status::Refused)
+}
+
+// The group that the images hold, and nothing was said; or how the run ends where there is none.
+fn open_group<H: Host>(alloc: Global, host: &mut H) -> Result<Found, Status>
+    requires { 0 < length (H.seen host.old).sizes }
+    ensures found { H.tells_disks → IfOk result (λ found. IsGroupIn (H.seen host.old).content (Ok found)) }
+    ensures sound { IfOk result (λ found. IsSoundGroup found) }
+    ensures quiet { OnOk result (Quiet (H.seen host.old) (H.seen host.new)) }
+    ensures answers { H.tells_disks → IfErr result (λ status. (answer_of : Found → Answer)
+        → Answers (H.seen host.old) (H.seen host.new) (IsGroupAnswer answer_of (H.seen host.old).content) status) }
+    ensures no_usage { IfErr result (λ status. status ≢ Status.Usage) }
+    ensures causes { IfErr result (λ status. Causes (H.seen host.old) (H.seen host.new) status) }
+    ensures still { Still (H.seen host.old) (H.seen host.new) }
+    ensures input { SameInput (H.seen host.old) (H.seen host.new) }
+{
+    match find_group(alloc, host) {
+        Ok(found) => Ok(found),
+        Err(OpenError::Disk) => Err(Status::DiskFault),
+        Err(OpenError::NoMemory) => Err(Status::NoMemory),
+        Err(OpenError::Fault(fault)) => Err(refuse_opening(alloc, host, &fault)),
+    }
+}
+
+// show on IMAGE...
+fn show<H: Host>(alloc: Global, host: &mut H) -> Status
+    requires { 0 < length (H.seen host.old).sizes }
+    ensures answers { H.tells_disks → Answers (H.seen host.old) (H.seen host.new) (IsJobAnswer jobs.Show (H.seen host.old).content (H.seen host.old).input) result }
+    ensures no_usage { result ≢ Status.Usage }
+    ensures causes { Causes (H.seen host.old) (H.seen host.new) result }
+    ensures still { Still (H.seen host.old) (H.seen host.new) }
+    ensures input { SameInput (H.seen host.old) (H.seen host.new) }
+{
+    match open_group(alloc, host) {
+        Err(status) => status,
+        Ok(found) => say_made(host, show_text(alloc, &found), Status::Done),
+    }
+}
+
+// check on IMAGE...
+fn check<H: Host>(alloc: Global, host: &mut H) -> Status
+    requires { 0 < length (H.seen host.old).sizes }
+    ensures answers { H.tells_disks → Answers (H.seen host.old) (H.seen host.new) (IsJobAnswer jobs.Check (H.seen host.old).content (H.seen host.old).input) result }
+    ensures no_usage { result ≢ Status.Usage }
+    ensures causes { Causes (H.seen host.old) (H.seen host.new) result }
+    ensures still { Still (H.seen host.old) (H.seen host.new) }
+    ensures input { SameInput (H.seen host.old) (H.seen host.new) }
+{
+    match open_group(alloc, host) {
+        Err(status) => status,
+        Ok(found) => say_made(host, check_text(alloc, &found), Status::Done),
+    }
+}
+
 // Does a job.
 fn do_job<H: Host>(alloc: Global, job: Job, host: &mut H) -> Status
     requires { HasCount job (length (H.seen host.old).sizes) }
@@ -149,6 +227,8 @@ fn do_job<H: Host>(alloc: Global, job: Job, host: &mut H) -> Status
     match job {
         Job::Disk => disk(alloc, host),
         Job::Records => records(alloc, host),
+        Job::Show => show(alloc, host),
+        Job::Check => check(alloc, host),
     }
 }
 

@@ -4,7 +4,7 @@ use ldm_vectors::sample_images;
 use std::test::Fail;
 
 // Runs the words where the host has just the images that they name.
-fn run_over<H: Host>(alloc: Global, words: &[String], host: &mut H) -> Option<Status> {
+pub(crate) fn run_over<H: Host>(alloc: Global, words: &[String], host: &mut H) -> Option<Status> {
     match read_words(alloc, words) {
         Ok((_, count)) => {
             if count == host.disks() {
@@ -18,7 +18,7 @@ fn run_over<H: Host>(alloc: Global, words: &[String], host: &mut H) -> Option<St
     }
 }
 
-fn words_in(alloc: Global, line: &str) -> Result<Vec<String>, Fail> {
+pub(crate) fn words_in(alloc: Global, line: &str) -> Result<Vec<String>, Fail> {
     let mut words = Vec::new(alloc);
     for word in line.split(' ') {
         words.push(String::from_str(alloc, word)?)?;
@@ -247,10 +247,10 @@ fn reads_a_file(rt: HostRuntime) -> Result<(), Fail> {
     let id = std::process::id(rt.process());
     path.push(format!(in alloc; "ldm-{id}.img")?)?;
     std::fs::write(&rt, &path, &image)?;
-    let mut files = Vec::new(alloc);
-    files.push(File::open(&rt, &path)?)?;
+    let mut images = Vec::new(alloc);
+    images.push(ImageFile::of(File::open(&rt, &path)?)?)?;
     let input: &[u8] = b"";
-    let Ok(mut host) = FileHost::new(alloc, files, input, Vec::new(alloc)) else {
+    let Ok(mut host) = FileHost::new(alloc, images, input, Vec::new(alloc)) else {
         return Err(Fail::from("no host"));
     };
     let words = words_in(alloc, "disk on A")?;
