@@ -10,10 +10,10 @@ const IMAGE: usize = 8192 * SECTOR;
 /// The first sector of the database.
 const DATABASE: usize = 6144;
 /// Where the config area begins, in bytes.
-const AREA: usize = (DATABASE + 17) * SECTOR;
+pub(crate) const AREA: usize = (DATABASE + 17) * SECTOR;
 
 // The GUID text whose every hexadecimal digit is this one.
-fn guid_text(digit: u8) -> [u8; 36] {
+pub(crate) fn guid_text(digit: u8) -> [u8; 36] {
     let mut text = [digit; 36];
     for place in [8, 13, 18, 23] {
         text[place] = b'-';
@@ -155,7 +155,7 @@ fn write_image(image: &mut [u8], disk: u8, disks: u8, last: u32)
 }
 
 // The image of one disk of the group.
-fn image_of(alloc: Global, disk: u8, disks: u8, last: u32) -> Result<Vec<u8>, NoMemory>
+pub(crate) fn image_of(alloc: Global, disk: u8, disks: u8, last: u32) -> Result<Vec<u8>, NoMemory>
     requires disk { disk < 3 }
     requires disks { disks ≤ 3 }
     requires few { last ≤ 5924 }

@@ -1,6 +1,9 @@
-//! Images of a small group, for examples and tests: `Dg0`, with one to three disks and no volume.
+//! Images of small groups, for examples and tests: `Dg0`, with one to three disks and no volume, and a
+//! usual group with four volumes.
 #![tactic(auto)]
 
 mod images;
+mod usual;
 
 pub use images::sample_images;
+pub use usual::usual_images;
