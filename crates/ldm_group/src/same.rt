@@ -7,7 +7,9 @@ use ldm_vmdb::Header;
 
 // All but the carried bytes.
 fn is_same_header(a: &Header, b: &Header) -> bool
-    ensures { IsTrue result ↔ ((a.now.last ≡ b.now.last) × (a.now.seq ≡ b.now.seq) × (a.now.name ≡ b.now.name) × (a.now.guid ≡ b.now.guid)) }
+    ensures { IsTrue result ↔
+        ((a.now.last ≡ b.now.last) × (a.now.seq ≡ b.now.seq)
+        × (a.now.name ≡ b.now.name) × (a.now.guid ≡ b.now.guid)) }
 {
     a.last == b.last && a.seq == b.seq && a.name.as_slice() == b.name.as_slice() && a.guid == b.guid
 }
