@@ -1,4 +1,4 @@
-ghost use Rattle.std.specs.Prelude.{◌≡◌, ◌+◌, ◌-◌, ◌*◌, ◌/◌, ◌^◌, ◌<◌, ◌≤◌, Result, length, vec_len, slice_index, slice_range, IfOk, IfErr, IsErr, IsErrOf};
+ghost use Rattle.std.specs.Prelude.{◌≡◌, ◌+◌, ◌-◌, ◌*◌, ◌/◌, ◌^◌, ◌<◌, ◌≤◌, Result, length, vec_len, slice_index, slice_range, IfOk, IfErr, IsErrOf};
 ghost use Rattle.ldm_host.specs.Moves.{Rose, Still, Quiet};
 ghost use Rattle.ldm_host.specs.Seen.{image};
 ghost use Rattle.ldm_label.specs.LabelOf.{Fits};
@@ -10,25 +10,9 @@ ghost use Rattle.ldm_copy.specs.Steps.{IsNoFault};
 
 use crate::answer::{CopyError, CopyState};
 use crate::database::{database_of, open_header};
-use ldm_host::{Failed, Host};
-use ldm_label::Label;
+use ldm_host::Host;
+use ldm_label::{Label, read_sector};
 use std::alloc::Global;
-
-// The first sector of the area that begins at a sector of the disk.
-fn read_first<H: Host>(host: &mut H, disk: usize, start: u64) -> Result<[u8; 512], Failed>
-    requires disk { disk < length (H.seen host.old).sizes }
-    requires inside { start < slice_index (H.seen host.old).sizes disk }
-    requires few { start < 2 ^ 55 }
-    ensures bytes { H.tells_disks → IfOk result (λ bytes. bytes
-        ≡ slice_range (image (H.seen host.old).content disk) (512 * start) (512 * start + 512)) }
-    ensures still { Still (H.seen host.old) (H.seen host.new) }
-    ensures quiet { Quiet (H.seen host.old) (H.seen host.new) }
-    ensures cause { IsErr result → Rose (H.seen host.old).disk_faults (H.seen host.new).disk_faults }
-{
-    let mut bytes = [0u8; 512];
-    host.read_at(disk, 512 * start, &mut bytes)?;
-    Ok(bytes)
-}
 
 // The blocks in use of the area that begins at a sector of the disk, from number 4 on, where `last` is
 // the last VBLK sequence.
@@ -89,7 +73,7 @@ pub fn read_copy<H: Host>(
     // The label fits, so the area lies on the disk, and its places fit their type.
     prove!(label.config_start + 2048 <= sectors);
     let start = label.config_start + label.area_start;
-    let first = read_first(host, disk, start)?;
+    let first = read_sector(host, disk, start)?;
     match open_header(alloc, &first, label.area_sectors)? {
         None => Ok(CopyState::Closed),
         Some(header) => {

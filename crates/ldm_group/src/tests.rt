@@ -171,3 +171,16 @@ fn blocks_that_are_needed(rt: HostRuntime) -> Result<(), Fail> {
     }
     Ok(())
 }
+
+#[test]
+fn same_groups(rt: HostRuntime) -> Result<(), Fail> {
+    let alloc = rt.alloc();
+    let rows = [(1, 1, b'g'), (2, 2, b'A')];
+    let turned = [(2, 2, b'A'), (1, 1, b'g')];
+    let db = Db::new(alloc, header(alloc, 64)?, records_of(alloc, &rows)?)?;
+    let same = Db::new(alloc, header(alloc, 64)?, records_of(alloc, &turned)?)?;
+    let longer = Db::new(alloc, header(alloc, 68)?, records_of(alloc, &rows)?)?;
+    assert!(rt; db.same_core(&same));
+    assert!(rt; !db.same_core(&longer));
+    Ok(())
+}

@@ -2,3 +2,4 @@ pub mod Answer
 pub mod Fields
 pub mod LabelOf
 pub mod Parts
+pub mod Laws

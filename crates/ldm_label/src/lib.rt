@@ -10,14 +10,17 @@ ghost use Rattle.ldm_label.specs.declared.LabelError.TheVariants.{Fault, Disk};
 
 mod header;
 mod labels;
+mod laws;
 mod mbr;
 mod reading;
 mod sectors;
 mod toc;
 
 pub use labels::Labels;
+pub use laws::label_is_outside_its_area;
 use ldm_host::Failed;
 pub use reading::read_label;
+pub use sectors::read_sector;
 
 /// What the label of a disk says. `minor` is the version's: 11 or 12. Data and database are in sectors
 /// of the disk, the areas in sectors of the database.

@@ -5,7 +5,7 @@ ghost use Rattle.ldm_label.specs.Fields.{sector};
 
 use ldm_host::{Failed, Host};
 
-/// The bytes of a sector of a disk.
+/// The bytes of a sector of a disk, in one call of the disk. It takes no memory.
 pub fn read_sector<H: Host>(host: &mut H, disk: usize, at: u64) -> Result<[u8; 512], Failed>
     requires disk { disk < length (H.seen host.old).sizes }
     requires inside { at < slice_index (H.seen host.old).sizes disk }

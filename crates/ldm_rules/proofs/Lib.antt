@@ -2,3 +2,4 @@ pub mod SpanLaws
 pub mod CountLaws
 pub mod NameLaws
 pub mod TableLaws
+pub mod SizeLaws

@@ -3,3 +3,4 @@ pub mod Ends
 pub mod Table
 pub mod Counts
 pub mod Spans
+pub mod Sizes

@@ -1,11 +1,17 @@
-ghost use Rattle.std.specs.Prelude.{◌≡◌, ◌==◌, find, option_copied};
+ghost use Rattle.std.specs.Prelude.{◌≡◌, ◌==◌, ◌-◌, ◌^◌, ℕ, nat_eq, find, option_copied, IfOk, OnOk, Some, None, unwrap_or, if◌then◌else◌};
+ghost use Rattle.std.specs.HashMap as hash;
+ghost use Rattle.std.specs.Option.{option_or};
 ghost use Rattle.ldm_rules.specs.Rules.{first_broken, passes_end};
 ghost use Rattle.ldm_rules.specs.Ends.{label_with, sectors_by, data_size};
+ghost use Rattle.ldm_rules.specs.Sizes.{first_size};
 
 use crate::found::id_in;
+use ldm_bytes::NoMemory;
 use ldm_group::Db;
 use ldm_label::{Label, Labels};
 use ldm_records::Record;
+use std::alloc::Global;
+use std::collections::HashMap;
 
 fn label_with(labels: &[Label], guid: u128) -> Option<&Label>
     ensures { option_copied result ≡ label_with guid labels.now }
@@ -23,36 +29,61 @@ fn sectors_of(labels: &[Label], guid: u128) -> u64
     }
 }
 
-// The sectors of the disk of this id. Disks stand near the front of the records.
-fn data_size(db: &Db, labels: &Labels, disk: u64) -> u64
-    ensures { result ≡ data_size labels.now db.now.records disk }
+// Keeps the sectors of the disk of this id, unless some are kept.
+fn keep_size(sizes: &mut HashMap<u64, u64>, id: u64, size: u64) -> Result<(), NoMemory>
+    ensures { OnOk result ((q : ℕ) → hash.get nat_eq sizes.new q
+        ≡ option_or (hash.get nat_eq sizes.old q) (if id == q then Some size else None)) }
 {
-    match db.by_id(2, disk) {
-        Some(Record::Disk(d)) => sectors_of(labels.as_slice(), d.guid),
-        _ => u64::MAX,
-    }
+    sizes.entry(id)?.or_insert(size);
+    Ok(())
 }
 
-fn passes_end(r: &Record, db: &Db, labels: &Labels) -> bool
-    ensures { result ≡ passes_end (data_size labels.now db.now.records) r.now }
+// The sectors of the disks by their ids.
+fn sizes_of(
+    alloc: Global,
+    records: &[Record],
+    labels: &[Label],
+) -> Result<HashMap<u64, u64>, NoMemory>
+    ensures { IfOk result (λ m. (id : ℕ) → hash.get nat_eq m id ≡ first_size labels.now id records.now) }
+{
+    let mut sizes = HashMap::new(alloc);
+    for r in records {
+        if let Record::Disk(d) = r {
+            keep_size(&mut sizes, d.head.id, sectors_of(labels, d.guid))?;
+        }
+    }
+    Ok(sizes)
+}
+
+// Where the data of the disk of this id end.
+fn end_of(sizes: &HashMap<u64, u64>, disk: u64) -> u64
+    ensures { result ≡ unwrap_or (hash.get nat_eq sizes.now disk) (2 ^ 64 - 1) }
+{
+    sizes.get(&disk).copied().unwrap_or(u64::MAX)
+}
+
+fn passes_end(r: &Record, sizes: &HashMap<u64, u64>) -> bool
+    ensures { result ≡ passes_end (λ q. unwrap_or (hash.get nat_eq sizes.now q) (2 ^ 64 - 1)) r.now }
 {
     match r {
         Record::Partition(p) => {
-            u128::from(p.start) + u128::from(p.size) > u128::from(data_size(db, labels, p.disk))
+            u128::from(p.start) + u128::from(p.size) > u128::from(end_of(sizes, p.disk))
         }
         _ => false,
     }
 }
 
-fn first_over<'a>(db: &'a Db, labels: &Labels) -> Option<&'a Record>
-    ensures { option_copied result ≡ find (passes_end (data_size labels.now db.now.records)) db.now.records }
+fn first_over<'a>(records: &'a [Record], sizes: &HashMap<u64, u64>) -> Option<&'a Record>
+    ensures { option_copied result
+        ≡ find (passes_end (λ q. unwrap_or (hash.get nat_eq sizes.now q) (2 ^ 64 - 1))) records.now }
 {
-    db.as_slice().iter().find(|r| passes_end(r, db, labels))
+    records.iter().find(|r| passes_end(r, sizes))
 }
 
 /// The least partition that ends behind the data of its disk.
-pub fn over_the_end(db: &Db, labels: &Labels) -> Option<u64>
-    ensures { result ≡ first_broken (passes_end (data_size labels.now db.now.records)) db.now.records }
+pub fn over_the_end(alloc: Global, db: &Db, labels: &Labels) -> Result<Option<u64>, NoMemory>
+    ensures { IfOk result (λ id. id ≡ first_broken (passes_end (data_size labels.now db.now.records)) db.now.records) }
 {
-    id_in(first_over(db, labels))
+    let sizes = sizes_of(alloc, db.as_slice(), labels.as_slice())?;
+    Ok(id_in(first_over(db.as_slice(), &sizes)))
 }

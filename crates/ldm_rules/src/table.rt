@@ -66,7 +66,7 @@ fn check_sectors(alloc: Global, db: &Db, labels: &Labels) -> Result<(), RuleErro
     if let Some(id) = empty(db) {
         return Err(broken(9, id));
     }
-    if let Some(id) = over_the_end(db, labels) {
+    if let Some(id) = over_the_end(alloc, db, labels)? {
         return Err(broken(10, id));
     }
     if let Some(id) = meeting(alloc, db)? {

@@ -1,0 +1,22 @@
+-- What holds of every image that has a label. Editing a group writes in config areas alone, so by these laws it leaves the
+-- labels as they are.
+use Rattle.std.specs.Prelude.{◌≡◌, ℕ, ◌+◌, ◌≤◌, List, Ok}
+use Rattle.ldm_label.specs.declared.Label.{Label}
+use Rattle.ldm_label.specs.Fields.{sectors_of}
+use Rattle.ldm_label.specs.LabelOf.{label_of, Fits, SameOutsideArea}
+
+-- No sector of the label lies in the config area: the area is behind the tables of contents in sectors 1 and 2 of the
+-- database, and in front of copy 2 of the private header in sector 1856.
+pub record IsClearOfLabel (label : Label) : Type 0 where
+  pub behind : 3 ≤ label.area_start
+  pub before : label.area_start + label.area_sectors ≤ 1856
+
+-- the label of an image fits it
+abbrev pub LabelsFit : Type 0
+LabelsFit = (image : List ℕ) (label : Label) → label_of image ≡ Ok label → Fits label (sectors_of image)
+
+-- an image that differs in such a config area alone has the same label
+abbrev pub LabelsStay : Type 0
+LabelsStay =
+    (label : Label) (old new : List ℕ) → label_of old ≡ Ok label → IsClearOfLabel label
+    → SameOutsideArea label old new → label_of new ≡ Ok label

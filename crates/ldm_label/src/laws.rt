@@ -1,0 +1,8 @@
+ghost use Rattle.ldm_label.specs.Laws.{LabelsFit, LabelsStay};
+
+/// A law, which does nothing: what is written in the config area of a disk leaves its label as it is,
+/// where no sector of the label lies in that area. Editing a group writes nothing else.
+pub fn label_is_outside_its_area()
+    ensures fit { LabelsFit }
+    ensures stay { LabelsStay }
+{}
