@@ -9,6 +9,7 @@ mod looks;
 mod order;
 mod records;
 mod room;
+mod same;
 
 pub use db::Db;
 pub use error::DbError;

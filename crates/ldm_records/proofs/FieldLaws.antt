@@ -1,5 +1,5 @@
 -- One field more.
-use Rattle.std.proofs.Common.{◌≡◌, ℕ, zero, suc, ◌+◌, ◌<◌, ◌≤◌, List, [], ◌∷◌, ◌++◌, length, get_or, take, map, refl, sym, ap, ◌∙◌, append_assoc, arith}
+use Rattle.std.proofs.Common.{◌≡◌, ℕ, zero, suc, ◌+◌, ◌<◌, ◌≤◌, List, [], ◌∷◌, ◌++◌, length, get_or, take, sym, ap, ◌∙◌, append_assoc, arith}
 use Rattle.std.proofs.lemmas.List.{append-nil, map_more, take-map}
 use Rattle.ldm_records.specs.declared.field.Field.{Field}
 use Rattle.ldm_records.specs.Values.{Value, own_value, own_values, value_len, values_len, IsShort, AreShort}

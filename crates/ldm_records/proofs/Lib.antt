@@ -4,3 +4,4 @@ pub mod OneRecord
 pub mod WholeLaws
 pub mod Sound
 pub mod FieldLaws
+pub mod SameLaws

@@ -1,5 +1,5 @@
 -- Records that are the same plain values are one record.
-use Rattle.std.proofs.Common.{◌≡◌, ℕ, List, [], ◌∷◌, Option, Some, None, refl, sym, ap, ◌∙◌, ◌≤◌, ◌<◌, ◌+◌, ◌^◌, length, Bool, arith}
+use Rattle.std.proofs.Common.{◌≡◌, ℕ, List, [], Option, Some, None, refl, sym, ap, ◌∙◌, ◌≤◌, ◌<◌, ◌+◌, ◌^◌, length, arith}
 use Rattle.std.specs.Prelude.{is_some, unwrap_or, ◌==◌, ◌||◌, if◌then◌else◌}
 use Rattle.std.specs.Coded.{le_prop}
 use mathlib.Core.Bool.{Bool-set}
@@ -18,7 +18,7 @@ use Rattle.ldm_records.specs.declared.types.Disk.{Disk}
 use Rattle.ldm_records.specs.declared.types.GroupRec.{GroupRec}
 use Rattle.ldm_records.specs.declared.types.Record.{Record}
 use Rattle.ldm_records.specs.declared.types.Record.TheVariants as kinds
-use Rattle.ldm_records.specs.Values.{Value, Number, Text, Absent, values_len}
+use Rattle.ldm_records.specs.Values.{Value, values_len}
 use Rattle.ldm_records.specs.Table.{has_flag}
 use Rattle.ldm_records.specs.Fields.{number_option, text_option, volume_values, component_values, partition_values}
 use Rattle.ldm_records.specs.Forms.{chunk_value, columns_value, first_value, second_value, disk_type, alt_of, disk_values, group_type, guid_text_of, group_values}

@@ -1,12 +1,12 @@
 -- Fields that are read are spelled so, and fields that are spelled are read.
-use Rattle.std.proofs.Common.{◌≡◌, ℕ, zero, suc, ◌+◌, ◌^◌, ◌<◌, ◌≤◌, Bool, true, false, cond, ltb, List, [], ◌∷◌, ◌++◌, length, get_or, take, drop, Option, Some, None, refl, sym, ap, subst, ◌∙◌, append_assoc, arith, inl, inr}
+use Rattle.std.proofs.Common.{◌≡◌, ℕ, suc, ◌+◌, ◌^◌, ◌<◌, ◌≤◌, true, false, ltb, List, [], ◌∷◌, ◌++◌, length, take, drop, Option, Some, None, refl, sym, ap, subst, ◌∙◌, append_assoc, arith, inl, inr}
 use Rattle.std.proofs.lemmas.Bool.{ltb-false, le-ltb, cases_lt}
 use Rattle.std.proofs.lemmas.List.{take_at, drop_at, take-append-drop, length-append, length-take, length-take-le, get_or-take, get_or_past, get_or-append-add, get_or_append_left}
 use Rattle.std.proofs.Math.Nat.{pow-le-pow_right}
 use Rattle.byteorder.specs.Endian.{big_number, big_bytes}
 use Rattle.byteorder.specs.Numbers.{big_from-lt, big_number-reads_back, length-bytes_high_first}
-use Rattle.ldm_bytes.specs.Numbers.{IsBytes, IsNumber, IsText, own_number, number_at, text_at}
-use Rattle.ldm_bytes.specs.Guid.{IsGuidText, guid_of, own_guid}
+use Rattle.ldm_bytes.specs.Numbers.{IsBytes, IsNumber, IsText, number_at, text_at}
+use Rattle.ldm_bytes.specs.Guid.{guid_of, own_guid}
 use Rattle.ldm_bytes.proofs.GuidLaws.{guid_small, guid_again, own_guid-len}
 use Rattle.ldm_bytes.proofs.BigLaws.{big_back}
 use Rattle.ldm_bytes.proofs.NumberLaws.{guard_some, some_is, number_takes, number_again, text_takes, text_again, own_number-is_number}

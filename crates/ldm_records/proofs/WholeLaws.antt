@@ -1,10 +1,9 @@
 -- What a whole payload is answered.
-use Rattle.std.proofs.Common.{◌≡◌, ℕ, ◌+◌, ◌≤◌, ◌<◌, Bool, true, false, cond, eqb, ltb, List, length, slice_index, take, drop, Option, Some, None, Result, Ok, Err, refl, sym, ap, subst, ◌∙◌, arith}
+use Rattle.std.proofs.Common.{◌≡◌, ℕ, ◌+◌, ◌≤◌, Bool, true, false, cond, eqb, ltb, List, length, slice_index, take, drop, Option, None, Result, Ok, Err, refl, sym, ap, subst, ◌∙◌, arith}
 use Rattle.std.specs.Prelude.{IfOk, ◌||◌}
-use Rattle.std.proofs.lemmas.Bool.{ltb-false, le-ltb}
+use Rattle.std.proofs.lemmas.Bool.{le-ltb}
 use Rattle.byteorder.specs.Endian.{big_number}
 use Rattle.ldm_records.specs.declared.types.Record.{Record}
-use Rattle.ldm_records.specs.declared.fault.RecordFault.{RecordFault}
 use Rattle.ldm_records.specs.declared.fault.RecordError.{RecordError}
 use Rattle.ldm_records.specs.declared.fault.RecordError.TheVariants as errors
 use Rattle.ldm_records.specs.declared.fault.RecordFault.TheVariants as faults
@@ -13,7 +12,7 @@ use Rattle.ldm_bytes.proofs.NumberLaws.{some_is}
 use Rattle.ldm_records.specs.Values.{Kind}
 use Rattle.ldm_records.specs.Table.{is_known, kinds_of}
 use Rattle.ldm_records.specs.Plain.{Plain, Spells}
-use Rattle.ldm_records.specs.Steps.{◌>>=◌, fields_at, typed_at, plain_at}
+use Rattle.ldm_records.specs.Steps.{typed_at, plain_at}
 use Rattle.ldm_records.specs.Whole.{GivesTyped, GivesWhole}
 use Rattle.ldm_records.specs.Answers.{IsUnknown, AnswersRecord, AnswersFault}
 use Rattle.ldm_records.specs.Views.{plain_of}

@@ -1,5 +1,5 @@
 -- What reading a payload answers.
-use Rattle.std.specs.Prelude.{◌≡◌, ◌≤◌, ℕ, true, false, List, length, slice_index, Result, Ok, Err}
+use Rattle.std.specs.Prelude.{◌≡◌, ◌≤◌, ℕ, false, List, length, slice_index, Result, Ok, Err}
 use Rattle.ldm_records.specs.declared.types.Record.{Record}
 use Rattle.ldm_records.specs.declared.fault.RecordError.{RecordError}
 use Rattle.ldm_records.specs.declared.fault.RecordFault.{RecordFault}

@@ -1,5 +1,4 @@
 -- The records, seen as plain values.
-use Rattle.std.specs.Prelude.{ℕ}
 use Rattle.ldm_records.specs.declared.types.Volume.{Volume}
 use Rattle.ldm_records.specs.declared.types.Component.{Component}
 use Rattle.ldm_records.specs.declared.types.Partition.{Partition}

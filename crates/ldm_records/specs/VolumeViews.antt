@@ -1,5 +1,5 @@
 -- The fields of a volume where they stand in a body.
-use Rattle.std.specs.Prelude.{ℕ, List}
+use Rattle.std.specs.Prelude.{List}
 use Rattle.ldm_records.specs.declared.volume_text.VolumeText.{VolumeText}
 use Rattle.ldm_records.specs.Values.{Value}
 use Rattle.ldm_records.specs.Fields.{volume_values}

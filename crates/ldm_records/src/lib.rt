@@ -14,6 +14,7 @@ mod listing;
 mod partition;
 mod pieces;
 mod reading;
+mod same;
 mod types;
 mod volume;
 mod volume_text;

@@ -104,6 +104,13 @@ fn numbers_of(alloc: Global, payload: &[u8]) -> Result<[u64; 4], RecordError> {
     })
 }
 
+// Whether both payloads spell one record.
+fn are_same(alloc: Global, a: &[u8], b: &[u8]) -> Result<bool, RecordError> {
+    let one = read_record(alloc, a)?;
+    let other = read_record(alloc, b)?;
+    Ok(one.same(&other))
+}
+
 // The GUID of the disk that the payload spells, if it spells one.
 fn guid_of(alloc: Global, payload: &[u8]) -> Result<Option<u128>, RecordError> {
     let record = read_record(alloc, payload)?;
@@ -137,6 +144,8 @@ fn values(rt: HostRuntime) -> Result<(), Fail> {
     assert_eq!(rt; numbers_of(alloc, &PARTITION)?, [7, 2048, 6, 2]);
     assert_eq!(rt; numbers_of(alloc, &VOLUME)?, [5, 1, 2058, 7]);
     assert_eq!(rt; guid_of(alloc, &DISK)?, Some(guid));
+    assert!(rt; are_same(alloc, &PARTITION, &LONGER)?);
+    assert!(rt; !are_same(alloc, &PARTITION, &VOLUME)?);
     Ok(())
 }
 

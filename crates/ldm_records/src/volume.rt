@@ -1,5 +1,6 @@
-ghost use Rattle.std.specs.Prelude.{◌≡◌, IfOk};
+ghost use Rattle.std.specs.Prelude.{◌≡◌, ◌+◌, ◌<◌, ◌^◌, length, IfOk};
 ghost use Rattle.ldm_records.specs.Table.{volume_kinds};
+ghost use Rattle.ldm_records.specs.Values.{values_len};
 ghost use Rattle.ldm_records.specs.Steps.{read_values, fields_at, with_room, made};
 ghost use Rattle.ldm_records.specs.Gives.{Finds, Gives};
 ghost use Rattle.ldm_records.specs.Views.{plain_volume};
@@ -58,11 +59,12 @@ fn volume_text(flags: u8, body: &[u8]) -> Result<VolumeText<'_>, Malformed>
     })
 }
 
-// The volume of these fields, if its own spelling has the room.
-fn volume_made(alloc: Global, mark: u16, v: VolumeText, room: usize) -> Result<Volume, RecordError>
-    ensures { Gives plain_volume result (with_room room (made mark v.entry.flags 0x51 (text_values v.entry, v.entry.tail.now))) }
+// The length of the body that is written for these fields.
+fn body_len(v: &VolumeText) -> usize
+    ensures len { result ≡ values_len (text_values v.now) + length v.now.tail.now }
+    ensures small { result + 8 < 2 ^ 64 }
 {
-    let own = number_len(v.id)
+    number_len(v.id)
         + (v.name.len() + 1)
         + (v.kind.len() + 1)
         + (v.second.len() + 1)
@@ -73,7 +75,14 @@ fn volume_made(alloc: Global, mark: u16, v: VolumeText, room: usize) -> Result<V
         + text_len_when(v.id2)
         + number_len_when(v.size2)
         + text_len_when(v.hint)
-        + v.tail.len();
+        + v.tail.len()
+}
+
+// The volume of these fields, if its own spelling has the room.
+fn volume_made(alloc: Global, mark: u16, v: VolumeText, room: usize) -> Result<Volume, RecordError>
+    ensures { Gives plain_volume result (with_room room (made mark v.entry.flags 0x51 (text_values v.entry, v.entry.tail.now))) }
+{
+    let own = body_len(&v);
     if room < 8 + own || own >= 1 << 32 {
         return Err(RecordError::Fault(RecordFault::Malformed));
     }

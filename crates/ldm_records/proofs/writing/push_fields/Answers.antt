@@ -1,6 +1,4 @@
-use Rattle.std.proofs.Common.{sym, ap, ◌∙◌, ◌++◌, append_assoc, List, ℕ}
-use Rattle.ldm_records.specs.Values.{own_value, own_values}
-use Rattle.ldm_records.specs.FieldViews.{value_of, values_of}
+use Rattle.std.proofs.Common.{◌∙◌, append_assoc}
 use Rattle.ldm_records.proofs.FieldLaws.{own_more, short_at, no_field}
 use Rattle.ldm_records.proofs.writing.push_fields.Goals as goal
 

@@ -1,4 +1,4 @@
-use Rattle.std.proofs.Common.{arith, ap, ◌+◌, length, ℕ}
+use Rattle.std.proofs.Common.{ap, ◌+◌, length, ℕ}
 use Rattle.ldm_records.specs.FieldViews.{values_of}
 use Rattle.ldm_records.specs.Steps.{made}
 use Rattle.ldm_records.proofs.FieldLaws.{record_written}
