@@ -1,3 +1,6 @@
 pub mod Texts
 pub mod Names
 pub mod Records
+pub mod Opening
+pub mod Check
+pub mod Show

@@ -1,4 +1,5 @@
-ghost use Rattle.std.specs.Prelude.{◌≡◌, ◌<◌, ◌++◌, OnOk};
+ghost use Rattle.std.specs.Prelude.{◌≡◌, ◌<◌, ◌++◌, OnOk, codes, decimal};
+ghost use Rattle.ldm_bytes.specs.Guid.{own_guid};
 ghost use Rattle.ldm_text.specs.Names.{hex_digit, hex_byte, is_plain, esc_byte, esc};
 
 use crate::growing::Text;
@@ -46,4 +47,34 @@ pub(crate) fn push_esc(text: &mut Text, name: &[u8]) -> Result<(), NoMemory>
         push_esc_byte(text, *c)?;
     }
     Ok(())
+}
+
+/// A number behind a word.
+pub(crate) fn push_number(text: &mut Text, word: &[u8], number: u64) -> Result<(), NoMemory>
+    ensures { OnOk result (text.new ≡ text.old ++ (word.now ++ decimal number)) }
+{
+    text.push(word)?;
+    text.push_number(number)
+}
+
+/// A name behind a word.
+pub(crate) fn push_name(text: &mut Text, word: &[u8], name: &[u8]) -> Result<(), NoMemory>
+    ensures { OnOk result (text.new ≡ text.old ++ (word.now ++ esc name.now)) }
+{
+    text.push(word)?;
+    push_esc(text, name)
+}
+
+/// A name behind a word, and then a GUID.
+pub(crate) fn push_named(
+    text: &mut Text,
+    word: &[u8],
+    name: &[u8],
+    guid: u128,
+) -> Result<(), NoMemory>
+    ensures { OnOk result (text.new ≡ text.old ++ ((word.now ++ esc name.now) ++ (codes " " ++ own_guid guid))) }
+{
+    push_name(text, word, name)?;
+    text.push(b" ")?;
+    text.push_guid(guid)
 }

