@@ -15,7 +15,7 @@ use Rattle.ldm_found.specs.declared.found.Found.{Found}
 use Rattle.ldm_found.specs.Opening.{IsGroupIn}
 use Rattle.ldm_text.specs.Texts.{text_of_label, text_of_label_fault, text_of_image_fault, text_of_refusal}
 use Rattle.ldm_text.specs.Records.{text_of_copy, text_of_copy_fault}
-use Rattle.ldm_text.specs.Faults.{text_of_open_fault}
+use Rattle.ldm_text.specs.Opening.{text_of_open_fault}
 use Rattle.ldm_text.specs.Show.{text_of_show}
 use Rattle.ldm_text.specs.Check.{text_of_check}
 use Rattle.ldm_tool.specs.declared.run.Status.{Status}

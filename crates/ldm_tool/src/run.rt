@@ -6,7 +6,7 @@ ghost use Rattle.ldm_words.specs.Jobs.{texts, job_of, HasCount};
 ghost use Rattle.ldm_words.specs.declared.job.Job.TheVariants as jobs;
 ghost use Rattle.ldm_text.specs.Texts.{text_of_label_fault, text_of_image_fault, text_of_refusal};
 ghost use Rattle.ldm_text.specs.Records.{text_of_copy_fault};
-ghost use Rattle.ldm_text.specs.Faults.{text_of_open_fault};
+ghost use Rattle.ldm_text.specs.Opening.{text_of_open_fault};
 ghost use Rattle.ldm_found.specs.declared.found.Found.{Found};
 ghost use Rattle.ldm_found.specs.Opening.{IsGroupIn};
 ghost use Rattle.ldm_found.specs.Facts.{IsSoundGroup};
