@@ -4,6 +4,7 @@ use super::*;
 use ldm_host::MemoryHost;
 use ldm_vectors::sample_images;
 use run::Status;
+use std::process::Abort;
 use std::test::Fail;
 
 // The sectors of an image with this name: what has several copies is in each of them.
@@ -67,17 +68,21 @@ fn change_images(alloc: Global, images: &mut [Vec<u8>], text: &str) -> Result<()
     Ok(())
 }
 
-// The host over the images that a line names, of a group of so many disks, with the changes made.
-fn host_with(alloc: Global, disks: u8, letters: &str, changes: &str) -> Result<MemoryHost, Fail> {
-    let disks = disks.clamp(1, 3);
+fn group_of(alloc: Global, disks: u8) -> Result<Vec<Vec<u8>>, Fail> {
+    sample_images(alloc, disks.clamp(1, 3), 64).map_err(|_| Fail::from("no memory"))
+}
+
+// The host over these images of a group, with the changes made.
+fn host_with(
+    alloc: Global,
+    group: &[Vec<u8>],
+    letters: &str,
+    changes: &str,
+) -> Result<MemoryHost, Fail> {
     let mut images = Vec::new(alloc);
     for letter in letters.bytes() {
-        let Ok(mut group) = sample_images(alloc, disks, 64) else {
-            return Err(Fail::from("no memory"));
-        };
-        let number = usize::from(letter.saturating_sub(b'A'));
-        if number < group.len() {
-            images.push(group.swap_remove(number))?;
+        if let Some(image) = group.get(usize::from(letter.saturating_sub(b'A'))) {
+            images.push(image.as_slice().to_vec(alloc)?)?;
         }
     }
     for text in changes.split_whitespace() {
@@ -87,11 +92,14 @@ fn host_with(alloc: Global, disks: u8, letters: &str, changes: &str) -> Result<M
 }
 
 // Runs a job over these images, and compares its last line, and its status by how the line begins.
-fn expect(alloc: Global, rt: &HostRuntime, disks: u8, row: &str) -> Result<(), Fail> {
+fn expect(alloc: Global, rt: &impl Abort, group: &[Vec<u8>], row: &str) -> Result<(), Fail> {
     let mut parts = row.split(';');
-    let (Some(job), Some(letters), Some(changes), Some(text)) =
-        (parts.next(), parts.next(), parts.next(), parts.next())
-    else {
+    let (Some(job), Some(letters), Some(changes), Some(text)) = (
+        parts.next(),
+        parts.next(),
+        parts.next(),
+        parts.next(),
+    ) else {
         return Err(Fail::from("no row"));
     };
     let mut words = words_in(alloc, job)?;
@@ -99,7 +107,7 @@ fn expect(alloc: Global, rt: &HostRuntime, disks: u8, row: &str) -> Result<(), F
     for letter in letters.chars() {
         words.push(format!(in alloc; "{letter}")?)?;
     }
-    let mut host = host_with(alloc, disks, letters, changes)?;
+    let mut host = host_with(alloc, group, letters, changes)?;
     let status = if text.starts_with("refused") {
         Status::Refused
     } else {
@@ -139,14 +147,16 @@ check;ABC;1.copy+0=00;ok: editable";
 
 #[test]
 fn names_the_first_fault_of_the_images(rt: HostRuntime) -> Result<(), Fail> {
+    let group = group_of(rt.alloc(), 3)?;
     for row in FAULTS.lines() {
-        expect(rt.alloc(), &rt, 3, row)?;
+        expect(rt.alloc(), &rt, &group, row)?;
     }
+    let single = group_of(rt.alloc(), 1)?;
     for row in [
         "check;A;;ok: not editable: fewer than two disks",
         "check;A;0.tocs+56=05d9;ok: not editable: fewer than two disks",
     ] {
-        expect(rt.alloc(), &rt, 1, row)?;
+        expect(rt.alloc(), &rt, &single, row)?;
     }
     Ok(())
 }
@@ -168,15 +178,20 @@ disk 4 Disk3 33333333-3333-3333-3333-333333333333 image 0 free 6081
 // Runs a job over these images of the group, and compares all that is said.
 fn expect_all(
     alloc: Global,
-    rt: &HostRuntime,
+    rt: &impl Abort,
+    group: &[Vec<u8>],
     line: &str,
     letters: &str,
     changes: &str,
     text: &str,
 ) -> Result<(), Fail> {
     let words = words_in(alloc, line)?;
-    let mut host = host_with(alloc, 3, letters, changes)?;
-    assert_eq!(rt; run_over(alloc, &words, &mut host), Some(Status::Done), "{line}");
+    let mut host = host_with(alloc, group, letters, changes)?;
+    assert_eq!(rt;
+        run_over(alloc, &words, &mut host),
+        Some(Status::Done),
+        "{line}"
+    );
     assert_eq!(rt; host.said(), text.as_bytes(), "{line}");
     Ok(())
 }
@@ -184,13 +199,30 @@ fn expect_all(
 #[test]
 fn shows_and_checks_the_group(rt: HostRuntime) -> Result<(), Fail> {
     let alloc = rt.alloc();
-    expect_all(alloc, &rt, "show on A B C", "ABC", "", SHOW)?;
-    expect_all(alloc, &rt, "show on A B C", "ABC", "1.copy+0=00", SHOW)?;
-    expect_all(alloc, &rt, "show on C A", "CA", "", SHOW_OF_TWO)?;
+    let group = group_of(alloc, 3)?;
+    expect_all(alloc, &rt, &group, "show on A B C", "ABC", "", SHOW)?;
+    expect_all(
+        alloc,
+        &rt,
+        &group,
+        "show on A B C",
+        "ABC",
+        "1.copy+0=00",
+        SHOW,
+    )?;
+    expect_all(alloc, &rt, &group, "show on C A", "CA", "", SHOW_OF_TWO)?;
     let closed = "image 0 sequence 7\nimage 1 closed\nok: not editable: disk 4 is absent\n";
-    expect_all(alloc, &rt, "check on A B", "AB", "1.copy+0=00", closed)?;
+    expect_all(
+        alloc,
+        &rt,
+        &group,
+        "check on A B",
+        "AB",
+        "1.copy+0=00",
+        closed,
+    )?;
     let alone = "image 0 sequence 7\nok: not editable: disk 3 is absent\n";
-    expect_all(alloc, &rt, "check on A", "A", "", alone)
+    expect_all(alloc, &rt, &group, "check on A", "A", "", alone)
 }
 
 // The blocks 8 to 10: a volume of 200 sectors, its component with two partitions, and the first of them,
@@ -211,8 +243,11 @@ const SECOND: &str = "\
 #[test]
 fn refuses_partitions_that_meet(rt: HostRuntime) -> Result<(), Fail> {
     let alloc = rt.alloc();
+    let group = group_of(alloc, 3)?;
     let meeting = format!(in alloc; "show;ABC;{VOLUME} {SECOND};refused: rule 11 at 10")?;
-    expect(alloc, &rt, 3, &meeting)?;
-    let apart = format!(in alloc; "show;ABC;{VOLUME} {SECOND} *.copy+5b1=64 *.copy+5bb=64;refused: rule 12 at 5")?;
-    expect(alloc, &rt, 3, &apart)
+    expect(alloc, &rt, &group, &meeting)?;
+    let apart = format!(in alloc;
+        "show;ABC;{VOLUME} {SECOND} *.copy+5b1=64 *.copy+5bb=64;refused: rule 12 at 5"
+    )?;
+    expect(alloc, &rt, &group, &apart)
 }
