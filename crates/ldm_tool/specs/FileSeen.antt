@@ -20,7 +20,7 @@ file_seen sizes disk_faults talk_faults wrote = record {
 }
 
 pub file_counts_each : {A : Type 0} (sectors : A → ℕ) (images : List A) (wrote : List ℕ) → length wrote ≡ length images → length wrote ≡ length (map sectors images)
-file_counts_each sectors images wrote counted = counted ∙ sym (length-map sectors images)
+file_counts_each sectors images wrote counted = counted ∙ sym (length-map images sectors)
 
 pub file_counts_now : (sizes : List ℕ) (disk_faults talk_faults : ℕ) (wrote : List ℕ) (t : ℕ) (images : List (List ℕ))
     → Leaves (file_seen sizes disk_faults talk_faults wrote) images → (file_seen sizes disk_faults talk_faults wrote).left_since t images []

@@ -1,0 +1,13 @@
+use Rattle.std.proofs.Common.{◌≡◌, List, ℕ, ◌∙◌, Err}
+use Rattle.ldm_host.proofs.Relations.{still_trans}
+use Rattle.ldm_text.specs.Texts.{text_of_refusal}
+use Rattle.ldm_text.specs.Opening.{text_of_open_fault}
+use Rattle.ldm_tool.specs.declared.run.Status.TheVariants.{Refused}
+use Rattle.ldm_tool.specs.Answer.{Answer, IsGroupAnswer}
+use Rattle.ldm_tool.proofs.Saying.{answers_as}
+use Rattle.ldm_tool.proofs.run.open_group.Goals as goal
+
+pub returns-in-Err-Fault-clause-still : goal.returns-in-Err-Fault-clause-still
+returns-in-Err-Fault-clause-still g c =
+    let seen = g.H.Host.seen in
+    still_trans (seen c.args.host.now) (seen c.find_group.new.host) (seen c.refuse_opening.new.host) c.find_group.ensures.still c.refuse_opening.ensures.still
