@@ -1,0 +1,6 @@
+pub mod GatherLaws
+pub mod FirstLaws
+pub mod NewestLaws
+pub mod DiskLaws
+pub mod CopyLaws
+pub mod GroupLaws

@@ -5,3 +5,4 @@ pub mod Editing
 pub mod Opening
 pub mod Facts
 pub mod Answers
+pub mod Steps

@@ -5,6 +5,7 @@ use ldm_bytes::NoMemory;
 use ldm_copy::CopyFault;
 use ldm_label::LabelFault;
 use ldm_rules::RuleFault;
+use std::alloc::AllocFailed;
 
 /// What is wrong with the images of a group. Images are counted from 0; of several the least is named.
 ///
@@ -52,6 +53,14 @@ impl From<NoMemory> for OpenError {
     ghost from_gives = { λ _ error. error ≡ errors.NoMemory };
 
     fn from(_error: NoMemory) -> OpenError {
+        OpenError::NoMemory
+    }
+}
+
+impl<T: Drop> From<AllocFailed<T>> for OpenError {
+    ghost from_gives = { λ _ error. error ≡ errors.NoMemory };
+
+    fn from(_error: AllocFailed<T>) -> OpenError {
         OpenError::NoMemory
     }
 }

@@ -6,6 +6,9 @@ ghost use Rattle.ldm_found.specs.Opening.{IsGroupIn};
 ghost use Rattle.ldm_found.specs.Facts.{IsSoundGroup, LiesOn};
 ghost use Rattle.ldm_found.specs.Answers.{FindsIn};
 
+use crate::choosing::choose;
+use crate::copies::read_copies;
+use crate::disks::read_disks;
 use crate::fault::OpenError;
 use crate::found::Found;
 use ldm_host::Host;
@@ -13,7 +16,7 @@ use std::alloc::Global;
 
 /// The group that the images hold, or the first fault. `Disk` comes only where a call of a disk failed.
 /// It reads the label of each image, and then each copy; it keeps two copies at most.
-pub fn find_group<H: Host>(_alloc: Global, host: &mut H) -> Result<Found, OpenError>
+pub fn find_group<H: Host>(alloc: Global, host: &mut H) -> Result<Found, OpenError>
     requires { 0 < length (H.seen host.old).sizes }
     // What is answered is the group in the images, and there is one.
     ensures found { H.tells_disks → FindsIn (H.seen host.old).content result }
@@ -25,5 +28,7 @@ pub fn find_group<H: Host>(_alloc: Global, host: &mut H) -> Result<Found, OpenEr
     ensures quiet { Quiet (H.seen host.old) (H.seen host.new) }
     ensures cause { IsErrOf result OpenError.Disk → Rose (H.seen host.old).disk_faults (H.seen host.new).disk_faults }
 {
-    Err(OpenError::NoMemory)
+    let labels = read_disks(alloc, host)?;
+    let copies = read_copies(alloc, host, labels.as_slice())?;
+    choose(alloc, copies.newest, labels, copies.notes)
 }

@@ -1,6 +1,7 @@
 ghost use Rattle.std.specs.Prelude.{◌≡◌};
 ghost use Rattle.ldm_found.specs.Labels.{image_with, image_of};
 
+use crate::disks::image_with;
 use crate::fault::OpenFault;
 use crate::notes::Notes;
 use ldm_group::Db;
@@ -25,10 +26,7 @@ impl Found {
     pub fn image_with(&self, guid: u128) -> Option<usize>
         ensures { result ≡ image_with guid self.now.labels }
     {
-        self.labels
-            .as_slice()
-            .iter()
-            .position(|label| label.disk_guid == guid)
+        image_with(self.labels.as_slice(), guid)
     }
 
     /// The first image of the disk record of this id.

@@ -4,12 +4,18 @@
 //! edited, in `specs/Editing.antt`.
 #![tactic(auto)]
 
+mod choosing;
+mod copies;
+mod disks;
+mod editing;
 mod fault;
 mod finding;
 mod found;
+mod laws;
 mod notes;
 
 pub use fault::{OpenError, OpenFault};
 pub use finding::find_group;
 pub use found::Found;
+pub use laws::group_alone;
 pub use notes::{Note, Notes};

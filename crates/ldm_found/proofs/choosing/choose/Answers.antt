@@ -1,0 +1,16 @@
+use Rattle.std.proofs.Common.{List, ap, ◌∙◌}
+use Rattle.ldm_label.specs.declared.Label.{Label}
+use Rattle.ldm_found.specs.Editing.{blocked_in}
+use Rattle.ldm_found.proofs.GroupLaws.{sound_of}
+use Rattle.ldm_found.proofs.choosing.choose.Goals as goal
+
+pub returns-clause-sound : goal.returns-clause-sound
+returns-clause-sound c =
+    let room = rw c.in-Some.is at c.requires.room in
+    record {
+      one_note = c.requires.one_note;
+      sound = sound_of c.in-Some.newest.db c.args.labels c.in_ok-check_group.ensures;
+      room = room.room;
+      each = room.each;
+      blocked_is = c.blocked-blocked.ensures ∙ ap (λ (labels : List Label). blocked_in c.in-Some.newest.db labels) c.as_slice.ensures;
+    }

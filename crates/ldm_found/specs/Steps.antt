@@ -1,0 +1,103 @@
+-- What the steps of finding a group answer.
+use Rattle.std.specs.Prelude.{◌≡◌, ℕ, ◌≤◌, List, All, length, map, zip, slice_get, slice_index, Option, Some, None, Result, Ok, Err}
+use Rattle.ldm_group.specs.Database.{Database}
+use Rattle.ldm_group.specs.Room.{need_of, room_of, IsFitting}
+use Rattle.ldm_label.specs.declared.Label.{Label}
+use Rattle.ldm_label.specs.LabelOf.{Fits}
+use Rattle.ldm_copy.specs.declared.answer.CopyState.{CopyState}
+use Rattle.ldm_copy.specs.declared.answer.CopyState.TheVariants.{Closed, Valid}
+use Rattle.ldm_found.specs.declared.fault.OpenFault.{OpenFault}
+use Rattle.ldm_found.specs.declared.fault.OpenFault.TheVariants as faults
+use Rattle.ldm_found.specs.declared.fault.OpenError.{OpenError}
+use Rattle.ldm_found.specs.declared.fault.OpenError.TheVariants.{Fault, Disk, NoMemory}
+use Rattle.ldm_found.specs.declared.notes.Note.{Note}
+use Rattle.ldm_found.specs.declared.found.Found.{Found}
+use Rattle.ldm_found.specs.declared.copies.Newest.{Newest}
+use Rattle.ldm_found.specs.declared.copies.Copies.{Copies}
+use Rattle.ldm_found.specs.Gathers.{Gathers, IsFirst}
+use Rattle.ldm_found.specs.Labels.{IsLabelOf, twins}
+use Rattle.ldm_found.specs.Copies.{IsCopyIn, newest, Disagrees, note_of}
+use Rattle.ldm_found.specs.Opening.{group_at, IsGroupIn, IsGroupOfDisks}
+
+-- ---- labels
+
+-- the label of the image of this number, or its fault
+abbrev pub ReadsLabel : ℕ → List ℕ → Result Label OpenError → Type 0
+ReadsLabel disk image (Ok label) = IsLabelOf image (Ok label)
+ReadsLabel disk image (Err (Fault (faults.Label at fault))) = (at ≡ disk) × IsLabelOf image (Err fault)
+ReadsLabel disk image (Err Disk) = Unit {0}
+ReadsLabel disk image (Err NoMemory) = Unit {0}
+ReadsLabel disk image (Err _) = ⊥
+
+-- the labels of all images, or a fault, which is the first
+abbrev pub ReadsLabels : List (List ℕ) → Result (List Label) OpenError → Type 0
+ReadsLabels images (Ok labels) = Gathers IsLabelOf images (Ok labels)
+ReadsLabels images (Err (Fault fault)) = IsGroupIn images (Err fault)
+ReadsLabels images (Err Disk) = Unit {0}
+ReadsLabels images (Err NoMemory) = Unit {0}
+
+-- the same, where no two are of one disk
+abbrev pub ReadsDisks : List (List ℕ) → Result (List Label) OpenError → Type 0
+ReadsDisks images (Ok labels) = Gathers IsLabelOf images (Ok labels) × (twins labels ≡ None)
+ReadsDisks images (Err (Fault fault)) = IsGroupIn images (Err fault)
+ReadsDisks images (Err Disk) = Unit {0}
+ReadsDisks images (Err NoMemory) = Unit {0}
+
+-- there is a label for each disk of so many sectors, and it fits it
+pub record LieOn (labels : List Label) (sizes : List ℕ) : Type 0 where
+  pub one_label : length labels ≡ length sizes
+  pub fits : (disk : ℕ) (label : Label) → slice_get labels disk ≡ Some label → Fits label (slice_index sizes disk)
+
+-- ---- copies
+
+-- the copy on the image of this number, or its fault
+abbrev pub ReadsCopy : ℕ → Label × List ℕ → Result CopyState OpenError → Type 0
+ReadsCopy disk image (Ok copy) = IsCopyIn image (Ok copy)
+ReadsCopy disk image (Err (Fault (faults.Copy at fault))) = (at ≡ disk) × IsCopyIn image (Err fault)
+ReadsCopy disk image (Err Disk) = Unit {0}
+ReadsCopy disk image (Err NoMemory) = Unit {0}
+ReadsCopy disk image (Err _) = ⊥
+
+-- the newest open copy, and the first other of its sequence
+abbrev pub IsNewestOf : List CopyState → Option Newest → Type 0
+IsNewestOf copies None = newest copies ≡ None
+IsNewestOf copies (Some n) = (newest copies ≡ Some (n.image, n.db)) × IsFirst (Disagrees n.db) copies n.other
+
+-- the newest of all copies, and their notes, or a fault, which is the first
+abbrev pub ReadsCopies : List Label → List (List ℕ) → Result Copies OpenError → Type 0
+ReadsCopies labels images (Ok read) =
+    (copies : List CopyState) × Gathers IsCopyIn (zip labels images) (Ok copies)
+    × IsNewestOf copies read.newest × (read.notes ≡ map note_of copies)
+ReadsCopies labels images (Err (Fault fault)) = IsGroupOfDisks None images labels (Err fault)
+ReadsCopies labels images (Err Disk) = Unit {0}
+ReadsCopies labels images (Err NoMemory) = Unit {0}
+
+-- the own spellings of the records take no more blocks than the header leaves, at most four each
+pub record HasRoom (db : Database) : Type 0 where
+  pub room : need_of db.records ≤ room_of db.header.last
+  pub each : All IsFitting db.records
+
+abbrev pub IsRoomy : CopyState → Type 0
+IsRoomy Closed = Unit {0}
+IsRoomy (Valid db) = HasRoom db
+
+-- ---- the group
+
+-- no fault, or exactly this one, or want of memory
+abbrev pub ChecksGroup : Result (Unit {0}) OpenError → Option OpenFault → Type 0
+ChecksGroup (Ok _) fault = fault ≡ None
+ChecksGroup (Err (Fault first)) fault = fault ≡ Some first
+ChecksGroup (Err Disk) fault = ⊥
+ChecksGroup (Err NoMemory) fault = Unit {0}
+
+-- the group of the newest copy
+abbrev pub group_from : Option Newest → List Label → List Note → Result Found OpenFault
+group_from None labels notes = Err faults.NoCopy
+group_from (Some n) labels notes = group_at n.image n.db n.other labels notes
+
+-- exactly this group or fault, or want of memory
+abbrev pub Gives : Result Found OpenError → Result Found OpenFault → Type 0
+Gives (Ok found) group = group ≡ Ok found
+Gives (Err (Fault fault)) group = group ≡ Err fault
+Gives (Err Disk) group = ⊥
+Gives (Err NoMemory) group = Unit {0}

@@ -1,0 +1,69 @@
+ghost use Rattle.std.specs.Prelude.{◌≡◌, length, position, is_none, IfOk, IfSome};
+ghost use Rattle.ldm_found.specs.Labels.{stranger};
+ghost use Rattle.ldm_found.specs.Editing.{first_of};
+ghost use Rattle.ldm_found.specs.Opening.{group_faults};
+ghost use Rattle.ldm_found.specs.Facts.{IsSoundGroup};
+ghost use Rattle.ldm_found.specs.Steps.{ChecksGroup, Gives, group_from, HasRoom};
+
+use crate::copies::Newest;
+use crate::editing::blocked;
+use crate::fault::{OpenError, OpenFault};
+use crate::found::Found;
+use crate::notes::Notes;
+use ldm_group::Db;
+use ldm_label::{Label, Labels};
+use ldm_rules::{RuleError, check};
+use std::alloc::Global;
+
+// The first image of a disk that the database doesn't have.
+fn stranger(db: &Db, labels: &[Label]) -> Option<usize>
+    ensures { result ≡ stranger db.now.records labels.now }
+{
+    labels
+        .iter()
+        .position(|label| db.disk_with(label.disk_guid).is_none())
+}
+
+// That no image is of a strange disk, and no rule is broken.
+#[tactic(auto, unfolding(crate::specs::Opening::group_faults))]
+fn check_group(alloc: Global, db: &Db, labels: &Labels) -> Result<(), OpenError>
+    ensures { ChecksGroup result (first_of (group_faults db.now labels.now)) }
+{
+    if let Some(image) = stranger(db, labels.as_slice()) {
+        return Err(OpenError::Fault(OpenFault::Stranger(image)));
+    }
+    match check(alloc, db, labels) {
+        Ok(()) => Ok(()),
+        Err(RuleError::Fault(broken)) => Err(OpenError::Fault(OpenFault::Rule(broken))),
+        Err(RuleError::NoMemory) => Err(OpenError::NoMemory),
+    }
+}
+
+/// The group of the newest copy, on disks with these labels.
+pub fn choose(
+    alloc: Global,
+    newest: Option<Newest>,
+    labels: Labels,
+    notes: Notes,
+) -> Result<Found, OpenError>
+    requires room { IfSome newest (λ n. HasRoom n.db) }
+    requires one_note { length notes ≡ length labels }
+    ensures is { Gives result (group_from newest labels notes) }
+    ensures sound { IfOk result (λ found. IsSoundGroup found) }
+    ensures same { IfOk result (λ found. found.labels ≡ labels) }
+{
+    let Some(newest) = newest else {
+        return Err(OpenError::Fault(OpenFault::NoCopy));
+    };
+    if let Some(other) = newest.other {
+        return Err(OpenError::Fault(OpenFault::Split(newest.image, other)));
+    }
+    check_group(alloc, &newest.db, &labels)?;
+    let blocked = blocked(&newest.db, labels.as_slice());
+    Ok(Found {
+        db: newest.db,
+        labels,
+        notes,
+        blocked,
+    })
+}

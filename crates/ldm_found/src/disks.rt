@@ -1,0 +1,77 @@
+ghost use Rattle.std.specs.Prelude.{◌≡◌, ◌<◌, List, ℕ, length, slice_index, slice_get, IfOk, IsErrOf, Some};
+ghost use Rattle.ldm_host.specs.Seen.{image};
+ghost use Rattle.ldm_host.specs.Moves.{Rose, Still, Quiet};
+ghost use Rattle.ldm_label.specs.LabelOf.{Fits};
+ghost use Rattle.ldm_found.specs.Labels.{image_with, twins};
+ghost use Rattle.ldm_found.specs.Steps.{ReadsLabel, ReadsLabels, ReadsDisks, LieOn};
+
+use crate::fault::{OpenError, OpenFault};
+use ldm_host::Host;
+use ldm_label::{Label, LabelError, Labels, read_label};
+use std::alloc::Global;
+
+// The label of one image.
+fn label_at<H: Host>(host: &mut H, disk: usize) -> Result<Label, OpenError>
+    requires { disk < length (H.seen host.old).sizes }
+    ensures is { H.tells_disks → ReadsLabel disk (image (H.seen host.old).content disk) result }
+    ensures fits { IfOk result (λ label. Fits label (slice_index (H.seen host.old).sizes disk)) }
+    ensures still { Still (H.seen host.old) (H.seen host.new) }
+    ensures quiet { Quiet (H.seen host.old) (H.seen host.new) }
+    ensures cause { IsErrOf result OpenError.Disk → Rose (H.seen host.old).disk_faults (H.seen host.new).disk_faults }
+{
+    match read_label(host, disk) {
+        Ok(label) => Ok(label),
+        Err(LabelError::Fault(fault)) => Err(OpenError::Fault(OpenFault::Label(disk, fault))),
+        Err(LabelError::Disk) => Err(OpenError::Disk),
+    }
+}
+
+// The labels of all images, or the first fault.
+fn read_labels<H: Host>(alloc: Global, host: &mut H) -> Result<Labels, OpenError>
+    ensures is { H.tells_disks → ReadsLabels (H.seen host.old).content result }
+    ensures lie { IfOk result (λ labels. LieOn labels (H.seen host.old).sizes) }
+    ensures still { Still (H.seen host.old) (H.seen host.new) }
+    ensures quiet { Quiet (H.seen host.old) (H.seen host.new) }
+    ensures cause { IsErrOf result OpenError.Disk → Rose (H.seen host.old).disk_faults (H.seen host.new).disk_faults }
+{
+    let count = host.disks();
+    let mut labels = Vec::new(alloc);
+    for disk in 0..count {
+        labels.push(label_at(host, disk)?)?;
+    }
+    Ok(Labels::from_vec(labels))
+}
+
+/// The first image of the disk with this GUID.
+pub fn image_with(labels: &[Label], guid: u128) -> Option<usize>
+    ensures { result ≡ image_with guid labels.now }
+{
+    labels.iter().position(|label| label.disk_guid == guid)
+}
+
+// The first image whose disk a later image is of too, and the first such image.
+fn twins(labels: &[Label]) -> Option<(usize, usize)>
+    ensures { result ≡ twins labels.now }
+{
+    for (i, label) in labels.iter().enumerate() {
+        if let Some(j) = image_with(&labels[i + 1..], label.disk_guid) {
+            return Some((i, i + 1 + j));
+        }
+    }
+    None
+}
+
+/// The labels of all images, where no two are of one disk, or the first fault.
+pub fn read_disks<H: Host>(alloc: Global, host: &mut H) -> Result<Labels, OpenError>
+    ensures is { H.tells_disks → ReadsDisks (H.seen host.old).content result }
+    ensures lie { IfOk result (λ labels. LieOn labels (H.seen host.old).sizes) }
+    ensures still { Still (H.seen host.old) (H.seen host.new) }
+    ensures quiet { Quiet (H.seen host.old) (H.seen host.new) }
+    ensures cause { IsErrOf result OpenError.Disk → Rose (H.seen host.old).disk_faults (H.seen host.new).disk_faults }
+{
+    let labels = read_labels(alloc, host)?;
+    match twins(labels.as_slice()) {
+        Some((image, other)) => Err(OpenError::Fault(OpenFault::SameDisk(image, other))),
+        None => Ok(labels),
+    }
+}
