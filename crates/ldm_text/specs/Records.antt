@@ -1,5 +1,5 @@
 -- The text of one copy of the database.
-use Rattle.std.specs.Prelude.{ℕ, List, [], ◌∷◌, ◌++◌, flat_map, codes, decimal}
+use Rattle.std.specs.Prelude.{ℕ, List, ◌++◌, flat_map, codes, decimal}
 use Rattle.ldm_bytes.specs.Guid.{own_guid}
 use Rattle.ldm_vmdb.specs.declared.header.Header.{Header}
 use Rattle.ldm_vmdb.specs.declared.header.VmdbFault.{VmdbFault}

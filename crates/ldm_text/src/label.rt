@@ -3,6 +3,7 @@ ghost use Rattle.ldm_bytes.specs.Guid.{own_guid};
 ghost use Rattle.ldm_text.specs.Texts.{text_of_range, text_of_disk, text_of_privhead, text_of_areas, text_of_label, text_of_label_fault};
 
 use crate::growing::Text;
+use crate::naming::push_number;
 use ldm_bytes::{Bytes, NoMemory};
 use ldm_label::{Label, LabelFault};
 use std::alloc::Global;
@@ -29,9 +30,7 @@ fn push_guid(text: &mut Text, guid: u128) -> Result<(), NoMemory>
 fn push_version(text: &mut Text, minor: u16) -> Result<(), NoMemory>
     ensures { OnOk result (text.new ≡ text.old ++ (codes " version 2." ++ decimal minor)) }
 {
-    let number = u64::from(minor);
-    text.push(b" version 2.")?;
-    text.push_number(number)
+    push_number(text, b" version 2.", u64::from(minor))
 }
 
 // disk GUID version 2.MINOR

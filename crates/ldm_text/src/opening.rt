@@ -80,3 +80,44 @@ pub fn fault_text(alloc: Global, fault: &OpenFault) -> Result<Bytes, NoMemory>
         OpenFault::AreaClash(image) => image_fault_text(alloc, image, b"area clash"),
     }
 }
+
+#[cfg(test)]
+mod tests {
+    use super::*;
+    use ldm_vmdb::VmdbFault;
+    use std::test::Fail;
+
+    #[test]
+    fn says_each_fault(rt: HostRuntime) -> Result<(), Fail> {
+        let texts = [
+            (
+                OpenFault::Label(1, LabelFault::NoSignature),
+                "image 1: no signature",
+            ),
+            (OpenFault::SameDisk(0, 2), "images 0 and 2 are one disk"),
+            (
+                OpenFault::Copy(1, CopyFault::Vmdb(VmdbFault::Unsettled)),
+                "image 1: VMDB not settled",
+            ),
+            (OpenFault::NoCopy, "no open copy"),
+            (
+                OpenFault::Split(0, 2),
+                "images 0 and 2 differ at one sequence",
+            ),
+            (OpenFault::Stranger(2), "image 2 is not of the group"),
+            (
+                OpenFault::Rule(RuleFault { rule: 11, id: 10 }),
+                "rule 11 at 10",
+            ),
+            (OpenFault::Absent(4), "disk 4 is absent"),
+            (OpenFault::FewDisks, "fewer than two disks"),
+            (OpenFault::AreaSmall(2), "image 2: area too small"),
+            (OpenFault::AreaClash(2), "image 2: area clash"),
+        ];
+        for (fault, want) in texts {
+            let text = fault_text(rt.alloc(), &fault)?;
+            assert_eq!(rt; text.as_slice(), want.as_bytes());
+        }
+        Ok(())
+    }
+}

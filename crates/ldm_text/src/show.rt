@@ -45,7 +45,11 @@ fn push_image(text: &mut Text, labels: &Labels, image: usize, used: u128) -> Res
     ensures { OnOk result (text.new ≡ text.old ++ text_of_place used labels.now (Some image)) }
 {
     push_number(text, b" image ", image as u64)?;
-    push_number(text, b" free ", free_sectors(labels.as_slice(), image, used))
+    push_number(
+        text,
+        b" free ",
+        free_sectors(labels.as_slice(), image, used),
+    )
 }
 
 // The image of a disk, or that it is missing.
@@ -75,11 +79,7 @@ fn push_disk(
 }
 
 // A line for each disk, by the sectors that the map has for it.
-fn push_lines(
-    text: &mut Text,
-    found: &Found,
-    used: &HashMap<u64, u128>,
-) -> Result<(), NoMemory>
+fn push_lines(text: &mut Text, found: &Found, used: &HashMap<u64, u128>) -> Result<(), NoMemory>
     ensures { OnOk result (text.new ≡ text.old ++ text_of_disks (λ disk. unwrap_or (hash.get nat_eq used.now disk) 0) found.now.labels found.now.db.records) }
 {
     for r in found.db.as_slice() {

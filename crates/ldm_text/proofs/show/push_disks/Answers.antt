@@ -1,4 +1,4 @@
-use Rattle.std.proofs.Common.{ℕ, unwrap_or, nat_eq}
+use Rattle.std.proofs.Common.{unwrap_or, nat_eq}
 use Rattle.std.specs.HashMap as hash
 use Rattle.ldm_text.proofs.ShowLaws.{same_disks}
 use Rattle.ldm_text.proofs.show.push_disks.Goals as goal

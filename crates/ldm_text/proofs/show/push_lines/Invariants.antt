@@ -1,4 +1,4 @@
-use Rattle.std.proofs.Common.{◌≡◌, ◌++◌, ℕ, take, unwrap_or, nat_eq}
+use Rattle.std.proofs.Common.{◌≡◌, ◌++◌, take, unwrap_or, nat_eq}
 use Rattle.std.specs.HashMap as hash
 use Rattle.ldm_text.specs.Show.{text_of_disks}
 use Rattle.ldm_text.proofs.show.push_lines.Given as goal
