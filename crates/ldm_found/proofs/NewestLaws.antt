@@ -13,7 +13,7 @@ use Rattle.ldm_found.specs.Steps.{IsNewestOf}
 use Rattle.ldm_found.proofs.FirstLaws.{none_more, first_here, first_stays}
 
 -- of the copies behind the first
-abbrev behind : Option (ℕ × Database) → Option (ℕ × Database)
+abbrev pub behind : Option (ℕ × Database) → Option (ℕ × Database)
 behind later = option_map (λ (at : ℕ × Database). (suc at.0, at.1)) later
 
 -- with a copy at this place behind them

@@ -6,3 +6,4 @@ pub mod Opening
 pub mod Facts
 pub mod Answers
 pub mod Steps
+pub mod Alike

@@ -1,12 +1,19 @@
-ghost use Rattle.std.specs.Prelude.{◌≡◌, List};
+ghost use Rattle.std.specs.Prelude.{◌≡◌, List, Result};
 ghost use Rattle.ldm_label.specs.declared.Label.{Label};
 ghost use Rattle.ldm_group.specs.Database.{Database, IsSameCore};
-ghost use Rattle.ldm_found.specs.Opening.{group_faults};
+ghost use Rattle.ldm_copy.specs.declared.answer.CopyState.{CopyState};
+ghost use Rattle.ldm_found.specs.declared.fault.OpenFault.{OpenFault};
+ghost use Rattle.ldm_found.specs.declared.found.Found.{Found};
+ghost use Rattle.ldm_found.specs.Opening.{group_faults, IsGroupOfCopies};
 ghost use Rattle.ldm_found.specs.Editing.{blocked_in};
+ghost use Rattle.ldm_found.specs.Alike.{AllAlike, AnswerAlike};
 
-/// That the faults of a group and whether it may be edited depend on the labels and on what makes the
-/// group, and not on the carried bytes of its header. The call does nothing.
+/// That the group that is found, its faults and whether it may be edited depend on the labels and on what
+/// makes each copy's group, and not on the carried bytes of their headers. The call does nothing.
 pub fn group_alone()
     ensures faults { (a b : Database) (labels : List Label) → IsSameCore a b → group_faults a labels ≡ group_faults b labels }
     ensures blocked { (a b : Database) (labels : List Label) → IsSameCore a b → blocked_in a labels ≡ blocked_in b labels }
-{}
+    ensures alike { (xs ys : List CopyState) (labels : List Label) (a b : Result Found OpenFault) → AllAlike xs ys
+        → IsGroupOfCopies (Result.Ok xs) labels a → IsGroupOfCopies (Result.Ok ys) labels b → AnswerAlike a b }
+{
+}

@@ -1,17 +1,11 @@
-use Rattle.std.proofs.Common.{List, ap}
-use Rattle.ldm_label.specs.declared.Label.{Label}
-use Rattle.ldm_group.specs.Database.{Core}
-use Rattle.ldm_found.specs.Opening.{group_faults}
-use Rattle.ldm_found.specs.Editing.{reasons}
+use Rattle.ldm_found.proofs.AlikeLaws.{same_faults, same_blocked, alike_answers}
 use Rattle.ldm_found.proofs.laws.group_alone.Goals as goal
 
 pub returns-clause-faults : goal.returns-clause-faults
-unfolding group_faults
-returns-clause-faults c a b labels same = let records = ap (λ (core : Core). core.records) same in rw records
+returns-clause-faults c a b labels same = same_faults a b labels same
 
 pub returns-clause-blocked : goal.returns-clause-blocked
-unfolding reasons
-returns-clause-blocked c a b labels same =
-    let records = ap (λ (core : Core). core.records) same in
-    let last = ap (λ (core : Core). core.last) same in
-    rw (records, last)
+returns-clause-blocked c a b labels same = same_blocked a b labels same
+
+pub returns-clause-alike : goal.returns-clause-alike
+returns-clause-alike c xs ys labels a b all x y = alike_answers xs ys labels a b all x y
