@@ -119,8 +119,8 @@ fn expect(alloc: Global, rt: &impl Abort, group: &[Vec<u8>], row: &str) -> Resul
     Ok(())
 }
 
-// JOB;IMAGES;CHANGES;LAST LINE, each fault of opening, and two of them together: the earlier one is named.
-const FAULTS: &str = "\
+// JOB;IMAGES;CHANGES;LAST LINE: each fault of opening, and pairs of them, of which the earlier is named.
+const FAULTS_OF_IMAGES: &str = "\
 show;ABC;1.mbr+1fe=00;refused: image 1: no signature
 show;AAC;2.mbr+1fe=00;refused: image 2: no signature
 show;AA;;refused: images 0 and 1 are one disk
@@ -131,11 +131,15 @@ show;ABC;*.copy+0=00;refused: no open copy
 show;ABC;1.copy+29f=58;refused: images 0 and 1 differ at one sequence
 show;ABC;2.copy+7=3f;refused: images 0 and 2 differ at one sequence
 show;ABC;1.copy+29f=58 0.copy+7c=06;refused: images 1 and 2 differ at one sequence
-show;ABC;1.copy+29f=58 2.heads+30=39;refused: images 0 and 1 differ at one sequence
+show;ABC;1.copy+29f=58 2.heads+30=39;refused: images 0 and 1 differ at one sequence";
+
+const FAULTS_OF_GROUPS: &str = "\
 show;ABC;2.heads+30=39;refused: image 2 is not of the group
 show;ABC;2.heads+30=39 *.copy+20f=00;refused: image 2 is not of the group
 show;ABC;*.copy+20f=00;refused: rule 1 at 0
-check;AB;*.copy+20f=00;refused: rule 1 at 0
+check;AB;*.copy+20f=00;refused: rule 1 at 0";
+
+const REASONS: &str = "\
 check;AB;;ok: not editable: disk 4 is absent
 check;A;;ok: not editable: disk 3 is absent
 check;AB;1.copy+0=00 1.tocs+3c=000f;ok: not editable: disk 4 is absent
@@ -145,21 +149,34 @@ check;ABC;1.tocs+56=05d9;ok: not editable: image 1: area clash
 check;ABC;1.copy+0=00 2.tocs+56=05d9;ok: not editable: image 2: area clash
 check;ABC;1.copy+0=00;ok: editable";
 
-#[test]
-fn names_the_first_fault_of_the_images(rt: HostRuntime) -> Result<(), Fail> {
-    let group = group_of(rt.alloc(), 3)?;
-    for row in FAULTS.lines() {
-        expect(rt.alloc(), &rt, &group, row)?;
-    }
-    let single = group_of(rt.alloc(), 1)?;
-    for row in [
-        "check;A;;ok: not editable: fewer than two disks",
-        "check;A;0.tocs+56=05d9;ok: not editable: fewer than two disks",
-    ] {
-        expect(rt.alloc(), &rt, &single, row)?;
+fn expect_rows(alloc: Global, rt: &impl Abort, disks: u8, rows: &str) -> Result<(), Fail> {
+    let group = group_of(alloc, disks)?;
+    for row in rows.lines() {
+        expect(alloc, rt, &group, row)?;
     }
     Ok(())
 }
+
+#[test]
+fn names_the_first_fault_of_the_images(rt: HostRuntime) -> Result<(), Fail> {
+    expect_rows(rt.alloc(), &rt, 3, FAULTS_OF_IMAGES)
+}
+
+#[test]
+fn names_the_first_fault_of_the_group(rt: HostRuntime) -> Result<(), Fail> {
+    expect_rows(rt.alloc(), &rt, 3, FAULTS_OF_GROUPS)
+}
+
+#[test]
+fn names_the_first_reason_against_editing(rt: HostRuntime) -> Result<(), Fail> {
+    expect_rows(rt.alloc(), &rt, 3, REASONS)?;
+    expect_rows(rt.alloc(), &rt, 1, REASONS_OF_ONE)
+}
+
+// Of a group of one disk.
+const REASONS_OF_ONE: &str = "\
+check;A;;ok: not editable: fewer than two disks
+check;A;0.tocs+56=05d9;ok: not editable: fewer than two disks";
 
 const SHOW: &str = "\
 group Dg0 aaaaaaaa-aaaa-aaaa-aaaa-aaaaaaaaaaaa sequence 7 blocks 4 of 60
