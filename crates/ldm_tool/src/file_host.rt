@@ -18,7 +18,7 @@ pub struct ImageFile {
 
 impl ImageFile {
     /// Takes an open file for an image, and asks for its length: whole sectors count.
-    pub fn of(file: File) -> io::Result<ImageFile> {
+    pub(crate) fn of(file: File) -> io::Result<ImageFile> {
         let sectors = file.metadata()?.len() / 512;
         Ok(ImageFile { file, sectors })
     }
