@@ -1,4 +1,4 @@
-ghost use Rattle.std.specs.Prelude.{◌≡◌, ◌<◌, ◌≤◌, Some, map, length};
+ghost use Rattle.std.specs.Prelude.{◌≡◌, ◌<◌, ◌≤◌, Some, map, fold, min, length};
 ghost use Rattle.std.specs.Option.{option_map};
 ghost use Rattle.ldm_layout.specs.Places.{stripe_capacity, raid5_capacity};
 ghost use Rattle.ldm_layout.specs.Parts.{rises_from, least};
@@ -22,35 +22,43 @@ pub fn rises(extents: &[Extent]) -> bool
     true
 }
 
+// The least of a size and those of the partitions.
+fn least_with(size: u64, extents: &[Extent]) -> u64
+    ensures { result ≡ fold (λ m e. min m e.size) size extents.now }
+{
+    extents.iter().fold(size, |least, e| least.min(e.size))
+}
+
 /// The size of the least partition, 0 where there is none.
 pub fn least_size(extents: &[Extent]) -> u64
     ensures { result ≡ least (map (λ e. e.size) extents.now) }
 {
     match extents {
         [] => 0,
-        [first, rest @ ..] => rest
-            .iter()
-            .fold(first.size, |size, e| size.min(e.size)),
+        [first, rest @ ..] => least_with(first.size, rest),
     }
 }
 
-/// The sectors of a stripe.
+/// The sectors of a stripe, 0 without a chunk.
 pub fn stripe_capacity(extents: &[Extent], chunk: u64) -> u128
-    requires { 0 < chunk }
     ensures { result ≡ stripe_capacity (length extents.now) chunk (least (map (λ e. e.size) extents.now)) }
 {
+    if chunk == 0 {
+        return 0;
+    }
     let rows = least_size(extents) / chunk;
     extents.len() as u128 * u128::from(chunk * rows)
 }
 
-/// The sectors of a RAID-5, without its parity.
+/// The sectors of a RAID-5 without its parity, 0 without a chunk.
 pub fn raid5_capacity(extents: &[Extent], chunk: u64) -> u128
-    requires some { 1 ≤ length extents.now }
-    requires chunked { 0 < chunk }
     ensures { result ≡ raid5_capacity (length extents.now) chunk (least (map (λ e. e.size) extents.now)) }
 {
+    if chunk == 0 {
+        return 0;
+    }
     let rows = least_size(extents) / chunk;
-    (extents.len() - 1) as u128 * u128::from(chunk * rows)
+    extents.len().saturating_sub(1) as u128 * u128::from(chunk * rows)
 }
 
 /// Where a sector of a stripe lies.

@@ -1,4 +1,4 @@
-ghost use Rattle.std.specs.Prelude.{◌≡◌, true};
+ghost use Rattle.std.specs.Prelude.{◌≡◌, fold, min};
 ghost use Rattle.std.specs.List.{list_all};
 ghost use Rattle.ldm_layout.specs.Parts.{tiles};
 ghost use Rattle.ldm_layout.specs.Layouts.{is_tiled, fewest, has_columns, plex_capacity, capacity_of, first_fault};
@@ -95,13 +95,30 @@ impl Draft {
     }
 
     fn plex_capacity(&self, plex: &Extents) -> u128
-        requires { self.now.chunk ≡ 0 → is_tiled self.now.shape ≡ true }
         ensures { result ≡ plex_capacity self.now.shape self.now.chunk plex.now }
     {
         match self.shape {
             Shape::Stripe => stripe_capacity(plex.as_slice(), self.chunk),
             Shape::Raid5 => raid5_capacity(plex.as_slice(), self.chunk),
             _ => total_size(plex.as_slice()),
+        }
+    }
+
+    // The least of a number of sectors and those of the components.
+    fn capacity_with(&self, sectors: u128, plexes: &[Extents]) -> u128
+        ensures { result ≡ fold (λ m es. min m (plex_capacity self.now.shape self.now.chunk es)) sectors plexes.now }
+    {
+        plexes
+            .iter()
+            .fold(sectors, |least, p| least.min(self.plex_capacity(p)))
+    }
+
+    fn capacity(&self) -> u128
+        ensures { result ≡ capacity_of self.now }
+    {
+        match self.plexes.as_slice() {
+            [] => 0,
+            [first, rest @ ..] => self.capacity_with(self.plex_capacity(first), rest),
         }
     }
 
@@ -123,21 +140,5 @@ impl Draft {
             return Some(LayoutFault::Short);
         }
         None
-    }
-
-    fn capacity(&self) -> u128
-        requires { self.now.chunk ≡ 0 → is_tiled self.now.shape ≡ true }
-        ensures { result ≡ capacity_of self.now }
-    {
-        match self.plexes.as_slice() {
-            [] => 0,
-            [first, rest @ ..] => {
-                let mut least = self.plex_capacity(first);
-                for p in rest {
-                    least = least.min(self.plex_capacity(p));
-                }
-                least
-            }
-        }
     }
 }

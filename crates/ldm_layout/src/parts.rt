@@ -80,13 +80,25 @@ fn extent_in(r: &Record) -> Option<Extent>
 fn plexes_in(alloc: Global, records: &[Record]) -> Result<Vec<Plex>, NoMemory>
     ensures { IfOk result (λ v. v.items ≡ filter_map plex_in records.now) }
 {
-    Ok(records.iter().filter_map(|r| plex_in(r)).collect(alloc)?)
+    let mut plexes = Vec::new(alloc);
+    for r in records {
+        if let Some(plex) = plex_in(r) {
+            plexes.push(plex)?;
+        }
+    }
+    Ok(plexes)
 }
 
 fn extents_in(alloc: Global, records: &[Record]) -> Result<Vec<Extent>, NoMemory>
     ensures { IfOk result (λ v. v.items ≡ filter_map extent_in records.now) }
 {
-    Ok(records.iter().filter_map(|r| extent_in(r)).collect(alloc)?)
+    let mut extents = Vec::new(alloc);
+    for r in records {
+        if let Some(extent) = extent_in(r) {
+            extents.push(extent)?;
+        }
+    }
+    Ok(extents)
 }
 
 // The components, those of one volume side by side in their order.
