@@ -4,3 +4,4 @@ pub mod RangeLaws
 pub mod TileLaws
 pub mod LeastLaws
 pub mod ColumnLaws
+pub mod ListLaws

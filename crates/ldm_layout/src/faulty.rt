@@ -1,6 +1,8 @@
-ghost use Rattle.std.specs.Prelude.{◌≡◌, IfOk};
+ghost use Rattle.std.specs.Prelude.{◌≡◌, List, IfOk};
+ghost use Rattle.ldm_records.specs.declared.types.Record.{Record};
+ghost use Rattle.ldm_layout.specs.Grouped.{IsListsOf};
 ghost use Rattle.ldm_layout.specs.Parts.{plexes_at, extents_at};
-ghost use Rattle.ldm_layout.specs.Volumes.{draft_of, checked, fault_of, layout_faults};
+ghost use Rattle.ldm_layout.specs.Volumes.{draft_of, checked, fault_of, fault_at, layout_faults};
 
 use crate::laying::draft_of;
 use crate::parts::Parts;
@@ -26,6 +28,21 @@ fn fault(alloc: Global, parts: &Parts, volume: &Volume) -> Result<Option<LayoutF
     }
 }
 
+fn fault_at(alloc: Global, parts: &Parts, r: &Record) -> Result<Option<VolumeFault>, NoMemory>
+    ensures { IfOk result (λ f. (records : List Record) → IsListsOf parts.now records → f ≡ fault_at records r.now) }
+{
+    let Record::Volume(v) = r else {
+        return Ok(None);
+    };
+    match fault(alloc, parts, v)? {
+        Some(fault) => Ok(Some(VolumeFault {
+            volume: v.head.id,
+            fault,
+        })),
+        None => Ok(None),
+    }
+}
+
 /// The volumes of the group that have no layout, in rising id.
 pub fn faults(alloc: Global, db: &Db) -> Result<Vec<VolumeFault>, NoMemory>
     ensures { IfOk result (λ v. v.items ≡ layout_faults db.now.records) }
@@ -33,13 +50,8 @@ pub fn faults(alloc: Global, db: &Db) -> Result<Vec<VolumeFault>, NoMemory>
     let parts = Parts::of(alloc, db.as_slice())?;
     let mut faults = Vec::new(alloc);
     for r in db.as_slice() {
-        if let Record::Volume(v) = r {
-            if let Some(fault) = fault(alloc, &parts, v)? {
-                faults.push(VolumeFault {
-                    volume: v.head.id,
-                    fault,
-                })?;
-            }
+        if let Some(fault) = fault_at(alloc, &parts, r)? {
+            faults.push(fault)?;
         }
     }
     Ok(faults)
