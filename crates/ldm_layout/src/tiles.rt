@@ -1,7 +1,7 @@
-ghost use Rattle.std.specs.Prelude.{◌≡◌, ◌<◌, Some, sum_by, IsTrue};
+ghost use Rattle.std.specs.Prelude.{◌≡◌, ◌<◌, ◌≤◌, ◌+◌, ◌^◌, Some, find, sum_by, IsTrue};
 ghost use Rattle.std.specs.Option.{option_map};
 ghost use Rattle.ldm_layout.specs.Parts.{tiles};
-ghost use Rattle.ldm_layout.specs.Layouts.{tile_spot, sector_of};
+ghost use Rattle.ldm_layout.specs.Layouts.{covers, tile_spot, sector_of};
 ghost use Rattle.ldm_layout.specs.Answers.{AllEnd};
 
 use crate::parts::Extent;
@@ -32,6 +32,20 @@ pub fn total_size(extents: &[Extent]) -> u128
     total
 }
 
+// The partition in which a sector lies, among partitions that tile.
+fn tile_at(extents: &[Extent], sector: u64) -> Extent
+    requires tiled { IsTrue (tiles extents.now) }
+    requires ends { AllEnd extents.now }
+    requires within { sector < sum_by (λ e. e.size) extents.now }
+    ensures found { find (covers sector) extents.now ≡ Some result }
+    ensures low { result.offset ≤ sector }
+    ensures high { sector < result.offset + result.size }
+    ensures ends { result.start + result.size < 2 ^ 64 }
+{
+    let next = extents.partition_point(|e| e.offset <= sector);
+    extents[next - 1]
+}
+
 /// Where a sector lies among partitions that tile.
 pub fn tile_place(extents: &[Extent], sector: u64) -> Place
     requires tiled { IsTrue (tiles extents.now) }
@@ -39,8 +53,7 @@ pub fn tile_place(extents: &[Extent], sector: u64) -> Place
     requires within { sector < sum_by (λ e. e.size) extents.now }
     ensures { option_map sector_of (tile_spot extents.now sector) ≡ Some result }
 {
-    let at = extents.partition_point(|e| e.offset <= sector) - 1;
-    let e = extents[at];
+    let e = tile_at(extents, sector);
     Place {
         disk: e.disk,
         sector: e.start + (sector - e.offset),
