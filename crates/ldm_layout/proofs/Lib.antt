@@ -5,3 +5,4 @@ pub mod TileLaws
 pub mod LeastLaws
 pub mod ColumnLaws
 pub mod ListLaws
+pub mod PlanLaws

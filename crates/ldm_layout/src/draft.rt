@@ -75,6 +75,13 @@ fn fewest(shape: Shape) -> usize
 }
 
 impl Draft {
+    /// The components.
+    pub fn plexes(&self) -> &[Extents]
+        ensures { result.now ≡ self.now.plexes }
+    {
+        self.plexes.as_slice()
+    }
+
     fn all_tile(&self) -> bool
         ensures { result ≡ list_all tiles self.now.plexes }
     {

@@ -1,10 +1,11 @@
-ghost use Rattle.std.specs.Prelude.{◌≡◌, ◌<◌, ◌↔◌, IsSome, Some};
+ghost use Rattle.std.specs.Prelude.{◌≡◌, ◌<◌, ◌↔◌, IsSome, Some, slice_get};
 ghost use Rattle.ldm_layout.specs.Layouts.{copies_of, place_in, parity_in};
-ghost use Rattle.ldm_layout.specs.Answers.{IsPlan};
+ghost use Rattle.ldm_layout.specs.Answers.{IsPlan, IsPlexOf};
 ghost use Rattle.ldm_layout.specs.declared.shape.Shape.TheVariants.{Raid5};
 
 use crate::columns::{parity_place, raid5_place, stripe_place};
 use crate::draft::Draft;
+use crate::parts::Extent;
 use crate::shape::{Place, Shape};
 use crate::tiles::tile_place;
 use std::marker::Model;
@@ -55,13 +56,23 @@ impl Plan {
         self.draft.plexes.len()
     }
 
+    // The partitions of the copy.
+    fn plex(&self, copy: usize) -> &[Extent]
+        requires { copy < copies_of self.now }
+        ensures there { slice_get self.now.plexes copy ≡ Some result.now }
+        ensures holds { IsPlexOf self.now result.now }
+    {
+        let plexes = self.draft.plexes();
+        plexes[copy].as_slice()
+    }
+
     /// Where a sector lies in one of its copies.
     pub fn place(&self, sector: u64, copy: usize) -> Place
         requires within { sector < self.now.size }
         requires copied { copy < copies_of self.now }
         ensures { place_in self.now sector copy ≡ Some result }
     {
-        let extents = self.draft.plexes[copy].as_slice();
+        let extents = self.plex(copy);
         match self.draft.shape {
             Shape::Span | Shape::Mirror => tile_place(extents, sector),
             Shape::Stripe => stripe_place(extents, self.draft.chunk, sector),
@@ -76,10 +87,7 @@ impl Plan {
         ensures there { IsSome result ↔ (self.now.shape ≡ Raid5) }
     {
         match self.draft.shape {
-            Shape::Raid5 => {
-                let extents = self.draft.plexes[0].as_slice();
-                Some(parity_place(extents, self.draft.chunk, sector))
-            }
+            Shape::Raid5 => Some(parity_place(self.plex(0), self.draft.chunk, sector)),
             _ => None,
         }
     }
