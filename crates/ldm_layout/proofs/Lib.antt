@@ -6,3 +6,4 @@ pub mod LeastLaws
 pub mod ColumnLaws
 pub mod ListLaws
 pub mod PlanLaws
+pub mod DraftLaws

@@ -45,9 +45,9 @@ round_back k a h g le =
 
 pub round_cases : (k a : ℕ) → 0 < k → a < 2 * k → ((a < k) × (a % k ≡ a)) ⊎ ((k ≤ a) × (a % k ≡ a - k))
 round_cases k a h g = elim (cases_lt a k) [
-    inl lt ↦ inl (lt, mod-eq_of_lt lt)
+  | inl lt ↦ inl (lt, mod-eq_of_lt lt)
   | inr le ↦ inr (le, round_back k a h g le)
-  ]
+]
 
 -- two steps from one place that are less than a round come to two places
 pub round_apart : (k p d e : ℕ) → p < k → d < k → e < k → (p + d) % k ≡ (p + e) % k → d ≡ e
@@ -56,8 +56,8 @@ round_apart k p d e hp hd he h =
     let low : p + d < 2 * k = omega arith in
     let high : p + e < 2 * k = omega arith in
     elim (round_cases k (p + d) pos low) [
-      inl a ↦ elim (round_cases k (p + e) pos high) [ inl b ↦ omega (arith, a, b, h) | inr b ↦ omega (arith, a, b, h) ]
-    | inr a ↦ elim (round_cases k (p + e) pos high) [ inl b ↦ omega (arith, a, b, h) | inr b ↦ omega (arith, a, b, h) ]
+      | inl a ↦ elim (round_cases k (p + e) pos high) [ inl b ↦ omega (arith, a, b, h) | inr b ↦ omega (arith, a, b, h) ]
+      | inr a ↦ elim (round_cases k (p + e) pos high) [ inl b ↦ omega (arith, a, b, h) | inr b ↦ omega (arith, a, b, h) ]
     ]
 
 pub parity_below : (k row : ℕ) → 0 < k → parity_column k row < k
@@ -78,11 +78,11 @@ raid5_apart k u x y h hk c o =
     let d : x / u % (k - 1) < k - 1 = mod_below (x / u) (k - 1) pos in
     let e : y / u % (k - 1) < k - 1 = mod_below (y / u) (k - 1) pos in
     let one : (parity_column k (raid5_row k u y) + (x / u % (k - 1) + 1)) % k ≡ (parity_column k (raid5_row k u y) + (y / u % (k - 1) + 1)) % k =
-        sym (data_column k (parity_column k (raid5_row k u y)) (x / u % (k - 1)))
-        ∙ ap (λ row. (parity_column k row + 1 + x / u % (k - 1)) % k) (sym rows.0)
-        ∙ c ∙ data_column k (parity_column k (raid5_row k u y)) (y / u % (k - 1)) in
+    sym (data_column k (parity_column k (raid5_row k u y)) (x / u % (k - 1)))
+    ∙ ap (λ row. (parity_column k row + 1 + x / u % (k - 1)) % k) (sym rows.0)
+    ∙ c ∙ data_column k (parity_column k (raid5_row k u y)) (y / u % (k - 1)) in
     let same : x / u % (k - 1) + 1 ≡ y / u % (k - 1) + 1 =
-        round_apart k (parity_column k (raid5_row k u y)) (x / u % (k - 1) + 1) (y / u % (k - 1) + 1) p (omega arith) (omega arith) one in
+    round_apart k (parity_column k (raid5_row k u y)) (x / u % (k - 1) + 1) (y / u % (k - 1) + 1) p (omega arith) (omega arith) one in
     let rest : x / u % (k - 1) ≡ y / u % (k - 1) = omega arith in
     same_quotient u x y (same_quotient (k - 1) (x / u) (y / u) rows.0 rest) rows.1
 
@@ -93,10 +93,10 @@ beside_parity k u x hk c =
     let pos : 0 < k - 1 = omega arith in
     let d : x / u % (k - 1) < k - 1 = mod_below (x / u) (k - 1) pos in
     let here : (parity_column k (raid5_row k u x) + 0) % k ≡ parity_column k (raid5_row k u x) =
-        (let e : parity_column k (raid5_row k u x) + 0 ≡ parity_column k (raid5_row k u x) = omega arith in ap (λ n. n % k) e ∙ mod-eq_of_lt p) in
+    (let e : parity_column k (raid5_row k u x) + 0 ≡ parity_column k (raid5_row k u x) = omega arith in ap (λ n. n % k) e ∙ mod-eq_of_lt p) in
     let none : x / u % (k - 1) + 1 ≡ 0 =
-        round_apart k (parity_column k (raid5_row k u x)) (x / u % (k - 1) + 1) 0 p (omega arith) (omega arith)
-        (sym (data_column k (parity_column k (raid5_row k u x)) (x / u % (k - 1))) ∙ c ∙ sym here) in
+    round_apart k (parity_column k (raid5_row k u x)) (x / u % (k - 1) + 1) 0 p (omega arith) (omega arith)
+    (sym (data_column k (parity_column k (raid5_row k u x)) (x / u % (k - 1))) ∙ c ∙ sym here) in
     absurd (omega arith)
 
 -- nor where another's has it
@@ -109,10 +109,11 @@ pub raid5_inside : (k u m x : ℕ) → 0 < u → 2 ≤ k → x < raid5_capacity 
     → (raid5_column k u x < k) × (parity_column k (raid5_row k u x) < k) × (raid5_offset k u x < m)
 raid5_inside k u m x hu hk h =
     let pos : 0 < k = omega arith in
-    let pos1 : 0 < k - 1 = omega arith in
-    (mod_below (parity_column k (raid5_row k u x) + 1 + x / u % (k - 1)) k pos,
-     parity_below k (raid5_row k u x) pos,
-     inside_row u m (raid5_row k u x) (x % u) (rows_within (k - 1) u m x hu pos1 h) (mod_below x u hu))
+    let pos1 : 0 < k - 1 = omega arith in (
+      mod_below (parity_column k (raid5_row k u x) + 1 + x / u % (k - 1)) k pos,
+      parity_below k (raid5_row k u x) pos,
+      inside_row u m (raid5_row k u x) (x % u) (rows_within (k - 1) u m x hu pos1 h) (mod_below x u hu),
+    )
 
 -- two sectors have one parity place exactly where they are in one row of chunks, at one offset in their chunks
 pub one_parity : (k u x y : ℕ) → 0 < u
@@ -120,7 +121,8 @@ pub one_parity : (k u x y : ℕ) → 0 < u
     ↔ ((x / (u * (k - 1)) ≡ y / (u * (k - 1))) × (x % u ≡ y % u))
 one_parity k u x y h =
     let one : raid5_row k u x ≡ x / (u * (k - 1)) = div-div-eq-div-mul x u (k - 1) in
-    let two : raid5_row k u y ≡ y / (u * (k - 1)) = div-div-eq-div-mul y u (k - 1) in
-    (λ both. (sym one ∙ (raid5_same_row k u x y h both.1).0 ∙ two, (raid5_same_row k u x y h both.1).1),
-     λ both. let row : raid5_row k u x ≡ raid5_row k u y = one ∙ both.0 ∙ sym two in
-         (ap (λ n. parity_column k n) row, ap (λ n. n * u + x % u) row ∙ ap (λ n. raid5_row k u y * u + n) both.1))
+    let two : raid5_row k u y ≡ y / (u * (k - 1)) = div-div-eq-div-mul y u (k - 1) in (
+      λ both. (sym one ∙ (raid5_same_row k u x y h both.1).0 ∙ two, (raid5_same_row k u x y h both.1).1),
+      λ both. let row : raid5_row k u x ≡ raid5_row k u y = one ∙ both.0 ∙ sym two in
+          (ap (λ n. parity_column k n) row, ap (λ n. n * u + x % u) row ∙ ap (λ n. raid5_row k u y * u + n) both.1),
+    )

@@ -73,7 +73,7 @@ plex_of_plan l k d plan h =
       chunked = λ e. above_zero l.chunk (eqb-false l.chunk 0 (untiled_fails (is_tiled l.shape) (l.chunk == 0) none.chunk e));
       columned = λ e. leb-true (fewest l.shape) (length es) (and_parts (nat_le (fewest l.shape) (length es)) (rises_from 0 es) (and_parts (l.columns == length es) (nat_le (fewest l.shape) (length es) && rises_from 0 es) (columned e)).1).0;
       holds = (let whole : l.size ≤ capacity_of l = ltb-false (capacity_of l) l.size none.short in
-        let part : capacity_of l ≤ plex_capacity l.shape l.chunk es = least_at (plex_capacity l.shape l.chunk) l.plexes k d h in
-        omega arith);
+          let part : capacity_of l ≤ plex_capacity l.shape l.chunk es = least_at (plex_capacity l.shape l.chunk) l.plexes k d h in
+          omega arith);
       ends = plan.ends k d h;
     }

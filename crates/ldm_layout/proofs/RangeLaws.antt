@@ -28,11 +28,11 @@ range_of_points n q xs i j hi hj p r = record {
 
 pub range_order : {X : Type 0} (n : X → ℕ) (q : ℕ) (xs : List X) (d : X) (i j : ℕ) → IsRange n q xs i j → i ≤ j
 range_order n q xs d i j r = elim (cases_lt j i) [
-    inl lt ↦ absurd (let below : n (get_or xs j d) < q = r.low j d lt in
+  | inl lt ↦ absurd (let below : n (get_or xs j d) < q = r.low j d lt in
       let within : j < length xs = (let s : i ≤ length xs = r.starts in omega arith) in
       let above : q < n (get_or xs j d) = r.high j d (omega arith) within in omega arith)
   | inr le ↦ le
-  ]
+]
 
 tail_range : {X : Type 0} (n : X → ℕ) (q : ℕ) (x : X) (xs : List X) (i j : ℕ) → IsRange n q (x ∷ xs) (suc i) (suc j) → IsRange n q xs i j
 tail_range n q x xs i j r = record {

@@ -36,9 +36,9 @@ none_below n k x xs up h = none_of n k (x ∷ xs) (λ i d lt. let first : n x �
 -- so the first of two lists with the same elements of each number have one number
 first_least : {X : Type 0} (n : X → ℕ) (x y : X) (xs ys : List X) → IsNonDecreasingBy n (x ∷ xs) → of_number n (n y) (x ∷ xs) ≡ of_number n (n y) (y ∷ ys) → n x ≤ n y
 first_least n x y xs ys up same = elim (cases_lt (n y) (n x)) [
-    inl lt ↦ absurd (let none = none_below n (n y) x xs up lt in let some = number_yes n (n y) y ys refl in cc)
+  | inl lt ↦ absurd (let none = none_below n (n y) x xs up lt in let some = number_yes n (n y) y ys refl in cc)
   | inr le ↦ le
-  ]
+]
 
 pub same_sorted : {X : Type 0} (n : X → ℕ) (xs ys : List X) → IsNonDecreasingBy n xs → IsNonDecreasingBy n ys → ((k : ℕ) → of_number n k xs ≡ of_number n k ys) → xs ≡ ys
 same_sorted n [] [] up vp same = refl
@@ -54,12 +54,12 @@ same_sorted {X} n (x ∷ xs) (y ∷ ys) up vp same =
   where
     rest : (k : ℕ) → n y ≡ n x → x ∷ of_number n (n x) xs ≡ y ∷ of_number n (n x) ys → of_number n k (x ∷ xs) ≡ of_number n k (y ∷ ys) → of_number n k xs ≡ of_number n k ys
     rest k one heads e = elim (cases_Bool (n x == k)) [
-        inl is ↦ (let at : n x ≡ k = eqb-true (n x) k is in
+      | inl is ↦ (let at : n x ≡ k = eqb-true (n x) k is in
           let tails : of_number n (n x) xs ≡ of_number n (n x) ys = cc in
           subst (λ (m : ℕ). of_number n m xs ≡ of_number n m ys) at tails)
       | inr not ↦ (let ey : (n y == k) ≡ false = ap (λ m. m == k) one ∙ not in
           sym (cond-false (n x == k) (x ∷ of_number n k xs) (of_number n k xs) not) ∙ (e ∙ cond-false (n y == k) (y ∷ of_number n k ys) (of_number n k ys) ey))
-      ]
+    ]
 
 -- ---- the sort of the definitions
 
@@ -70,12 +70,12 @@ insert_numbers n k e (f ∷ fs) = go (leb (n e) (n f)) refl (insert_numbers n k 
     go : (b : Bool) → leb (n e) (n f) ≡ b → of_number n k (insert_by n e fs) ≡ of_number n k (e ∷ fs) → of_number n k (cond b (e ∷ (f ∷ fs)) (f ∷ insert_by n e fs)) ≡ of_number n k (e ∷ (f ∷ fs))
     go true le ih = refl
     go false lt ih = (let above : n f < n e = leb-false (n e) (n f) lt in elim (cases_Bool (n f == k)) [
-        inl at ↦ (let here : n f ≡ k = eqb-true (n f) k at in
+      | inl at ↦ (let here : n f ≡ k = eqb-true (n f) k at in
           number_yes n k f (insert_by n e fs) here ∙ (ap (λ (zs : List Extent). f ∷ zs) (ih ∙ number_no n k e fs (λ h. omega arith))
           ∙ (sym (number_yes n k f fs here) ∙ sym (number_no n k e (f ∷ fs) (λ h. omega arith)))))
       | inr off ↦ (cond-false (n f == k) (f ∷ of_number n k (insert_by n e fs)) (of_number n k (insert_by n e fs)) off
           ∙ (ih ∙ ap (λ (zs : List Extent). cond (n e == k) (e ∷ zs) zs) (sym (cond-false (n f == k) (f ∷ of_number n k fs) (of_number n k fs) off))))
-      ])
+    ])
 
 pub rising_numbers : (n : Extent → ℕ) (k : ℕ) (es : List Extent) → of_number n k (in_rising n es) ≡ of_number n k es
 rising_numbers n k [] = refl
@@ -98,9 +98,9 @@ at_least_lower n k m (e ∷ es) le h = (let here : m ≤ n e = h.0 in omega arit
 insert_least : (n : Extent → ℕ) (k : ℕ) (e : Extent) (fs : List Extent) → k ≤ n e → AtLeast n k fs → AtLeast n k (insert_by n e fs)
 insert_least n k e [] le h = (le, tt)
 insert_least n k e (f ∷ fs) le h = elim (leb (n e) (n f)) as (λ b. AtLeast n k (cond b (e ∷ (f ∷ fs)) (f ∷ insert_by n e fs))) [
-    true ↦ (le, h)
+  | true ↦ (le, h)
   | false ↦ (h.0, insert_least n k e fs le h.1)
-  ]
+]
 
 insert_climbs : (n : Extent → ℕ) (e : Extent) (fs : List Extent) → Climbs n fs → Climbs n (insert_by n e fs)
 insert_climbs n e [] h = (tt, tt)
@@ -134,16 +134,16 @@ stable_is n xs ys up same = same_sorted n ys (in_rising n xs) up (climbs_rises n
 
 ties_number : (a b k : ℕ) → a ≡ k → (b == k) ≡ (not (is_lt (nat_cmp a b)) && not (is_lt (nat_cmp b a)))
 ties_number a b k e = elim (cases_order b k) [
-    inl at ↦ (let there : Equal ≡ nat_cmp a b = nat_cmp_is a b Equal (omega arith) in
+  | inl at ↦ (let there : Equal ≡ nat_cmp a b = nat_cmp_is a b Equal (omega arith) in
       let back : Equal ≡ nat_cmp b a = nat_cmp_is b a Equal (omega arith) in
       eq-eqb b k at ∙ sym (and_from _ _ (ap (λ o. not (is_lt o)) (sym there)) (ap (λ o. not (is_lt o)) (sym back))))
   | inr off ↦ elim off [
-      inl low ↦ (let back : Less ≡ nat_cmp b a = nat_cmp_is b a Less (omega arith) in
+    | inl low ↦ (let back : Less ≡ nat_cmp b a = nat_cmp_is b a Less (omega arith) in
         ne_eqb b k (λ h. omega arith) ∙ sym (and_right _ _ (ap (λ o. not (is_lt o)) (sym back))))
     | inr high ↦ (let there : Less ≡ nat_cmp a b = nat_cmp_is a b Less (omega arith) in
         ne_eqb b k (λ h. omega arith) ∙ sym (and_left _ _ (ap (λ o. not (is_lt o)) (sym there))))
-    ]
   ]
+]
 
 -- where some element has each number, a stable sort keeps the elements of each number
 pub stable_numbers : {X : Type 0} (n : X → ℕ) (s : ℕ → X) → ((k : ℕ) → n (s k) ≡ k) → (xs ys : List X) → IsStableByKey n nat_cmp xs ys → (k : ℕ) → of_number n k ys ≡ of_number n k xs

@@ -70,17 +70,17 @@ tile_found at x (e ∷ es) (suc i) d tiled low high p =
     let first : (e.offset ≡ at) × (tiles_from (at + e.size) es ≡ true) = first_tile at e es tiled in
     let total : sum_by (λ (f : Extent). f.size) (e ∷ es) ≡ e.size + sum_by (λ (f : Extent). f.size) es = sum_by-cons (λ (f : Extent). f.size) e es in
     elim (cases_lt x (at + e.size)) [
-      inl lt ↦ here first lt i p
-    | inr ge ↦ (let rest : IsFound x es i d = tile_found (at + e.size) x es i d first.1 ge (omega (arith, total, high)) (tail_point x e es i p) in
-        let misses : covers x e ≡ false = and_right (nat_le e.offset x) (nat_lt x (e.offset + e.size)) (le-ltb x (e.offset + e.size) (omega arith)) in
-        record {
-          place = suc rest.place;
-          next = ap suc rest.next;
-          there = (let h : rest.place < length es = rest.there in omega arith);
-          found = cond-false (covers x e) (Some e) (find (covers x) es) misses ∙ rest.found;
-          low = rest.low;
-          high = rest.high;
-        })
+      | inl lt ↦ here first lt i p
+      | inr ge ↦ (let rest : IsFound x es i d = tile_found (at + e.size) x es i d first.1 ge (omega (arith, total, high)) (tail_point x e es i p) in
+          let misses : covers x e ≡ false = and_right (nat_le e.offset x) (nat_lt x (e.offset + e.size)) (le-ltb x (e.offset + e.size) (omega arith)) in
+          record {
+            place = suc rest.place;
+            next = ap suc rest.next;
+            there = (let h : rest.place < length es = rest.there in omega arith);
+            found = cond-false (covers x e) (Some e) (find (covers x) es) misses ∙ rest.found;
+            low = rest.low;
+            high = rest.high;
+          })
     ]
   where
     here : (e.offset ≡ at) × (tiles_from (at + e.size) es ≡ true) → x < at + e.size → (j : ℕ) → IsPoint x (e ∷ es) (suc j) → IsFound x (e ∷ es) (suc j) d

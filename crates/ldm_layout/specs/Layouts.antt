@@ -119,10 +119,10 @@ place_in l x copy = option_map sector_of (spot_in l x copy)
 abbrev pub parity_in : Layout → ℕ → Option Place
 parity_in l x = option_map sector_of (parity_spot_in l x)
 
--- how many copies there are of each sector
+-- how many copies there are of each sector: as many as a mirror has components
+abbrev pub copies_by : Shape → ℕ → ℕ
+copies_by Mirror components = components
+copies_by _ components = 1
+
 abbrev pub copies_of : Layout → ℕ
-copies_of l = copies l.shape
-  where
-    copies : Shape → ℕ
-    copies Mirror = length l.plexes
-    copies _ = 1
+copies_of l = copies_by l.shape (length l.plexes)

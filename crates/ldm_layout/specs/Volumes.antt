@@ -48,7 +48,7 @@ draft_of size plexes extents = option_map (λ shape. record {
   size = size;
   chunk = (striping_of plexes).chunk;
   columns = (striping_of plexes).columns;
-  plexes = map (λ p. laid_out shape (extents p.id)) plexes
+  plexes = map (λ p. laid_out shape (extents p.id)) plexes;
 }) (shape_of plexes)
 
 -- a layout, or its first fault

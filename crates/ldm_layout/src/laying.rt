@@ -111,4 +111,3 @@ pub fn draft_of(alloc: Global, parts: &Parts, volume: &Volume) -> Result<Option<
         plexes,
     }))
 }
-

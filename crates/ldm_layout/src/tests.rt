@@ -154,8 +154,13 @@ fn parity_goes_round(rt: HostRuntime) -> Result<(), Fail> {
     ] {
         assert!(rt; sector < plan.size() && 0 < plan.copies());
         let place = plan.place(sector, 0);
-        assert!(rt; place.disk == 2 + column && place.sector == at, "sector {sector}");
-        let parity_is = plan.parity(sector).is_some_and(|p| p.disk == 2 + parity && p.sector == at);
+        assert!(rt;
+            place.disk == 2 + column && place.sector == at,
+            "sector {sector}"
+        );
+        let parity_is = plan
+            .parity(sector)
+            .is_some_and(|p| p.disk == 2 + parity && p.sector == at);
         assert!(rt; parity_is, "parity of {sector}");
     }
     Ok(())
@@ -324,7 +329,10 @@ fn places_of_a_usual_group(rt: HostRuntime) -> Result<(), Fail> {
         let plan = plan_of(&rt, alloc, rows)?;
         assert!(rt; *sector < plan.size() && *copy < plan.copies());
         let place = plan.place(*sector, *copy);
-        assert!(rt; place.disk == *disk && place.sector == *at, "table {number}");
+        assert!(rt;
+            place.disk == *disk && place.sector == *at,
+            "table {number}"
+        );
         assert!(rt; plan.parity(*sector).is_none());
     }
     Ok(())

@@ -13,7 +13,7 @@ returns c =
     let first = c.index-plexes-copy.result in
     let plexes = c.plexes-plexes.ensures ∙ ap (λ (x : Layout). x.plexes) c.self.view_is in
     let is : c.as_slice.result.now ≡ get_or l.plexes c.args.copy first =
-        c.as_slice.ensures ∙ (c.index-plexes-copy.is ∙ ap (λ (ps : List (List Extent)). get_or ps c.args.copy first) plexes) in
+    c.as_slice.ensures ∙ (c.index-plexes-copy.is ∙ ap (λ (ps : List (List Extent)). get_or ps c.args.copy first) plexes) in
     record {
       there = get_at l.plexes c.args.copy first within ∙ ap (λ (es : List Extent). Some es) (sym is);
       holds = subst (λ (es : List Extent). IsPlexOf l es) (sym is) (plex_of_plan l c.args.copy first plan within);
