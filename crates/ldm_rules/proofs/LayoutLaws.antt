@@ -18,7 +18,7 @@ fails_at test records (kinds.Volume v) = fails test (layout_of records v)
 fails_at test records _ = false
 
 -- the volume of the first fault that passes
-abbrev first_passing : (LayoutFault → Bool) → List VolumeFault → Option ℕ
+abbrev pub first_passing : (LayoutFault → Bool) → List VolumeFault → Option ℕ
 first_passing test faults = option_map (λ f. f.volume) (find (λ f. test f.fault) faults)
 
 -- one volume more
@@ -40,3 +40,24 @@ first_of_kind test records (kinds.Group g ∷ rs) = first_of_kind test records r
 first_of_kind test records (kinds.Disk d ∷ rs) = first_of_kind test records rs
 first_of_kind test records (kinds.Component c ∷ rs) = first_of_kind test records rs
 first_of_kind test records (kinds.Partition p ∷ rs) = first_of_kind test records rs
+
+-- the two kinds of the rules
+other_is : (records : List Record) (r : Record) → fails_at (λ f. not (is_short f)) records r ≡ has_layout_fault records r
+other_is records (kinds.Volume v) = refl
+other_is records (kinds.Group g) = refl
+other_is records (kinds.Disk d) = refl
+other_is records (kinds.Component c) = refl
+other_is records (kinds.Partition p) = refl
+
+short_is : (records : List Record) (r : Record) → fails_at is_short records r ≡ passes_layout records r
+short_is records (kinds.Volume v) = refl
+short_is records (kinds.Group g) = refl
+short_is records (kinds.Disk d) = refl
+short_is records (kinds.Component c) = refl
+short_is records (kinds.Partition p) = refl
+
+pub first_faulty : (records : List Record) → first_passing (λ f. not (is_short f)) (layout_faults records) ≡ first_broken (has_layout_fault records) records
+first_faulty records = first_of_kind (λ f. not (is_short f)) records records ∙ ap (λ (test : Record → Bool). first_broken test records) (λ i r. other_is records r i)
+
+pub first_too_large : (records : List Record) → first_passing is_short (layout_faults records) ≡ first_broken (passes_layout records) records
+first_too_large records = first_of_kind is_short records records ∙ ap (λ (test : Record → Bool). first_broken test records) (λ i r. short_is records r i)
