@@ -7,3 +7,4 @@ pub mod ColumnLaws
 pub mod ListLaws
 pub mod PlanLaws
 pub mod DraftLaws
+pub mod SpotLaws
