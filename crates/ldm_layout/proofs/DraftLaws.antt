@@ -23,22 +23,23 @@ use Rattle.ldm_layout.specs.declared.shape.Shape.TheVariants.{Span, Stripe, Mirr
 abbrev pub Ends : Extent → Type 0
 Ends e = e.start + e.size < 2 ^ 64
 
-insert_ends : (n : Extent → ℕ) (e : Extent) (fs : List Extent) → Ends e → All Ends fs → All Ends (insert_by n e fs)
-insert_ends n e [] h hs = All-cons Ends e [] h hs
-insert_ends n e (f ∷ fs) h hs = elim (nat_le (n e) (n f)) as (λ b. All Ends (cond b (e ∷ (f ∷ fs)) (f ∷ insert_by n e fs))) [
-  | true ↦ All-cons Ends e (f ∷ fs) h hs
-  | false ↦ All-cons Ends f (insert_by n e fs) (hs 0 f (omega arith)) (insert_ends n e fs h (All-tail Ends f fs hs))
-]
+insert_all : (P : Extent → Type 0) (n : Extent → ℕ) (e : Extent) (fs : List Extent) → P e → All P fs → All P (insert_by n e fs)
+insert_all P n e [] h hs = All-cons P e [] h hs
+insert_all P n e (f ∷ fs) h hs = elim (nat_le (n e) (n f)) as (λ b. All P (cond b (e ∷ (f ∷ fs)) (f ∷ insert_by n e fs))) [
+    true ↦ All-cons P e (f ∷ fs) h hs
+  | false ↦ All-cons P f (insert_by n e fs) (hs 0 f (omega arith)) (insert_all P n e fs h (All-tail P f fs hs))
+  ]
 
-rising_ends : (n : Extent → ℕ) (es : List Extent) → All Ends es → All Ends (in_rising n es)
-rising_ends n [] hs = hs
-rising_ends n (e ∷ es) hs = insert_ends n e (in_rising n es) (hs 0 e (omega arith)) (rising_ends n es (All-tail Ends e es hs))
+rising_all : (P : Extent → Type 0) (n : Extent → ℕ) (es : List Extent) → All P es → All P (in_rising n es)
+rising_all P n [] hs = hs
+rising_all P n (e ∷ es) hs = insert_all P n e (in_rising n es) (hs 0 e (omega arith)) (rising_all P n es (All-tail P e es hs))
 
-laid_ends : (s : Shape) (es : List Extent) → All Ends es → AllEnd (laid_out s es)
-laid_ends s es hs = elim (is_tiled s) as (λ b. All Ends (cond b (by_offset es) (by_index es))) [
-  | true ↦ rising_ends tile_key es hs
-  | false ↦ rising_ends (λ e. e.index) es hs
-]
+-- what holds of each partition holds in the order of the volume's sectors
+pub laid_all : (P : Extent → Type 0) (s : Shape) (es : List Extent) → All P es → All P (laid_out s es)
+laid_all P s es hs = elim (is_tiled s) as (λ b. All P (cond b (by_offset es) (by_index es))) [
+    true ↦ rising_all P tile_key es hs
+  | false ↦ rising_all P (λ e. e.index) es hs
+  ]
 
 record_ends : (records : List Record) → All EndsInRange records → All Ends (filter_map extent_in records)
 record_ends [] hs = λ k d h. absurd (omega arith)
@@ -54,7 +55,7 @@ extents_end records c hs = All-filter (λ e. e.component == c) Ends (filter_map 
 plexes_end : (s : Shape) (extents : ℕ → List Extent) (ps : List Plex) → ((c : ℕ) → All Ends (extents c)) → All AllEnd (map (λ p. laid_out s (extents p.id)) ps)
 plexes_end s extents [] hs = λ k d h. absurd (omega arith)
 plexes_end s extents (p ∷ ps) hs =
-    All-cons AllEnd (laid_out s (extents p.id)) (map (λ q. laid_out s (extents q.id)) ps) (laid_ends s (extents p.id) (hs p.id)) (plexes_end s extents ps hs)
+    All-cons AllEnd (laid_out s (extents p.id)) (map (λ q. laid_out s (extents q.id)) ps) (laid_all Ends s (extents p.id) (hs p.id)) (plexes_end s extents ps hs)
 
 -- ---- copies
 

@@ -8,3 +8,4 @@ pub mod ListLaws
 pub mod PlanLaws
 pub mod DraftLaws
 pub mod SpotLaws
+pub mod VolumeLaws
