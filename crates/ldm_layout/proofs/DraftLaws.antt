@@ -1,5 +1,5 @@
 -- What is known of a layout by the records that it is made of.
-use Rattle.std.proofs.Common.{◌≡◌, ℕ, zero, suc, ◌+◌, ◌<◌, ◌^◌, ◌==◌, Bool, true, false, cond, List, [], ◌∷◌, length, get_or, map, refl, ap, sym, subst, ◌∙◌, arith, Option, Some, None, nat_le, filter}
+use Rattle.std.proofs.Common.{◌≡◌, ℕ, zero, suc, ◌+◌, ◌<◌, ◌^◌, ◌==◌, Bool, true, false, cond, List, [], ◌∷◌, length, get_or, map, refl, ap, sym, subst, ◌∙◌, arith, Option, Some, None, Result, Ok, Err, nat_le, filter}
 use Rattle.std.specs.List.{All, list_all, filter_map}
 use Rattle.std.specs.Option.{option_map}
 use Rattle.std.proofs.lemmas.List.{length-map}
@@ -7,12 +7,14 @@ use Rattle.std.proofs.lemmas.List.Elements.{All-cons, All-tail, All-filter}
 use Rattle.ldm_records.specs.declared.types.Record.{Record}
 use Rattle.ldm_records.specs.declared.types.Record.TheVariants as kinds
 use Rattle.ldm_records.specs.declared.types.Partition.{Partition}
+use Rattle.ldm_records.specs.declared.types.Volume.{Volume}
 use Rattle.ldm_layout.specs.Answers.{AllEnd, IsPlan}
 use Rattle.ldm_layout.specs.Layouts.{Layout, is_tiled, first_fault, copies_by, copies_of}
-use Rattle.ldm_layout.specs.Parts.{plex_in, extent_in, extent_of, extents_of, insert_by, in_rising, by_offset, by_index, tile_key, EndsInRange}
-use Rattle.ldm_layout.specs.Volumes.{is_basic, shape_of, striping_of, laid_out, draft_of}
+use Rattle.ldm_layout.specs.Parts.{plex_in, plexes_of, extent_in, extent_of, extents_of, insert_by, in_rising, by_offset, by_index, tile_key, EndsInRange}
+use Rattle.ldm_layout.specs.Volumes.{is_basic, shape_of, striping_of, laid_out, draft_of, unless_faulty, checked, layout_of}
 use Rattle.ldm_layout.specs.declared.parts.Extent.{Extent}
 use Rattle.ldm_layout.specs.declared.parts.Plex.{Plex}
+use Rattle.ldm_layout.specs.declared.shape.LayoutFault.{LayoutFault}
 use Rattle.ldm_layout.specs.declared.shape.Shape.{Shape}
 use Rattle.ldm_layout.specs.declared.shape.Shape.TheVariants.{Span, Stripe, Mirror, Raid5}
 
@@ -21,22 +23,23 @@ use Rattle.ldm_layout.specs.declared.shape.Shape.TheVariants.{Span, Stripe, Mirr
 abbrev pub Ends : Extent → Type 0
 Ends e = e.start + e.size < 2 ^ 64
 
-insert_ends : (n : Extent → ℕ) (e : Extent) (fs : List Extent) → Ends e → All Ends fs → All Ends (insert_by n e fs)
-insert_ends n e [] h hs = All-cons Ends e [] h hs
-insert_ends n e (f ∷ fs) h hs = elim (nat_le (n e) (n f)) as (λ b. All Ends (cond b (e ∷ (f ∷ fs)) (f ∷ insert_by n e fs))) [
-  | true ↦ All-cons Ends e (f ∷ fs) h hs
-  | false ↦ All-cons Ends f (insert_by n e fs) (hs 0 f (omega arith)) (insert_ends n e fs h (All-tail Ends f fs hs))
-]
+insert_all : (P : Extent → Type 0) (n : Extent → ℕ) (e : Extent) (fs : List Extent) → P e → All P fs → All P (insert_by n e fs)
+insert_all P n e [] h hs = All-cons P e [] h hs
+insert_all P n e (f ∷ fs) h hs = elim (nat_le (n e) (n f)) as (λ b. All P (cond b (e ∷ (f ∷ fs)) (f ∷ insert_by n e fs))) [
+    true ↦ All-cons P e (f ∷ fs) h hs
+  | false ↦ All-cons P f (insert_by n e fs) (hs 0 f (omega arith)) (insert_all P n e fs h (All-tail P f fs hs))
+  ]
 
-rising_ends : (n : Extent → ℕ) (es : List Extent) → All Ends es → All Ends (in_rising n es)
-rising_ends n [] hs = hs
-rising_ends n (e ∷ es) hs = insert_ends n e (in_rising n es) (hs 0 e (omega arith)) (rising_ends n es (All-tail Ends e es hs))
+rising_all : (P : Extent → Type 0) (n : Extent → ℕ) (es : List Extent) → All P es → All P (in_rising n es)
+rising_all P n [] hs = hs
+rising_all P n (e ∷ es) hs = insert_all P n e (in_rising n es) (hs 0 e (omega arith)) (rising_all P n es (All-tail P e es hs))
 
-laid_ends : (s : Shape) (es : List Extent) → All Ends es → AllEnd (laid_out s es)
-laid_ends s es hs = elim (is_tiled s) as (λ b. All Ends (cond b (by_offset es) (by_index es))) [
-  | true ↦ rising_ends tile_key es hs
-  | false ↦ rising_ends (λ e. e.index) es hs
-]
+-- what holds of each partition holds in the order of the volume's sectors
+pub laid_all : (P : Extent → Type 0) (s : Shape) (es : List Extent) → All P es → All P (laid_out s es)
+laid_all P s es hs = elim (is_tiled s) as (λ b. All P (cond b (by_offset es) (by_index es))) [
+    true ↦ rising_all P tile_key es hs
+  | false ↦ rising_all P (λ e. e.index) es hs
+  ]
 
 record_ends : (records : List Record) → All EndsInRange records → All Ends (filter_map extent_in records)
 record_ends [] hs = λ k d h. absurd (omega arith)
@@ -52,7 +55,7 @@ extents_end records c hs = All-filter (λ e. e.component == c) Ends (filter_map 
 plexes_end : (s : Shape) (extents : ℕ → List Extent) (ps : List Plex) → ((c : ℕ) → All Ends (extents c)) → All AllEnd (map (λ p. laid_out s (extents p.id)) ps)
 plexes_end s extents [] hs = λ k d h. absurd (omega arith)
 plexes_end s extents (p ∷ ps) hs =
-    All-cons AllEnd (laid_out s (extents p.id)) (map (λ q. laid_out s (extents q.id)) ps) (laid_ends s (extents p.id) (hs p.id)) (plexes_end s extents ps hs)
+    All-cons AllEnd (laid_out s (extents p.id)) (map (λ q. laid_out s (extents q.id)) ps) (laid_all Ends s (extents p.id) (hs p.id)) (plexes_end s extents ps hs)
 
 -- ---- copies
 
@@ -100,4 +103,40 @@ plan_of_draft size ps extents l ends h sound =
       sound = sound;
       copies = many ∙ (sym (shape_copies ps l.shape parts.shape) ∙ ap (λ n. copies_by l.shape n) (sym many));
       ends = subst (λ (xs : List (List Extent)). All AllEnd xs) (sym parts.plexes) (plexes_end l.shape extents ps ends);
+    }
+
+-- ---- the layout of a volume
+
+-- what a volume with a layout has
+pub record IsLaidOut (records : List Record) (v : Volume) (l : Layout) : Type 0 where
+  pub sound : first_fault l ≡ None
+  pub size : l.size ≡ v.size
+  pub parts : IsDraft (plexes_of v.head.id records) (λ c. extents_of c records) l
+
+draft_size : (size : ℕ) (ps : List Plex) (extents : ℕ → List Extent) (l : Layout) → draft_of size ps extents ≡ Some l → l.size ≡ size
+draft_size size ps extents l h = go (shape_of ps) h
+  where
+    go : (o : Option Shape) → option_map {U = Layout} (λ s. record { shape = s; size = size; chunk = (striping_of ps).chunk; columns = (striping_of ps).columns; plexes = map (λ p. laid_out s (extents p.id)) ps }) o ≡ Some l → l.size ≡ size
+    go None e = absurd cc
+    go (Some s) e =
+        let one : Layout = record { shape = s; size = size; chunk = (striping_of ps).chunk; columns = (striping_of ps).columns; plexes = map (λ p. laid_out s (extents p.id)) ps } in
+        let same : one ≡ l = cc in
+        sym (ap (λ (x : Layout). x.size) same)
+
+checked_ok : (o : Option Layout) (l : Layout) → checked o ≡ Ok l → (o ≡ Some l) × (first_fault l ≡ None)
+checked_ok None l h = absurd cc
+checked_ok (Some d) l h = go (first_fault d) refl h
+  where
+    go : (f : Option LayoutFault) → first_fault d ≡ f → unless_faulty d f ≡ Ok l → (Some d ≡ Some l) × (first_fault l ≡ None)
+    go (Some f) is e = absurd cc
+    go None is e = (let same : d ≡ l = cc in (ap (λ (x : Layout). Some x) same, ap first_fault (sym same) ∙ is))
+
+pub laid_out_volume : (records : List Record) (v : Volume) (l : Layout) → layout_of records v ≡ Ok l → IsLaidOut records v l
+unfolding layout_of
+laid_out_volume records v l h =
+    let both = checked_ok (draft_of v.size (plexes_of v.head.id records) (λ c. extents_of c records)) l h in
+    record {
+      sound = both.1;
+      size = draft_size v.size (plexes_of v.head.id records) (λ c. extents_of c records) l both.0;
+      parts = draft_parts v.size (plexes_of v.head.id records) (λ c. extents_of c records) l both.0;
     }

@@ -7,3 +7,5 @@ pub mod ColumnLaws
 pub mod ListLaws
 pub mod PlanLaws
 pub mod DraftLaws
+pub mod SpotLaws
+pub mod VolumeLaws

@@ -59,21 +59,40 @@ get_at [] k d h = absurd (omega arith)
 get_at (x ∷ xs) zero d h = refl
 get_at (x ∷ xs) (suc k) d h = get_at xs k d (omega arith)
 
+columns_parts : (l : Layout) (es : List Extent) → has_columns l es ≡ true → (fewest l.shape ≤ length es) × (rises_from 0 es ≡ true)
+columns_parts l es h =
+    let rest = and_parts (nat_le (fewest l.shape) (length es)) (rises_from 0 es) (and_parts (l.columns == length es) (nat_le (fewest l.shape) (length es) && rises_from 0 es) h).1 in
+    (leb-true (fewest l.shape) (length es) rest.0, rest.1)
+
 above_zero : (n : ℕ) → (n ≡ 0 → ⊥) → 0 < n
 above_zero n h = omega arith
+
+-- what a component of a layout without faults has
+pub record PlexFacts (l : Layout) (es : List Extent) : Type 0 where
+  pub tiled : is_tiled l.shape ≡ true → tiles es ≡ true
+  pub chunked : is_tiled l.shape ≡ false → 0 < l.chunk
+  pub columned : is_tiled l.shape ≡ false → fewest l.shape ≤ length es
+  pub rises : is_tiled l.shape ≡ false → rises_from 0 es ≡ true
+  pub holds : l.size ≤ plex_capacity l.shape l.chunk es
+
+pub plex_facts : (l : Layout) (k : ℕ) (d : List Extent) → first_fault l ≡ None → k < length l.plexes → PlexFacts l (get_or l.plexes k d)
+plex_facts l k d sound h =
+    let none = has_none l sound in
+    let es = get_or l.plexes k d in
+    let columned : is_tiled l.shape ≡ false → ((fewest l.shape ≤ length es) × (rises_from 0 es ≡ true)) = λ e. columns_parts l es
+    (all_at (has_columns l) l.plexes k d (and_fails (not (is_tiled l.shape)) (list_all (has_columns l) l.plexes) none.columns (untiled (is_tiled l.shape) e)) h) in
+    record {
+      tiled = λ e. all_at tiles l.plexes k d (and_fails (is_tiled l.shape) (list_all tiles l.plexes) none.gap e) h;
+      chunked = λ e. above_zero l.chunk (eqb-false l.chunk 0 (untiled_fails (is_tiled l.shape) (l.chunk == 0) none.chunk e));
+      columned = λ e. (columned e).0;
+      rises = λ e. (columned e).1;
+      holds = (let whole : l.size ≤ capacity_of l = ltb-false (capacity_of l) l.size none.short in
+          let part : capacity_of l ≤ plex_capacity l.shape l.chunk es = least_at (plex_capacity l.shape l.chunk) l.plexes k d h in
+          omega arith);
+    }
 
 -- each component of a plan holds the volume
 pub plex_of_plan : (l : Layout) (k : ℕ) (d : List Extent) → IsPlan l → k < length l.plexes → IsPlexOf l (get_or l.plexes k d)
 plex_of_plan l k d plan h =
-    let none = has_none l plan.sound in
-    let es = get_or l.plexes k d in
-    let columned : is_tiled l.shape ≡ false → has_columns l es ≡ true = λ e. all_at (has_columns l) l.plexes k d (and_fails (not (is_tiled l.shape)) (list_all (has_columns l) l.plexes) none.columns (untiled (is_tiled l.shape) e)) h in
-    record {
-      tiled = λ e. all_at tiles l.plexes k d (and_fails (is_tiled l.shape) (list_all tiles l.plexes) none.gap e) h;
-      chunked = λ e. above_zero l.chunk (eqb-false l.chunk 0 (untiled_fails (is_tiled l.shape) (l.chunk == 0) none.chunk e));
-      columned = λ e. leb-true (fewest l.shape) (length es) (and_parts (nat_le (fewest l.shape) (length es)) (rises_from 0 es) (and_parts (l.columns == length es) (nat_le (fewest l.shape) (length es) && rises_from 0 es) (columned e)).1).0;
-      holds = (let whole : l.size ≤ capacity_of l = ltb-false (capacity_of l) l.size none.short in
-          let part : capacity_of l ≤ plex_capacity l.shape l.chunk es = least_at (plex_capacity l.shape l.chunk) l.plexes k d h in
-          omega arith);
-      ends = plan.ends k d h;
-    }
+    let facts = plex_facts l k d plan.sound h in
+    record { tiled = facts.tiled; chunked = facts.chunked; columned = facts.columned; holds = facts.holds; ends = plan.ends k d h }

@@ -29,8 +29,8 @@ fn least_with(size: u64, extents: &[Extent]) -> u64
     extents.iter().fold(size, |least, e| least.min(e.size))
 }
 
-/// The size of the least partition, 0 where there is none.
-pub fn least_size(extents: &[Extent]) -> u64
+// The size of the least partition, 0 where there is none.
+fn least_size(extents: &[Extent]) -> u64
     ensures { result ≡ least (map (λ e. e.size) extents.now) }
 {
     match extents {

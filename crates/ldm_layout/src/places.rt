@@ -29,7 +29,7 @@ impl Model for Plan {
 
 impl Plan {
     /// The plan of a layout without faults.
-    pub fn from_draft(draft: Draft) -> Plan
+    pub(crate) fn from_draft(draft: Draft) -> Plan
         requires { IsPlan draft }
         ensures { result ≡ draft }
     {

@@ -101,7 +101,7 @@ fn all_end(records: &[Record]) -> bool
 {
     for r in records {
         if let Record::Partition(p) = r {
-            if p.start.checked_add(p.size).is_none() {
+            if u128::from(p.start) + u128::from(p.size) > 0xFFFF_FFFF_FFFF_FFFF {
                 return false;
             }
         }

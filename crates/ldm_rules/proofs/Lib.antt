@@ -4,3 +4,8 @@ pub mod NameLaws
 pub mod TableLaws
 pub mod SizeLaws
 pub mod LayoutLaws
+pub mod OwnLaws
+pub mod GroupLaws
+pub mod SpotsOf
+pub mod DisjointLaws
+pub mod SoundLaws

@@ -12,10 +12,12 @@ mod found;
 mod layouts;
 mod meetings;
 mod names;
+mod safe;
 mod single;
 mod table;
 
 pub use fault::{RuleError, RuleFault};
+pub use safe::places_are_disjoint;
 pub use table::check;
 
 #[cfg(test)]
