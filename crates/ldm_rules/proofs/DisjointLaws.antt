@@ -1,5 +1,5 @@
 -- In a sound group no two sectors have one place.
-use Rattle.std.proofs.Common.{◌≡◌, ℕ, zero, suc, ◌+◌, ◌-◌, ◌*◌, ◌/◌, ◌%◌, ◌<◌, ◌≤◌, ◌↔◌, List, [], ◌∷◌, length, get_or, refl, ap, sym, subst, ◌∙◌, arith, Option, Some, None, Result, Ok, true, false}
+use Rattle.std.proofs.Common.{◌≡◌, ℕ, ◌+◌, ◌-◌, ◌*◌, ◌/◌, ◌<◌, List, length, refl, ap, sym, subst, ◌∙◌, arith, Option, Some, None, Result, Ok, false}
 use Rattle.std.specs.Option.{option_map, IsSomeAnd}
 use Rattle.ldm_records.specs.declared.types.Record.{Record}
 use Rattle.ldm_records.specs.declared.types.Volume.{Volume}
@@ -9,8 +9,8 @@ use Rattle.ldm_group.specs.Order.{Rising}
 use Rattle.ldm_layout.proofs.DraftLaws.{laid_out_volume}
 use Rattle.ldm_layout.proofs.PlanLaws.{has_none}
 use Rattle.ldm_layout.proofs.SpotLaws.{plex_spot_apart, parity_beside, parity_spot_shared, parity_spot_same}
-use Rattle.ldm_layout.specs.Layouts.{Layout, is_tiled, plex_spot, parity_at, parity_spot, spot_in, parity_spot_in, place_in, parity_in, sector_of}
-use Rattle.ldm_layout.specs.Parts.{plexes_of, extent_of, rises_from}
+use Rattle.ldm_layout.specs.Layouts.{Layout, is_tiled, plex_spot, parity_at, parity_spot, spot_in, parity_spot_in, sector_of}
+use Rattle.ldm_layout.specs.Parts.{plexes_of, extent_of}
 use Rattle.ldm_layout.specs.Volumes.{layout_of, place_of, parity_of}
 use Rattle.ldm_layout.specs.declared.parts.Extent.{Extent}
 use Rattle.ldm_layout.specs.declared.parts.Plex.{Plex}
@@ -20,7 +20,7 @@ use Rattle.ldm_layout.specs.declared.shape.Shape.{Shape}
 use Rattle.ldm_layout.specs.declared.shape.Shape.TheVariants.{Span, Stripe, Mirror, Raid5}
 use Rattle.ldm_rules.proofs.GroupLaws.{one_spot, one_component, one_volume}
 use Rattle.ldm_rules.proofs.OwnLaws.{one_index, components_here}
-use Rattle.ldm_rules.proofs.SpotsOf.{no_plex, plex_at, parts_at, IsCopy, copy_facts, raid5_copy, IsSpotOf, spot_is, parity_spot_is, sector_spot, parity_spot_of, place_is, parity_is, spot_in_own, columns_are}
+use Rattle.ldm_rules.proofs.SectorLaws.{no_plex, plex_at, parts_at, copy_facts, raid5_copy, IsSpotOf, spot_is, parity_spot_is, sector_spot, parity_spot_of, place_is, parity_is, spot_in_own, columns_are}
 use Rattle.ldm_rules.specs.Disjoint.{HasLayout, IsSector, IsRaid5Sector, LiesInOwn, IsSameRow}
 use Rattle.ldm_rules.specs.Rules.{first_broken, meets_another}
 
@@ -39,7 +39,7 @@ one_place records v w c d s t up apart at_v at_w e =
     let p : Partition = a.has.partition in
     let q : Partition = b.has.partition in
     let place : sector_of (a.part, a.offset) ≡ sector_of (b.part, b.offset) =
-        some_same (sym (ap (λ (z : Option (Extent × ℕ)). option_map sector_of z) a.is) ∙ (e ∙ ap (λ (z : Option (Extent × ℕ)). option_map sector_of z) b.is)) in
+    some_same (sym (ap (λ (z : Option (Extent × ℕ)). option_map sector_of z) a.is) ∙ (e ∙ ap (λ (z : Option (Extent × ℕ)). option_map sector_of z) b.is)) in
     let disk : p.disk ≡ q.disk = ap (λ (f : Extent). f.disk) a.has.is ∙ (ap (λ (z : Place). z.disk) place ∙ ap (λ (f : Extent). f.disk) (sym b.has.is)) in
     let sector : a.part.start + a.offset ≡ b.part.start + b.offset = ap (λ (z : Place). z.sector) place in
     let start_p : p.start ≡ a.part.start = ap (λ (f : Extent). f.start) a.has.is in
@@ -60,12 +60,13 @@ one_place records v w c d s t up apart at_v at_w e =
     let of_v = components_here records v.head.id c no_plex at_v.copied in
     let of_w = components_here records w.head.id d no_plex at_w.copied in
     let components : of_v.component ≡ of_w.component = one_component records of_v.component of_w.component up of_v.there of_w.there
-        (ap (λ (z : Plex). z.id) of_v.is ∙ (ids ∙ ap (λ (z : Plex). z.id) (sym of_w.is))) in
+    (ap (λ (z : Plex). z.id) of_v.is ∙ (ids ∙ ap (λ (z : Plex). z.id) (sym of_w.is))) in
     let volumes : v ≡ w = one_volume records v w up at_v.there at_w.there (sym of_v.parent ∙ (ap (λ (z : Component). z.parent) components ∙ of_w.parent)) in
-    let copied : d < length (plexes_of v.head.id records) = subst (λ (u : Volume). d < length (plexes_of u.head.id records)) (sym volumes) at_w.copied in
-    (volumes,
-     one_index records v.head.id c d no_plex up at_v.copied copied (ids ∙ ap (λ (u : Volume). (plex_at records u d).id) (sym volumes)),
-     a.is ∙ (ap (λ (z : Extent × ℕ). Some z) pairs ∙ sym b.is))
+    let copied : d < length (plexes_of v.head.id records) = subst (λ (u : Volume). d < length (plexes_of u.head.id records)) (sym volumes) at_w.copied in (
+      volumes,
+      one_index records v.head.id c d no_plex up at_v.copied copied (ids ∙ ap (λ (u : Volume). (plex_at records u d).id) (sym volumes)),
+      a.is ∙ (ap (λ (z : Extent × ℕ). Some z) pairs ∙ sym b.is),
+    )
 
 -- one volume has one layout
 one_layout : (records : List Record) (v w : Volume) (l m : Layout) → HasLayout records v l → HasLayout records w m → v ≡ w → m ≡ l
@@ -77,13 +78,13 @@ places_apart records v w l m x y c d up apart at_x at_y e =
     let spot_x = sector_spot records v l x c at_x in
     let spot_y = sector_spot records w m y d at_y in
     let one = one_place records v w c d (spot_in l x c) (spot_in m y d) up apart spot_x spot_y
-        (sym (place_is records v l x c at_x.volume) ∙ (e ∙ place_is records w m y d at_y.volume)) in
+    (sym (place_is records v l x c at_x.volume) ∙ (e ∙ place_is records w m y d at_y.volume)) in
     let layouts : m ≡ l = one_layout records v w l m at_x.volume at_y.volume one.0 in
     let here = copy_facts records v l c at_x.volume at_x.copied in
     let moved : spot_in l y c ≡ spot_in m y d = ap (λ (k : Layout). spot_in k y c) (sym layouts) ∙ ap (λ (k : ℕ). spot_in m y k) one.1 in
     let first : plex_spot l.shape l.chunk (parts_at l c) x ≡ Some (spot_x.inside.part, spot_x.inside.offset) = sym (spot_is l x c here.listed) ∙ spot_x.inside.is in
     let second : plex_spot l.shape l.chunk (parts_at l c) y ≡ Some (spot_x.inside.part, spot_x.inside.offset) =
-        sym (spot_is l y c here.listed) ∙ (moved ∙ (sym one.2 ∙ spot_x.inside.is)) in
+    sym (spot_is l y c here.listed) ∙ (moved ∙ (sym one.2 ∙ spot_x.inside.is)) in
     (one.0, plex_spot_apart l (parts_at l c) x y spot_x.inside.part spot_x.inside.offset here.facts first second, one.1)
 
 pub places_beside : (records : List Record) (v w : Volume) (l m : Layout) (x y d : ℕ) → Rising records → first_broken (meets_another records) records ≡ None
@@ -92,13 +93,13 @@ places_beside records v w l m x y d up apart at_x at_y e =
     let spot_x = parity_spot_of records v l x at_x in
     let spot_y = sector_spot records w m y d at_y in
     let one = one_place records v w 0 d (parity_spot_in l x) (spot_in m y d) up apart spot_x spot_y
-        (sym (parity_is records v l x at_x.volume) ∙ (e ∙ place_is records w m y d at_y.volume)) in
+    (sym (parity_is records v l x at_x.volume) ∙ (e ∙ place_is records w m y d at_y.volume)) in
     let layouts : m ≡ l = one_layout records v w l m at_x.volume at_y.volume one.0 in
     let here = raid5_copy records v l x at_x in
     let moved : spot_in l y 0 ≡ spot_in m y d = ap (λ (k : Layout). spot_in k y 0) (sym layouts) ∙ ap (λ (k : ℕ). spot_in m y k) one.1 in
     let parity : parity_at l.shape l.chunk (parts_at l 0) x ≡ Some (spot_x.inside.part, spot_x.inside.offset) = sym (parity_spot_is l x here.listed) ∙ spot_x.inside.is in
     let sector : plex_spot l.shape l.chunk (parts_at l 0) y ≡ Some (spot_x.inside.part, spot_x.inside.offset) =
-        sym (spot_is l y 0 here.listed) ∙ (moved ∙ (sym one.2 ∙ spot_x.inside.is)) in
+    sym (spot_is l y 0 here.listed) ∙ (moved ∙ (sym one.2 ∙ spot_x.inside.is)) in
     parity_beside l (parts_at l 0) y x spot_x.inside.part spot_x.inside.offset here.facts sector parity
 
 -- ---- parity
@@ -130,19 +131,21 @@ parities_shared records v w l m x y up apart at_x at_y e =
     let spot_x = parity_spot_of records v l x at_x in
     let spot_y = parity_spot_of records w m y at_y in
     let one = one_place records v w 0 0 (parity_spot_in l x) (parity_spot_in m y) up apart spot_x spot_y
-        (sym (parity_is records v l x at_x.volume) ∙ (e ∙ parity_is records w m y at_y.volume)) in
+    (sym (parity_is records v l x at_x.volume) ∙ (e ∙ parity_is records w m y at_y.volume)) in
     let layouts : m ≡ l = one_layout records v w l m at_x.volume at_y.volume one.0 in
     let here = raid5_copy records v l x at_x in
     let untiled : is_tiled l.shape ≡ false = raid5_untiled l.shape at_x.raid5 in
     let first : parity_spot (parts_at l 0) l.chunk x ≡ Some (spot_x.inside.part, spot_x.inside.offset) = sym (parity_by records v l x x at_x) ∙ spot_x.inside.is in
     let second : parity_spot (parts_at l 0) l.chunk y ≡ Some (spot_x.inside.part, spot_x.inside.offset) =
-        sym (parity_by records v l x y at_x) ∙ (ap (λ (k : Layout). parity_spot_in k y) (sym layouts) ∙ (sym one.2 ∙ spot_x.inside.is)) in
+    sym (parity_by records v l x y at_x) ∙ (ap (λ (k : Layout). parity_spot_in k y) (sym layouts) ∙ (sym one.2 ∙ spot_x.inside.is)) in
     let rows = parity_spot_shared (parts_at l 0) l.chunk x y spot_x.inside.part spot_x.inside.offset (here.facts.chunked untiled) (here.facts.rises untiled) first second in
-    let columns : l.columns ≡ length (parts_at l 0) = columns_of records v l x at_x in
-    (one.0, record {
-      row = subst (λ (k : ℕ). x / (l.chunk * (k - 1)) ≡ y / (l.chunk * (k - 1))) (sym columns) rows.0;
-      offset = rows.1;
-    })
+    let columns : l.columns ≡ length (parts_at l 0) = columns_of records v l x at_x in (
+      one.0,
+      record {
+        row = subst (λ (k : ℕ). x / (l.chunk * (k - 1)) ≡ y / (l.chunk * (k - 1))) (sym columns) rows.0;
+        offset = rows.1;
+      },
+    )
 
 pub rows_share : (records : List Record) (v w : Volume) (l m : Layout) (x y : ℕ) → IsRaid5Sector records v l x → IsRaid5Sector records w m y
     → v ≡ w → IsSameRow l x y → parity_of records v x ≡ parity_of records w y
@@ -152,7 +155,7 @@ rows_share records v w l m x y at_x at_y same row =
     let columns : l.columns ≡ length (parts_at l 0) = columns_of records v l x at_x in
     let rows = subst (λ (k : ℕ). x / (l.chunk * (k - 1)) ≡ y / (l.chunk * (k - 1))) columns row.row in
     let spots : parity_spot_in l x ≡ parity_spot_in l y = parity_by records v l x x at_x
-        ∙ (parity_spot_same (parts_at l 0) l.chunk x y (here.facts.chunked untiled) rows row.offset ∙ sym (parity_by records v l x y at_x)) in
+    ∙ (parity_spot_same (parts_at l 0) l.chunk x y (here.facts.chunked untiled) rows row.offset ∙ sym (parity_by records v l x y at_x)) in
     parity_is records v l x at_x.volume
     ∙ (ap (λ (z : Option (Extent × ℕ)). option_map sector_of z) spots
     ∙ (sym (parity_is records v l y at_x.volume) ∙ ap (λ (u : Volume). parity_of records u y) same))

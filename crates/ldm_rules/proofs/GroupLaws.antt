@@ -1,5 +1,5 @@
 -- In a group that rises, whose partitions don't meet, one sector of a disk is of one partition.
-use Rattle.std.proofs.Common.{◌≡◌, ℕ, zero, suc, ◌+◌, ◌*◌, ◌^◌, max, min, ◌<◌, ◌≤◌, ◌==◌, ◌&&◌, not, inl, inr, Bool, true, false, cond, List, [], ◌∷◌, length, get_or, refl, ap, sym, ◌∙◌, arith, nat_lt, Option, Some, None, find, Contains}
+use Rattle.std.proofs.Common.{◌≡◌, ℕ, zero, suc, ◌+◌, ◌*◌, ◌^◌, max, min, ◌<◌, ◌==◌, not, inl, inr, Bool, true, false, cond, List, [], ◌∷◌, length, get_or, refl, ap, sym, ◌∙◌, arith, Option, Some, None, find, Contains}
 use Rattle.std.specs.Option.{option_map}
 use Rattle.std.specs.List.{list_any}
 use Rattle.std.proofs.lemmas.Bool.{cases_lt, and_from, lt-ltb, eq-eqb, eqb-true}
@@ -12,7 +12,7 @@ use Rattle.ldm_records.specs.declared.types.Component.{Component}
 use Rattle.ldm_records.specs.declared.types.Partition.{Partition}
 use Rattle.ldm_group.specs.Order.{Rising, place_of, id_of}
 use Rattle.ldm_group.proofs.Rise.{tested}
-use Rattle.ldm_rules.specs.Rules.{meets, is_other_meeting, meets_another, first_broken}
+use Rattle.ldm_rules.specs.Rules.{is_other_meeting, meets_another, first_broken}
 
 -- two records of a group at one place of the order are one
 pub one_record : (records : List Record) (r s : Record) → Rising records → Contains records r → Contains records s → place_of r ≡ place_of s → r ≡ s

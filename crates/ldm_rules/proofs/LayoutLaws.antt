@@ -1,5 +1,5 @@
 -- The first layout fault of a kind is of the least volume that has one of that kind.
-use Rattle.std.proofs.Common.{◌≡◌, ℕ, not, Bool, true, false, cond, List, [], ◌∷◌, refl, ap, sym, ◌∙◌, Option, Some, None, Result, Ok, Err, find}
+use Rattle.std.proofs.Common.{◌≡◌, ℕ, not, Bool, true, false, cond, List, [], ◌∷◌, refl, ap, ◌∙◌, Option, Some, Result, Ok, Err, find}
 use Rattle.std.specs.List.{filter_map, cons_option}
 use Rattle.std.specs.Option.{option_map}
 use Rattle.ldm_records.specs.declared.types.Record.{Record}

@@ -6,6 +6,7 @@ pub mod SizeLaws
 pub mod LayoutLaws
 pub mod OwnLaws
 pub mod GroupLaws
-pub mod SpotsOf
+pub mod SectorLaws
 pub mod DisjointLaws
+pub mod EndLaws
 pub mod SoundLaws

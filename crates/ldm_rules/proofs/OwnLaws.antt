@@ -1,5 +1,5 @@
 -- The components of a volume and the partitions of a component, as a layout reads them, are records of the group.
-use Rattle.std.proofs.Common.{◌≡◌, ℕ, zero, suc, ◌+◌, ◌*◌, ◌^◌, ◌<◌, ◌≤◌, ◌==◌, inl, inr, Bool, true, false, cond, List, [], ◌∷◌, length, get_or, refl, ap, sym, ◌∙◌, arith, Option, Some, None, nat_le, filter, Contains}
+use Rattle.std.proofs.Common.{◌≡◌, ℕ, suc, ◌<◌, ◌==◌, inl, inr, true, false, cond, List, [], ◌∷◌, length, get_or, refl, ap, ◌∙◌, arith, nat_le, Contains}
 use Rattle.std.specs.List.{All, AllPairs, filter_map}
 use Rattle.std.proofs.lemmas.Bool.{cases_lt, eqb-true}
 use Rattle.std.proofs.lemmas.List.Elements.{All-cons, All-tail, All-filter, filter_passes, Contains-get_or}

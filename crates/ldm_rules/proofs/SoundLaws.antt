@@ -1,27 +1,22 @@
 -- What a sound group has: no rule is broken, so its volumes have layouts, no two sectors have one place, and its partitions
 -- end within the numbers of the format.
-use Rattle.std.proofs.Common.{◌≡◌, ℕ, zero, suc, ◌+◌, ◌-◌, ◌^◌, ◌<◌, ◌≤◌, ◌==◌, not, Bool, true, false, cond, List, [], ◌∷◌, ◌++◌, length, get_or, refl, ap, sym, ◌∙◌, arith, nat_lt, Option, Some, None, Result, Ok, Err, find, Contains}
+use Rattle.std.proofs.Common.{◌≡◌, ℕ, ◌^◌, ◌<◌, not, Bool, true, false, List, [], ◌∷◌, ◌++◌, refl, Option, Some, None, Result, Ok, Err, Contains}
 use Rattle.std.specs.List.{All}
-use Rattle.std.specs.Option.{option_and_then}
-use Rattle.std.proofs.lemmas.Bool.{ltb-false}
-use Rattle.std.proofs.lemmas.List.Elements.{All-tail, Contains-get_or}
 use Rattle.ldm_records.specs.declared.types.Record.{Record}
 use Rattle.ldm_records.specs.declared.types.Record.TheVariants as kinds
 use Rattle.ldm_records.specs.declared.types.Volume.{Volume}
-use Rattle.ldm_records.specs.declared.types.Disk.{Disk}
-use Rattle.ldm_records.specs.declared.types.Partition.{Partition}
 use Rattle.ldm_group.specs.Order.{Rising}
-use Rattle.ldm_group.specs.Looks.{by_id, disk_in}
 use Rattle.ldm_label.specs.declared.Label.{Label}
 use Rattle.ldm_layout.specs.Layouts.{Layout}
 use Rattle.ldm_layout.specs.Parts.{EndsInRange}
 use Rattle.ldm_layout.specs.Volumes.{layout_of}
 use Rattle.ldm_layout.specs.declared.shape.LayoutFault.{LayoutFault}
+use Rattle.ldm_rules.proofs.EndLaws.{all_end, data_low}
 use Rattle.ldm_rules.proofs.GroupLaws.{not_broken}
 use Rattle.ldm_rules.proofs.DisjointLaws.{places_apart, places_beside, parities_shared, rows_share, place_inside, parity_place_inside}
 use Rattle.ldm_rules.proofs.TableLaws.{rest_none}
 use Rattle.ldm_rules.specs.Disjoint.{HasLayout, HasDisjointPlaces}
-use Rattle.ldm_rules.specs.Ends.{label_with, sectors_by, data_size}
+use Rattle.ldm_rules.specs.Ends.{data_size}
 use Rattle.ldm_rules.specs.Rules.{first_broken, fails, is_short, is_empty, passes_end, meets_another, has_layout_fault, passes_layout}
 use Rattle.ldm_rules.specs.Table.{first_fault, first_broken_rule, name_rules, tree_rules, sector_rules, IsSound}
 
@@ -44,9 +39,9 @@ pub sectors_sound : (records : List Record) (labels : List Label) → IsSound re
 unfolding first_broken_rule sector_rules
 sectors_sound records labels sound =
     let sectors : first_fault (sector_rules records labels) ≡ None =
-        rest_none (tree_rules records) (sector_rules records labels) (rest_none (name_rules records) (tree_rules records ++ sector_rules records labels) sound) in
+    rest_none (tree_rules records) (sector_rules records labels) (rest_none (name_rules records) (tree_rules records ++ sector_rules records labels) sound) in
     let each = five_none (first_broken is_empty records) (first_broken (passes_end (data_size labels records)) records) (first_broken (meets_another records) records)
-        (first_broken (has_layout_fault records) records) (first_broken (passes_layout records) records) sectors in
+    (first_broken (has_layout_fault records) records) (first_broken (passes_layout records) records) sectors in
     record { ends = each.0; meets = each.1; faults = each.2; sizes = each.3 }
 
 -- ---- layouts
@@ -64,8 +59,8 @@ pub layout_there : (records : List Record) (labels : List Label) (v : Volume) �
 layout_there records labels v sound there =
     let sectors = sectors_sound records labels sound in
     let found = has_layout records v (layout_of records v) refl
-        (not_broken (has_layout_fault records) records (kinds.Volume v) sectors.faults there)
-        (not_broken (passes_layout records) records (kinds.Volume v) sectors.sizes there) in
+    (not_broken (has_layout_fault records) records (kinds.Volume v) sectors.faults there)
+    (not_broken (passes_layout records) records (kinds.Volume v) sectors.sizes there) in
     (found.0, record { there = there; layout = found.1 })
 
 pub disjoint : (records : List Record) (labels : List Label) → Rising records → IsSound records labels → HasDisjointPlaces records
@@ -85,27 +80,5 @@ disjoint records labels up sound =
 
 -- ---- ends
 
-label_low : (guid : ℕ) (labels : List Label) → All (λ l. l.data_size < 2 ^ 64) labels → sectors_by (label_with guid labels) < 2 ^ 64
-label_low guid [] low = omega arith
-label_low guid (l ∷ ls) low = elim (l.disk_guid == guid) as (λ b. sectors_by (cond b (Some l) (label_with guid ls)) < 2 ^ 64) [
-  | true ↦ low 0 l (omega arith)
-  | false ↦ label_low guid ls (All-tail (λ (k : Label). k.data_size < 2 ^ 64) l ls low)
-]
-
-disk_low : (labels : List Label) (disk : Option Disk) → All (λ l. l.data_size < 2 ^ 64) labels → sectors_by (option_and_then (λ (d : Disk). label_with d.guid labels) disk) < 2 ^ 64
-disk_low labels None low = omega arith
-disk_low labels (Some d) low = label_low d.guid labels low
-
-record_ends : (labels : List Label) (records : List Record) (r : Record) → All (λ l. l.data_size < 2 ^ 64) labels → passes_end (data_size labels records) r ≡ false → EndsInRange r
-record_ends labels records (kinds.Partition p) low h =
-    let most : data_size labels records p.disk < 2 ^ 64 = disk_low labels (disk_in (by_id 2 p.disk records)) low in
-    let ends : p.start + p.size ≤ data_size labels records p.disk = ltb-false (data_size labels records p.disk) (p.start + p.size) h in
-    omega (arith, most, ends)
-record_ends labels records (kinds.Group g) low h = tt
-record_ends labels records (kinds.Disk g) low h = tt
-record_ends labels records (kinds.Volume g) low h = tt
-record_ends labels records (kinds.Component g) low h = tt
-
 pub ends_in_range : (records : List Record) (labels : List Label) → All (λ l. l.data_size < 2 ^ 64) labels → IsSound records labels → All EndsInRange records
-ends_in_range records labels low sound k d h =
-    record_ends labels records (get_or records k d) low (not_broken (passes_end (data_size labels records)) records (get_or records k d) (sectors_sound records labels sound).ends (Contains-get_or records k d h))
+ends_in_range records labels low sound = all_end (data_size labels records) records (data_low labels records low) (sectors_sound records labels sound).ends

@@ -1,5 +1,5 @@
 use Rattle.ldm_rules.proofs.SoundLaws.{disjoint, ends_in_range}
-use Rattle.ldm_rules.proofs.safe.places_are_disjoint.Goals as goal
+use Rattle.ldm_rules.proofs.laws.places_are_disjoint.Goals as goal
 
 pub returns-clause-disjoint : goal.returns-clause-disjoint
 returns-clause-disjoint c = disjoint

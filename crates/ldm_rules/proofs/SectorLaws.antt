@@ -1,5 +1,5 @@
 -- What the spots of a volume's sectors stand on: a component of the volume, and a partition of it.
-use Rattle.std.proofs.Common.{◌≡◌, ℕ, zero, suc, ◌+◌, ◌<◌, ◌≤◌, ◌==◌, ◌&&◌, not, Bool, true, false, cond, List, [], ◌∷◌, length, get_or, map, refl, ap, sym, subst, ◌∙◌, arith, Option, Some, None, Result, Ok, slice_get, nat_le, Contains}
+use Rattle.std.proofs.Common.{◌≡◌, ℕ, zero, suc, ◌<◌, ◌≤◌, ◌==◌, ◌&&◌, not, Bool, true, false, List, [], ◌∷◌, length, get_or, refl, ap, sym, subst, ◌∙◌, arith, Option, Some, None, Result, nat_le, Contains}
 use Rattle.std.specs.List.{All, list_all}
 use Rattle.std.specs.Option.{option_map, option_and_then, IsSomeAnd}
 use Rattle.std.specs.Result.{result_ok}
@@ -10,18 +10,17 @@ use Rattle.ldm_records.specs.declared.types.Record.TheVariants as kinds
 use Rattle.ldm_records.specs.declared.types.Volume.{Volume}
 use Rattle.ldm_layout.proofs.ColumnLaws.{none}
 use Rattle.ldm_layout.proofs.DraftLaws.{IsLaidOut, laid_out_volume}
-use Rattle.ldm_layout.proofs.PlanLaws.{HasNone, has_none, PlexFacts, plex_facts, get_at}
+use Rattle.ldm_layout.proofs.PlanLaws.{HasNone, PlexFacts, plex_facts, get_at}
 use Rattle.ldm_layout.proofs.SpotLaws.{IsInside, plex_spot_inside, parity_inside}
 use Rattle.ldm_layout.specs.Layouts.{Layout, is_tiled, fewest, has_columns, plex_spot, parity_at, spot_in, parity_spot_in, place_in, parity_in, sector_of, copies_by, copies_of}
 use Rattle.ldm_layout.specs.Parts.{plexes_of, extents_of, rises_from}
-use Rattle.ldm_layout.specs.Volumes.{is_basic, shape_of, laid_out, layout_of, place_of, parity_of}
+use Rattle.ldm_layout.specs.Volumes.{shape_of, laid_out, place_of, parity_of}
 use Rattle.ldm_layout.specs.declared.parts.Extent.{Extent}
 use Rattle.ldm_layout.specs.declared.parts.Plex.{Plex}
 use Rattle.ldm_layout.specs.declared.shape.LayoutFault.{LayoutFault}
-use Rattle.ldm_layout.specs.declared.shape.Place.{Place}
 use Rattle.ldm_layout.specs.declared.shape.Shape.{Shape}
 use Rattle.ldm_layout.specs.declared.shape.Shape.TheVariants.{Span, Stripe, Mirror, Raid5}
-use Rattle.ldm_rules.proofs.OwnLaws.{IsPartOf, laid_out_here, IsPlexIn, components_here}
+use Rattle.ldm_rules.proofs.OwnLaws.{IsPartOf, laid_out_here, components_here}
 use Rattle.ldm_rules.specs.Disjoint.{HasLayout, IsSector, IsRaid5Sector, LiesInOwn}
 
 abbrev pub no_plex : Plex
@@ -57,14 +56,14 @@ copy_facts records v l copy has h =
     let laid : IsLaidOut records v l = laid_out_volume records v l has.layout in
     let plexes : List Plex = plexes_of v.head.id records in
     let many : length l.plexes ≡ length (plexes_of v.head.id records) =
-        ap (λ (xs : List (List Extent)). length xs) laid.parts.plexes ∙ length-map (plexes_of v.head.id records) (λ (p : Plex). laid_out l.shape (extents_of p.id records)) in
+    ap (λ (xs : List (List Extent)). length xs) laid.parts.plexes ∙ length-map (plexes_of v.head.id records) (λ (p : Plex). laid_out l.shape (extents_of p.id records)) in
     let some : 1 ≤ length (plexes_of v.head.id records) = some_plex (plexes_of v.head.id records) l.shape laid.parts.shape in
     let low : copies_of l ≤ length l.plexes = copies_low l.shape (length l.plexes) (omega arith) in
     let listed : copy < length l.plexes = omega arith in
     let copied : copy < length (plexes_of v.head.id records) = omega arith in
     let parts : parts_at l copy ≡ laid_out l.shape (extents_of (plex_at records v copy).id records) =
-        ap (λ (xs : List (List Extent)). get_or xs copy []) laid.parts.plexes
-        ∙ get_or-map (λ (p : Plex). laid_out l.shape (extents_of p.id records)) (plexes_of v.head.id records) copy no_plex [] copied in
+    ap (λ (xs : List (List Extent)). get_or xs copy []) laid.parts.plexes
+    ∙ get_or-map (λ (p : Plex). laid_out l.shape (extents_of p.id records)) (plexes_of v.head.id records) copy no_plex [] copied in
     record {
       listed = listed;
       copied = copied;
