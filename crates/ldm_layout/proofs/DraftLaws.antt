@@ -1,16 +1,15 @@
 -- What is known of a layout by the records that it is made of.
-use Rattle.std.proofs.Common.{◌≡◌, ℕ, zero, suc, ◌+◌, ◌<◌, ◌^◌, ◌==◌, Bool, true, false, cond, List, [], ◌∷◌, length, get_or, map, refl, ap, sym, subst, ◌∙◌, arith, Option, Some, None, Result, Ok, Err, nat_le, filter}
+use Rattle.std.proofs.Common.{◌≡◌, ℕ, ◌+◌, ◌<◌, ◌^◌, ◌==◌, Bool, true, false, cond, List, [], ◌∷◌, length, map, refl, ap, sym, subst, ◌∙◌, arith, Option, Some, None, Ok, nat_le}
 use Rattle.std.specs.List.{All, list_all, filter_map}
 use Rattle.std.specs.Option.{option_map}
 use Rattle.std.proofs.lemmas.List.{length-map}
 use Rattle.std.proofs.lemmas.List.Elements.{All-cons, All-tail, All-filter}
 use Rattle.ldm_records.specs.declared.types.Record.{Record}
 use Rattle.ldm_records.specs.declared.types.Record.TheVariants as kinds
-use Rattle.ldm_records.specs.declared.types.Partition.{Partition}
 use Rattle.ldm_records.specs.declared.types.Volume.{Volume}
 use Rattle.ldm_layout.specs.Answers.{AllEnd, IsPlan}
-use Rattle.ldm_layout.specs.Layouts.{Layout, is_tiled, first_fault, copies_by, copies_of}
-use Rattle.ldm_layout.specs.Parts.{plex_in, plexes_of, extent_in, extent_of, extents_of, insert_by, in_rising, by_offset, by_index, tile_key, EndsInRange}
+use Rattle.ldm_layout.specs.Layouts.{Layout, is_tiled, first_fault, copies_by}
+use Rattle.ldm_layout.specs.Parts.{plexes_of, extent_in, extent_of, extents_of, insert_by, in_rising, by_offset, by_index, tile_key, EndsInRange}
 use Rattle.ldm_layout.specs.Volumes.{is_basic, shape_of, striping_of, laid_out, draft_of, unless_faulty, checked, layout_of}
 use Rattle.ldm_layout.specs.declared.parts.Extent.{Extent}
 use Rattle.ldm_layout.specs.declared.parts.Plex.{Plex}
@@ -26,9 +25,9 @@ Ends e = e.start + e.size < 2 ^ 64
 insert_all : (P : Extent → Type 0) (n : Extent → ℕ) (e : Extent) (fs : List Extent) → P e → All P fs → All P (insert_by n e fs)
 insert_all P n e [] h hs = All-cons P e [] h hs
 insert_all P n e (f ∷ fs) h hs = elim (nat_le (n e) (n f)) as (λ b. All P (cond b (e ∷ (f ∷ fs)) (f ∷ insert_by n e fs))) [
-    true ↦ All-cons P e (f ∷ fs) h hs
+  | true ↦ All-cons P e (f ∷ fs) h hs
   | false ↦ All-cons P f (insert_by n e fs) (hs 0 f (omega arith)) (insert_all P n e fs h (All-tail P f fs hs))
-  ]
+]
 
 rising_all : (P : Extent → Type 0) (n : Extent → ℕ) (es : List Extent) → All P es → All P (in_rising n es)
 rising_all P n [] hs = hs
@@ -37,9 +36,9 @@ rising_all P n (e ∷ es) hs = insert_all P n e (in_rising n es) (hs 0 e (omega 
 -- what holds of each partition holds in the order of the volume's sectors
 pub laid_all : (P : Extent → Type 0) (s : Shape) (es : List Extent) → All P es → All P (laid_out s es)
 laid_all P s es hs = elim (is_tiled s) as (λ b. All P (cond b (by_offset es) (by_index es))) [
-    true ↦ rising_all P tile_key es hs
+  | true ↦ rising_all P tile_key es hs
   | false ↦ rising_all P (λ e. e.index) es hs
-  ]
+]
 
 record_ends : (records : List Record) → All EndsInRange records → All Ends (filter_map extent_in records)
 record_ends [] hs = λ k d h. absurd (omega arith)

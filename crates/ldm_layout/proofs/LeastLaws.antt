@@ -1,5 +1,5 @@
 -- The least of some numbers, as a fold, and that none is less.
-use Rattle.std.proofs.Common.{◌≡◌, ℕ, zero, suc, ◌+◌, ◌<◌, ◌≤◌, min, List, [], ◌∷◌, length, get_or, take, drop, ◌-◌, refl, ap, sym, ◌∙◌, arith, map, fold}
+use Rattle.std.proofs.Common.{◌≡◌, ℕ, ◌≤◌, min, List, [], ◌∷◌, length, get_or, take, drop, ◌-◌, refl, ap, ◌∙◌, arith, map, fold}
 use Rattle.std.proofs.lemmas.List.{take_rest}
 use Rattle.ldm_layout.specs.Parts.{least}
 

@@ -1,12 +1,11 @@
 -- Lists of the components and partitions of a group give the layouts of its volumes.
-use Rattle.std.proofs.Common.{◌≡◌, ℕ, List, ap, sym, ◌∙◌, Option, Result}
+use Rattle.std.proofs.Common.{◌≡◌, ℕ, List, ap, sym, ◌∙◌, Option}
 use Rattle.std.specs.Option.{option_map}
 use Rattle.ldm_records.specs.declared.types.Record.{Record}
 use Rattle.ldm_records.specs.declared.types.Record.TheVariants as kinds
 use Rattle.ldm_records.specs.declared.types.Volume.{Volume}
 use Rattle.ldm_layout.specs.Parts.{plexes_at, plexes_of, extents_at, extents_of}
 use Rattle.ldm_layout.specs.Grouped.{Lists, IsListsOf}
-use Rattle.ldm_layout.specs.Layouts.{Layout}
 use Rattle.ldm_layout.specs.Volumes.{draft_of, checked, layout_of, fault_of, fault_at}
 use Rattle.ldm_layout.specs.declared.parts.Plex.{Plex}
 use Rattle.ldm_layout.specs.declared.parts.Extent.{Extent}

@@ -1,10 +1,11 @@
 -- What a layout without faults has.
-use Rattle.std.proofs.Common.{◌≡◌, ℕ, zero, suc, ◌+◌, ◌<◌, ◌≤◌, ◌==◌, ◌&&◌, not, min, Bool, true, false, List, [], ◌∷◌, length, get_or, map, refl, ap, sym, subst, ◌∙◌, arith, nat_le, nat_lt, Option, Some, None, slice_get}
-use Rattle.std.specs.List.{list_all, All}
-use Rattle.std.proofs.lemmas.Bool.{and_parts, leb-true, ltb-false, eqb-false, not-false}
-use Rattle.ldm_layout.specs.Answers.{AllEnd, IsPlan, IsPlexOf}
-use Rattle.ldm_layout.specs.Layouts.{Layout, is_tiled, has_gap, lacks_chunk, lacks_columns, has_columns, is_short, fewest, plex_capacity, capacity_of, faults_of, first_of, first_fault, copies_of}
-use Rattle.ldm_layout.specs.Parts.{tiles, rises_from, least}
+use Rattle.std.proofs.Common.{◌≡◌, ℕ, zero, suc, ◌<◌, ◌≤◌, ◌==◌, ◌&&◌, not, Bool, true, false, List, [], ◌∷◌, length, get_or, refl, arith, nat_le, None}
+use Rattle.std.specs.List.{list_all}
+use Rattle.std.proofs.lemmas.Bool.{and_parts, leb-true, ltb-false, eqb-false}
+use Rattle.ldm_layout.proofs.ColumnLaws.{least_at}
+use Rattle.ldm_layout.specs.Answers.{IsPlan, IsPlexOf}
+use Rattle.ldm_layout.specs.Layouts.{Layout, is_tiled, has_gap, lacks_chunk, lacks_columns, has_columns, is_short, fewest, plex_capacity, capacity_of, first_of, first_fault}
+use Rattle.ldm_layout.specs.Parts.{tiles, rises_from}
 use Rattle.ldm_layout.specs.declared.parts.Extent.{Extent}
 use Rattle.ldm_layout.specs.declared.shape.LayoutFault.{LayoutFault}
 use Rattle.ldm_layout.specs.declared.shape.LayoutFault.TheVariants.{Gap, Chunk, Columns, Short}
@@ -46,18 +47,6 @@ all_at : {X : Type 0} (p : X → Bool) (xs : List X) (k : ℕ) (d : X) → list_
 all_at p [] k d h lt = absurd (omega arith)
 all_at p (x ∷ xs) zero d h lt = (and_parts (p x) (list_all p xs) h).0
 all_at p (x ∷ xs) (suc k) d h lt = all_at p xs k d (and_parts (p x) (list_all p xs) h).1 (omega arith)
-
-pub least_at : {X : Type 0} (f : X → ℕ) (xs : List X) (k : ℕ) (d : X) → k < length xs → least (map f xs) ≤ f (get_or xs k d)
-least_at f [] k d h = absurd (omega arith)
-least_at f (x ∷ []) zero d h = omega arith
-least_at f (x ∷ []) (suc k) d h = absurd (omega arith)
-least_at f (x ∷ (y ∷ xs)) zero d h = omega arith
-least_at f (x ∷ (y ∷ xs)) (suc k) d h = (let rest : least (map f (y ∷ xs)) ≤ f (get_or (y ∷ xs) k d) = least_at f (y ∷ xs) k d (omega arith) in omega arith)
-
-pub get_at : {X : Type 0} (xs : List X) (k : ℕ) (d : X) → k < length xs → slice_get xs k ≡ Some (get_or xs k d)
-get_at [] k d h = absurd (omega arith)
-get_at (x ∷ xs) zero d h = refl
-get_at (x ∷ xs) (suc k) d h = get_at xs k d (omega arith)
 
 columns_parts : (l : Layout) (es : List Extent) → has_columns l es ≡ true → (fewest l.shape ≤ length es) × (rises_from 0 es ≡ true)
 columns_parts l es h =

@@ -1,7 +1,7 @@
 -- In a list that doesn't fall, those of one number stand side by side, between two places.
-use Rattle.std.proofs.Common.{◌≡◌, ℕ, zero, suc, ◌+◌, ◌-◌, ◌<◌, ◌≤◌, ◌==◌, inl, inr, Bool, true, false, List, [], ◌∷◌, length, get_or, take, drop, refl, ap, sym, subst, ◌∙◌, arith, eqb, ltb, leb}
+use Rattle.std.proofs.Common.{◌≡◌, ℕ, zero, suc, ◌-◌, ◌<◌, ◌≤◌, inl, inr, true, false, List, [], ◌∷◌, length, get_or, take, drop, ap, sym, ◌∙◌, arith, ltb, leb}
 use Rattle.std.proofs.lemmas.Bool.{cases_lt, ltb-true, ltb-false, leb-true, leb-false}
-use Rattle.std.specs.List.{filter, slice_range}
+use Rattle.std.specs.List.{slice_range}
 use Rattle.std.specs.List.Sorted.{IsPartitionPoint}
 use Rattle.ldm_layout.proofs.SortLaws.{of_number, number_yes, number_no}
 

@@ -1,13 +1,13 @@
 -- Each sector of a volume has a spot of its own in each copy: a partition, and an offset inside it. No parity has one of these.
-use Rattle.std.proofs.Common.{◌≡◌, ℕ, zero, suc, ◌+◌, ◌-◌, ◌*◌, ◌/◌, ◌%◌, min, ◌<◌, ◌≤◌, ◌↔◌, inl, inr, Bool, true, false, cond, List, [], ◌∷◌, length, get_or, map, refl, ap, sym, subst, ◌∙◌, arith, nat_le, nat_lt, Option, Some, None, find, slice_get, sum_by}
+use Rattle.std.proofs.Common.{◌≡◌, ℕ, zero, suc, ◌+◌, ◌-◌, ◌*◌, ◌/◌, ◌%◌, ◌<◌, ◌≤◌, inl, inr, Bool, true, false, cond, List, [], ◌∷◌, length, get_or, refl, ap, sym, subst, ◌∙◌, arith, nat_le, nat_lt, Option, Some, None, find, slice_get, sum_by}
 use Rattle.std.specs.List.{All}
 use Rattle.std.specs.Option.{option_map}
 use Rattle.std.proofs.lemmas.Bool.{cases_lt, and_parts, and_from, and_right, leb-true, ltb-true, le-leb, lt-ltb, le-ltb, cond-true, cond-false}
 use Rattle.std.proofs.lemmas.List.Sums.{sum_by-cons}
-use Rattle.ldm_layout.proofs.ColumnLaws.{sizes, least_below, get_there, some_columns}
+use Rattle.ldm_layout.proofs.ColumnLaws.{sizes, least_at, get_at, some_columns}
 use Rattle.ldm_layout.proofs.PlaceLaws.{stripe_inside, stripe_apart, raid5_inside, raid5_apart, no_parity, one_parity}
 use Rattle.ldm_layout.proofs.PlanLaws.{PlexFacts}
-use Rattle.ldm_layout.proofs.TileLaws.{tiles_zero, first_tile, tile_found, IsFound, IsPoint}
+use Rattle.ldm_layout.proofs.TileLaws.{tiles_zero, first_tile}
 use Rattle.ldm_layout.specs.Layouts.{Layout, is_tiled, fewest, plex_capacity, covers, tile_spot, stripe_spot, raid5_spot, parity_spot, plex_spot, parity_at}
 use Rattle.ldm_layout.specs.Parts.{tiles, tiles_from, rises_from, least}
 use Rattle.ldm_layout.specs.Places.{stripe_capacity, stripe_column, stripe_offset, raid5_capacity, raid5_row, parity_column, raid5_column, raid5_offset}
@@ -15,7 +15,7 @@ use Rattle.ldm_layout.specs.declared.parts.Extent.{Extent}
 use Rattle.ldm_layout.specs.declared.shape.Shape.{Shape}
 use Rattle.ldm_layout.specs.declared.shape.Shape.TheVariants.{Span, Stripe, Mirror, Raid5}
 
-some_same : {A : Type 0} {a b : A} → Some a ≡ Some b → a ≡ b
+pub some_same : {A : Type 0} {a b : A} → Some a ≡ Some b → a ≡ b
 some_same h = cc
 
 -- a spot in a partition of these that has P, inside it
@@ -137,11 +137,11 @@ column_spot es i o e q h = go (slice_get es i) refl h
 
 column_inside : (P : Extent → Type 0) (es : List Extent) (i o : ℕ) (d : Extent) → All P es → i < length es → o < least (sizes es) → IsInside P (option_map {U = Extent × ℕ} (λ (f : Extent). (f, o)) (slice_get es i))
 column_inside P es i o d all h lt =
-    let low : least (sizes es) ≤ (get_or es i d).size = least_below es i d h in
+    let low : least (sizes es) ≤ (get_or es i d).size = least_at (λ e. e.size) es i d h in
     record {
       part = get_or es i d;
       offset = o;
-      is = ap (λ (g : Option Extent). option_map {U = Extent × ℕ} (λ f. (f, o)) g) (get_there es i d h);
+      is = ap (λ (g : Option Extent). option_map {U = Extent × ℕ} (λ f. (f, o)) g) (get_at es i d h);
       has = all i d h;
       within = omega arith;
     }

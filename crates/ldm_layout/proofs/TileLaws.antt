@@ -1,12 +1,11 @@
 -- Partitions that tile: each sector below their total lies in one, the last that begins at it or before.
-use Rattle.std.proofs.Common.{◌≡◌, ℕ, zero, suc, ◌+◌, ◌-◌, ◌<◌, ◌≤◌, ◌==◌, ◌&&◌, inl, inr, Bool, true, false, cond, List, [], ◌∷◌, length, get_or, drop, refl, ap, sym, ◌∙◌, arith, nat_le, nat_lt, Option, Some, None, find, sum_by}
-use Rattle.std.specs.Option.{option_map}
+use Rattle.std.proofs.Common.{◌≡◌, ℕ, zero, suc, ◌+◌, ◌<◌, ◌≤◌, ◌==◌, inl, inr, true, false, List, [], ◌∷◌, length, get_or, drop, refl, ap, ◌∙◌, arith, nat_le, nat_lt, Some, find, sum_by}
 use Rattle.std.specs.List.Sorted.{IsNonDecreasingBy, IsPartitionPoint}
 use Rattle.std.proofs.lemmas.Bool.{cases_lt, and_parts, and_from, and_right, eqb-true, lt-ltb, le-ltb, le-leb, cond-true, cond-false, leb-true, leb-false}
 use Rattle.std.proofs.lemmas.List.Sums.{sum_by-cons}
 use Rattle.ldm_layout.specs.declared.parts.Extent.{Extent}
 use Rattle.ldm_layout.specs.Parts.{tiles_from, tiles}
-use Rattle.ldm_layout.specs.Layouts.{covers, tile_spot, sector_of}
+use Rattle.ldm_layout.specs.Layouts.{covers}
 
 -- the tiles from an index on begin at a place
 abbrev pub Walked : List Extent → ℕ → ℕ → Type 0

@@ -1,32 +1,27 @@
 -- The spots of a volume: each lies in a partition of the component that has the copy, and no two sectors or copies have one.
-use Rattle.std.proofs.Common.{◌≡◌, ℕ, zero, suc, ◌+◌, ◌-◌, ◌*◌, ◌/◌, ◌%◌, ◌^◌, ◌<◌, ◌≤◌, ◌==◌, inl, inr, Bool, true, false, cond, List, [], ◌∷◌, length, get_or, map, refl, ap, sym, subst, ◌∙◌, arith, Option, Some, None, Result, Ok, Err, filter, slice_get}
+use Rattle.std.proofs.Common.{◌≡◌, ℕ, zero, suc, ◌+◌, ◌-◌, ◌*◌, ◌/◌, ◌%◌, ◌^◌, ◌<◌, ◌==◌, inl, inr, true, List, [], ◌∷◌, length, get_or, map, refl, ap, sym, subst, ◌∙◌, arith, Option, Some, None, Ok, slice_get}
 use Rattle.std.specs.List.{All, AllPairs, Contains, filter_map, cons_option}
 use Rattle.std.proofs.lemmas.List.Kept.{AllPairs-filter}
 use Rattle.ldm_group.specs.Order.{Rising, place_of}
-use Rattle.std.specs.Option.{option_map, option_and_then}
-use Rattle.std.specs.Result.{result_ok}
+use Rattle.std.specs.Option.{option_and_then}
 use Rattle.std.proofs.lemmas.Bool.{cases_lt, eqb-true}
 use Rattle.std.proofs.lemmas.List.{get_or_default}
-use Rattle.std.proofs.lemmas.List.Elements.{All-cons, All-tail, All-filter, filter_passes}
+use Rattle.std.proofs.lemmas.List.Elements.{All-cons, All-filter, filter_passes}
 use Rattle.ldm_records.specs.declared.types.Record.{Record}
 use Rattle.ldm_records.specs.declared.types.Record.TheVariants as kinds
 use Rattle.ldm_records.specs.declared.types.Volume.{Volume}
 use Rattle.ldm_records.specs.declared.types.Component.{Component}
 use Rattle.ldm_records.specs.declared.types.Partition.{Partition}
-use Rattle.ldm_layout.proofs.DraftLaws.{IsDraft, IsLaidOut, laid_all, laid_out_volume}
-use Rattle.ldm_layout.proofs.PlanLaws.{PlexFacts, plex_facts, get_at}
-use Rattle.ldm_layout.proofs.SpotLaws.{IsInside, plex_spot_inside, plex_spot_apart, parity_inside, parity_beside, parity_shared}
-use Rattle.ldm_layout.specs.Layouts.{Layout, first_fault, plex_spot, parity_at, spot_in, parity_spot_in}
+use Rattle.ldm_layout.proofs.DraftLaws.{laid_all, laid_out_volume}
+use Rattle.ldm_layout.proofs.PlanLaws.{PlexFacts, plex_facts}
+use Rattle.ldm_layout.proofs.SpotLaws.{some_same, plex_spot_inside, plex_spot_apart, parity_inside, parity_beside, parity_shared}
+use Rattle.ldm_layout.specs.Layouts.{Layout, plex_spot, parity_at, spot_in, parity_spot_in}
 use Rattle.ldm_layout.specs.Parts.{plex_of, plex_in, plexes_of, extent_of, extent_in, extents_of}
 use Rattle.ldm_layout.specs.Volumes.{laid_out, unless_faulty, layout_of}
 use Rattle.ldm_layout.specs.declared.parts.Extent.{Extent}
 use Rattle.ldm_layout.specs.declared.parts.Plex.{Plex}
-use Rattle.ldm_layout.specs.declared.shape.LayoutFault.{LayoutFault}
 use Rattle.ldm_layout.specs.declared.shape.Shape.{Shape}
 use Rattle.ldm_layout.specs.declared.shape.Shape.TheVariants.{Span, Stripe, Mirror, Raid5}
-
-some_same : {A : Type 0} {a b : A} → Some a ≡ Some b → a ≡ b
-some_same h = cc
 
 -- ---- what the parts are read from
 
@@ -77,7 +72,7 @@ pub extents_are : (records : List Record) (component : ℕ) → All (IsExtentOf 
 extents_are records component =
     let from : Extent → Type 0 = λ e. (p : Partition) × Contains records (kinds.Partition p) × (extent_of p ≡ e) in
     let all : All from (filter_map extent_in records) = named extent_in from records (λ k d h e is. let one = extent_from (get_or records k d) e is in
-        (one.0, subst (λ (r : Record). Contains records r) one.1 (get_there records k d h), one.2)) in
+    (one.0, subst (λ (r : Record). Contains records r) one.1 (get_there records k d h), one.2)) in
     all_both from (λ e. (e.component == component) ≡ true) (IsExtentOf records component) (extents_of component records)
     (λ e f same. record {
       partition = f.0;
@@ -92,7 +87,7 @@ pub plexes_are : (records : List Record) (volume : ℕ) → All (IsPlexIn record
 plexes_are records volume =
     let from : Plex → Type 0 = λ p. (c : Component) × Contains records (kinds.Component c) × (plex_of c ≡ p) in
     let all : All from (filter_map plex_in records) = named plex_in from records (λ k d h p is. let one = plex_from (get_or records k d) p is in
-        (one.0, subst (λ (r : Record). Contains records r) one.1 (get_there records k d h), one.2)) in
+    (one.0, subst (λ (r : Record). Contains records r) one.1 (get_there records k d h), one.2)) in
     all_both from (λ p. (p.volume == volume) ≡ true) (IsPlexIn records volume) (plexes_of volume records)
     (λ p f same. record {
       component = f.0;
@@ -172,10 +167,10 @@ one_record records r s up at_r at_s e =
     let there : get_or records at_s.0 r ≡ s = get_or_default records at_s.0 r s at_s.1 ∙ at_s.2 in
     let same : place_of (get_or records at_r.0 r) ≡ place_of (get_or records at_s.0 r) = ap place_of here ∙ (e ∙ ap place_of (sym there)) in
     elim (cases_lt at_r.0 at_s.0) [
-      inl lt ↦ absurd (let below : place_of (get_or records at_r.0 r) < place_of (get_or records at_s.0 r) = up at_r.0 at_s.0 r lt at_s.1 in omega (arith, below, same))
-    | inr ge ↦ elim (cases_lt at_s.0 at_r.0) [
-        inl lt ↦ absurd (let below : place_of (get_or records at_s.0 r) < place_of (get_or records at_r.0 r) = up at_s.0 at_r.0 r lt at_r.1 in omega (arith, below, same))
-      | inr le ↦ (let index : at_r.0 ≡ at_s.0 = omega arith in sym here ∙ (ap (λ k. get_or records k r) index ∙ there))
+      | inl lt ↦ absurd (let below : place_of (get_or records at_r.0 r) < place_of (get_or records at_s.0 r) = up at_r.0 at_s.0 r lt at_s.1 in omega (arith, below, same))
+      | inr ge ↦ elim (cases_lt at_s.0 at_r.0) [
+        | inl lt ↦ absurd (let below : place_of (get_or records at_s.0 r) < place_of (get_or records at_r.0 r) = up at_s.0 at_r.0 r lt at_r.1 in omega (arith, below, same))
+        | inr le ↦ (let index : at_r.0 ≡ at_s.0 = omega arith in sym here ∙ (ap (λ k. get_or records k r) index ∙ there))
       ]
     ]
 
@@ -222,10 +217,10 @@ once ps i j p up f g =
     let one : (get_or ps i p).id ≡ p.id = ap (λ (x : Plex). x.id) a.1 in
     let two : (get_or ps j p).id ≡ p.id = ap (λ (x : Plex). x.id) b.1 in
     elim (cases_lt i j) [
-      inl lt ↦ absurd (let below : (get_or ps i p).id < (get_or ps j p).id = up i j p lt b.0 in omega (arith, below, one, two))
-    | inr ge ↦ elim (cases_lt j i) [
-        inl lt ↦ absurd (let below : (get_or ps j p).id < (get_or ps i p).id = up j i p lt a.0 in omega (arith, below, one, two))
-      | inr le ↦ omega arith
+      | inl lt ↦ absurd (let below : (get_or ps i p).id < (get_or ps j p).id = up i j p lt b.0 in omega (arith, below, one, two))
+      | inr ge ↦ elim (cases_lt j i) [
+        | inl lt ↦ absurd (let below : (get_or ps j p).id < (get_or ps i p).id = up j i p lt a.0 in omega (arith, below, one, two))
+        | inr le ↦ omega arith
       ]
     ]
 
@@ -252,10 +247,11 @@ one_sector records v x y c d e o up lx ly s t =
     let plexes : s.plex ≡ t.plex = (one_plex records v.head.id v.head.id s.plex t.plex up (spot_plex records v x c e o s) (spot_plex records v y d e o t) ids).0 in
     let layouts : s.layout ≡ t.layout = same_layout (sym s.is ∙ t.is) in
     let spot_y : plex_spot s.layout.shape s.layout.chunk (laid_out s.layout.shape (extents_of s.plex.id records)) y ≡ Some (e, o) =
-        ap (λ (l : Layout). plex_spot l.shape l.chunk (laid_out l.shape (extents_of s.plex.id records)) y) layouts
-        ∙ (ap (λ (k : ℕ). plex_spot t.layout.shape t.layout.chunk (laid_out t.layout.shape (extents_of k records)) y) ids ∙ t.spot) in
-    (plex_spot_apart s.layout (laid_out s.layout.shape (extents_of s.plex.id records)) x y e o s.facts s.spot spot_y,
-     plex_once records v.head.id c d s.plex up s.at (t.at ∙ ap (λ (p : Plex). Some p) (sym plexes)))
+    ap (λ (l : Layout). plex_spot l.shape l.chunk (laid_out l.shape (extents_of s.plex.id records)) y) layouts
+    ∙ (ap (λ (k : ℕ). plex_spot t.layout.shape t.layout.chunk (laid_out t.layout.shape (extents_of k records)) y) ids ∙ t.spot) in (
+      plex_spot_apart s.layout (laid_out s.layout.shape (extents_of s.plex.id records)) x y e o s.facts s.spot spot_y,
+      plex_once records v.head.id c d s.plex up s.at (t.at ∙ ap (λ (p : Plex). Some p) (sym plexes)),
+    )
 
 same_volume : {v w : Volume} → kinds.Volume v ≡ kinds.Volume w → v ≡ w
 same_volume h = cc
@@ -340,8 +336,8 @@ parity_apart records v w x y d e o up at_v at_w lx ly s t =
     let volumes : v ≡ w = one_volume records v w up at_v at_w (one_plex records v.head.id w.head.id s.plex t.plex up (parity_plex records v x e o s) (spot_plex records w y d e o t) ids).1 in
     let layouts : s.layout ≡ t.layout = same_layout (sym s.is ∙ (ap (λ (u : Volume). layout_of records u) volumes ∙ t.is)) in
     let spot_y : plex_spot s.layout.shape s.layout.chunk (laid_out s.layout.shape (extents_of s.plex.id records)) y ≡ Some (e, o) =
-        ap (λ (l : Layout). plex_spot l.shape l.chunk (laid_out l.shape (extents_of s.plex.id records)) y) layouts
-        ∙ (ap (λ (k : ℕ). plex_spot t.layout.shape t.layout.chunk (laid_out t.layout.shape (extents_of k records)) y) ids ∙ t.spot) in
+    ap (λ (l : Layout). plex_spot l.shape l.chunk (laid_out l.shape (extents_of s.plex.id records)) y) layouts
+    ∙ (ap (λ (k : ℕ). plex_spot t.layout.shape t.layout.chunk (laid_out t.layout.shape (extents_of k records)) y) ids ∙ t.spot) in
     parity_beside s.layout (laid_out s.layout.shape (extents_of s.plex.id records)) y x e o s.facts spot_y s.spot
 
 -- two sectors with one parity are of one volume, and stand in one row of chunks, at one offset in their chunks
@@ -354,7 +350,7 @@ parity_of_both records v w x y e o up at_v at_w lx ly s t =
     let layouts : s.layout ≡ t.layout = same_layout (sym s.is ∙ (ap (λ (u : Volume). layout_of records u) volumes ∙ t.is)) in
     let es = laid_out s.layout.shape (extents_of s.plex.id records) in
     let spot_y : parity_at s.layout.shape s.layout.chunk (laid_out s.layout.shape (extents_of s.plex.id records)) y ≡ Some (e, o) =
-        ap (λ (l : Layout). parity_at l.shape l.chunk (laid_out l.shape (extents_of s.plex.id records)) y) layouts
-        ∙ (ap (λ (k : ℕ). parity_at t.layout.shape t.layout.chunk (laid_out t.layout.shape (extents_of k records)) y) ids ∙ t.spot) in
+    ap (λ (l : Layout). parity_at l.shape l.chunk (laid_out l.shape (extents_of s.plex.id records)) y) layouts
+    ∙ (ap (λ (k : ℕ). parity_at t.layout.shape t.layout.chunk (laid_out t.layout.shape (extents_of k records)) y) ids ∙ t.spot) in
     let rows = parity_shared s.layout es x y e o s.raid5 s.facts s.spot spot_y in
     (volumes, rows.0, rows.1)

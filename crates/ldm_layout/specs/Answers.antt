@@ -1,5 +1,5 @@
 -- What the calls answer.
-use Rattle.std.specs.Prelude.{◌≡◌, ℕ, ◌+◌, ◌<◌, ◌≤◌, ◌^◌, true, false, All, List, length, Option, None, Result, Ok, Err}
+use Rattle.std.specs.Prelude.{◌≡◌, ◌+◌, ◌<◌, ◌≤◌, ◌^◌, true, false, All, List, length, None, Result, Ok, Err}
 use Rattle.ldm_layout.specs.Layouts.{Layout, is_tiled, fewest, plex_capacity, first_fault, copies_of}
 use Rattle.ldm_layout.specs.Parts.{tiles}
 use Rattle.ldm_layout.specs.declared.parts.Extent.{Extent}

@@ -1,5 +1,5 @@
--- What a layout is made of: the components of a volume, and the partitions of a component, in their orders.
-use Rattle.std.specs.Prelude.{◌≡◌, ℕ, ◌+◌, ◌*◌, ◌^◌, ◌<◌, ◌==◌, ◌&&◌, min, Bool, true, false, List, [], ◌∷◌, Option, Some, None, filter, nat_le, unwrap_or, if◌then◌else◌}
+-- What a layout is made of: the components of a volume (plexes), and the partitions of a component (extents), in their orders.
+use Rattle.std.specs.Prelude.{ℕ, ◌+◌, ◌*◌, ◌^◌, ◌<◌, ◌==◌, ◌&&◌, min, Bool, true, false, List, [], ◌∷◌, Option, Some, None, filter, nat_le, unwrap_or, if◌then◌else◌}
 use Rattle.std.specs.List.{filter_map}
 use Rattle.ldm_records.specs.declared.types.Record.{Record}
 use Rattle.ldm_records.specs.declared.types.Record.TheVariants as kinds
@@ -8,7 +8,7 @@ use Rattle.ldm_records.specs.declared.types.Partition.{Partition}
 use Rattle.ldm_layout.specs.declared.parts.Plex.{Plex}
 use Rattle.ldm_layout.specs.declared.parts.Extent.{Extent}
 
--- what a layout reads of a component
+-- what a layout reads of a component: its volume, id, layout type, and chunk and columns
 abbrev pub plex_of : Component → Plex
 plex_of c = record { volume = c.parent; id = c.head.id; layout = c.layout; striping = c.striping }
 

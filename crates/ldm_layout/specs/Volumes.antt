@@ -1,5 +1,5 @@
 -- The layout of a volume, and where its sectors lie.
-use Rattle.std.specs.Prelude.{◌≡◌, ℕ, ◌==◌, Bool, List, [], ◌∷◌, map, Option, Some, None, Result, Ok, Err, option_and_then, if◌then◌else◌}
+use Rattle.std.specs.Prelude.{ℕ, ◌==◌, Bool, List, [], ◌∷◌, map, Option, Some, None, Result, Ok, Err, option_and_then, if◌then◌else◌}
 use Rattle.std.specs.List.{list_all, filter_map}
 use Rattle.std.specs.Option.{option_map}
 use Rattle.std.specs.Result.{result_ok}

@@ -1,8 +1,8 @@
-use Rattle.std.proofs.Common.{◌≡◌, rules, arith, sym, ◌∙◌, ap, get_or, Some, None}
+use Rattle.std.proofs.Common.{◌≡◌, rules, arith, sym, ◌∙◌, ap, get_or}
 use Rattle.std.proofs.lemmas.Grind.{common_steps}
 use Rattle.std.proofs.lemmas.List.{take_more}
 use Rattle.std.proofs.lemmas.List.Elements.{filter_map-append}
-use Rattle.ldm_layout.specs.Grouped.{Lists, IsListsOf}
+use Rattle.ldm_layout.specs.Grouped.{IsListsOf}
 use Rattle.ldm_layout.specs.Volumes.{fault_at}
 use Rattle.ldm_layout.proofs.faulty.faults.Goals as goal
 use Rattle.ldm_layout.proofs.faulty.faults.Goals.{in-Some+in_ok-push, in_default}

@@ -1,6 +1,5 @@
 use Rattle.std.proofs.Common.{◌≡◌, take}
 use Rattle.std.specs.List.{filter_map}
-use Rattle.ldm_layout.specs.Grouped.{Lists, IsListsOf}
 use Rattle.ldm_layout.specs.Volumes.{fault_at}
 use Rattle.ldm_layout.proofs.faulty.faults.Given as goal
 

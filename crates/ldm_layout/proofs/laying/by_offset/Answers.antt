@@ -1,4 +1,4 @@
-use Rattle.std.proofs.Common.{◌≡◌, ℕ, rules, arith}
+use Rattle.std.proofs.Common.{ℕ, rules, arith}
 use Rattle.std.proofs.lemmas.List.Sorted.{IsNonDecreasingBy-from_sort_by_key, answers_always}
 use Rattle.ldm_layout.proofs.SortLaws.{stable_is, stable_numbers}
 use Rattle.ldm_layout.specs.Parts.{tile_key}

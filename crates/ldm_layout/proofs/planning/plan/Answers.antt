@@ -3,7 +3,7 @@ use Rattle.ldm_records.specs.declared.types.Volume.{Volume}
 use Rattle.ldm_layout.proofs.DraftLaws.{extents_end}
 use Rattle.ldm_layout.proofs.ListLaws.{layout_is}
 use Rattle.ldm_layout.specs.Answers.{AllEnd, PlansAs}
-use Rattle.ldm_layout.specs.Grouped.{Lists, IsListsOf}
+use Rattle.ldm_layout.specs.Grouped.{IsListsOf}
 use Rattle.ldm_layout.specs.Layouts.{Layout}
 use Rattle.ldm_layout.specs.Volumes.{layout_of, volume_with}
 use Rattle.ldm_layout.specs.declared.parts.Extent.{Extent}

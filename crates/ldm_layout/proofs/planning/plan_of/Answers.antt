@@ -1,4 +1,4 @@
-use Rattle.std.proofs.Common.{◌≡◌, Some, None, sym, ◌∙◌, rules}
+use Rattle.std.proofs.Common.{◌≡◌, None, sym, ◌∙◌, rules}
 use Rattle.ldm_layout.proofs.DraftLaws.{plan_of_draft}
 use Rattle.ldm_layout.specs.Layouts.{first_fault}
 use Rattle.ldm_layout.specs.Parts.{plexes_at, extents_at}

@@ -1,7 +1,7 @@
-use Rattle.std.proofs.Common.{◌≡◌, ◌-◌, ◌≤◌, ◌<◌, ◌+◌, ◌^◌, ◌∙◌, Some, find, get_or, subst, sym, ap, rules, arith, leb}
+use Rattle.std.proofs.Common.{◌≡◌, ◌-◌, ◌≤◌, ◌<◌, ◌+◌, ◌^◌, ◌∙◌, Some, get_or, subst, sym, ap, rules, arith, leb}
 use Rattle.std.proofs.lemmas.List.Sorted.{IsPartitionPoint-from_clause, IsPartitionedBy-leb}
 use Rattle.ldm_layout.proofs.ColumnLaws.{none}
-use Rattle.ldm_layout.proofs.TileLaws.{IsFound, tile_of_points, tiles_zero, tiles_rise}
+use Rattle.ldm_layout.proofs.TileLaws.{tile_of_points, tiles_zero, tiles_rise}
 use Rattle.ldm_layout.proofs.tiles.tile_at.Goals as goal
 
 pub overflow_sub-result : goal.overflow_sub-result

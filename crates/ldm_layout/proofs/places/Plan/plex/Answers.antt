@@ -1,5 +1,6 @@
 use Rattle.std.proofs.Common.{◌≡◌, ◌<◌, List, length, get_or, Some, rules, arith, sym, ap, ◌∙◌, subst}
-use Rattle.ldm_layout.proofs.PlanLaws.{plex_of_plan, get_at}
+use Rattle.ldm_layout.proofs.ColumnLaws.{get_at}
+use Rattle.ldm_layout.proofs.PlanLaws.{plex_of_plan}
 use Rattle.ldm_layout.specs.Answers.{IsPlan, IsPlexOf}
 use Rattle.ldm_layout.specs.Layouts.{Layout}
 use Rattle.ldm_layout.specs.declared.parts.Extent.{Extent}
