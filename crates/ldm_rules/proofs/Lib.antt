@@ -3,3 +3,10 @@ pub mod CountLaws
 pub mod NameLaws
 pub mod TableLaws
 pub mod SizeLaws
+pub mod LayoutLaws
+pub mod OwnLaws
+pub mod GroupLaws
+pub mod SectorLaws
+pub mod DisjointLaws
+pub mod EndLaws
+pub mod SoundLaws

@@ -4,3 +4,4 @@ pub mod Table
 pub mod Counts
 pub mod Spans
 pub mod Sizes
+pub mod Disjoint

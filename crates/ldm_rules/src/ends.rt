@@ -1,6 +1,7 @@
-ghost use Rattle.std.specs.Prelude.{◌≡◌, ◌==◌, ◌-◌, ◌^◌, ℕ, nat_eq, find, option_copied, IfOk, OnOk, Some, None, unwrap_or, if◌then◌else◌};
+ghost use Rattle.std.specs.Prelude.{◌≡◌, ◌==◌, ◌-◌, ◌^◌, ◌<◌, All, ℕ, nat_eq, find, option_copied, IfOk, OnOk, Some, None, unwrap_or, if◌then◌else◌};
 ghost use Rattle.std.specs.HashMap as hash;
 ghost use Rattle.std.specs.Option.{option_or};
+ghost use Rattle.ldm_layout.specs.Parts.{EndsInRange};
 ghost use Rattle.ldm_rules.specs.Rules.{first_broken, passes_end};
 ghost use Rattle.ldm_rules.specs.Ends.{label_with, sectors_by, data_size};
 ghost use Rattle.ldm_rules.specs.Sizes.{first_size};
@@ -31,8 +32,9 @@ fn sectors_of(labels: &[Label], guid: u128) -> u64
 
 // Keeps the sectors of the disk of this id, unless some are kept.
 fn keep_size(sizes: &mut HashMap<u64, u64>, id: u64, size: u64) -> Result<(), NoMemory>
-    ensures { OnOk result ((q : ℕ) → hash.get nat_eq sizes.new q
+    ensures kept { OnOk result ((q : ℕ) → hash.get nat_eq sizes.new q
         ≡ option_or (hash.get nat_eq sizes.old q) (if id == q then Some size else None)) }
+    ensures low { size < 2 ^ 64 }
 {
     sizes.entry(id)?.or_insert(size);
     Ok(())
@@ -44,7 +46,8 @@ fn sizes_of(
     records: &[Record],
     labels: &[Label],
 ) -> Result<HashMap<u64, u64>, NoMemory>
-    ensures { IfOk result (λ m. (id : ℕ) → hash.get nat_eq m id ≡ first_size labels.now id records.now) }
+    ensures is { IfOk result (λ m. (id : ℕ) → hash.get nat_eq m id ≡ first_size labels.now id records.now) }
+    ensures low { IfOk result (λ m. (id : ℕ) → unwrap_or (hash.get nat_eq m id) (2 ^ 64 - 1) < 2 ^ 64) }
 {
     let mut sizes = HashMap::new(alloc);
     for r in records {
@@ -82,7 +85,8 @@ fn first_over<'a>(records: &'a [Record], sizes: &HashMap<u64, u64>) -> Option<&'
 
 /// The least partition that ends behind the data of its disk.
 pub fn over_the_end(alloc: Global, db: &Db, labels: &Labels) -> Result<Option<u64>, NoMemory>
-    ensures { IfOk result (λ id. id ≡ first_broken (passes_end (data_size labels.now db.now.records)) db.now.records) }
+    ensures is { IfOk result (λ id. id ≡ first_broken (passes_end (data_size labels.now db.now.records)) db.now.records) }
+    ensures ends { IfOk result (λ id. id ≡ None → All EndsInRange db.now.records) }
 {
     let sizes = sizes_of(alloc, db.as_slice(), labels.as_slice())?;
     Ok(id_in(first_over(db.as_slice(), &sizes)))

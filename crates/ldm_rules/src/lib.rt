@@ -9,12 +9,15 @@ mod counts;
 mod ends;
 mod fault;
 mod found;
+mod laws;
+mod layouts;
 mod meetings;
 mod names;
 mod single;
 mod table;
 
 pub use fault::{RuleError, RuleFault};
+pub use laws::places_are_disjoint;
 pub use table::check;
 
 #[cfg(test)]

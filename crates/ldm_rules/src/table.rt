@@ -1,4 +1,5 @@
-ghost use Rattle.std.specs.Prelude.{◌≡◌};
+ghost use Rattle.std.specs.Prelude.{◌≡◌, All, OnOk};
+ghost use Rattle.ldm_layout.specs.Parts.{EndsInRange};
 ghost use Rattle.ldm_rules.specs.Table.{ChecksAs, first_fault, first_broken_rule, name_rules, tree_rules, sector_rules};
 ghost use Rattle.ldm_rules.specs.declared.fault.RuleError.TheVariants.{Fault};
 
@@ -8,11 +9,13 @@ use crate::counted::{
 };
 use crate::ends::over_the_end;
 use crate::fault::{RuleError, RuleFault};
+use crate::layouts::{faulty, too_large};
 use crate::meetings::meeting;
 use crate::names::namesake;
-use crate::single::{empty, not_one_group, without_layout};
+use crate::single::{empty, not_one_group};
 use ldm_group::Db;
 use ldm_label::Labels;
+use ldm_layout::faults;
 use std::alloc::Global;
 
 fn broken(rule: u8, id: u64) -> RuleError
@@ -61,7 +64,8 @@ fn check_tree(alloc: Global, db: &Db) -> Result<(), RuleError>
 
 #[tactic(auto, unfolding(crate::specs::Table::sector_rules))]
 fn check_sectors(alloc: Global, db: &Db, labels: &Labels) -> Result<(), RuleError>
-    ensures { ChecksAs result (first_fault (sector_rules db.now.records labels.now)) }
+    ensures is { ChecksAs result (first_fault (sector_rules db.now.records labels.now)) }
+    ensures ends { OnOk result (All EndsInRange db.now.records) }
 {
     if let Some(id) = empty(db) {
         return Err(broken(9, id));
@@ -72,8 +76,12 @@ fn check_sectors(alloc: Global, db: &Db, labels: &Labels) -> Result<(), RuleErro
     if let Some(id) = meeting(alloc, db)? {
         return Err(broken(11, id));
     }
-    if let Some(id) = without_layout(db) {
+    let faults = faults(alloc, db)?;
+    if let Some(id) = faulty(faults.as_slice()) {
         return Err(broken(12, id));
+    }
+    if let Some(id) = too_large(faults.as_slice()) {
+        return Err(broken(13, id));
     }
     Ok(())
 }
@@ -82,7 +90,8 @@ fn check_sectors(alloc: Global, db: &Db, labels: &Labels) -> Result<(), RuleErro
 /// and its data may end anywhere below 2^64. The error is the first broken rule, with the least id at
 /// which it is broken.
 pub fn check(alloc: Global, db: &Db, labels: &Labels) -> Result<(), RuleError>
-    ensures { ChecksAs result (first_broken_rule db.now.records labels.now) }
+    ensures is { ChecksAs result (first_broken_rule db.now.records labels.now) }
+    ensures ends { OnOk result (All EndsInRange db.now.records) }
 {
     check_names(alloc, db)?;
     check_tree(alloc, db)?;

@@ -3,17 +3,17 @@ use Rattle.ldm_rules.specs.Table.{ChecksAs, first_broken_rule, first_fault, name
 use Rattle.ldm_rules.proofs.TableLaws.{failed, in_rest}
 use Rattle.ldm_rules.proofs.table.check.Goals as goal
 
-pub returns-in_err-check_names : goal.returns-in_err-check_names
+pub returns-in_err-check_names-clause-is : goal.returns-in_err-check_names-clause-is
 unfolding first_broken_rule
-returns-in_err-check_names c =
+returns-in_err-check_names-clause-is c =
     let rest = tree_rules c.args.db.now.records ++ sector_rules c.args.db.now.records c.args.labels.now in
     let same : c.from_residual.result ≡ Err c.in_err-check_names.field-0.0 = search rules in
     subst (λ r. ChecksAs r (first_fault (name_rules c.args.db.now.records ++ rest))) (sym same)
     (failed (name_rules c.args.db.now.records) rest c.in_err-check_names.field-0.0 c.in_err-check_names.ensures)
 
-pub returns-in_err-check_tree : goal.returns-in_err-check_tree
+pub returns-in_err-check_tree-clause-is : goal.returns-in_err-check_tree-clause-is
 unfolding first_broken_rule
-returns-in_err-check_tree c =
+returns-in_err-check_tree-clause-is c =
     let rest = tree_rules c.args.db.now.records ++ sector_rules c.args.db.now.records c.args.labels.now in
     let same : c.from_residual-in_err-check_tree.result ≡ Err c.in_err-check_tree.field-0.0 = search rules in
     let skipped = in_rest (name_rules c.args.db.now.records) rest c.in_ok-check_names.ensures in
@@ -21,10 +21,10 @@ returns-in_err-check_tree c =
     (subst (ChecksAs (Err c.in_err-check_tree.field-0.0)) (sym skipped)
     (failed (tree_rules c.args.db.now.records) (sector_rules c.args.db.now.records c.args.labels.now) c.in_err-check_tree.field-0.0 c.in_err-check_tree.ensures))
 
-pub returns : goal.returns
+pub returns-clause-is : goal.returns-clause-is
 unfolding first_broken_rule
-returns c =
+returns-clause-is c =
     let rest = tree_rules c.args.db.now.records ++ sector_rules c.args.db.now.records c.args.labels.now in
     let skipped = in_rest (name_rules c.args.db.now.records) rest c.in_ok-check_names.ensures
     ∙ in_rest (tree_rules c.args.db.now.records) (sector_rules c.args.db.now.records c.args.labels.now) c.in_ok-check_tree.ensures in
-    subst (ChecksAs c.check_sectors.result) (sym skipped) c.check_sectors.ensures
+    subst (ChecksAs c.check_sectors.result) (sym skipped) c.check_sectors.ensures.is

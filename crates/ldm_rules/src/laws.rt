@@ -1,0 +1,8 @@
+ghost use Rattle.ldm_rules.specs.Disjoint.{SoundIsDisjoint, SoundEndsInRange};
+
+/// A law, which does nothing: in a sound group each sector of a volume lies in a partition of its own
+/// volume, at a place that no other sector has, and no parity.
+pub fn places_are_disjoint()
+    ensures disjoint { SoundIsDisjoint }
+    ensures ends { SoundEndsInRange }
+{}
