@@ -1,0 +1,3 @@
+pub mod NumberLaws
+pub mod SpelledLaws
+pub mod JobLaws

@@ -1,2 +1,5 @@
+pub mod Numbers
+pub mod Names
+pub mod Units
 pub mod Jobs
 pub mod Readings

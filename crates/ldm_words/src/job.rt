@@ -1,9 +1,11 @@
-ghost use Rattle.std.specs.Prelude.{◌≡◌, ◌≤◌, IfOk, IfSome, length, map, string_bytes};
+ghost use Rattle.std.specs.Prelude.{◌≡◌, ◌≤◌, [], ◌∷◌, IfOk, IfSome, length, map, string_bytes};
 ghost use Rattle.std.specs.List.{position_or_len};
 ghost use Rattle.ldm_words.specs.Jobs.{texts, is_on, images_of, job_of, job_form, is_group, HasCount};
 ghost use Rattle.ldm_words.specs.Readings.{Reads};
 
-use ldm_bytes::NoMemory;
+use crate::name::read_name;
+use crate::number::read_number;
+use ldm_bytes::{Bytes, NoMemory};
 use std::alloc::Global;
 use thiserror::Error;
 
@@ -18,6 +20,8 @@ pub enum Job {
     Show,
     /// What each disk of a group holds, and whether the group may be edited.
     Check,
+    /// Where `count` sectors of a volume lie, from the sector `first` on.
+    Map { name: Bytes, first: u64, count: u64 },
 }
 
 /// Why words give no job.
@@ -74,31 +78,54 @@ fn is_group(images: usize) -> bool
     images >= 1 && images <= 64
 }
 
-// The job that stands before `on`.
-fn read_job(words: &[String], images: usize) -> Option<Job>
-    ensures is { result ≡ job_form (map string_bytes words.now) images }
+// The job that one word names.
+fn job_of_word(word: &[u8], images: usize) -> Option<Job>
+    ensures is { result ≡ job_form (word.now ∷ []) images }
     ensures count { IfSome result (λ job. HasCount job images) }
 {
-    let [word] = words else {
-        return None;
-    };
-    if word.as_bytes() == b"disk".as_slice() && images == 1 {
+    if word == b"disk".as_slice() && images == 1 {
         Some(Job::Disk)
-    } else if word.as_bytes() == b"records".as_slice() && images == 1 {
+    } else if word == b"records".as_slice() && images == 1 {
         Some(Job::Records)
-    } else if word.as_bytes() == b"show".as_slice() && is_group(images) {
+    } else if word == b"show".as_slice() && is_group(images) {
         Some(Job::Show)
-    } else if word.as_bytes() == b"check".as_slice() && is_group(images) {
+    } else if word == b"check".as_slice() && is_group(images) {
         Some(Job::Check)
     } else {
         None
     }
 }
 
+// The job that stands before `on`.
+fn read_job(alloc: Global, words: &[String], images: usize) -> Result<Option<Job>, NoMemory>
+    ensures is { IfOk result (λ found. found ≡ job_form (map string_bytes words.now) images) }
+    ensures count { IfOk result (λ found. IfSome found (λ job. HasCount job images)) }
+{
+    if let [word] = words {
+        return Ok(job_of_word(word.as_bytes(), images));
+    }
+    let [word, name, first, count] = words else {
+        return Ok(None);
+    };
+    if word.as_bytes() != b"map".as_slice() || !is_group(images) {
+        return Ok(None);
+    }
+    let Some(name) = read_name(alloc, name.as_bytes())? else {
+        return Ok(None);
+    };
+    let Some(first) = read_number(first.as_bytes()) else {
+        return Ok(None);
+    };
+    let Some(count) = read_number(count.as_bytes()) else {
+        return Ok(None);
+    };
+    Ok(Some(Job::Map { name, first, count }))
+}
+
 /// The job of the words, and the number of its images. Usage comes exactly where they have no
 /// reading.
 #[tactic(auto, unfolding(crate::specs::Jobs::job_of))]
-pub fn read_words(_alloc: Global, words: &[String]) -> Result<(Job, usize), WordsError>
+pub fn read_words(alloc: Global, words: &[String]) -> Result<(Job, usize), WordsError>
     ensures reads { Reads result (job_of (texts words.now)) }
     ensures count { IfOk result (λ reading. HasCount reading.0 reading.1) }
     ensures images { IfOk result (λ reading. reading.1 ≡ images_of (texts words.now)) }
@@ -106,7 +133,7 @@ pub fn read_words(_alloc: Global, words: &[String]) -> Result<(Job, usize), Word
 {
     let place = on_place(words);
     let images = image_count(words);
-    match read_job(&words[..place], images) {
+    match read_job(alloc, &words[..place], images)? {
         Some(job) => Ok((job, images)),
         None => Err(WordsError::Usage),
     }
@@ -135,6 +162,14 @@ mod tests {
             ("records on A", "Records 1"),
             ("show on A B C", "Show 3"),
             ("check on A", "Check 1"),
+            (
+                "map \\x6fn 2057 1 on A B",
+                "Map { name: Bytes { items: [111, 110] }, first: 2057, count: 1 } 2",
+            ),
+            (
+                "map \\e 0 01 on A",
+                "Map { name: Bytes { items: [] }, first: 0, count: 1 } 1",
+            ),
         ];
         for (line, want) in lines {
             let (job, images) = read_words(alloc, &words_of(alloc, line)?)?;
@@ -163,6 +198,15 @@ mod tests {
             "show on",
             "show A",
             "check on",
+            "map Data 0 on A",
+            "map Data 0 1 2 on A",
+            "map Data 0 1 on",
+            "map on 0 1 on A",
+            "map Data -1 1 on A",
+            "map Data 18446744073709551616 1 on A",
+            "map Data 0 x on A",
+            "map a\\X41 0 1 on A",
+            "Map Data 0 1 on A",
         ];
         for line in lines {
             let error = read_words(alloc, &words_of(alloc, line)?).err();
@@ -174,7 +218,7 @@ mod tests {
     #[test]
     fn takes_64_images(rt: HostRuntime) -> Result<(), Fail> {
         let alloc = rt.alloc();
-        for job in ["show", "check"] {
+        for job in ["show", "check", "map Data 0 1"] {
             let mut words = words_of(alloc, job)?;
             words.push(String::from_str(alloc, "on")?)?;
             for _ in 0..64 {

@@ -2,5 +2,9 @@
 #![tactic(auto)]
 
 mod job;
+mod name;
+mod number;
 
 pub use job::{Job, WordsError, image_count, read_words};
+pub use name::read_name;
+pub use number::read_number;

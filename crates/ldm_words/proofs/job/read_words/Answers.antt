@@ -1,0 +1,14 @@
+use Rattle.std.proofs.Common.{sym, ◌∙◌, ap}
+use Rattle.ldm_words.specs.Jobs.{with_count}
+use Rattle.ldm_words.proofs.JobLaws.{job_of_form}
+use Rattle.ldm_words.proofs.job.read_words.Goals as goal
+
+pub returns-in-Some-clause-reads : goal.returns-in-Some-clause-reads
+returns-in-Some-clause-reads c =
+    job_of_form c.args.words.now c.on_place-place.result c.image_count-images.result c.in_ok-job.field-0 c.on_place-place.ensures.is c.image_count-images.ensures.is c.in_ok-job.ensures.is
+    ∙ ap (with_count c.image_count-images.result) c.in-Some.is
+
+pub returns-in-None-clause-reads : goal.returns-in-None-clause-reads
+returns-in-None-clause-reads c =
+    job_of_form c.args.words.now c.on_place-place.result c.image_count-images.result c.in_ok-job.field-0 c.on_place-place.ensures.is c.image_count-images.ensures.is c.in_ok-job.ensures.is
+    ∙ ap (with_count c.image_count-images.result) c.in-None.is

@@ -1,0 +1,45 @@
+-- How a NAME is written.
+use Rattle.std.specs.Prelude.{ℕ, ◌+◌, ◌*◌, ◌-◌, ◌==◌, ◌&&◌, ◌||◌, not, nat_le, Bool, List, [], ◌∷◌, length, codes, bytes_eq, if◌then◌else◌, Option, Some, None}
+use Rattle.ldm_words.specs.Numbers.{is_digit}
+
+-- a lower-case hexadecimal digit, and its value
+abbrev pub is_hex : ℕ → Bool
+is_hex c = is_digit c || (nat_le 97 c && nat_le c 102)
+
+abbrev pub hex_value : ℕ → ℕ
+hex_value c = if nat_le 97 c then c - 87 else c - 48
+
+-- a byte that stands for itself: 0x21 to 0x7E, but the backslash
+abbrev pub is_plain : ℕ → Bool
+is_plain c = nat_le 0x21 c && (nat_le c 0x7E && not (c == 92))
+
+abbrev pub plain : ℕ → Option ℕ
+plain c = if is_plain c then Some c else None
+
+-- the byte that a backslash and these three stand for: an x and two digits
+abbrev pub escaped : ℕ → ℕ → ℕ → Option ℕ
+escaped x a b = if (x == 120) && (is_hex a && is_hex b) then Some (16 * hex_value a + hex_value b) else None
+
+infixr 20 ◌before◌
+-- one byte in front of the others, where both can be read
+abbrev pub ◌before◌ : Option ℕ → Option (List ℕ) → Option (List ℕ)
+None before cs = None
+(Some c) before None = None
+(Some c) before (Some cs) = Some (c ∷ cs)
+
+-- the bytes that are spelled, each by itself or by an escape
+unfoldable pub spelled : List ℕ → Option (List ℕ)
+spelled [] = Some []
+spelled (c ∷ x ∷ a ∷ b ∷ rest) = if c == 92 then escaped x a b before spelled rest else plain c before spelled (x ∷ a ∷ b ∷ rest)
+spelled (c ∷ rest) = plain c before spelled rest
+
+abbrev pub at_most : ℕ → Option (List ℕ) → Option (List ℕ)
+at_most n None = None
+at_most n (Some bytes) = if nat_le (length bytes) n then Some bytes else None
+
+-- the name that the word is, if it is one: \e is the empty name
+unfoldable pub name_of : List ℕ → Option (List ℕ)
+name_of word =
+    if length word == 0 then None
+    else if bytes_eq word (codes "\\e") then Some []
+    else at_most 255 (spelled word)

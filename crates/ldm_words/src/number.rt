@@ -1,0 +1,61 @@
+ghost use Rattle.std.specs.Prelude.{◌≡◌};
+ghost use Rattle.std.specs.List.{list_all};
+ghost use Rattle.ldm_words.specs.Numbers.{number_of, is_digit};
+
+use std::str;
+
+/// Whether the byte is a decimal digit.
+pub(crate) fn is_digit(c: u8) -> bool
+    ensures { result ≡ is_digit c }
+{
+    c >= b'0' && c <= b'9'
+}
+
+fn all_digits(word: &[u8]) -> bool
+    ensures { result ≡ list_all is_digit word.now }
+{
+    word.iter().all(|c| is_digit(*c))
+}
+
+/// The number that the word is. `None` exactly where it is none.
+#[tactic(auto, unfolding(crate::specs::Numbers::number_of, crate::specs::Numbers::is_number))]
+pub fn read_number(word: &[u8]) -> Option<u64>
+    ensures { result ≡ number_of word.now }
+{
+    if word.is_empty() || word.len() > 20 || !all_digits(word) {
+        return None;
+    }
+    match str::from_utf8(word) {
+        Ok(text) => match text.parse::<u64>() {
+            Ok(value) => Some(value),
+            Err(_) => None,
+        },
+        Err(_) => None,
+    }
+}
+
+#[cfg(test)]
+mod tests {
+    use super::*;
+    use std::test::Fail;
+
+    #[test]
+    fn reads_numbers(rt: HostRuntime) -> Result<(), Fail> {
+        let numbers = [
+            ("0", Some(0)),
+            ("2057", Some(2057)),
+            ("00000000000000000007", Some(7)),
+            ("18446744073709551615", Some(18446744073709551615)),
+            ("18446744073709551616", None),
+            ("000000000000000000007", None),
+            ("", None),
+            ("-1", None),
+            ("+1", None),
+            ("0x1", None),
+        ];
+        for (word, number) in numbers {
+            assert_eq!(rt; read_number(word.as_bytes()), number, "{word}");
+        }
+        Ok(())
+    }
+}
