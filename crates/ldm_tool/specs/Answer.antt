@@ -8,7 +8,7 @@ use Rattle.ldm_copy.specs.declared.answer.CopyState.{CopyState}
 use Rattle.ldm_copy.specs.declared.answer.CopyFault.{CopyFault}
 use Rattle.ldm_copy.specs.Copy.{IsCopyOf, config_area}
 use Rattle.ldm_words.specs.declared.job.Job.{Job}
-use Rattle.ldm_words.specs.declared.job.Job.TheVariants.{Disk, Records, Show, Check}
+use Rattle.ldm_words.specs.declared.job.Job.TheVariants.{Disk, Records, Show, Check, Map}
 use Rattle.ldm_words.specs.Jobs.{job_of}
 use Rattle.ldm_found.specs.declared.fault.OpenFault.{OpenFault}
 use Rattle.ldm_found.specs.declared.found.Found.{Found}
@@ -18,12 +18,9 @@ use Rattle.ldm_text.specs.Records.{text_of_copy, text_of_copy_fault}
 use Rattle.ldm_text.specs.Opening.{text_of_open_fault}
 use Rattle.ldm_text.specs.Show.{text_of_show}
 use Rattle.ldm_text.specs.Check.{text_of_check}
-use Rattle.ldm_tool.specs.declared.run.Status.{Status}
+use Rattle.ldm_tool.specs.Mapping.{map_answer}
+use Rattle.ldm_tool.specs.Said.{Answer}
 use Rattle.ldm_tool.specs.declared.run.Status.TheVariants.{Done, Refused, Usage}
-
--- a text and a status
-abbrev pub Answer : Type 0
-Answer = List ℕ × Status
 
 -- the refusal of an image for this fault
 abbrev pub refusal : ℕ → List ℕ → Answer
@@ -69,6 +66,7 @@ IsJobAnswer Disk images input answer = answer ≡ disk_answer (label_of (image i
 IsJobAnswer Records images input answer = IsRecordsAnswer (label_of (image images 0)) (image images 0) answer
 IsJobAnswer Show images input answer = IsGroupAnswer show_answer images answer
 IsJobAnswer Check images input answer = IsGroupAnswer check_answer images answer
+IsJobAnswer (Map name first count) images input answer = IsGroupAnswer (map_answer name first count) images answer
 
 abbrev pub IsReadingAnswer : Option (Job × ℕ) → List (List ℕ) → List ℕ → Answer → Type 0
 IsReadingAnswer None images input answer = answer ≡ ([], Usage)

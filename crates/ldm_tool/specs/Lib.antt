@@ -1,3 +1,5 @@
 pub mod FileSeen
+pub mod Said
+pub mod Mapping
 pub mod Answer
 pub mod Runs

@@ -3,8 +3,8 @@ use Rattle.std.specs.Prelude.{◌≡◌, ◌⊎◌, ℕ, List, ◌++◌, length,
 use Rattle.ldm_host.specs.Seen.{Seen}
 use Rattle.ldm_host.specs.Moves.{Rose, Begins, Still}
 use Rattle.ldm_words.specs.declared.job.Job.{Job}
-use Rattle.ldm_words.specs.declared.job.Job.TheVariants.{Disk, Records, Show, Check}
-use Rattle.ldm_tool.specs.Answer.{Answer}
+use Rattle.ldm_words.specs.declared.job.Job.TheVariants.{Disk, Records, Show, Check, Map}
+use Rattle.ldm_tool.specs.Said.{Answer}
 use Rattle.ldm_tool.specs.declared.run.Status.{Status}
 use Rattle.ldm_tool.specs.declared.run.Status.TheVariants.{Done, Refused, Usage, DiskFault, NoMemory, TalkFault}
 
@@ -53,6 +53,7 @@ JobPremise Disk host = Unit {0}
 JobPremise Records host = Unit {0}
 JobPremise Show host = Unit {0}
 JobPremise Check host = Unit {0}
+JobPremise (Map name first count) host = Unit {0}
 
 abbrev pub Premise : Option (Job × ℕ) → Seen → Type 0
 Premise None host = Unit {0}
@@ -64,6 +65,7 @@ JobDisks Disk old new = Still old new
 JobDisks Records old new = Still old new
 JobDisks Show old new = Still old new
 JobDisks Check old new = Still old new
+JobDisks (Map name first count) old new = Still old new
 
 abbrev pub DisksAfter : Option (Job × ℕ) → Seen → Seen → Type 0
 DisksAfter None old new = Still old new
@@ -80,6 +82,7 @@ JobInput Disk old new = SameInput old new
 JobInput Records old new = SameInput old new
 JobInput Show old new = SameInput old new
 JobInput Check old new = SameInput old new
+JobInput (Map name first count) old new = SameInput old new
 
 abbrev pub InputAfter : Option (Job × ℕ) → Seen → Seen → Type 0
 InputAfter None old new = SameInput old new

@@ -7,6 +7,7 @@
 ghost use Rattle.std.specs.Prelude.{◌≡◌, IfOk, length, vec_len};
 
 mod file_host;
+mod mapping;
 mod run;
 
 use file_host::{FileHost, ImageFile};

@@ -10,9 +10,11 @@ ghost use Rattle.ldm_text.specs.Opening.{text_of_open_fault};
 ghost use Rattle.ldm_found.specs.declared.found.Found.{Found};
 ghost use Rattle.ldm_found.specs.Opening.{IsGroupIn};
 ghost use Rattle.ldm_found.specs.Facts.{IsSoundGroup};
-ghost use Rattle.ldm_tool.specs.Answer.{Answer, IsAnswerTo, IsJobAnswer, IsCopyAnswer, IsGroupAnswer, refusal};
+ghost use Rattle.ldm_tool.specs.Said.{Answer};
+ghost use Rattle.ldm_tool.specs.Answer.{IsAnswerTo, IsJobAnswer, IsCopyAnswer, IsGroupAnswer, refusal};
 ghost use Rattle.ldm_tool.specs.Runs.{HasAnswer, Whole, Answers, Completes, Causes, NoFault, HasImages, Premise, JobPremise, JobDisks, DisksAfter, SameInput, JobInput, InputAfter};
 
+use crate::mapping::mapped;
 use ldm_bytes::{Bytes, NoMemory};
 use ldm_copy::{CopyError, CopyFault, read_copy};
 use ldm_found::{Found, OpenError, OpenFault, find_group};
@@ -214,6 +216,25 @@ fn check<H: Host>(alloc: Global, host: &mut H) -> Status
     }
 }
 
+// map NAME FIRST COUNT on IMAGE...
+fn map<H: Host>(alloc: Global, host: &mut H, name: &Bytes, first: u64, count: u64) -> Status
+    requires { 0 < length (H.seen host.old).sizes }
+    ensures answers { H.tells_disks → Answers (H.seen host.old) (H.seen host.new) (IsJobAnswer (jobs.Map name.now first count) (H.seen host.old).content (H.seen host.old).input) result }
+    ensures no_usage { result ≢ Status.Usage }
+    ensures causes { Causes (H.seen host.old) (H.seen host.new) result }
+    ensures still { Still (H.seen host.old) (H.seen host.new) }
+    ensures input { SameInput (H.seen host.old) (H.seen host.new) }
+{
+    let found = match open_group(alloc, host) {
+        Err(status) => return status,
+        Ok(found) => found,
+    };
+    match mapped(alloc, &found, name.as_slice(), first, count) {
+        Err(NoMemory) => Status::NoMemory,
+        Ok((text, status)) => say_made(host, Ok(text), status),
+    }
+}
+
 // Does a job.
 fn do_job<H: Host>(alloc: Global, job: Job, host: &mut H) -> Status
     requires { HasCount job (length (H.seen host.old).sizes) }
@@ -229,6 +250,7 @@ fn do_job<H: Host>(alloc: Global, job: Job, host: &mut H) -> Status
         Job::Records => records(alloc, host),
         Job::Show => show(alloc, host),
         Job::Check => check(alloc, host),
+        Job::Map { name, first, count } => map(alloc, host, &name, first, count),
     }
 }
 

@@ -3,7 +3,8 @@ use Rattle.ldm_host.proofs.Relations.{still_trans}
 use Rattle.ldm_text.specs.Check.{text_of_check}
 use Rattle.ldm_words.specs.declared.job.Job.TheVariants as jobs
 use Rattle.ldm_tool.specs.declared.run.Status.TheVariants.{Done}
-use Rattle.ldm_tool.specs.Answer.{Answer, IsJobAnswer, check_answer}
+use Rattle.ldm_tool.specs.Said.{Answer}
+use Rattle.ldm_tool.specs.Answer.{IsJobAnswer, check_answer}
 use Rattle.ldm_tool.proofs.Saying.{answers_as}
 use Rattle.ldm_tool.proofs.run.check.Goals as goal
 

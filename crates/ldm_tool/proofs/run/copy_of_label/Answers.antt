@@ -3,7 +3,8 @@ use Rattle.ldm_host.specs.Seen.{image}
 use Rattle.ldm_host.proofs.Relations.{still_trans}
 use Rattle.ldm_text.specs.Records.{text_of_copy, text_of_copy_fault}
 use Rattle.ldm_tool.specs.declared.run.Status.TheVariants.{Done}
-use Rattle.ldm_tool.specs.Answer.{Answer, copy_answer, refusal, IsCopyAnswer}
+use Rattle.ldm_tool.specs.Said.{Answer}
+use Rattle.ldm_tool.specs.Answer.{copy_answer, refusal, IsCopyAnswer}
 use Rattle.ldm_tool.proofs.Saying.{answers_as}
 use Rattle.ldm_tool.proofs.run.copy_of_label.Goals as goal
 

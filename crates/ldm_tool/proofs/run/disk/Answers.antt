@@ -4,7 +4,8 @@ use Rattle.ldm_label.specs.declared.Label.{Label}
 use Rattle.ldm_label.specs.declared.LabelFault.{LabelFault}
 use Rattle.ldm_text.specs.Texts.{text_of_label, text_of_label_fault}
 use Rattle.ldm_tool.specs.declared.run.Status.TheVariants.{Done}
-use Rattle.ldm_tool.specs.Answer.{Answer, disk_answer, refusal, IsJobAnswer}
+use Rattle.ldm_tool.specs.Said.{Answer}
+use Rattle.ldm_tool.specs.Answer.{disk_answer, refusal, IsJobAnswer}
 use Rattle.ldm_words.specs.declared.job.Job.TheVariants as jobs
 use Rattle.ldm_tool.proofs.Saying.{answers_as}
 use Rattle.ldm_tool.proofs.run.disk.Goals as goal

@@ -3,7 +3,8 @@ use Rattle.ldm_host.proofs.Relations.{still_trans}
 use Rattle.ldm_text.specs.Texts.{text_of_refusal}
 use Rattle.ldm_text.specs.Opening.{text_of_open_fault}
 use Rattle.ldm_tool.specs.declared.run.Status.TheVariants.{Refused}
-use Rattle.ldm_tool.specs.Answer.{Answer, IsGroupAnswer}
+use Rattle.ldm_tool.specs.Said.{Answer}
+use Rattle.ldm_tool.specs.Answer.{IsGroupAnswer}
 use Rattle.ldm_tool.proofs.Saying.{answers_as}
 use Rattle.ldm_tool.proofs.run.open_group.Goals as goal
 
