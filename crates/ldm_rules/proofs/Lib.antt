@@ -3,3 +3,4 @@ pub mod CountLaws
 pub mod NameLaws
 pub mod TableLaws
 pub mod SizeLaws
+pub mod LayoutLaws

@@ -1,12 +1,16 @@
 -- What a sound group of the Windows Logical Disk Manager doesn't have: the tests of its rules, each on one record. Where a
 -- rule counts, `count` tells how many records have an id, a GUID or a name, or name a record as their parent.
-use Rattle.std.specs.Prelude.{ℕ, ◌+◌, ◌==◌, ◌&&◌, not, max, min, nat_lt, nat_le, Bool, true, false, List, [], ◌∷◌, Option, Some, None, find}
+use Rattle.std.specs.Prelude.{ℕ, ◌+◌, ◌==◌, ◌&&◌, not, max, min, nat_lt, nat_le, Bool, true, false, List, [], ◌∷◌, Option, Some, None, Result, Ok, Err, find}
 use Rattle.std.specs.List.{list_any}
 use Rattle.std.specs.Option.{option_map}
 use Rattle.ldm_records.specs.declared.types.Record.{Record}
 use Rattle.ldm_records.specs.declared.types.Record.TheVariants as kinds
 use Rattle.ldm_records.specs.declared.types.Partition.{Partition}
 use Rattle.ldm_group.specs.Order.{id_of}
+use Rattle.ldm_layout.specs.Layouts.{Layout}
+use Rattle.ldm_layout.specs.Volumes.{layout_of}
+use Rattle.ldm_layout.specs.declared.shape.LayoutFault.{LayoutFault}
+use Rattle.ldm_layout.specs.declared.shape.LayoutFault.TheVariants.{Short}
 
 -- the least id at which a rule is broken: the records rise by kind and id, and each rule is about records of one kind
 abbrev pub first_broken : (Record → Bool) → List Record → Option ℕ
@@ -87,7 +91,22 @@ meets_another records _ = false
 
 -- ---- layouts
 
--- No layout is known yet, so each volume's is faulty.
-abbrev pub has_layout_fault : Record → Bool
-has_layout_fault (kinds.Volume v) = true
-has_layout_fault _ = false
+-- the volume is larger than what its partitions hold
+abbrev pub is_short : LayoutFault → Bool
+is_short Short = true
+is_short _ = false
+
+-- a layout with a fault that passes a test
+abbrev pub fails : (LayoutFault → Bool) → Result Layout LayoutFault → Bool
+fails test (Ok l) = false
+fails test (Err f) = test f
+
+-- a volume with another fault,
+abbrev pub has_layout_fault : List Record → Record → Bool
+has_layout_fault records (kinds.Volume v) = fails (λ f. not (is_short f)) (layout_of records v)
+has_layout_fault records _ = false
+
+-- or with this one
+abbrev pub passes_layout : List Record → Record → Bool
+passes_layout records (kinds.Volume v) = fails is_short (layout_of records v)
+passes_layout records _ = false

@@ -1,5 +1,5 @@
 -- The sectors of all partitions on one line, disk after disk, each with 2 ^ 64 places.
-use Rattle.std.specs.Prelude.{◌+◌, ◌*◌, ◌^◌, ◌<◌, ◌≤◌, List, Option, Some, None, AllPairs}
+use Rattle.std.specs.Prelude.{◌+◌, ◌*◌, ◌^◌, ◌≤◌, List, Option, Some, None, AllPairs}
 use Rattle.ldm_records.specs.declared.types.Record.{Record}
 use Rattle.ldm_records.specs.declared.types.Record.TheVariants as kinds
 use Rattle.ldm_records.specs.declared.types.Partition.{Partition}
@@ -11,11 +11,6 @@ span p = record { start = p.disk * 2 ^ 64 + p.start; end = p.disk * 2 ^ 64 + p.s
 abbrev pub span_of : Record → Option Span
 span_of (kinds.Partition p) = Some (span p)
 span_of _ = None
-
--- a partition ends on the line of its own disk
-abbrev pub EndsInRange : Record → Type 0
-EndsInRange (kinds.Partition p) = p.start + p.size < 2 ^ 64
-EndsInRange _ = Unit {0}
 
 abbrev pub Apart : List Span → Type 0
 Apart spans = AllPairs (λ a b. a.end ≤ b.start) spans

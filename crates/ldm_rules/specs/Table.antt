@@ -4,7 +4,7 @@ use Rattle.std.specs.List.{filter_map}
 use Rattle.ldm_records.specs.declared.types.Record.{Record}
 use Rattle.ldm_group.specs.Looks.{is_at, is_disk_with, is_volume_named, children_of}
 use Rattle.ldm_label.specs.declared.Label.{Label}
-use Rattle.ldm_rules.specs.Rules.{first_broken, group_id, group_fault, has_twin_guid, has_namesake, lacks_volume, lacks_component, lacks_disk, miscounts_components, miscounts_partitions, is_empty, passes_end, meets_another, has_layout_fault}
+use Rattle.ldm_rules.specs.Rules.{first_broken, group_id, group_fault, has_twin_guid, has_namesake, lacks_volume, lacks_component, lacks_disk, miscounts_components, miscounts_partitions, is_empty, passes_end, meets_another, has_layout_fault, passes_layout}
 use Rattle.ldm_rules.specs.Ends.{data_size}
 use Rattle.ldm_rules.specs.declared.fault.RuleError.{RuleError}
 use Rattle.ldm_rules.specs.declared.fault.RuleError.TheVariants.{Fault, NoMemory}
@@ -27,14 +27,14 @@ tree_rules records =
     ∷ (8, first_broken (miscounts_partitions (λ id. children_of 4 id records)) records)
     ∷ []
 
--- and on sectors. Until layouts are read, rule 12 is broken at each volume, and rule 13, on volumes that are larger than
--- their layouts, at none.
+-- and on sectors
 unfoldable pub sector_rules : List Record → List Label → List (ℕ × Option ℕ)
 sector_rules records labels =
     (9, first_broken is_empty records)
     ∷ (10, first_broken (passes_end (data_size labels records)) records)
     ∷ (11, first_broken (meets_another records) records)
-    ∷ (12, first_broken has_layout_fault records)
+    ∷ (12, first_broken (has_layout_fault records) records)
+    ∷ (13, first_broken (passes_layout records) records)
     ∷ []
 
 abbrev pub rule_faults : List Record → List Label → List (ℕ × Option ℕ)

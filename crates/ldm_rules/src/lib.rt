@@ -9,6 +9,7 @@ mod counts;
 mod ends;
 mod fault;
 mod found;
+mod layouts;
 mod meetings;
 mod names;
 mod single;

@@ -1,6 +1,6 @@
 ghost use Rattle.std.specs.Prelude.{◌≡◌, ◌==◌, IfOk, find, option_copied};
 ghost use Rattle.std.specs.List.{filter_map};
-ghost use Rattle.ldm_rules.specs.Rules.{first_broken, group_id, group_fault, is_empty, has_layout_fault};
+ghost use Rattle.ldm_rules.specs.Rules.{first_broken, group_id, group_fault, is_empty};
 
 use crate::found::id_in;
 use ldm_bytes::NoMemory;
@@ -61,23 +61,4 @@ pub fn empty(db: &Db) -> Option<u64>
     ensures { result ≡ first_broken is_empty db.now.records }
 {
     id_in(first_empty(db.as_slice()))
-}
-
-fn has_layout_fault(r: &Record) -> bool
-    ensures { result ≡ has_layout_fault r.now }
-{
-    matches!(r, Record::Volume(_))
-}
-
-fn first_without_layout(records: &[Record]) -> Option<&Record>
-    ensures { option_copied result ≡ find has_layout_fault records.now }
-{
-    records.iter().find(|r| has_layout_fault(r))
-}
-
-/// The least volume with a layout fault. No layout is known yet, so that is the least volume.
-pub fn without_layout(db: &Db) -> Option<u64>
-    ensures { result ≡ first_broken has_layout_fault db.now.records }
-{
-    id_in(first_without_layout(db.as_slice()))
 }

@@ -8,11 +8,13 @@ use crate::counted::{
 };
 use crate::ends::over_the_end;
 use crate::fault::{RuleError, RuleFault};
+use crate::layouts::{faulty, too_large};
 use crate::meetings::meeting;
 use crate::names::namesake;
-use crate::single::{empty, not_one_group, without_layout};
+use crate::single::{empty, not_one_group};
 use ldm_group::Db;
 use ldm_label::Labels;
+use ldm_layout::faults;
 use std::alloc::Global;
 
 fn broken(rule: u8, id: u64) -> RuleError
@@ -72,8 +74,12 @@ fn check_sectors(alloc: Global, db: &Db, labels: &Labels) -> Result<(), RuleErro
     if let Some(id) = meeting(alloc, db)? {
         return Err(broken(11, id));
     }
-    if let Some(id) = without_layout(db) {
+    let faults = faults(alloc, db)?;
+    if let Some(id) = faulty(faults.as_slice()) {
         return Err(broken(12, id));
+    }
+    if let Some(id) = too_large(faults.as_slice()) {
+        return Err(broken(13, id));
     }
     Ok(())
 }

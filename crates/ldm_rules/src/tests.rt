@@ -32,8 +32,9 @@ fn start_of(start: u8) -> u64 {
 }
 
 // A kind, an id and a name. Then, of a disk: its GUID; of a volume: its children number and size; of a
-// component: its children number and volume; of a partition: its start, size, component and disk.
-type Row = [u8; 7];
+// component: its children number, volume and layout; of a partition: its start, size, component, disk
+// and offset.
+type Row = [u8; 8];
 
 fn record_of(alloc: Global, row: &Row) -> Result<Record, RecordError> {
     let mut payload = [0u8; 76];
@@ -50,12 +51,14 @@ fn record_of(alloc: Global, row: &Row) -> Result<Record, RecordError> {
             (0x51, 68)
         }
         4 => {
+            payload[13] = row[5];
             put_bytes(&mut payload, 18, &[1, row[3]]);
             put_bytes(&mut payload, 36, &[1, row[4]]);
             (0x32, 31)
         }
         _ => {
             put_u64(&mut payload, 24, start_of(row[3]));
+            put_u64(&mut payload, 32, u64::from(row[7]));
             put_bytes(&mut payload, 40, &[1, row[4], 1, row[5], 1, row[6]]);
             (0x33, 38)
         }
@@ -95,19 +98,19 @@ fn labels(alloc: Global) -> Result<Labels, Fail> {
     Ok(Labels::from_vec(items))
 }
 
-const G: Row = [1, 9, b'g', 0, 0, 0, 0];
+const G: Row = [1, 9, b'g', 0, 0, 0, 0, 0];
 
-const A: Row = [2, 2, b'A', 1, 0, 0, 0];
+const A: Row = [2, 2, b'A', 1, 0, 0, 0, 0];
 
-const B: Row = [2, 3, b'B', 2, 0, 0, 0];
+const B: Row = [2, 3, b'B', 2, 0, 0, 0, 0];
 
-const V: Row = [3, 6, b'V', 1, 8, 0, 0];
+const V: Row = [3, 6, b'V', 1, 8, 0, 0, 0];
 
-const C: Row = [4, 7, b'C', 1, 6, 0, 0];
+const C: Row = [4, 7, b'C', 1, 6, 2, 0, 0];
 
 // A partition 8 of component 7.
 fn part(start: u8, size: u8, disk: u8) -> Row {
-    [5, 8, b'P', start, size, 7, disk]
+    [5, 8, b'P', start, size, 7, disk, 0]
 }
 
 // The answer is rule `rule` at `id`, or none where `rule` is 0.
@@ -123,44 +126,65 @@ fn gives(answer: Result<(), RuleError>, rule: u8, id: u64) -> bool {
 fn the_first_broken_rule_at_its_least_id(rt: HostRuntime) -> Result<(), Fail> {
     let alloc = rt.alloc();
     let labels = labels(alloc)?;
-    let rows: [(&[Row], u8, u64); 38] = [
+    let rows: [(&[Row], u8, u64); 39] = [
         (&[G, A, B], 0, 0),
         (&[], 1, 0),
         (
-            &[G, [1, 12, b'h', 0, 0, 0, 0], [1, 7, b'i', 0, 0, 0, 0]],
+            &[G, [1, 12, b'h', 0, 0, 0, 0, 0], [1, 7, b'i', 0, 0, 0, 0, 0]],
             1,
             9,
         ),
-        (&[A, [2, 3, b'B', 1, 0, 0, 0]], 1, 0),
-        (&[G, [2, 3, b'B', 1, 0, 0, 0], A], 2, 2),
-        (&[G, A, B, [2, 4, b'C', 2, 0, 0, 0]], 2, 3),
+        (&[A, [2, 3, b'B', 1, 0, 0, 0, 0]], 1, 0),
+        (&[G, [2, 3, b'B', 1, 0, 0, 0, 0], A], 2, 2),
+        (&[G, A, B, [2, 4, b'C', 2, 0, 0, 0, 0]], 2, 3),
         (
-            &[G, A, [2, 3, b'B', 1, 0, 0, 0], V, [3, 4, b'V', 0, 8, 0, 0]],
+            &[
+                G,
+                A,
+                [2, 3, b'B', 1, 0, 0, 0, 0],
+                V,
+                [3, 4, b'V', 0, 8, 0, 0, 0],
+            ],
             2,
             2,
         ),
         (
-            &[G, V, [3, 4, b'V', 0, 8, 0, 0], [3, 3, b'U', 0, 8, 0, 0]],
+            &[
+                G,
+                V,
+                [3, 4, b'V', 0, 8, 0, 0, 0],
+                [3, 3, b'U', 0, 8, 0, 0, 0],
+            ],
             3,
             4,
         ),
         (
-            &[G, V, [3, 4, b'V', 0, 8, 0, 0], [4, 7, b'C', 0, 5, 0, 0]],
+            &[
+                G,
+                V,
+                [3, 4, b'V', 0, 8, 0, 0, 0],
+                [4, 7, b'C', 0, 5, 0, 0, 0],
+            ],
             3,
             4,
         ),
         (
-            &[G, [4, 7, b'C', 0, 6, 0, 0], [4, 8, b'C', 0, 6, 0, 0]],
+            &[G, [4, 7, b'C', 0, 6, 0, 0, 0], [4, 8, b'C', 0, 6, 0, 0, 0]],
             4,
             7,
         ),
         (
-            &[G, [3, 7, b'V', 0, 8, 0, 0], [4, 7, b'C', 0, 6, 0, 0]],
+            &[G, [3, 7, b'V', 0, 8, 0, 0, 0], [4, 7, b'C', 0, 6, 0, 0, 0]],
             4,
             7,
         ),
         (
-            &[G, A, [4, 7, b'C', 0, 6, 0, 0], [5, 3, b'P', 0, 1, 6, 2]],
+            &[
+                G,
+                A,
+                [4, 7, b'C', 0, 6, 0, 0, 0],
+                [5, 3, b'P', 0, 1, 6, 2, 0],
+            ],
             4,
             7,
         ),
@@ -168,35 +192,53 @@ fn the_first_broken_rule_at_its_least_id(rt: HostRuntime) -> Result<(), Fail> {
         (&[G, part(0, 100, 2)], 5, 8),
         (&[G, V, C, part(0, 100, 2)], 6, 8),
         (&[G, A, V, C, part(0, 100, 7)], 6, 8),
-        (&[G, [3, 6, b'V', 2, 8, 0, 0], C, part(0, 100, 2)], 6, 8),
+        (&[G, [3, 6, b'V', 2, 8, 0, 0, 0], C, part(0, 100, 2)], 6, 8),
         (&[G, V], 7, 6),
-        (&[G, [3, 6, b'V', 0, 8, 0, 0], A, C, part(0, 100, 2)], 7, 6),
-        (&[G, V, [3, 4, b'W', 1, 8, 0, 0]], 7, 4),
-        (&[G, [3, 6, b'V', 0, 8, 0, 0], C], 7, 6),
+        (
+            &[G, [3, 6, b'V', 0, 8, 0, 0, 0], A, C, part(0, 100, 2)],
+            7,
+            6,
+        ),
+        (&[G, V, [3, 4, b'W', 1, 8, 0, 0, 0]], 7, 4),
+        (&[G, [3, 6, b'V', 0, 8, 0, 0, 0], C], 7, 6),
         (&[G, V, C], 8, 7),
-        (&[G, A, V, [4, 7, b'C', 2, 6, 0, 0], part(0, 100, 2)], 8, 7),
-        (&[G, [3, 6, b'V', 1, 0, 0, 0], C], 8, 7),
-        (&[G, [3, 6, b'V', 0, 0, 0, 0]], 9, 6),
+        (
+            &[G, A, V, [4, 7, b'C', 2, 6, 2, 0, 0], part(0, 100, 2)],
+            8,
+            7,
+        ),
+        (&[G, [3, 6, b'V', 1, 0, 0, 0, 0], C], 8, 7),
+        (&[G, [3, 6, b'V', 0, 0, 0, 0, 0]], 9, 6),
         (&[G, A, V, C, part(0, 0, 2)], 9, 8),
         (
-            &[G, A, [3, 6, b'V', 1, 0, 0, 0], C, [5, 4, b'P', 0, 0, 7, 2]],
+            &[
+                G,
+                A,
+                [3, 6, b'V', 1, 0, 0, 0, 0],
+                C,
+                [5, 4, b'P', 0, 0, 7, 2, 0],
+            ],
             9,
             6,
         ),
-        (&[G, A, [3, 6, b'V', 1, 0, 0, 0], C, part(200, 1, 2)], 9, 6),
+        (
+            &[G, A, [3, 6, b'V', 1, 0, 0, 0, 0], C, part(200, 1, 2)],
+            9,
+            6,
+        ),
         (&[G, A, V, C, part(199, 2, 2)], 10, 8),
-        (&[G, A, V, C, part(199, 1, 2)], 12, 6),
+        (&[G, A, V, C, part(199, 1, 2)], 13, 6),
         (&[G, A, V, C, part(255, 2, 2)], 10, 8),
         (&[G, B, V, C, part(255, 1, 3)], 10, 8),
-        (&[G, B, V, C, part(254, 1, 3)], 12, 6),
+        (&[G, B, V, C, part(254, 1, 3)], 13, 6),
         (
             &[
                 G,
                 A,
                 V,
-                [4, 7, b'C', 2, 6, 0, 0],
+                [4, 7, b'C', 2, 6, 2, 0, 0],
                 part(150, 60, 2),
-                [5, 3, b'Q', 150, 60, 7, 2],
+                [5, 3, b'Q', 150, 60, 7, 2, 0],
             ],
             10,
             3,
@@ -206,9 +248,9 @@ fn the_first_broken_rule_at_its_least_id(rt: HostRuntime) -> Result<(), Fail> {
                 G,
                 A,
                 V,
-                [4, 7, b'C', 2, 6, 0, 0],
-                [5, 10, b'P', 0, 100, 7, 2],
-                [5, 13, b'Q', 99, 101, 7, 2],
+                [4, 7, b'C', 2, 6, 2, 0, 0],
+                [5, 10, b'P', 0, 100, 7, 2, 0],
+                [5, 13, b'Q', 99, 101, 7, 2, 0],
             ],
             11,
             10,
@@ -217,13 +259,13 @@ fn the_first_broken_rule_at_its_least_id(rt: HostRuntime) -> Result<(), Fail> {
             &[
                 G,
                 A,
-                V,
-                [4, 7, b'C', 2, 6, 0, 0],
-                [5, 10, b'P', 0, 100, 7, 2],
-                [5, 13, b'Q', 100, 100, 7, 2],
+                [3, 6, b'V', 1, 200, 0, 0, 0],
+                [4, 7, b'C', 2, 6, 2, 0, 0],
+                [5, 10, b'P', 0, 100, 7, 2, 0],
+                [5, 13, b'Q', 100, 100, 7, 2, 100],
             ],
-            12,
-            6,
+            0,
+            0,
         ),
         (
             &[
@@ -231,17 +273,29 @@ fn the_first_broken_rule_at_its_least_id(rt: HostRuntime) -> Result<(), Fail> {
                 A,
                 B,
                 V,
-                [4, 7, b'C', 2, 6, 0, 0],
-                [5, 10, b'P', 0, 100, 7, 2],
-                [5, 13, b'Q', 0, 100, 7, 3],
+                [4, 7, b'C', 2, 6, 2, 0, 0],
+                [5, 10, b'P', 0, 100, 7, 2, 0],
+                [5, 13, b'Q', 0, 100, 7, 3, 0],
             ],
             12,
             6,
         ),
         (
-            &[G, V, C, A, part(0, 100, 2), [3, 4, b'W', 0, 8, 0, 0]],
+            &[G, V, C, A, part(0, 100, 2), [3, 4, b'W', 0, 8, 0, 0, 0]],
             12,
             4,
+        ),
+        (
+            &[
+                G,
+                A,
+                [3, 4, b'W', 1, 101, 0, 0, 0],
+                [3, 6, b'V', 0, 8, 0, 0, 0],
+                [4, 7, b'C', 1, 4, 2, 0, 0],
+                part(0, 100, 2),
+            ],
+            12,
+            6,
         ),
     ];
     for (records, rule, id) in rows {

@@ -1,0 +1,6 @@
+pub mod Places
+pub mod Parts
+pub mod Grouped
+pub mod Layouts
+pub mod Volumes
+pub mod Answers

@@ -1,0 +1,86 @@
+-- What a layout is made of: the components of a volume, and the partitions of a component, in their orders.
+use Rattle.std.specs.Prelude.{◌≡◌, ℕ, ◌+◌, ◌*◌, ◌^◌, ◌<◌, ◌==◌, ◌&&◌, min, Bool, true, false, List, [], ◌∷◌, Option, Some, None, filter, nat_le, unwrap_or, if◌then◌else◌}
+use Rattle.std.specs.List.{filter_map}
+use Rattle.ldm_records.specs.declared.types.Record.{Record}
+use Rattle.ldm_records.specs.declared.types.Record.TheVariants as kinds
+use Rattle.ldm_records.specs.declared.types.Component.{Component}
+use Rattle.ldm_records.specs.declared.types.Partition.{Partition}
+use Rattle.ldm_layout.specs.declared.parts.Plex.{Plex}
+use Rattle.ldm_layout.specs.declared.parts.Extent.{Extent}
+
+-- what a layout reads of a component
+abbrev pub plex_of : Component → Plex
+plex_of c = record { volume = c.parent; id = c.head.id; layout = c.layout; striping = c.striping }
+
+abbrev pub plex_in : Record → Option Plex
+plex_in (kinds.Component c) = Some (plex_of c)
+plex_in _ = None
+
+-- the components of a volume among these
+abbrev pub plexes_at : ℕ → List Plex → List Plex
+plexes_at volume plexes = filter (λ p. p.volume == volume) plexes
+
+-- the components of a volume, in rising id
+abbrev pub plexes_of : ℕ → List Record → List Plex
+plexes_of volume records = plexes_at volume (filter_map plex_in records)
+
+-- what a layout reads of a partition, whose index is 0 where it has none
+abbrev pub extent_of : Partition → Extent
+extent_of p = record { component = p.parent; disk = p.disk; start = p.start; size = p.size; offset = p.offset; index = unwrap_or p.index 0 }
+
+abbrev pub extent_in : Record → Option Extent
+extent_in (kinds.Partition p) = Some (extent_of p)
+extent_in _ = None
+
+-- the partitions of a component among these
+abbrev pub extents_at : ℕ → List Extent → List Extent
+extents_at component extents = filter (λ e. e.component == component) extents
+
+-- the partitions of a component, in rising id
+abbrev pub extents_of : ℕ → List Record → List Extent
+extents_of component records = extents_at component (filter_map extent_in records)
+
+-- in rising number, where those of one number keep their order
+abbrev pub insert_by : (Extent → ℕ) → Extent → List Extent → List Extent
+insert_by n e [] = e ∷ []
+insert_by n e (f ∷ fs) = if nat_le (n e) (n f) then e ∷ (f ∷ fs) else f ∷ insert_by n e fs
+
+abbrev pub in_rising : (Extent → ℕ) → List Extent → List Extent
+in_rising n [] = []
+in_rising n (e ∷ es) = insert_by n e (in_rising n es)
+
+-- by offset, and at one offset by size
+abbrev pub tile_key : Extent → ℕ
+tile_key e = e.offset * 2 ^ 64 + e.size
+
+abbrev pub by_offset : List Extent → List Extent
+by_offset es = in_rising tile_key es
+
+abbrev pub by_index : List Extent → List Extent
+by_index es = in_rising (λ e. e.index) es
+
+-- each begins where the one before ends, and the first at a place
+abbrev pub tiles_from : ℕ → List Extent → Bool
+tiles_from at [] = true
+tiles_from at (e ∷ es) = (e.offset == at) && tiles_from (at + e.size) es
+
+-- there are some, and they tile from 0 on
+abbrev pub tiles : List Extent → Bool
+tiles [] = false
+tiles (e ∷ es) = tiles_from 0 (e ∷ es)
+
+-- the indexes rise, from a number on, so that no two have one index
+abbrev pub rises_from : ℕ → List Extent → Bool
+rises_from n [] = true
+rises_from n (e ∷ es) = nat_le n e.index && rises_from (e.index + 1) es
+
+-- the least of some numbers
+abbrev pub least : List ℕ → ℕ
+least [] = 0
+least (n ∷ []) = n
+least (n ∷ (m ∷ ns)) = min n (least (m ∷ ns))
+
+-- it ends at or below the greatest sector that a number of the format says
+abbrev pub EndsInRange : Record → Type 0
+EndsInRange (kinds.Partition p) = p.start + p.size < 2 ^ 64
+EndsInRange _ = Unit {0}

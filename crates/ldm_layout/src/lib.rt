@@ -1,0 +1,20 @@
+//! The layout of a volume: its shape, its first fault, and the disk and sector at which each of its sectors lies.
+#![tactic(auto)]
+
+mod columns;
+mod draft;
+mod faulty;
+mod laying;
+mod parts;
+mod places;
+mod planning;
+mod shape;
+mod tiles;
+
+pub use faulty::{VolumeFault, faults};
+pub use places::Plan;
+pub use planning::plan;
+pub use shape::{LayoutError, LayoutFault, Place, Shape};
+
+#[cfg(test)]
+mod tests;

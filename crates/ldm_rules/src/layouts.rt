@@ -1,0 +1,47 @@
+ghost use Rattle.std.specs.Prelude.{◌≡◌, List, not, find, option_copied};
+ghost use Rattle.std.specs.Option.{option_map};
+ghost use Rattle.ldm_records.specs.declared.types.Record.{Record};
+ghost use Rattle.ldm_layout.specs.Volumes.{layout_faults};
+ghost use Rattle.ldm_rules.specs.Rules.{first_broken, is_short, has_layout_fault, passes_layout};
+
+use ldm_layout::{LayoutFault, VolumeFault};
+
+fn is_short(fault: LayoutFault) -> bool
+    ensures { result ≡ is_short fault }
+{
+    matches!(fault, LayoutFault::Short)
+}
+
+fn first_other(faults: &[VolumeFault]) -> Option<&VolumeFault>
+    ensures { option_copied result ≡ find (λ f. not (is_short f.fault)) faults.now }
+{
+    faults.iter().find(|f| !is_short(f.fault))
+}
+
+fn first_short(faults: &[VolumeFault]) -> Option<&VolumeFault>
+    ensures { option_copied result ≡ find (λ f. is_short f.fault) faults.now }
+{
+    faults.iter().find(|f| is_short(f.fault))
+}
+
+fn volume_in(found: Option<&VolumeFault>) -> Option<u64>
+    ensures { result ≡ option_map (λ f. f.volume) (option_copied found.entry) }
+{
+    found.map(|f| f.volume)
+}
+
+/// The least volume with a layout fault other than that it is larger than its layout.
+pub fn faulty(faults: &[VolumeFault]) -> Option<u64>
+    ensures { (records : List Record) → faults.now ≡ layout_faults records
+        → result ≡ first_broken (has_layout_fault records) records }
+{
+    volume_in(first_other(faults))
+}
+
+/// The least volume that is larger than its layout.
+pub fn too_large(faults: &[VolumeFault]) -> Option<u64>
+    ensures { (records : List Record) → faults.now ≡ layout_faults records
+        → result ≡ first_broken (passes_layout records) records }
+{
+    volume_in(first_short(faults))
+}
