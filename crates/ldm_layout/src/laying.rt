@@ -10,7 +10,8 @@ use ldm_bytes::NoMemory;
 use ldm_records::{Striping, Volume};
 use std::alloc::Global;
 
-fn shape_of(plexes: &[Plex]) -> Option<Shape>
+/// The shape of a volume of these components, where they make one.
+pub fn shape_of(plexes: &[Plex]) -> Option<Shape>
     ensures { result ≡ shape_of plexes.now }
 {
     match plexes {

@@ -12,6 +12,8 @@ mod shape;
 mod tiles;
 
 pub use faulty::{VolumeFault, faults};
+pub use laying::shape_of;
+pub use parts::{Extent, Parts, Plex};
 pub use places::Plan;
 pub use planning::plan;
 pub use shape::{LayoutError, LayoutFault, Place, Shape};

@@ -3,4 +3,6 @@ pub mod Names
 pub mod Records
 pub mod Opening
 pub mod Check
+pub mod Volumes
 pub mod Show
+pub mod Map

@@ -11,6 +11,7 @@ use Rattle.ldm_rules.specs.Ends.{sectors_by}
 use Rattle.ldm_found.specs.Labels.{image_with}
 use Rattle.ldm_found.specs.declared.found.Found.{Found}
 use Rattle.ldm_text.specs.Names.{esc}
+use Rattle.ldm_text.specs.Volumes.{text_of_all_volumes}
 
 -- group GROUPNAME GUID sequence S blocks NEED of ROOM
 unfoldable pub text_of_group : Database → List ℕ
@@ -53,6 +54,9 @@ line_of_disk used labels _ = []
 abbrev pub text_of_disks : (ℕ → ℕ) → List Label → List Record → List ℕ
 text_of_disks used labels records = flat_map (line_of_disk used labels) records
 
--- the line of the group, and those of its disks
+-- the line of the group, those of its disks, and those of its volumes
 abbrev pub text_of_show : Found → List ℕ
-text_of_show found = text_of_group found.db ++ text_of_disks (used_on found.db.records) found.labels found.db.records
+text_of_show found =
+    text_of_group found.db
+    ++ text_of_disks (used_on found.db.records) found.labels found.db.records
+    ++ text_of_all_volumes found.db.records

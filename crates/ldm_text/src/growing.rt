@@ -1,4 +1,4 @@
-ghost use Rattle.std.specs.Prelude.{◌≡◌, ◌++◌, List, [], ℕ, OnOk, decimal};
+ghost use Rattle.std.specs.Prelude.{◌≡◌, ◌+◌, ◌++◌, List, [], ℕ, OnOk, decimal};
 ghost use Rattle.ldm_bytes.specs.Guid.{own_guid};
 
 use ldm_bytes::{Bytes, NoMemory, write_guid};
@@ -43,6 +43,15 @@ impl Text {
         self.push(text.as_bytes())
     }
 
+    /// The sum of two numbers in decimal.
+    pub(crate) fn push_sum(&mut self, a: u64, b: u64) -> Result<(), NoMemory>
+        ensures { OnOk result (self.new ≡ self.old ++ decimal (a + b)) }
+    {
+        let sum = u128::from(a) + u128::from(b);
+        let text = format!(in self.alloc; "{sum}")?;
+        self.push(text.as_bytes())
+    }
+
     /// A GUID text in lower case.
     pub(crate) fn push_guid(&mut self, guid: u128) -> Result<(), NoMemory>
         ensures { OnOk result (self.new ≡ self.old ++ own_guid guid) }
@@ -50,6 +59,12 @@ impl Text {
         let mut text = [0u8; 36];
         write_guid(guid, &mut text);
         self.push(&text)
+    }
+
+    pub(crate) fn as_slice(&self) -> &[u8]
+        ensures { result.now ≡ self.now }
+    {
+        self.bytes.as_slice()
     }
 
     pub(crate) fn into_bytes(self) -> Bytes

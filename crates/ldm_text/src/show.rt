@@ -9,6 +9,7 @@ ghost use Rattle.ldm_text.specs.Show.{text_of_group, text_of_place, text_of_disk
 use crate::growing::Text;
 use crate::naming::{push_named, push_number};
 use crate::used::{used_of, used_sectors};
+use crate::volumes::push_all_volumes;
 use ldm_bytes::{Bytes, NoMemory};
 use ldm_found::Found;
 use ldm_group::Db;
@@ -98,7 +99,8 @@ fn push_disks(alloc: Global, text: &mut Text, found: &Found) -> Result<(), NoMem
     push_lines(text, found, &used)
 }
 
-/// The text that shows a group: its name, sequence and blocks, and a line for each disk.
+/// The text that shows a group: its name, sequence and blocks, a line for each disk, and the volumes with their components
+/// and partitions.
 pub fn show_text(alloc: Global, found: &Found) -> Result<Bytes, NoMemory>
     requires { IsSoundGroup found.now }
     ensures { IfOk result (λ text. text ≡ text_of_show found.now) }
@@ -106,5 +108,6 @@ pub fn show_text(alloc: Global, found: &Found) -> Result<Bytes, NoMemory>
     let mut text = Text::new(alloc);
     push_group(&mut text, &found.db)?;
     push_disks(alloc, &mut text, found)?;
+    push_all_volumes(alloc, &mut text, found.db.as_slice())?;
     Ok(text.into_bytes())
 }
