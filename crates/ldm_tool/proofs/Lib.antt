@@ -1,3 +1,4 @@
 pub mod Saying
 pub mod OneAnswer
 pub mod Files
+pub mod Named
