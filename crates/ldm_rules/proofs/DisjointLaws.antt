@@ -1,14 +1,15 @@
 -- In a sound group no two sectors have one place.
 use Rattle.std.proofs.Common.{◌≡◌, ℕ, ◌+◌, ◌-◌, ◌*◌, ◌/◌, ◌<◌, List, length, refl, ap, sym, subst, ◌∙◌, arith, Option, Some, None, Result, Ok, false}
 use Rattle.std.specs.Option.{option_map, IsSomeAnd}
+use Rattle.std.proofs.lemmas.Option.{slice_get-get_or}
 use Rattle.ldm_records.specs.declared.types.Record.{Record}
 use Rattle.ldm_records.specs.declared.types.Volume.{Volume}
-use Rattle.ldm_records.specs.declared.types.Component.{Component}
 use Rattle.ldm_records.specs.declared.types.Partition.{Partition}
 use Rattle.ldm_group.specs.Order.{Rising}
 use Rattle.ldm_layout.proofs.DraftLaws.{laid_out_volume}
 use Rattle.ldm_layout.proofs.PlanLaws.{has_none}
 use Rattle.ldm_layout.proofs.SpotLaws.{plex_spot_apart, parity_beside, parity_spot_shared, parity_spot_same}
+use Rattle.ldm_layout.proofs.VolumeLaws.{plexes_are, one_plex, plex_once, one_volume}
 use Rattle.ldm_layout.specs.Layouts.{Layout, is_tiled, plex_spot, parity_at, parity_spot, spot_in, parity_spot_in, sector_of}
 use Rattle.ldm_layout.specs.Parts.{plexes_of, extent_of}
 use Rattle.ldm_layout.specs.Volumes.{layout_of, place_of, parity_of}
@@ -18,8 +19,7 @@ use Rattle.ldm_layout.specs.declared.shape.LayoutFault.{LayoutFault}
 use Rattle.ldm_layout.specs.declared.shape.Place.{Place}
 use Rattle.ldm_layout.specs.declared.shape.Shape.{Shape}
 use Rattle.ldm_layout.specs.declared.shape.Shape.TheVariants.{Span, Stripe, Mirror, Raid5}
-use Rattle.ldm_rules.proofs.GroupLaws.{one_spot, one_component, one_volume}
-use Rattle.ldm_rules.proofs.OwnLaws.{one_index, components_here}
+use Rattle.ldm_rules.proofs.GroupLaws.{one_spot}
 use Rattle.ldm_rules.proofs.SectorLaws.{no_plex, plex_at, parts_at, copy_facts, raid5_copy, IsSpotOf, spot_is, parity_spot_is, sector_spot, parity_spot_of, place_is, parity_is, spot_in_own, columns_are}
 use Rattle.ldm_rules.specs.Disjoint.{HasLayout, IsSector, IsRaid5Sector, LiesInOwn, IsSameRow}
 use Rattle.ldm_rules.specs.Rules.{first_broken, meets_another}
@@ -57,14 +57,14 @@ one_place records v w c d s t up apart at_v at_w e =
     let one_b : Extent × ℕ = (b.part, b.offset) in
     let pairs : one_a ≡ one_b = λ i. (parts i, one.1 i) in
     let ids : (plex_at records v c).id ≡ (plex_at records w d).id = sym a.has.parent ∙ (ap (λ (z : Partition). z.parent) one.0 ∙ b.has.parent) in
-    let of_v = components_here records v.head.id c no_plex at_v.copied in
-    let of_w = components_here records w.head.id d no_plex at_w.copied in
-    let components : of_v.component ≡ of_w.component = one_component records of_v.component of_w.component up of_v.there of_w.there
-    (ap (λ (z : Plex). z.id) of_v.is ∙ (ids ∙ ap (λ (z : Plex). z.id) (sym of_w.is))) in
-    let volumes : v ≡ w = one_volume records v w up at_v.there at_w.there (sym of_v.parent ∙ (ap (λ (z : Component). z.parent) components ∙ of_w.parent)) in
-    let copied : d < length (plexes_of v.head.id records) = subst (λ (u : Volume). d < length (plexes_of u.head.id records)) (sym volumes) at_w.copied in (
+    let plexes : (plex_at records v c ≡ plex_at records w d) × (v.head.id ≡ w.head.id) = one_plex records v.head.id w.head.id (plex_at records v c) (plex_at records w d) up
+    (plexes_are records v.head.id c no_plex at_v.copied) (plexes_are records w.head.id d no_plex at_w.copied) ids in
+    let volumes : v ≡ w = one_volume records v w up at_v.there at_w.there plexes.1 in
+    let copied : d < length (plexes_of v.head.id records) = subst (λ (u : Volume). d < length (plexes_of u.head.id records)) (sym volumes) at_w.copied in
+    let there : plex_at records v d ≡ plex_at records v c = ap (λ (u : Volume). plex_at records u d) volumes ∙ sym plexes.0 in (
       volumes,
-      one_index records v.head.id c d no_plex up at_v.copied copied (ids ∙ ap (λ (u : Volume). (plex_at records u d).id) (sym volumes)),
+      plex_once records v.head.id c d (plex_at records v c) up (slice_get-get_or (plexes_of v.head.id records) c no_plex at_v.copied)
+          (slice_get-get_or (plexes_of v.head.id records) d no_plex copied ∙ ap (λ (z : Plex). Some z) there),
       a.is ∙ (ap (λ (z : Extent × ℕ). Some z) pairs ∙ sym b.is),
     )
 

@@ -2,48 +2,18 @@
 use Rattle.std.proofs.Common.{◌≡◌, ℕ, zero, suc, ◌+◌, ◌*◌, ◌^◌, max, min, ◌<◌, ◌==◌, not, inl, inr, Bool, true, false, cond, List, [], ◌∷◌, length, get_or, refl, ap, sym, ◌∙◌, arith, Option, Some, None, find, Contains}
 use Rattle.std.specs.Option.{option_map}
 use Rattle.std.specs.List.{list_any}
-use Rattle.std.proofs.lemmas.Bool.{cases_lt, and_from, lt-ltb, eq-eqb, eqb-true}
-use Rattle.std.proofs.lemmas.List.{get_or_default}
+use Rattle.std.proofs.lemmas.Bool.{and_from, lt-ltb, eq-eqb, eqb-true}
 use Rattle.std.proofs.lemmas.List.Folds.{list_any_at}
 use Rattle.ldm_records.specs.declared.types.Record.{Record}
 use Rattle.ldm_records.specs.declared.types.Record.TheVariants as kinds
-use Rattle.ldm_records.specs.declared.types.Volume.{Volume}
-use Rattle.ldm_records.specs.declared.types.Component.{Component}
 use Rattle.ldm_records.specs.declared.types.Partition.{Partition}
 use Rattle.ldm_group.specs.Order.{Rising, place_of, id_of}
 use Rattle.ldm_group.proofs.Rise.{tested}
+use Rattle.ldm_layout.proofs.VolumeLaws.{one_record}
 use Rattle.ldm_rules.specs.Rules.{is_other_meeting, meets_another, first_broken}
-
--- two records of a group at one place of the order are one
-pub one_record : (records : List Record) (r s : Record) → Rising records → Contains records r → Contains records s → place_of r ≡ place_of s → r ≡ s
-one_record records r s up at_r at_s e =
-    let here : get_or records at_r.0 r ≡ r = at_r.2 in
-    let there : get_or records at_s.0 r ≡ s = get_or_default records at_s.0 r s at_s.1 ∙ at_s.2 in
-    let same : place_of (get_or records at_r.0 r) ≡ place_of (get_or records at_s.0 r) = ap place_of here ∙ (e ∙ ap place_of (sym there)) in
-    elim (cases_lt at_r.0 at_s.0) [
-      | inl lt ↦ absurd (let below : place_of (get_or records at_r.0 r) < place_of (get_or records at_s.0 r) = up at_r.0 at_s.0 r lt at_s.1 in omega (arith, below, same))
-      | inr ge ↦ elim (cases_lt at_s.0 at_r.0) [
-        | inl lt ↦ absurd (let below : place_of (get_or records at_s.0 r) < place_of (get_or records at_r.0 r) = up at_s.0 at_r.0 r lt at_r.1 in omega (arith, below, same))
-        | inr le ↦ (let index : at_r.0 ≡ at_s.0 = omega arith in sym here ∙ (ap (λ k. get_or records k r) index ∙ there))
-      ]
-    ]
 
 same_partition : {p q : Partition} → kinds.Partition p ≡ kinds.Partition q → p ≡ q
 same_partition h = cc
-
-same_component : {c d : Component} → kinds.Component c ≡ kinds.Component d → c ≡ d
-same_component h = cc
-
-same_volume : {v w : Volume} → kinds.Volume v ≡ kinds.Volume w → v ≡ w
-same_volume h = cc
-
-pub one_component : (records : List Record) (c d : Component) → Rising records → Contains records (kinds.Component c) → Contains records (kinds.Component d) → c.head.id ≡ d.head.id → c ≡ d
-unfolding place_of
-one_component records c d up at_c at_d e = same_component (one_record records (kinds.Component c) (kinds.Component d) up at_c at_d (ap (λ n. 4 * 2 ^ 64 + n) e))
-
-pub one_volume : (records : List Record) (v w : Volume) → Rising records → Contains records (kinds.Volume v) → Contains records (kinds.Volume w) → v.head.id ≡ w.head.id → v ≡ w
-unfolding place_of
-one_volume records v w up at_v at_w e = same_volume (one_record records (kinds.Volume v) (kinds.Volume w) up at_v at_w (ap (λ n. 3 * 2 ^ 64 + n) e))
 
 -- nothing is found only where no element passes
 none_found : {X : Type 0} (test : X → Bool) (xs : List X) (k : ℕ) (d : X) → find test xs ≡ None → k < length xs → test (get_or xs k d) ≡ false

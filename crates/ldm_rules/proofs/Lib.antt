@@ -4,7 +4,6 @@ pub mod NameLaws
 pub mod TableLaws
 pub mod SizeLaws
 pub mod LayoutLaws
-pub mod OwnLaws
 pub mod GroupLaws
 pub mod SectorLaws
 pub mod DisjointLaws

@@ -5,13 +5,15 @@ use Rattle.std.specs.Option.{option_map, option_and_then, IsSomeAnd}
 use Rattle.std.specs.Result.{result_ok}
 use Rattle.std.proofs.lemmas.Bool.{and_parts, eqb-true}
 use Rattle.std.proofs.lemmas.List.{length-map, get_or-map}
+use Rattle.std.proofs.lemmas.Option.{slice_get-get_or}
 use Rattle.ldm_records.specs.declared.types.Record.{Record}
 use Rattle.ldm_records.specs.declared.types.Record.TheVariants as kinds
 use Rattle.ldm_records.specs.declared.types.Volume.{Volume}
 use Rattle.ldm_layout.proofs.ColumnLaws.{none}
-use Rattle.ldm_layout.proofs.DraftLaws.{IsLaidOut, laid_out_volume}
-use Rattle.ldm_layout.proofs.PlanLaws.{HasNone, PlexFacts, plex_facts, get_at}
+use Rattle.ldm_layout.proofs.DraftLaws.{IsLaidOut, laid_out_volume, laid_all}
+use Rattle.ldm_layout.proofs.PlanLaws.{HasNone, PlexFacts, plex_facts}
 use Rattle.ldm_layout.proofs.SpotLaws.{IsInside, plex_spot_inside, parity_inside}
+use Rattle.ldm_layout.proofs.VolumeLaws.{IsExtentOf, extents_are, plexes_are}
 use Rattle.ldm_layout.specs.Layouts.{Layout, is_tiled, fewest, has_columns, plex_spot, parity_at, spot_in, parity_spot_in, place_in, parity_in, sector_of, copies_by, copies_of}
 use Rattle.ldm_layout.specs.Parts.{plexes_of, extents_of, rises_from}
 use Rattle.ldm_layout.specs.Volumes.{shape_of, laid_out, place_of, parity_of}
@@ -20,7 +22,6 @@ use Rattle.ldm_layout.specs.declared.parts.Plex.{Plex}
 use Rattle.ldm_layout.specs.declared.shape.LayoutFault.{LayoutFault}
 use Rattle.ldm_layout.specs.declared.shape.Shape.{Shape}
 use Rattle.ldm_layout.specs.declared.shape.Shape.TheVariants.{Span, Stripe, Mirror, Raid5}
-use Rattle.ldm_rules.proofs.OwnLaws.{IsPartOf, laid_out_here, components_here}
 use Rattle.ldm_rules.specs.Disjoint.{HasLayout, IsSector, IsRaid5Sector, LiesInOwn}
 
 abbrev pub no_plex : Plex
@@ -38,7 +39,7 @@ pub record IsCopy (records : List Record) (v : Volume) (l : Layout) (copy : ℕ)
   pub listed : copy < length l.plexes
   pub copied : copy < length (plexes_of v.head.id records)
   pub facts : PlexFacts l (parts_at l copy)
-  pub own : All (IsPartOf records (plex_at records v copy).id) (parts_at l copy)
+  pub own : All (IsExtentOf records (plex_at records v copy).id) (parts_at l copy)
   pub size : l.size ≡ v.size
 
 some_plex : (ps : List Plex) (s : Shape) → shape_of ps ≡ Some s → 1 ≤ length ps
@@ -68,7 +69,7 @@ copy_facts records v l copy has h =
       listed = listed;
       copied = copied;
       facts = plex_facts l copy [] laid.sound listed;
-      own = subst (λ (es : List Extent). All (IsPartOf records (plex_at records v copy).id) es) (sym parts) (laid_out_here records (plex_at records v copy).id l.shape);
+      own = subst (λ (es : List Extent). All (IsExtentOf records (plex_at records v copy).id) es) (sym parts) (laid_all (IsExtentOf records (plex_at records v copy).id) l.shape (extents_of (plex_at records v copy).id records) (extents_are records (plex_at records v copy).id));
       size = laid.size;
     }
 
@@ -87,13 +88,13 @@ raid5_copy records v l x s = copy_facts records v l 0 s.volume (one_copy l.shape
 pub record IsSpotOf (records : List Record) (v : Volume) (copy : ℕ) (spot : Option (Extent × ℕ)) : Type 0 where
   pub there : Contains records (kinds.Volume v)
   pub copied : copy < length (plexes_of v.head.id records)
-  pub inside : IsInside (IsPartOf records (plex_at records v copy).id) spot
+  pub inside : IsInside (IsExtentOf records (plex_at records v copy).id) spot
 
 pub spot_is : (l : Layout) (x copy : ℕ) → copy < length l.plexes → spot_in l x copy ≡ plex_spot l.shape l.chunk (parts_at l copy) x
-spot_is l x copy h = ap (λ (o : Option (List Extent)). option_and_then (λ es. plex_spot l.shape l.chunk es x) o) (get_at l.plexes copy [] h)
+spot_is l x copy h = ap (λ (o : Option (List Extent)). option_and_then (λ es. plex_spot l.shape l.chunk es x) o) (slice_get-get_or l.plexes copy [] h)
 
 pub parity_spot_is : (l : Layout) (x : ℕ) → 0 < length l.plexes → parity_spot_in l x ≡ parity_at l.shape l.chunk (parts_at l 0) x
-parity_spot_is l x h = ap (λ (o : Option (List Extent)). option_and_then (λ es. parity_at l.shape l.chunk es x) o) (get_at l.plexes 0 [] h)
+parity_spot_is l x h = ap (λ (o : Option (List Extent)). option_and_then (λ es. parity_at l.shape l.chunk es x) o) (slice_get-get_or l.plexes 0 [] h)
 
 pub sector_spot : (records : List Record) (v : Volume) (l : Layout) (x copy : ℕ) → IsSector records v l x copy → IsSpotOf records v copy (spot_in l x copy)
 sector_spot records v l x copy s =
@@ -102,8 +103,8 @@ sector_spot records v l x copy s =
     record {
       there = s.volume.there;
       copied = here.copied;
-      inside = subst (λ (o : Option (Extent × ℕ)). IsInside (IsPartOf records (plex_at records v copy).id) o) (sym (spot_is l x copy here.listed))
-          (plex_spot_inside (IsPartOf records (plex_at records v copy).id) l (parts_at l copy) x none here.facts here.own within);
+      inside = subst (λ (o : Option (Extent × ℕ)). IsInside (IsExtentOf records (plex_at records v copy).id) o) (sym (spot_is l x copy here.listed))
+          (plex_spot_inside (IsExtentOf records (plex_at records v copy).id) l (parts_at l copy) x none here.facts here.own within);
     }
 
 pub parity_spot_of : (records : List Record) (v : Volume) (l : Layout) (x : ℕ) → IsRaid5Sector records v l x → IsSpotOf records v 0 (parity_spot_in l x)
@@ -113,8 +114,8 @@ parity_spot_of records v l x s =
     record {
       there = s.volume.there;
       copied = here.copied;
-      inside = subst (λ (o : Option (Extent × ℕ)). IsInside (IsPartOf records (plex_at records v 0).id) o) (sym (parity_spot_is l x here.listed))
-          (parity_inside (IsPartOf records (plex_at records v 0).id) l (parts_at l 0) x none s.raid5 here.facts here.own within);
+      inside = subst (λ (o : Option (Extent × ℕ)). IsInside (IsExtentOf records (plex_at records v 0).id) o) (sym (parity_spot_is l x here.listed))
+          (parity_inside (IsExtentOf records (plex_at records v 0).id) l (parts_at l 0) x none s.raid5 here.facts here.own within);
     }
 
 -- ---- places
@@ -128,10 +129,10 @@ parity_is records v l x has = ap (λ (r : Result Layout LayoutFault). option_and
 -- a spot of the volume is a place in its own partitions
 pub spot_in_own : (records : List Record) (v : Volume) (copy : ℕ) (spot : Option (Extent × ℕ)) → IsSpotOf records v copy spot → IsSomeAnd (option_map sector_of spot) (LiesInOwn records v)
 spot_in_own records v copy spot s =
-    let own = components_here records v.head.id copy no_plex s.copied in
+    let own = plexes_are records v.head.id copy no_plex s.copied in
     let e : Extent = s.inside.part in
     let o : ℕ = s.inside.offset in
-    let part : IsPartOf records (plex_at records v copy).id s.inside.part = s.inside.has in
+    let part : IsExtentOf records (plex_at records v copy).id s.inside.part = s.inside.has in
     let start : part.partition.start ≡ s.inside.part.start = ap (λ (f : Extent). f.start) part.is in
     let size : part.partition.size ≡ s.inside.part.size = ap (λ (f : Extent). f.size) part.is in
     let within : s.inside.offset < s.inside.part.size = s.inside.within in
