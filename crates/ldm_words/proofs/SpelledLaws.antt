@@ -1,5 +1,5 @@
 -- How what is spelled goes on, unit by unit.
-use Rattle.std.proofs.Common.{append_assoc, ◌&&◌, ◌≡◌, ℕ, ◌+◌, ◌-◌, take, ◌<◌, ◌≤◌, List, [], ◌∷◌, ◌++◌, length, drop, refl, sym, ◌∙◌, ap, arith, rules, Bool, true, false, cond, Option, Some, None}
+use Rattle.std.proofs.Common.{append_assoc, ◌&&◌, ◌≡◌, ℕ, ◌+◌, ◌-◌, take, ◌<◌, ◌≤◌, List, [], ◌∷◌, ◌++◌, length, drop, refl, sym, ◌∙◌, ap, arith, Bool, true, false, cond, Option, Some, None}
 use Rattle.std.specs.Prelude.{nat_eq, nat_le}
 use Rattle.std.proofs.lemmas.Bool.Decides.{nat_tests}
 use Rattle.std.proofs.lemmas.List.{drop-drop, drop_all, take_all, append-nil, length-drop}

@@ -25,13 +25,8 @@ pub fn read_number(word: &[u8]) -> Option<u64>
     if word.is_empty() || word.len() > 20 || !all_digits(word) {
         return None;
     }
-    match str::from_utf8(word) {
-        Ok(text) => match text.parse::<u64>() {
-            Ok(value) => Some(value),
-            Err(_) => None,
-        },
-        Err(_) => None,
-    }
+    let text = str::from_utf8(word).ok()?;
+    text.parse().ok()
 }
 
 #[cfg(test)]

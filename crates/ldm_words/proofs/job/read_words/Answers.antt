@@ -1,4 +1,4 @@
-use Rattle.std.proofs.Common.{sym, ◌∙◌, ap}
+use Rattle.std.proofs.Common.{◌∙◌, ap}
 use Rattle.ldm_words.specs.Jobs.{with_count}
 use Rattle.ldm_words.proofs.JobLaws.{job_of_form}
 use Rattle.ldm_words.proofs.job.read_words.Goals as goal

@@ -1,4 +1,4 @@
-use Rattle.std.proofs.Common.{rules, arith, ◌≡◌, ◌≤◌, ◌+◌, List, ℕ, [], ◌∷◌, ◌++◌, sym, ◌∙◌, ap, drop, length, length-drop, length-take, Some, None}
+use Rattle.std.proofs.Common.{arith, ◌+◌, List, ℕ, sym, ◌∙◌, ap, drop, length, length-drop, Some, None}
 use Rattle.ldm_words.specs.Names.{spelled}
 use Rattle.ldm_words.proofs.SpelledLaws.{onto, one_more, none_more, at_end, tail_unit, whole_tail}
 use Rattle.ldm_words.proofs.name.spell.Goals as goal

@@ -1,17 +1,17 @@
-use Rattle.std.proofs.Common.{rules, arith, ◌≡◌, ◌<◌, true, length, sym, ◌∙◌}
+use Rattle.std.proofs.Common.{rules, ◌≡◌, ◌<◌, true, length, ◌∙◌}
 use Rattle.std.specs.List.{list_all}
 use Rattle.ldm_words.specs.Numbers.{is_digit}
-use Rattle.ldm_words.proofs.NumberLaws.{not_parsed, digits_are_text}
+use Rattle.ldm_words.proofs.NumberLaws.{text_is, digits_read, parsed}
 use Rattle.ldm_words.proofs.number.read_number.Goals as goal
 
-pub returns-in-Err-parse : goal.returns-in-Err-parse
-returns-in-Err-parse c =
+pub returns-in_err-text : goal.returns-in_err-text
+returns-in_err-text c =
+    let digits : list_all is_digit c.args.word.now ≡ true = cc in
+    absurd (digits_read c.from_utf8.result c.args.word.now _ c.from_utf8.ensures.cases c.in_err-text.ensures.value digits)
+
+pub returns : goal.returns
+returns c =
     let digits : list_all is_digit c.args.word.now ≡ true = cc in
     let some : 0 < length c.args.word.now = search rules in
-    let parses = rw c.in-Ok.ensures.cases.0 at c.in-Err-parse.ensures.value.0 in
-    not_parsed c.args.word.now c.in-Err-parse.field-0 digits some parses
-
-pub returns-in-Err : goal.returns-in-Err
-returns-in-Err c =
-    let digits : list_all is_digit c.args.word.now ≡ true = cc in
-    absurd (c.in-Err.ensures.cases.0 (digits_are_text c.args.word.now digits))
+    let text = text_is c.from_utf8.result c.in_ok-text.text c.args.word.now _ c.from_utf8.ensures.cases c.in_ok-text.ensures.value in
+    c.ok-2.ensures.value ∙ parsed c.args.word.now c.parse.result digits some c.if-word-gt20.false (rw text at c.parse.ensures.value.0)
