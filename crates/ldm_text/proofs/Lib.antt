@@ -1,1 +1,3 @@
 pub mod ShowLaws
+pub mod VolumeLaws
+pub mod MapLaws

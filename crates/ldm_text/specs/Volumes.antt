@@ -52,7 +52,7 @@ text_of_striping None = []
 text_of_striping (Some striping) = (codes " " ++ decimal striping.chunk) ++ (codes " " ++ decimal striping.columns)
 
 -- stripe CHUNK COLUMNS, raid CHUNK COLUMNS, or basic
-abbrev pub text_of_layout : ℕ → Option Striping → List ℕ
+unfoldable pub text_of_layout : ℕ → Option Striping → List ℕ
 text_of_layout layout striping =
     if layout == 1 then codes " stripe" ++ text_of_striping striping else if layout == 3 then codes " raid" ++ text_of_striping striping else codes " basic"
 
@@ -77,9 +77,13 @@ text_of_shape Stripe = codes "stripe"
 text_of_shape Mirror = codes "mirror"
 text_of_shape Raid5 = codes "raid5"
 
--- SHAPE SIZE GUID, where the GUID's text has the 16 bytes in their order
+-- the GUID whose text has the volume's 16 bytes in their order
+unfoldable pub guid_of_volume : Volume → ℕ
+guid_of_volume v = big_number 16 v.guid
+
+-- SHAPE SIZE GUID
 unfoldable pub text_of_form : Volume → Shape → List ℕ
-text_of_form v shape = (codes " " ++ text_of_shape shape) ++ (codes " " ++ decimal v.size) ++ (codes " " ++ own_guid (big_number 16 v.guid))
+text_of_form v shape = (codes " " ++ text_of_shape shape) ++ (codes " " ++ decimal v.size) ++ (codes " " ++ own_guid (guid_of_volume v))
 
 -- volume ID NAME SHAPE SIZE GUID, and then the texts of its components. Nothing where they make no shape: a group that is
 -- found has no such volume.

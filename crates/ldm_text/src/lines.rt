@@ -104,6 +104,7 @@ fn push_striping(text: &mut Text, striping: Option<Striping>) -> Result<(), NoMe
 }
 
 // stripe CHUNK COLUMNS, raid CHUNK COLUMNS, or basic
+#[tactic(auto, unfolding(crate::specs::Volumes::text_of_layout))]
 fn push_layout(text: &mut Text, c: &Component) -> Result<(), NoMemory>
     ensures { OnOk result (text.new ≡ text.old ++ text_of_layout c.now.layout c.now.striping) }
 {

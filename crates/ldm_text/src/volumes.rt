@@ -2,7 +2,7 @@ ghost use Rattle.std.specs.Prelude.{◌≡◌, ◌++◌, [], nat_eq, OnOk, unwra
 ghost use Rattle.std.specs.HashMap as hash;
 ghost use Rattle.ldm_layout.specs.Parts.{plexes_at};
 ghost use Rattle.ldm_layout.specs.Volumes.{shape_of};
-ghost use Rattle.ldm_text.specs.Volumes.{text_of_shape, text_of_form, text_of_volume, text_of_volumes, text_of_all_volumes};
+ghost use Rattle.ldm_text.specs.Volumes.{text_of_shape, guid_of_volume, text_of_form, text_of_volume, text_of_volumes, text_of_all_volumes};
 
 use crate::growing::Text;
 use crate::lines::{component_lines, lines_of, partition_lines, push_head};
@@ -25,6 +25,13 @@ fn shape_text(shape: Shape) -> &'static [u8]
     }
 }
 
+#[tactic(auto, unfolding(crate::specs::Volumes::guid_of_volume))]
+fn guid_of(v: &Volume) -> u128
+    ensures { result ≡ guid_of_volume v.now }
+{
+    BigEndian::read_u128(&v.guid)
+}
+
 // SHAPE SIZE GUID
 #[tactic(auto, unfolding(crate::specs::Volumes::text_of_form))]
 fn push_form(text: &mut Text, v: &Volume, shape: Shape) -> Result<(), NoMemory>
@@ -34,7 +41,7 @@ fn push_form(text: &mut Text, v: &Volume, shape: Shape) -> Result<(), NoMemory>
     text.push(shape_text(shape))?;
     push_number(text, b" ", v.size)?;
     text.push(b" ")?;
-    text.push_guid(BigEndian::read_u128(&v.guid))
+    text.push_guid(guid_of(v))
 }
 
 // The line of a volume, and the texts of its components.
