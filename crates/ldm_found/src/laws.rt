@@ -15,5 +15,4 @@ pub fn group_alone()
     ensures blocked { (a b : Database) (labels : List Label) → IsSameCore a b → blocked_in a labels ≡ blocked_in b labels }
     ensures alike { (xs ys : List CopyState) (labels : List Label) (a b : Result Found OpenFault) → AllAlike xs ys
         → IsGroupOfCopies (Result.Ok xs) labels a → IsGroupOfCopies (Result.Ok ys) labels b → AnswerAlike a b }
-{
-}
+{}
