@@ -2,7 +2,7 @@
 use super::tests::{run_over, words_in};
 use super::*;
 use ldm_host::MemoryHost;
-use ldm_vectors::sample_images;
+use ldm_vectors::{sample_images, usual_images};
 use run::Status;
 use std::process::Abort;
 use std::test::Fail;
@@ -45,7 +45,11 @@ fn change(image: &mut [u8], place: &str, bytes: &[u8]) -> Result<(), Fail> {
     };
     let offset = number_of(offset)?;
     for sector in sectors_of(name) {
-        put(image, offset.saturating_add(sector.saturating_mul(512)), bytes);
+        put(
+            image,
+            offset.saturating_add(sector.saturating_mul(512)),
+            bytes,
+        );
     }
     Ok(())
 }
@@ -264,7 +268,87 @@ fn refuses_partitions_that_meet(rt: HostRuntime) -> Result<(), Fail> {
     let meeting = format!(in alloc; "show;ABC;{VOLUME} {SECOND};refused: rule 11 at 10")?;
     expect(alloc, &rt, &group, &meeting)?;
     let apart = format!(in alloc;
-        "show;ABC;{VOLUME} {SECOND} *.copy+5b1=64 *.copy+5bb=64;refused: rule 12 at 5"
+        "show;ABC;{VOLUME} {SECOND} *.copy+5b1=64 *.copy+5bb=64;    partition 13 p13 disk 2 start 100 size 100 offset 100"
     )?;
     expect(alloc, &rt, &group, &apart)
+}
+
+// The blocks 8 to 10: a volume of 2^64 - 1 sectors on disk 4.
+const GREATEST: &str = "\
+*.copy+400=56424c4b000000080000000800000001000000510000004e010501560367656e00414354495645000000000000000003
+*.copy+430=00000000000001010000000000000000000000000000000008ffffffffffffffff0000000007bbbbbbbbbbbbbbbbbbbb
+*.copy+460=bbbbbbbbbbbb
+*.copy+480=56424c4b0000000900000009000000010000003200000026010602633606414354495645020000000001010000000000
+*.copy+4b0=0000000000000000000000010500
+*.copy+500=56424c4b0000000a0000000a00000001000000330000002e010702703700000000000000000000000000000000000000
+*.copy+530=00000000000000000008ffffffffffffffff01060104";
+
+#[test]
+fn maps_the_greatest_sector_of_an_absent_disk(rt: HostRuntime) -> Result<(), Fail> {
+    let alloc = rt.alloc();
+    let group = group_of(alloc, 3)?;
+    let row = format!(in alloc;
+        "map V 18446744073709551614 1;AB;{GREATEST};18446744073709551614 copy 0 Disk3 18446744073709551614 missing"
+    )?;
+    expect(alloc, &rt, &group, &row)?;
+    let behind = format!(in alloc;
+        "map V 18446744073709551614 2;AB;{GREATEST};refused: bad range"
+    )?;
+    expect(alloc, &rt, &group, &behind)
+}
+
+const USUAL: &str = "\
+group Dg0 aaaaaaaa-aaaa-aaaa-aaaa-aaaaaaaaaaaa sequence 7 blocks 20 of 5920
+disk 1025 Disk1 11111111-1111-1111-1111-111111111111 image 0 free 3881
+disk 1026 Disk2 22222222-2222-2222-2222-222222222222 image 1 free 4569
+disk 1027 Disk3 33333333-3333-3333-3333-333333333333 image 2 free 4869
+volume 1028 Volume1 span 1000 55555555-5555-5555-5555-555555555555
+  component 1029 Volume1-01 basic
+    partition 1030 Disk1-01 disk 1025 start 0 size 1000 offset 0
+volume 1031 Volume2 span 1500 66666666-6666-6666-6666-666666666666
+  component 1032 Volume2-01 basic
+    partition 1033 Disk1-02 disk 1025 start 1000 size 500 offset 0
+    partition 1034 Disk2-01 disk 1026 start 0 size 1000 offset 500
+volume 1035 Stripe1 stripe 1024 77777777-7777-7777-7777-777777777777
+  component 1036 Stripe1-01 stripe 128 2
+    partition 1037 Disk2-02 disk 1026 start 1000 size 512 offset 0 index 0
+    partition 1038 Disk3-01 disk 1027 start 0 size 512 offset 0 index 1
+volume 1039 Mirror1 mirror 700 88888888-8888-8888-8888-888888888888
+  component 1040 Mirror1-01 basic
+    partition 1041 Disk1-03 disk 1025 start 1500 size 700 offset 0
+  component 1042 Mirror1-02 basic
+    partition 1043 Disk3-02 disk 1027 start 512 size 700 offset 0
+";
+
+const PLACES: &str = "\
+map Stripe1 200 1;ABC;;200 copy 0 Disk3 72 at 135
+map Stripe1 300 1;ABC;;300 copy 0 Disk2 1172 at 1235
+map Mirror1 699 1;ABC;;699 copy 1 Disk3 1211 at 1274
+map Mirror1 699 2;ABC;;refused: bad range
+map Mirror1 0 0;ABC;;refused: bad range
+map Nope 0 1;ABC;;refused: no volume
+map Volume1 0 1;AB;;0 copy 0 Disk1 0 at 63
+map Stripe1 200 1;AB;;200 copy 0 Disk3 72 missing";
+
+#[test]
+fn shows_and_maps_a_usual_group(rt: HostRuntime) -> Result<(), Fail> {
+    let alloc = rt.alloc();
+    let Ok(group) = usual_images(alloc) else {
+        return Err(Fail::from("no memory"));
+    };
+    expect_all(alloc, &rt, &group, "show on A B C", "ABC", "", USUAL)?;
+    let mirror = "699 copy 0 Disk1 2199 at 2262\n699 copy 1 Disk3 1211 at 1274\n";
+    expect_all(
+        alloc,
+        &rt,
+        &group,
+        "map Mirror1 699 1 on A B C",
+        "ABC",
+        "",
+        mirror,
+    )?;
+    for row in PLACES.lines() {
+        expect(alloc, &rt, &group, row)?;
+    }
+    Ok(())
 }
