@@ -1,4 +1,5 @@
-ghost use Rattle.std.specs.Prelude.{◌≡◌, length, position, is_none, IfOk, IfSome};
+ghost use Rattle.std.specs.Prelude.{◌≡◌, length, position, is_none, All, IfOk, IfSome, OnOk};
+ghost use Rattle.ldm_layout.specs.Parts.{EndsInRange};
 ghost use Rattle.ldm_found.specs.Labels.{stranger};
 ghost use Rattle.ldm_found.specs.Editing.{first_of};
 ghost use Rattle.ldm_found.specs.Opening.{group_faults};
@@ -27,7 +28,8 @@ fn stranger(db: &Db, labels: &[Label]) -> Option<usize>
 // That no image is of a strange disk, and no rule is broken.
 #[tactic(auto, unfolding(crate::specs::Opening::group_faults))]
 fn check_group(alloc: Global, db: &Db, labels: &Labels) -> Result<(), OpenError>
-    ensures { ChecksGroup result (first_of (group_faults db.now labels.now)) }
+    ensures is { ChecksGroup result (first_of (group_faults db.now labels.now)) }
+    ensures ends { OnOk result (All EndsInRange db.now.records) }
 {
     if let Some(image) = stranger(db, labels.as_slice()) {
         return Err(OpenError::Fault(OpenFault::Stranger(image)));
