@@ -14,11 +14,7 @@ use std::alloc::Global;
 use std::collections::HashMap;
 
 // at Z, or missing
-fn push_image_sector(
-    text: &mut Text,
-    data_start: Option<u64>,
-    sector: u64,
-) -> Result<(), NoMemory>
+fn push_image_sector(text: &mut Text, data_start: Option<u64>, sector: u64) -> Result<(), NoMemory>
     ensures { OnOk result (text.new ≡ text.old ++ text_of_image_sector data_start sector) }
 {
     match data_start {
