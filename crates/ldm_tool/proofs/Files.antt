@@ -1,8 +1,7 @@
 -- What a host over files shows of a write.
-use Rattle.std.proofs.Common.{rules, ◌≡◌, ◌≢◌, ℕ, ◌+◌, ◌<◌, ◌≤◌, List, [], length, slice_index, slice_set, refl, inl, arith}
+use Rattle.std.proofs.Common.{◌≡◌, ℕ, ◌+◌, ◌<◌, ◌≤◌, List, [], length, slice_index, slice_set, refl, inl, arith}
 use Rattle.std.proofs.lemmas.Grind.{common_steps}
-use Rattle.ldm_host.specs.Seen.{Seen, Leaves}
-use Rattle.ldm_host.specs.Moves.{Writes, Later, Quiet, TornAt, Torn}
+use Rattle.ldm_host.specs.Moves.{Writes}
 use Rattle.ldm_tool.specs.FileSeen.{file_seen}
 
 -- bytes were handed to one disk, and its fault may have been counted

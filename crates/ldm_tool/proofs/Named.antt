@@ -1,13 +1,23 @@
 -- A volume that is found by its name is found by its id.
-use Rattle.std.proofs.Common.{◌≡◌, ℕ, zero, suc, ◌+◌, ◌*◌, ◌^◌, ◌<◌, ◌==◌, ◌&&◌, Bool, true, false, cond, List, [], ◌∷◌, length, get_or, refl, ap, sym, ◌∙◌, arith, Option, Some, None, find, Contains}
-use Rattle.std.proofs.lemmas.Bool.{and_parts, eqb-true, eq-eqb}
+use Rattle.std.proofs.Common.{◌≡◌, ℕ, zero, suc, ◌+◌, ◌*◌, ◌^◌, ◌<◌, ◌≤◌, ◌==◌, ◌||◌, nat_lt, Bool, true, false, cond, List, [], ◌∷◌, length, get_or, refl, ap, sym, ◌∙◌, arith, subst, Option, Some, None, Result, Ok, Err, IfSome, IsSome, find, Contains}
+use Rattle.std.proofs.lemmas.Bool.{and_parts, eqb-true, eq-eqb, ltb-false}
 use Rattle.ldm_records.specs.declared.types.Record.{Record}
 use Rattle.ldm_records.specs.declared.types.Record.TheVariants as kinds
 use Rattle.ldm_records.specs.declared.types.Volume.{Volume}
 use Rattle.ldm_group.specs.Order.{Rising, kind_of, id_of, place_of}
 use Rattle.ldm_group.specs.Looks.{is_at, by_id, volume_in, is_volume_named, volume_named}
-use Rattle.ldm_rules.proofs.GroupLaws.{one_record}
-use Rattle.ldm_layout.specs.Volumes.{volume_with}
+use Rattle.ldm_layout.proofs.VolumeLaws.{one_record}
+use Rattle.ldm_layout.proofs.DraftLaws.{laid_out_volume}
+use Rattle.ldm_rules.proofs.SoundLaws.{layout_there}
+use Rattle.ldm_rules.specs.Table.{IsSound}
+use Rattle.ldm_label.specs.declared.Label.{Label}
+use Rattle.ldm_layout.specs.Layouts.{Layout}
+use Rattle.ldm_layout.specs.Answers.{PlansAs}
+use Rattle.ldm_layout.specs.declared.shape.LayoutFault.{LayoutFault}
+use Rattle.ldm_layout.specs.declared.shape.LayoutError.{LayoutError}
+use Rattle.ldm_layout.specs.declared.shape.LayoutError.TheVariants.{Fault}
+use Rattle.ldm_tool.specs.Mapping.{is_bad_range}
+use Rattle.ldm_layout.specs.Volumes.{layout_of, volume_with}
 
 find_there : {X : Type 0} (t : X → Bool) (xs : List X) (x : X) → find t xs ≡ Some x → Contains xs x × (t x ≡ true)
 find_there t [] x e = absurd cc
@@ -66,3 +76,40 @@ found_again records v up there = go (by_id 3 v.head.id records) refl
         let found = find_there (is_at 3 v.head.id) records r e in
         let same : r ≡ kinds.Volume v = one_record records r (kinds.Volume v) up found.0 there (same_place v.head.id r found.1 ∙ sym (volume_place v)) in
         ap volume_in e ∙ ap (λ (x : Record). volume_in (Some x)) same
+
+-- what a plan of its id answers is of the volume
+plans : (records : List Record) (v : Volume) (result : Result Layout LayoutError) → volume_with v.head.id records ≡ Some v
+    → IfSome (volume_with v.head.id records) (λ w. PlansAs result (layout_of records w)) → PlansAs result (layout_of records v)
+plans records v result there answers = subst (λ (o : Option Volume). IfSome o (λ w. PlansAs result (layout_of records w))) there answers
+
+pub planned : (records : List Record) (v : Volume) (result : Result Layout LayoutError) (plan : Layout) → Rising records → Contains records (kinds.Volume v)
+    → IfSome (volume_with v.head.id records) (λ w. PlansAs result (layout_of records w)) → result ≡ Ok plan → layout_of records v ≡ Ok plan
+planned records v result plan up there answers is =
+    subst (λ (r : Result Layout LayoutError). PlansAs r (layout_of records v)) is (plans records v result (found_again records v up there) answers)
+
+-- in a sound group it is no fault
+pub no_fault : (records : List Record) (labels : List Label) (v : Volume) (result : Result Layout LayoutError) (error : LayoutError) (fault : LayoutFault) → Rising records → IsSound records labels
+    → Contains records (kinds.Volume v) → IfSome (volume_with v.head.id records) (λ w. PlansAs result (layout_of records w)) → result ≡ Err error → error ≡ Fault fault → ⊥
+no_fault records labels v result error fault up sound there answers is fault_is =
+    let faulty : layout_of records v ≡ Err fault = subst (λ (r : Result Layout LayoutError). PlansAs r (layout_of records v)) (is ∙ ap (λ (e : LayoutError). Err e) fault_is)
+    (plans records v result (found_again records v up there) answers) in
+    let good = layout_there records labels v sound there in
+    let bad : Err fault ≡ Ok good.0 = sym faulty ∙ good.1.layout in
+    absurd cc
+
+pub is_there : (records : List Record) (v : Volume) → Rising records → Contains records (kinds.Volume v) → IsSome (volume_with v.head.id records)
+is_there records v up there = subst (λ (o : Option Volume). IsSome o) (sym (found_again records v up there)) refl
+
+-- a range that is not bad lies in the volume
+range_fits : (size first count : ℕ) → is_bad_range size first count ≡ false → first + count ≤ size
+range_fits size first count h = go (count == 0) (nat_lt 4096 count) (nat_lt size (first + count)) refl h
+  where
+    go : (a b c : Bool) → nat_lt size (first + count) ≡ c → (a || (b || c)) ≡ false → first + count ≤ size
+    go true b c e f = absurd cc
+    go false true c e f = absurd cc
+    go false false true e f = absurd cc
+    go false false false e f = ltb-false size (first + count) e
+
+pub range_planned : (records : List Record) (v : Volume) (plan : Layout) (first count : ℕ) → layout_of records v ≡ Ok plan → is_bad_range v.size first count ≡ false → first + count ≤ plan.size
+range_planned records v plan first count is good =
+    subst (λ (n : ℕ). first + count ≤ n) (sym (laid_out_volume records v plan is).size) (range_fits v.size first count good)

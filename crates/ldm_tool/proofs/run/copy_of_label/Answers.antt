@@ -1,10 +1,10 @@
-use Rattle.std.proofs.Common.{◌≡◌, List, ℕ, sym, ◌∙◌, ap, refl, Result, Ok, Err}
+use Rattle.std.proofs.Common.{◌≡◌, Ok, Err}
 use Rattle.ldm_host.specs.Seen.{image}
 use Rattle.ldm_host.proofs.Relations.{still_trans}
 use Rattle.ldm_text.specs.Records.{text_of_copy, text_of_copy_fault}
 use Rattle.ldm_tool.specs.declared.run.Status.TheVariants.{Done}
 use Rattle.ldm_tool.specs.Said.{Answer}
-use Rattle.ldm_tool.specs.Answer.{copy_answer, refusal, IsCopyAnswer}
+use Rattle.ldm_tool.specs.Answer.{refusal, IsCopyAnswer}
 use Rattle.ldm_tool.proofs.Saying.{answers_as}
 use Rattle.ldm_tool.proofs.run.copy_of_label.Goals as goal
 

@@ -1,7 +1,5 @@
-use Rattle.std.proofs.Common.{◌≡◌, List, ℕ, sym, ◌∙◌, ap, Result, Ok, Err}
+use Rattle.std.proofs.Common.{◌≡◌, sym, ◌∙◌, ap}
 use Rattle.ldm_host.proofs.Relations.{still_trans}
-use Rattle.ldm_label.specs.declared.Label.{Label}
-use Rattle.ldm_label.specs.declared.LabelFault.{LabelFault}
 use Rattle.ldm_text.specs.Texts.{text_of_label, text_of_label_fault}
 use Rattle.ldm_tool.specs.declared.run.Status.TheVariants.{Done}
 use Rattle.ldm_tool.specs.Said.{Answer}

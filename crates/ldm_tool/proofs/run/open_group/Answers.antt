@@ -1,11 +1,4 @@
-use Rattle.std.proofs.Common.{◌≡◌, List, ℕ, ◌∙◌, Err}
 use Rattle.ldm_host.proofs.Relations.{still_trans}
-use Rattle.ldm_text.specs.Texts.{text_of_refusal}
-use Rattle.ldm_text.specs.Opening.{text_of_open_fault}
-use Rattle.ldm_tool.specs.declared.run.Status.TheVariants.{Refused}
-use Rattle.ldm_tool.specs.Said.{Answer}
-use Rattle.ldm_tool.specs.Answer.{IsGroupAnswer}
-use Rattle.ldm_tool.proofs.Saying.{answers_as}
 use Rattle.ldm_tool.proofs.run.open_group.Goals as goal
 
 pub returns-in-Err-Fault-clause-still : goal.returns-in-Err-Fault-clause-still

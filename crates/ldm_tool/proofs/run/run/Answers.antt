@@ -1,4 +1,4 @@
-use Rattle.std.proofs.Common.{rules, ◌≡◌, List, ℕ, [], sym, refl, subst, Option, None}
+use Rattle.std.proofs.Common.{rules, ◌≡◌, ℕ, [], sym, refl, subst, Option, None}
 use Rattle.std.proofs.lemmas.List.{append-nil}
 use Rattle.ldm_words.specs.declared.job.Job.{Job}
 use Rattle.ldm_words.specs.Jobs.{texts, job_of}

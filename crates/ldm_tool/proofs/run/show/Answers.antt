@@ -1,4 +1,4 @@
-use Rattle.std.proofs.Common.{◌≡◌, List, ℕ, Ok}
+use Rattle.std.proofs.Common.{◌≡◌, Ok}
 use Rattle.ldm_host.proofs.Relations.{still_trans}
 use Rattle.ldm_text.specs.Show.{text_of_show}
 use Rattle.ldm_words.specs.declared.job.Job.TheVariants as jobs

@@ -1,4 +1,4 @@
-use Rattle.std.proofs.Common.{rules, ◌≡◌, ◌<◌, ◌≤◌, ◌+◌, ℕ, List, length, map, slice_index, sym, ◌∙◌, arith}
+use Rattle.std.proofs.Common.{rules, ◌≤◌, ◌+◌, length, map, slice_index, sym, ◌∙◌, arith}
 use Rattle.std.proofs.lemmas.Grind.{common_steps}
 use Rattle.std.proofs.lemmas.List.{length-map}
 use Rattle.ldm_tool.proofs.Files.{file_writes}
