@@ -45,7 +45,11 @@ fn change(image: &mut [u8], place: &str, bytes: &[u8]) -> Result<(), Fail> {
     };
     let offset = number_of(offset)?;
     for sector in sectors_of(name) {
-        put(image, offset.saturating_add(512 * *sector), bytes);
+        put(
+            image,
+            offset.saturating_add(sector.saturating_mul(512)),
+            bytes,
+        );
     }
     Ok(())
 }
