@@ -1,4 +1,5 @@
 pub mod Rise
+pub mod LookLaws
 pub mod OrderLaws
 pub mod NeedLaws
 pub mod LeastLaws

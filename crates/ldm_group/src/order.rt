@@ -1,5 +1,5 @@
 ghost use Rattle.std.specs.Prelude.{◌≡◌, MatchOption};
-ghost use Rattle.ldm_group.specs.Order.{kind_of, id_of, place_of, IsFirstTwice, NoneTwice};
+ghost use Rattle.ldm_group.specs.Order.{kind_of, id_of, place, place_of, IsFirstTwice, NoneTwice};
 
 use ldm_records::Record;
 
@@ -29,12 +29,19 @@ pub fn id_of(r: &Record) -> u64
     }
 }
 
-// The place in the order of kinds and ids.
+// The place of a kind and an id in the order.
+pub fn place(kind: u8, id: u64) -> u128
+    ensures { result ≡ place kind id }
+{
+    u128::from(kind) * 0x1_0000_0000_0000_0000 + u128::from(id)
+}
+
+// The place of a record.
 #[tactic(auto, unfolding(crate::specs::Order::place_of))]
 pub fn place_of(r: &Record) -> u128
     ensures { result ≡ place_of r.now }
 {
-    u128::from(kind_of(r)) * 0x1_0000_0000_0000_0000 + u128::from(id_of(r))
+    place(kind_of(r), id_of(r))
 }
 
 // The first index whose record is at the same place as the one before.

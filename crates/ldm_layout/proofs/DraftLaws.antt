@@ -1,18 +1,21 @@
 -- What is known of a layout by the records that it is made of.
-use Rattle.std.proofs.Common.{◌≡◌, ℕ, ◌+◌, ◌<◌, ◌^◌, ◌==◌, Bool, true, false, cond, List, [], ◌∷◌, length, map, refl, ap, sym, subst, ◌∙◌, arith, Option, Some, None, Ok, nat_le}
-use Rattle.std.specs.List.{All, list_all, filter_map}
+use Rattle.std.proofs.Common.{◌≡◌, ℕ, ◌+◌, ◌<◌, ◌^◌, ◌==◌, Bool, true, false, cond, List, [], ◌∷◌, length, get_or, map, refl, ap, sym, subst, ◌∙◌, arith, Option, Some, None, IfSome, Result, Ok, Err, IfOk, nat_le}
+use Rattle.std.specs.List.{All, list_all, list_any, filter_map}
 use Rattle.std.specs.Option.{option_map}
 use Rattle.std.proofs.lemmas.List.{length-map}
-use Rattle.std.proofs.lemmas.List.Elements.{All-cons, All-tail, All-filter}
+use Rattle.std.proofs.lemmas.List.Elements.{All-cons, All-tail, All-filter, filter_passes}
+use Rattle.std.proofs.lemmas.List.Folds.{list_any_at}
+use Rattle.std.proofs.lemmas.Bool.{eqb-true, eq-eqb}
 use Rattle.ldm_records.specs.declared.types.Record.{Record}
 use Rattle.ldm_records.specs.declared.types.Record.TheVariants as kinds
 use Rattle.ldm_records.specs.declared.types.Volume.{Volume}
-use Rattle.ldm_layout.specs.Answers.{AllEnd, IsPlan}
+use Rattle.ldm_layout.specs.Answers.{PlansAs, AllEnd, IsPlan}
 use Rattle.ldm_layout.specs.Layouts.{Layout, is_tiled, first_fault, copies_by}
-use Rattle.ldm_layout.specs.Parts.{plexes_of, extent_in, extent_of, extents_of, insert_by, in_rising, by_offset, by_index, tile_key, EndsInRange}
+use Rattle.ldm_layout.specs.Parts.{plexes_of, extent_in, extent_of, extents_of, insert_by, in_rising, by_offset, by_index, tile_key, is_partition_of, EndsInRange}
 use Rattle.ldm_layout.specs.Volumes.{is_basic, shape_of, striping_of, laid_out, draft_of, unless_faulty, checked, layout_of}
 use Rattle.ldm_layout.specs.declared.parts.Extent.{Extent}
 use Rattle.ldm_layout.specs.declared.parts.Plex.{Plex}
+use Rattle.ldm_layout.specs.declared.shape.LayoutError.{LayoutError}
 use Rattle.ldm_layout.specs.declared.shape.LayoutFault.{LayoutFault}
 use Rattle.ldm_layout.specs.declared.shape.Shape.{Shape}
 use Rattle.ldm_layout.specs.declared.shape.Shape.TheVariants.{Span, Stripe, Mirror, Raid5}
@@ -40,21 +43,35 @@ laid_all P s es hs = elim (is_tiled s) as (λ b. All P (cond b (by_offset es) (b
   | false ↦ rising_all P (λ e. e.index) es hs
 ]
 
-record_ends : (records : List Record) → All EndsInRange records → All Ends (filter_map extent_in records)
-record_ends [] hs = λ k d h. absurd (omega arith)
-record_ends (kinds.Partition p ∷ rs) hs = All-cons Ends (extent_of p) (filter_map extent_in rs) (hs 0 (kinds.Partition p) (omega arith)) (record_ends rs (All-tail EndsInRange (kinds.Partition p) rs hs))
-record_ends (kinds.Group g ∷ rs) hs = record_ends rs (All-tail EndsInRange (kinds.Group g) rs hs)
-record_ends (kinds.Disk g ∷ rs) hs = record_ends rs (All-tail EndsInRange (kinds.Disk g) rs hs)
-record_ends (kinds.Volume g ∷ rs) hs = record_ends rs (All-tail EndsInRange (kinds.Volume g) rs hs)
-record_ends (kinds.Component g ∷ rs) hs = record_ends rs (All-tail EndsInRange (kinds.Component g) rs hs)
+-- it ends in range where its component is this one
+abbrev EndsAt : ℕ → Extent → Type 0
+EndsAt c e = (e.component == c) ≡ true → Ends e
 
-pub extents_end : (records : List Record) (c : ℕ) → All EndsInRange records → All Ends (extents_of c records)
-extents_end records c hs = All-filter (λ e. e.component == c) Ends (filter_map extent_in records) (record_ends records hs)
+record_ends : (volume c : ℕ) (all rs : List Record) → list_any (λ p. p.id == c) (plexes_of volume all) ≡ true → All (λ r. is_partition_of volume all r ≡ true → EndsInRange r) rs → All (EndsAt c) (filter_map extent_in rs)
+record_ends volume c all [] own hs = λ k d h. absurd (omega arith)
+record_ends volume c all (kinds.Partition p ∷ rs) own hs =
+    All-cons (EndsAt c) (extent_of p) (filter_map extent_in rs)
+    (λ same. hs 0 (kinds.Partition p) (omega arith) (ap (λ (n : ℕ). list_any (λ q. q.id == n) (plexes_of volume all)) (eqb-true p.parent c same) ∙ own))
+    (record_ends volume c all rs own (All-tail (λ r. is_partition_of volume all r ≡ true → EndsInRange r) (kinds.Partition p) rs hs))
+record_ends volume c all (kinds.Group g ∷ rs) own hs = record_ends volume c all rs own (All-tail (λ r. is_partition_of volume all r ≡ true → EndsInRange r) (kinds.Group g) rs hs)
+record_ends volume c all (kinds.Disk g ∷ rs) own hs = record_ends volume c all rs own (All-tail (λ r. is_partition_of volume all r ≡ true → EndsInRange r) (kinds.Disk g) rs hs)
+record_ends volume c all (kinds.Volume g ∷ rs) own hs = record_ends volume c all rs own (All-tail (λ r. is_partition_of volume all r ≡ true → EndsInRange r) (kinds.Volume g) rs hs)
+record_ends volume c all (kinds.Component g ∷ rs) own hs = record_ends volume c all rs own (All-tail (λ r. is_partition_of volume all r ≡ true → EndsInRange r) (kinds.Component g) rs hs)
 
-plexes_end : (s : Shape) (extents : ℕ → List Extent) (ps : List Plex) → ((c : ℕ) → All Ends (extents c)) → All AllEnd (map (λ p. laid_out s (extents p.id)) ps)
+-- the partitions of the components of a volume end in range
+pub extents_end : (records : List Record) (volume : ℕ) → All (λ r. is_partition_of volume records r ≡ true → EndsInRange r) records → All (λ p. AllEnd (extents_of p.id records)) (plexes_of volume records)
+extents_end records volume hs k d h =
+    let p = get_or (plexes_of volume records) k d in
+    let own : list_any (λ q. q.id == p.id) (plexes_of volume records) ≡ true = list_any_at (λ q. q.id == p.id) (plexes_of volume records) k d h (eq-eqb p.id p.id refl) in
+    let all : All (EndsAt p.id) (extents_of p.id records) =
+    All-filter (λ e. e.component == p.id) (EndsAt p.id) (filter_map extent_in records) (record_ends volume p.id records records own hs) in
+    λ j e lt. all j e lt (filter_passes (λ e. e.component == p.id) (filter_map extent_in records) j e lt)
+
+plexes_end : (s : Shape) (extents : ℕ → List Extent) (ps : List Plex) → All (λ p. AllEnd (extents p.id)) ps → All AllEnd (map (λ p. laid_out s (extents p.id)) ps)
 plexes_end s extents [] hs = λ k d h. absurd (omega arith)
 plexes_end s extents (p ∷ ps) hs =
-    All-cons AllEnd (laid_out s (extents p.id)) (map (λ q. laid_out s (extents q.id)) ps) (laid_all Ends s (extents p.id) (hs p.id)) (plexes_end s extents ps hs)
+    All-cons AllEnd (laid_out s (extents p.id)) (map (λ q. laid_out s (extents q.id)) ps) (laid_all Ends s (extents p.id) (hs 0 p (omega arith)))
+    (plexes_end s extents ps (All-tail (λ q. AllEnd (extents q.id)) p ps hs))
 
 -- ---- copies
 
@@ -94,7 +111,7 @@ draft_parts size ps extents l h = go (shape_of ps) refl h
         }
 
 -- a draft without faults is a plan
-pub plan_of_draft : (size : ℕ) (ps : List Plex) (extents : ℕ → List Extent) (l : Layout) → ((c : ℕ) → All Ends (extents c)) → draft_of size ps extents ≡ Some l → first_fault l ≡ None → IsPlan l
+pub plan_of_draft : (size : ℕ) (ps : List Plex) (extents : ℕ → List Extent) (l : Layout) → All (λ p. AllEnd (extents p.id)) ps → draft_of size ps extents ≡ Some l → first_fault l ≡ None → IsPlan l
 plan_of_draft size ps extents l ends h sound =
     let parts = draft_parts size ps extents l h in
     let many : length l.plexes ≡ length ps = ap (λ (xs : List (List Extent)). length xs) parts.plexes ∙ length-map ps (λ (p : Plex). laid_out l.shape (extents p.id)) in
@@ -139,3 +156,9 @@ laid_out_volume records v l h =
       size = draft_size v.size (plexes_of v.head.id records) (λ c. extents_of c records) l both.0;
       parts = draft_parts v.size (plexes_of v.head.id records) (λ c. extents_of c records) l both.0;
     }
+
+-- a plan has the size of its volume
+pub plan_size : (records : List Record) (v : Volume) (o : Option Volume) (result : Result Layout LayoutError) → o ≡ Some v → PlansAs result (layout_of records v)
+    → IfOk result (λ plan. IfSome o (λ w. plan.size ≡ w.size))
+plan_size records v o (Ok l) found plans = subst (λ (q : Option Volume). IfSome q (λ w. l.size ≡ w.size)) (sym found) (laid_out_volume records v l plans).size
+plan_size records v o (Err e) found plans = tt

@@ -1,8 +1,9 @@
--- The spots of a volume: each lies in a partition of the component that has the copy, and no two sectors or copies have one.
+-- What the components and partitions of a volume are read from, and that no two volumes share a component.
 use Rattle.std.proofs.Common.{◌≡◌, ℕ, zero, suc, ◌+◌, ◌-◌, ◌*◌, ◌/◌, ◌%◌, ◌^◌, ◌<◌, ◌==◌, inl, inr, true, List, [], ◌∷◌, length, get_or, map, refl, ap, sym, subst, ◌∙◌, arith, Option, Some, None, Ok, slice_get}
 use Rattle.std.specs.List.{All, AllPairs, Contains, filter_map, cons_option}
 use Rattle.std.proofs.lemmas.List.Kept.{AllPairs-filter}
 use Rattle.ldm_group.specs.Order.{Rising, place_of}
+use Rattle.ldm_group.proofs.LookLaws.{one_record}
 use Rattle.std.specs.Option.{option_and_then}
 use Rattle.std.proofs.lemmas.Bool.{cases_lt, eqb-true}
 use Rattle.std.proofs.lemmas.List.{get_or_default}
@@ -98,81 +99,12 @@ plexes_are records volume =
     (All-filter (λ p. p.volume == volume) from (filter_map plex_in records) all)
     (filter_passes (λ p. p.volume == volume) (filter_map plex_in records))
 
--- ---- a spot of a volume
-
--- the layout, the component and its partitions that a spot stands on
-pub record IsSpotOf (records : List Record) (v : Volume) (x copy : ℕ) (e : Extent) (o : ℕ) : Type 0 where
-  pub layout : Layout
-  pub plex : Plex
-  pub is : layout_of records v ≡ Ok layout
-  pub at : slice_get (plexes_of v.head.id records) copy ≡ Some plex
-  pub facts : PlexFacts layout (laid_out layout.shape (extents_of plex.id records))
-  pub size : layout.size ≡ v.size
-  pub spot : plex_spot layout.shape layout.chunk (laid_out layout.shape (extents_of plex.id records)) x ≡ Some (e, o)
-
-get_map : {X Y : Type 0} (f : X → Y) (xs : List X) (k : ℕ) (y : Y) → slice_get (map f xs) k ≡ Some y → (x : X) × (slice_get xs k ≡ Some x) × (f x ≡ y) × (k < length xs)
-get_map f [] k y h = absurd cc
-get_map f (x ∷ xs) zero y h = (x, refl, some_same h, omega arith)
-get_map f (x ∷ xs) (suc k) y h = (let rest = get_map f xs k y h in (rest.0, rest.1, rest.2, omega (arith, rest.3)))
+-- ---- one component, one volume
 
 get_length : {X : Type 0} (xs : List X) (k : ℕ) (x : X) → slice_get xs k ≡ Some x → (k < length xs) × (get_or xs k x ≡ x)
 get_length [] k x h = absurd cc
 get_length (y ∷ xs) zero x h = (omega arith, some_same h)
 get_length (y ∷ xs) (suc k) x h = (let rest = get_length xs k x h in (omega (arith, rest.0), rest.1))
-
-pub spot_of_volume : (records : List Record) (v : Volume) (l : Layout) (x copy : ℕ) (e : Extent) (o : ℕ) → layout_of records v ≡ Ok l → spot_in l x copy ≡ Some (e, o) → IsSpotOf records v x copy e o
-spot_of_volume records v l x copy e o is h = go (slice_get l.plexes copy) refl h
-  where
-    go : (g : Option (List Extent)) → slice_get l.plexes copy ≡ g → option_and_then (λ es. plex_spot l.shape l.chunk es x) g ≡ Some (e, o) → IsSpotOf records v x copy e o
-    go None at f = absurd cc
-    go (Some es) at f =
-        let laid = laid_out_volume records v l is in
-        let here = get_map (λ (p : Plex). laid_out l.shape (extents_of p.id records)) (plexes_of v.head.id records) copy es (ap (λ (ps : List (List Extent)). slice_get ps copy) (sym laid.parts.plexes) ∙ at) in
-        let within = get_length l.plexes copy es at in
-        let facts : PlexFacts l es = subst (λ (fs : List Extent). PlexFacts l fs) within.1 (plex_facts l copy es laid.sound within.0) in
-        record {
-          layout = l;
-          plex = here.0;
-          is = is;
-          at = here.1;
-          facts = subst (λ (fs : List Extent). PlexFacts l fs) (sym here.2) facts;
-          size = laid.size;
-          spot = ap (λ (fs : List Extent). plex_spot l.shape l.chunk fs x) here.2 ∙ f;
-        }
-
--- it lies in a partition of the component, inside
-pub spot_own : (records : List Record) (v : Volume) (x copy : ℕ) (e : Extent) (o : ℕ) (s : IsSpotOf records v x copy e o) → x < v.size → IsExtentOf records s.plex.id e × (o < e.size)
-spot_own records v x copy e o s lt =
-    let es = laid_out s.layout.shape (extents_of s.plex.id records) in
-    let all : All (IsExtentOf records s.plex.id) es = laid_all (IsExtentOf records s.plex.id) s.layout.shape (extents_of s.plex.id records) (extents_are records s.plex.id) in
-    let below : x < s.layout.size = (let same : s.layout.size ≡ v.size = s.size in omega arith) in
-    let inside = plex_spot_inside (IsExtentOf records s.plex.id) s.layout es x e s.facts all below in
-    let one : Extent × ℕ = (inside.part, inside.offset) in
-    let two : Extent × ℕ = (e, o) in
-    let same : one ≡ two = some_same (sym inside.is ∙ s.spot) in
-    subst (λ (y : Extent × ℕ). IsExtentOf records s.plex.id y.0 × (y.1 < y.0.size)) same (inside.has, inside.within)
-
--- the component is one of the volume's
-pub spot_plex : (records : List Record) (v : Volume) (x copy : ℕ) (e : Extent) (o : ℕ) (s : IsSpotOf records v x copy e o) → IsPlexIn records v.head.id s.plex
-spot_plex records v x copy e o s =
-    let within = get_length (plexes_of v.head.id records) copy s.plex s.at in
-    subst (λ (p : Plex). IsPlexIn records v.head.id p) within.1 (plexes_are records v.head.id copy s.plex within.0)
-
--- ---- one spot is of one sector in one copy
-
--- two records of a group at one place of the order are one
-pub one_record : (records : List Record) (r s : Record) → Rising records → Contains records r → Contains records s → place_of r ≡ place_of s → r ≡ s
-one_record records r s up at_r at_s e =
-    let here : get_or records at_r.0 r ≡ r = at_r.2 in
-    let there : get_or records at_s.0 r ≡ s = get_or_default records at_s.0 r s at_s.1 ∙ at_s.2 in
-    let same : place_of (get_or records at_r.0 r) ≡ place_of (get_or records at_s.0 r) = ap place_of here ∙ (e ∙ ap place_of (sym there)) in
-    elim (cases_lt at_r.0 at_s.0) [
-      | inl lt ↦ absurd (let below : place_of (get_or records at_r.0 r) < place_of (get_or records at_s.0 r) = up at_r.0 at_s.0 r lt at_s.1 in omega (arith, below, same))
-      | inr ge ↦ elim (cases_lt at_s.0 at_r.0) [
-        | inl lt ↦ absurd (let below : place_of (get_or records at_s.0 r) < place_of (get_or records at_r.0 r) = up at_s.0 at_r.0 r lt at_r.1 in omega (arith, below, same))
-        | inr le ↦ (let index : at_r.0 ≡ at_s.0 = omega arith in sym here ∙ (ap (λ k. get_or records k r) index ∙ there))
-      ]
-    ]
 
 same_component : {c d : Component} → kinds.Component c ≡ kinds.Component d → c ≡ d
 same_component h = cc
@@ -235,122 +167,9 @@ one_plex records v w p q up at_p at_q e =
     let same : at_p.component ≡ at_q.component = one_component records at_p.component at_q.component up at_p.there at_q.there ids in
     (sym at_p.is ∙ (ap plex_of same ∙ at_q.is), sym at_p.parent ∙ (ap (λ (c : Component). c.parent) same ∙ at_q.parent))
 
-same_layout : {a b : Layout} → unless_faulty a None ≡ unless_faulty b None → a ≡ b
-same_layout h = cc
-
--- of two sectors of a volume with one spot, sector and copy are one
-pub one_sector : (records : List Record) (v : Volume) (x y c d : ℕ) (e : Extent) (o : ℕ) → Rising records → x < v.size → y < v.size → IsSpotOf records v x c e o → IsSpotOf records v y d e o → (x ≡ y) × (c ≡ d)
-one_sector records v x y c d e o up lx ly s t =
-    let own_s = spot_own records v x c e o s lx in
-    let own_t = spot_own records v y d e o t ly in
-    let ids : s.plex.id ≡ t.plex.id = sym own_s.0.parent ∙ (ap (λ (f : Extent). f.component) own_s.0.is ∙ (sym (ap (λ (f : Extent). f.component) own_t.0.is) ∙ own_t.0.parent)) in
-    let plexes : s.plex ≡ t.plex = (one_plex records v.head.id v.head.id s.plex t.plex up (spot_plex records v x c e o s) (spot_plex records v y d e o t) ids).0 in
-    let layouts : s.layout ≡ t.layout = same_layout (sym s.is ∙ t.is) in
-    let spot_y : plex_spot s.layout.shape s.layout.chunk (laid_out s.layout.shape (extents_of s.plex.id records)) y ≡ Some (e, o) =
-    ap (λ (l : Layout). plex_spot l.shape l.chunk (laid_out l.shape (extents_of s.plex.id records)) y) layouts
-    ∙ (ap (λ (k : ℕ). plex_spot t.layout.shape t.layout.chunk (laid_out t.layout.shape (extents_of k records)) y) ids ∙ t.spot) in (
-      plex_spot_apart s.layout (laid_out s.layout.shape (extents_of s.plex.id records)) x y e o s.facts s.spot spot_y,
-      plex_once records v.head.id c d s.plex up s.at (t.at ∙ ap (λ (p : Plex). Some p) (sym plexes)),
-    )
-
 same_volume : {v w : Volume} → kinds.Volume v ≡ kinds.Volume w → v ≡ w
 same_volume h = cc
 
 pub one_volume : (records : List Record) (v w : Volume) → Rising records → Contains records (kinds.Volume v) → Contains records (kinds.Volume w) → v.head.id ≡ w.head.id → v ≡ w
 unfolding place_of
 one_volume records v w up at_v at_w e = same_volume (one_record records (kinds.Volume v) (kinds.Volume w) up at_v at_w (ap (λ n. 3 * 2 ^ 64 + n) e))
-
--- components that have one partition are one
-same_component_id : (records : List Record) (j k : ℕ) (e : Extent) → IsExtentOf records j e → IsExtentOf records k e → j ≡ k
-same_component_id records j k e a b = sym a.parent ∙ (ap (λ (f : Extent). f.component) a.is ∙ (sym (ap (λ (f : Extent). f.component) b.is) ∙ b.parent))
-
--- of two sectors of volumes with one spot, volume, sector and copy are one
-pub one_triple : (records : List Record) (v w : Volume) (x y c d : ℕ) (e : Extent) (o : ℕ) → Rising records → Contains records (kinds.Volume v) → Contains records (kinds.Volume w) → x < v.size → y < w.size
-    → IsSpotOf records v x c e o → IsSpotOf records w y d e o → (v ≡ w) × (x ≡ y) × (c ≡ d)
-one_triple records v w x y c d e o up at_v at_w lx ly s t =
-    let ids : s.plex.id ≡ t.plex.id = same_component_id records s.plex.id t.plex.id e (spot_own records v x c e o s lx).0 (spot_own records w y d e o t ly).0 in
-    let volumes : v ≡ w = one_volume records v w up at_v at_w (one_plex records v.head.id w.head.id s.plex t.plex up (spot_plex records v x c e o s) (spot_plex records w y d e o t) ids).1 in
-    let both = one_sector records w x y c d e o up (subst (λ (u : Volume). x < u.size) volumes lx) ly (subst (λ (u : Volume). IsSpotOf records u x c e o) volumes s) t in
-    (volumes, both.0, both.1)
-
--- ---- parity
-
-pub record IsParityOf (records : List Record) (v : Volume) (x : ℕ) (e : Extent) (o : ℕ) : Type 0 where
-  pub layout : Layout
-  pub plex : Plex
-  pub is : layout_of records v ≡ Ok layout
-  pub at : slice_get (plexes_of v.head.id records) 0 ≡ Some plex
-  pub facts : PlexFacts layout (laid_out layout.shape (extents_of plex.id records))
-  pub size : layout.size ≡ v.size
-  pub raid5 : layout.shape ≡ Raid5
-  pub spot : parity_at layout.shape layout.chunk (laid_out layout.shape (extents_of plex.id records)) x ≡ Some (e, o)
-
-has_parity : (s : Shape) (u : ℕ) (es : List Extent) (x : ℕ) (e : Extent) (o : ℕ) → parity_at s u es x ≡ Some (e, o) → s ≡ Raid5
-has_parity Raid5 u es x e o h = refl
-has_parity Span u es x e o h = absurd cc
-has_parity Stripe u es x e o h = absurd cc
-has_parity Mirror u es x e o h = absurd cc
-
-pub parity_of_volume : (records : List Record) (v : Volume) (l : Layout) (x : ℕ) (e : Extent) (o : ℕ) → layout_of records v ≡ Ok l → parity_spot_in l x ≡ Some (e, o) → IsParityOf records v x e o
-parity_of_volume records v l x e o is h = go (slice_get l.plexes 0) refl h
-  where
-    go : (g : Option (List Extent)) → slice_get l.plexes 0 ≡ g → option_and_then (λ es. parity_at l.shape l.chunk es x) g ≡ Some (e, o) → IsParityOf records v x e o
-    go None at f = absurd cc
-    go (Some es) at f =
-        let laid = laid_out_volume records v l is in
-        let here = get_map (λ (p : Plex). laid_out l.shape (extents_of p.id records)) (plexes_of v.head.id records) 0 es (ap (λ (ps : List (List Extent)). slice_get ps 0) (sym laid.parts.plexes) ∙ at) in
-        let within = get_length l.plexes 0 es at in
-        let facts : PlexFacts l es = subst (λ (fs : List Extent). PlexFacts l fs) within.1 (plex_facts l 0 es laid.sound within.0) in
-        record {
-          layout = l;
-          plex = here.0;
-          is = is;
-          at = here.1;
-          facts = subst (λ (fs : List Extent). PlexFacts l fs) (sym here.2) facts;
-          size = laid.size;
-          raid5 = has_parity l.shape l.chunk es x e o f;
-          spot = ap (λ (fs : List Extent). parity_at l.shape l.chunk fs x) here.2 ∙ f;
-        }
-
-pub parity_own : (records : List Record) (v : Volume) (x : ℕ) (e : Extent) (o : ℕ) (s : IsParityOf records v x e o) → x < v.size → IsExtentOf records s.plex.id e × (o < e.size)
-parity_own records v x e o s lt =
-    let es = laid_out s.layout.shape (extents_of s.plex.id records) in
-    let all : All (IsExtentOf records s.plex.id) es = laid_all (IsExtentOf records s.plex.id) s.layout.shape (extents_of s.plex.id records) (extents_are records s.plex.id) in
-    let below : x < s.layout.size = (let same : s.layout.size ≡ v.size = s.size in omega arith) in
-    let inside = parity_inside (IsExtentOf records s.plex.id) s.layout es x e s.raid5 s.facts all below in
-    let one : Extent × ℕ = (inside.part, inside.offset) in
-    let two : Extent × ℕ = (e, o) in
-    let same : one ≡ two = some_same (sym inside.is ∙ s.spot) in
-    subst (λ (y : Extent × ℕ). IsExtentOf records s.plex.id y.0 × (y.1 < y.0.size)) same (inside.has, inside.within)
-
-pub parity_plex : (records : List Record) (v : Volume) (x : ℕ) (e : Extent) (o : ℕ) (s : IsParityOf records v x e o) → IsPlexIn records v.head.id s.plex
-parity_plex records v x e o s =
-    let within = get_length (plexes_of v.head.id records) 0 s.plex s.at in
-    subst (λ (p : Plex). IsPlexIn records v.head.id p) within.1 (plexes_are records v.head.id 0 s.plex within.0)
-
--- no parity lies at a sector's spot
-pub parity_apart : (records : List Record) (v w : Volume) (x y d : ℕ) (e : Extent) (o : ℕ) → Rising records → Contains records (kinds.Volume v) → Contains records (kinds.Volume w) → x < v.size → y < w.size
-    → IsParityOf records v x e o → IsSpotOf records w y d e o → ⊥
-parity_apart records v w x y d e o up at_v at_w lx ly s t =
-    let ids : s.plex.id ≡ t.plex.id = same_component_id records s.plex.id t.plex.id e (parity_own records v x e o s lx).0 (spot_own records w y d e o t ly).0 in
-    let volumes : v ≡ w = one_volume records v w up at_v at_w (one_plex records v.head.id w.head.id s.plex t.plex up (parity_plex records v x e o s) (spot_plex records w y d e o t) ids).1 in
-    let layouts : s.layout ≡ t.layout = same_layout (sym s.is ∙ (ap (λ (u : Volume). layout_of records u) volumes ∙ t.is)) in
-    let spot_y : plex_spot s.layout.shape s.layout.chunk (laid_out s.layout.shape (extents_of s.plex.id records)) y ≡ Some (e, o) =
-    ap (λ (l : Layout). plex_spot l.shape l.chunk (laid_out l.shape (extents_of s.plex.id records)) y) layouts
-    ∙ (ap (λ (k : ℕ). plex_spot t.layout.shape t.layout.chunk (laid_out t.layout.shape (extents_of k records)) y) ids ∙ t.spot) in
-    parity_beside s.layout (laid_out s.layout.shape (extents_of s.plex.id records)) y x e o s.facts spot_y s.spot
-
--- two sectors with one parity are of one volume, and stand in one row of chunks, at one offset in their chunks
-pub parity_of_both : (records : List Record) (v w : Volume) (x y : ℕ) (e : Extent) (o : ℕ) → Rising records → Contains records (kinds.Volume v) → Contains records (kinds.Volume w) → x < v.size → y < w.size
-    → (s : IsParityOf records v x e o) → IsParityOf records w y e o
-    → (v ≡ w) × (x / (s.layout.chunk * (length (laid_out s.layout.shape (extents_of s.plex.id records)) - 1)) ≡ y / (s.layout.chunk * (length (laid_out s.layout.shape (extents_of s.plex.id records)) - 1))) × (x % s.layout.chunk ≡ y % s.layout.chunk)
-parity_of_both records v w x y e o up at_v at_w lx ly s t =
-    let ids : s.plex.id ≡ t.plex.id = same_component_id records s.plex.id t.plex.id e (parity_own records v x e o s lx).0 (parity_own records w y e o t ly).0 in
-    let volumes : v ≡ w = one_volume records v w up at_v at_w (one_plex records v.head.id w.head.id s.plex t.plex up (parity_plex records v x e o s) (parity_plex records w y e o t) ids).1 in
-    let layouts : s.layout ≡ t.layout = same_layout (sym s.is ∙ (ap (λ (u : Volume). layout_of records u) volumes ∙ t.is)) in
-    let es = laid_out s.layout.shape (extents_of s.plex.id records) in
-    let spot_y : parity_at s.layout.shape s.layout.chunk (laid_out s.layout.shape (extents_of s.plex.id records)) y ≡ Some (e, o) =
-    ap (λ (l : Layout). parity_at l.shape l.chunk (laid_out l.shape (extents_of s.plex.id records)) y) layouts
-    ∙ (ap (λ (k : ℕ). parity_at t.layout.shape t.layout.chunk (laid_out t.layout.shape (extents_of k records)) y) ids ∙ t.spot) in
-    let rows = parity_shared s.layout es x y e o s.raid5 s.facts s.spot spot_y in
-    (volumes, rows.0, rows.1)

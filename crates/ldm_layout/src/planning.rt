@@ -1,5 +1,5 @@
-ghost use Rattle.std.specs.Prelude.{◌≡◌, ℕ, IsSome, All, IfSome, option_copied};
-ghost use Rattle.ldm_layout.specs.Parts.{EndsInRange, plexes_at, extents_at};
+ghost use Rattle.std.specs.Prelude.{◌≡◌, true, IsSome, All, IfOk, IfSome, option_copied};
+ghost use Rattle.ldm_layout.specs.Parts.{EndsInRange, is_partition_of, plexes_at, extents_at};
 ghost use Rattle.ldm_layout.specs.Volumes.{draft_of, checked, layout_of, volume_with};
 ghost use Rattle.ldm_layout.specs.Answers.{PlansAs, AllEnd};
 
@@ -11,8 +11,10 @@ use ldm_group::Db;
 use ldm_records::{Record, Volume};
 use std::alloc::Global;
 
+/// The volume of this id.
 pub fn volume_with(db: &Db, id: u64) -> Option<&Volume>
-    ensures { option_copied result ≡ volume_with id db.now.records }
+    ensures is { option_copied result ≡ volume_with id db.now.records }
+    ensures id { IfSome result (λ v. v.now.head.id ≡ id) }
 {
     match db.by_id(3, id) {
         Some(Record::Volume(v)) => Some(v),
@@ -22,7 +24,7 @@ pub fn volume_with(db: &Db, id: u64) -> Option<&Volume>
 
 // The layout of a volume of these parts.
 fn plan_of(alloc: Global, parts: &Parts, volume: &Volume) -> Result<Plan, LayoutError>
-    requires { (c : ℕ) → AllEnd (extents_at c parts.now.extents) }
+    requires { All (λ p. AllEnd (extents_at p.id parts.now.extents)) (plexes_at volume.now.head.id parts.now.plexes) }
     ensures { PlansAs result (checked (draft_of volume.now.size (plexes_at volume.now.head.id parts.now.plexes) (λ c. extents_at c parts.now.extents))) }
 {
     let Some(draft) = draft_of(alloc, parts, volume)? else {
@@ -37,8 +39,9 @@ fn plan_of(alloc: Global, parts: &Parts, volume: &Volume) -> Result<Plan, Layout
 /// The layout of the volume of this id. The error is its first fault.
 pub fn plan(alloc: Global, db: &Db, volume: u64) -> Result<Plan, LayoutError>
     requires there { IsSome (volume_with volume db.now.records) }
-    requires ends { All EndsInRange db.now.records }
-    ensures { IfSome (volume_with volume db.now.records) (λ v. PlansAs result (layout_of db.now.records v)) }
+    requires ends { All (λ r. is_partition_of volume db.now.records r ≡ true → EndsInRange r) db.now.records }
+    ensures is { IfSome (volume_with volume db.now.records) (λ v. PlansAs result (layout_of db.now.records v)) }
+    ensures size { IfOk result (λ plan. IfSome (volume_with volume db.now.records) (λ v. plan.size ≡ v.size)) }
 {
     let parts = Parts::of(alloc, db.as_slice())?;
     match volume_with(db, volume) {

@@ -37,52 +37,62 @@ enum Row {
     Part(u16, u16, u16, u16, u16, u16, Option<u8>),
 }
 
-// The record of a row. Each number is spelled with two bytes.
-fn record_of(alloc: Global, row: Row) -> Result<Record, RecordError> {
-    let mut payload = [0u8; 112];
+// The flags, the code and the length of the body of a row's record.
+fn form_of(row: Row) -> (u8, u8, u8) {
+    match row {
+        Row::Vol(..) => (0, 0x51, 69),
+        Row::Comp(_, _, _, None) => (0, 0x32, 32),
+        Row::Comp(_, _, _, Some(_)) => (0x10, 0x32, 36),
+        Row::Part(_, _, _, _, _, _, None) => (0, 0x33, 41),
+        Row::Part(_, _, _, _, _, _, Some(_)) => (0x08, 0x33, 43),
+    }
+}
+
+// Puts the body of a row's record. Each number is spelled with two bytes.
+fn put_body(payload: &mut [u8; 112], row: Row) {
     payload[8] = 2;
-    let (flags, code, len) = match row {
+    match row {
         Row::Vol(id, size) => {
-            put_u16(&mut payload, 9, id);
+            put_u16(payload, 9, id);
             payload[35] = 1;
             payload[53] = 2;
-            put_u16(&mut payload, 54, size);
-            (0, 0x51, 69)
+            put_u16(payload, 54, size);
         }
         Row::Comp(id, volume, layout, striping) => {
-            put_u16(&mut payload, 9, id);
+            put_u16(payload, 9, id);
             payload[13] = layout;
             payload[18] = 1;
             payload[36] = 2;
-            put_u16(&mut payload, 37, volume);
+            put_u16(payload, 37, volume);
             if let Some((chunk, columns)) = striping {
-                put_bytes(&mut payload, 40, &[1, chunk, 1, columns]);
-                (0x10, 0x32, 36)
-            } else {
-                (0, 0x32, 32)
+                put_bytes(payload, 40, &[1, chunk, 1, columns]);
             }
         }
         Row::Part(id, component, disk, start, size, offset, index) => {
-            put_u16(&mut payload, 9, id);
-            put_u64(&mut payload, 24, u64::from(start));
-            put_u64(&mut payload, 32, u64::from(offset));
+            put_u16(payload, 9, id);
+            put_u64(payload, 24, u64::from(start));
+            put_u64(payload, 32, u64::from(offset));
             payload[40] = 2;
-            put_u16(&mut payload, 41, size);
+            put_u16(payload, 41, size);
             payload[43] = 2;
-            put_u16(&mut payload, 44, component);
+            put_u16(payload, 44, component);
             payload[46] = 2;
-            put_u16(&mut payload, 47, disk);
+            put_u16(payload, 47, disk);
             if let Some(index) = index {
-                put_bytes(&mut payload, 49, &[1, index]);
-                (0x08, 0x33, 43)
-            } else {
-                (0, 0x33, 41)
+                put_bytes(payload, 49, &[1, index]);
             }
         }
-    };
+    }
+}
+
+// The record of a row.
+fn record_of(alloc: Global, row: Row) -> Result<Record, RecordError> {
+    let (flags, code, len) = form_of(row);
+    let mut payload = [0u8; 112];
     payload[2] = flags;
     payload[3] = code;
     payload[7] = len;
+    put_body(&mut payload, row);
     read_record(alloc, &payload)
 }
 

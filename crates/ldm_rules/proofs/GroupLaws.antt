@@ -9,7 +9,7 @@ use Rattle.ldm_records.specs.declared.types.Record.TheVariants as kinds
 use Rattle.ldm_records.specs.declared.types.Partition.{Partition}
 use Rattle.ldm_group.specs.Order.{Rising, place_of, id_of}
 use Rattle.ldm_group.proofs.Rise.{tested}
-use Rattle.ldm_layout.proofs.VolumeLaws.{one_record}
+use Rattle.ldm_group.proofs.LookLaws.{one_record}
 use Rattle.ldm_rules.specs.Rules.{is_other_meeting, meets_another, first_broken}
 
 same_partition : {p q : Partition} → kinds.Partition p ≡ kinds.Partition q → p ≡ q

@@ -1,26 +1,41 @@
-use Rattle.std.proofs.Common.{◌≡◌, List, Option, Some, IfSome, Result, rules, sym, subst}
+use Rattle.std.proofs.Common.{◌≡◌, ◌==◌, ℕ, true, List, Option, Some, Ok, IfSome, Result, rules, ap, sym, subst, ◌∙◌}
+use Rattle.std.specs.List.{All, list_any}
+use Rattle.ldm_records.specs.declared.types.Record.{Record}
 use Rattle.ldm_records.specs.declared.types.Volume.{Volume}
-use Rattle.ldm_layout.proofs.DraftLaws.{extents_end}
-use Rattle.ldm_layout.proofs.ListLaws.{layout_is}
-use Rattle.ldm_layout.specs.Answers.{AllEnd, PlansAs}
+use Rattle.ldm_layout.proofs.DraftLaws.{extents_end, plan_size}
+use Rattle.ldm_layout.proofs.ListLaws.{layout_is, lists_end}
+use Rattle.ldm_layout.specs.Answers.{PlansAs}
 use Rattle.ldm_layout.specs.Grouped.{IsListsOf}
 use Rattle.ldm_layout.specs.Layouts.{Layout}
+use Rattle.ldm_layout.specs.Parts.{EndsInRange, is_partition_of}
 use Rattle.ldm_layout.specs.Volumes.{layout_of, volume_with}
-use Rattle.ldm_layout.specs.declared.parts.Extent.{Extent}
 use Rattle.ldm_layout.specs.declared.shape.LayoutFault.{LayoutFault}
 use Rattle.ldm_layout.proofs.planning.plan.Goals as goal
+use Rattle.ldm_layout.proofs.planning.plan.Goals.{After-drop-parts-inside-in-Some}
 
 pub plan_of-requires : goal.plan_of-requires
 plan_of-requires c =
     let records = c.args.db.now.records in
     let lists : IsListsOf c.in_ok-parts.parts records = search rules in
-    λ q. subst (λ (es : List Extent). AllEnd es) (sym (lists.extents_are q)) (extents_end records q c.requires.ends)
+    let id : c.in-Some.volume.now.head.id ≡ c.args.volume = search rules in
+    lists_end c.in_ok-parts.parts records c.in-Some.volume.now.head.id lists
+    (extents_end records c.in-Some.volume.now.head.id (subst (λ (n : ℕ). All (λ r. is_partition_of n records r ≡ true → EndsInRange r) records) (sym id) c.requires.ends))
 
-pub returns-in-Some : goal.returns-in-Some
-returns-in-Some c =
+-- what the answer of plan_of is of the volume
+planned : (c : After-drop-parts-inside-in-Some) → PlansAs c.plan_of.result (layout_of c.args.db.now.records c.in-Some.volume.now)
+planned c =
     let records = c.args.db.now.records in
     let lists : IsListsOf c.in_ok-parts.parts records = search rules in
+    subst (λ (l : Result Layout LayoutFault). PlansAs c.plan_of.result l) (layout_is c.in_ok-parts.parts records c.in-Some.volume.now lists) c.plan_of.ensures
+
+pub returns-in-Some-clause-is : goal.returns-in-Some-clause-is
+returns-in-Some-clause-is c =
+    let records = c.args.db.now.records in
     let found : volume_with c.args.volume records ≡ Some c.in-Some.volume.now = search rules in
-    let plans : PlansAs c.plan_of.result (layout_of records c.in-Some.volume.now) =
-    subst (λ (l : Result Layout LayoutFault). PlansAs c.plan_of.result l) (layout_is c.in_ok-parts.parts records c.in-Some.volume.now lists) c.plan_of.ensures in
-    subst (λ (o : Option Volume). IfSome o (λ v. PlansAs c.plan_of.result (layout_of records v))) (sym found) plans
+    subst (λ (o : Option Volume). IfSome o (λ v. PlansAs c.plan_of.result (layout_of records v))) (sym found) (planned c)
+
+pub returns-in-Some-clause-size : goal.returns-in-Some-clause-size
+returns-in-Some-clause-size c =
+    let records = c.args.db.now.records in
+    let found : volume_with c.args.volume records ≡ Some c.in-Some.volume.now = search rules in
+    plan_size records c.in-Some.volume.now (volume_with c.args.volume records) c.plan_of.result found (planned c)
