@@ -40,13 +40,6 @@ fit_more labels sizes label disk at before here k other is =
 abbrev pub shifted : ℕ → Option (ℕ × ℕ) → Option (ℕ × ℕ)
 shifted n pair = option_map (λ (p : ℕ × ℕ). (n + p.0, n + p.1)) pair
 
-pub shifted_none : (o : Option (ℕ × ℕ)) → o ≡ shifted 0 o
-shifted_none None = refl
-shifted_none (Some p) = ap (λ (q : ℕ × ℕ). Some q) (pair_is p.0 (0 + p.0) p.1 (0 + p.1) (omega arith) (omega arith))
-  where
-    pair_is : (a b c d : ℕ) → a ≡ b → c ≡ d → ◌≡◌ {A = ℕ × ℕ} (a, c) (b, d)
-    pair_is a b c d x y = cc
-
 shifted_next : (n : ℕ) (o : Option (ℕ × ℕ)) → shifted n (twins_from None o) ≡ shifted (n + 1) o
 shifted_next n None = refl
 shifted_next n (Some p) = let first : n + suc p.0 ≡ n + 1 + p.0 = omega arith in let second : n + suc p.1 ≡ n + 1 + p.1 = omega arith in cc

@@ -94,13 +94,6 @@ finds images labels read (Err (Fault fault)) all apart of_copies from = found_di
 finds images labels read (Err Disk) all apart of_copies from = tt
 finds images labels read (Err NoMemory) all apart of_copies from = tt
 
--- a fault of the copies is one of the group
-pub finds_fault : (images : List (List ℕ)) (labels : List Label) (error : OpenError) → Gathers IsLabelOf images (Ok labels) → twins labels ≡ None
-    → ReadsCopies labels images (Err error) → FindsIn images (Err error)
-finds_fault images labels (Fault fault) all apart of_copies = found_disks images labels (Err fault) all apart of_copies
-finds_fault images labels Disk all apart of_copies = tt
-finds_fault images labels NoMemory all apart of_copies = tt
-
 -- ---- what a group without a fault is
 
 no_rule : (strange : Option ℕ) (broken : Option (ℕ × ℕ))

@@ -1,5 +1,6 @@
 ghost use Rattle.std.specs.Prelude.{◌≡◌, length, position, is_none, All, IfOk, IfSome, OnOk};
 ghost use Rattle.ldm_layout.specs.Parts.{EndsInRange};
+ghost use Rattle.ldm_rules.specs.Disjoint.{AllLaidOut};
 ghost use Rattle.ldm_found.specs.Labels.{stranger};
 ghost use Rattle.ldm_found.specs.Editing.{first_of};
 ghost use Rattle.ldm_found.specs.Opening.{group_faults};
@@ -30,6 +31,7 @@ fn stranger(db: &Db, labels: &[Label]) -> Option<usize>
 fn check_group(alloc: Global, db: &Db, labels: &Labels) -> Result<(), OpenError>
     ensures is { ChecksGroup result (first_of (group_faults db.now labels.now)) }
     ensures ends { OnOk result (All EndsInRange db.now.records) }
+    ensures laid_out { OnOk result (AllLaidOut db.now.records) }
 {
     if let Some(image) = stranger(db, labels.as_slice()) {
         return Err(OpenError::Fault(OpenFault::Stranger(image)));

@@ -2,4 +2,3 @@ pub mod Rise
 pub mod LookLaws
 pub mod OrderLaws
 pub mod NeedLaws
-pub mod LeastLaws

@@ -246,15 +246,3 @@ plex_beside Raid5 u es x y e o chunked columned rises f g =
 -- no sector of the component lies at a parity's spot
 pub parity_beside : (l : Layout) (es : List Extent) (x y : ℕ) (e : Extent) (o : ℕ) → PlexFacts l es → plex_spot l.shape l.chunk es x ≡ Some (e, o) → parity_at l.shape l.chunk es y ≡ Some (e, o) → ⊥
 parity_beside l es x y e o facts f g = plex_beside l.shape l.chunk es x y e o facts.chunked facts.columned facts.rises f g
-
-plex_shared : (s : Shape) (u : ℕ) (es : List Extent) (x y : ℕ) (e : Extent) (o : ℕ) → s ≡ Raid5 → (is_tiled s ≡ false → 0 < u) → (is_tiled s ≡ false → rises_from 0 es ≡ true)
-    → parity_at s u es x ≡ Some (e, o) → parity_at s u es y ≡ Some (e, o) → (x / (u * (length es - 1)) ≡ y / (u * (length es - 1))) × (x % u ≡ y % u)
-plex_shared Span u es x y e o r chunked rises f g = absurd cc
-plex_shared Mirror u es x y e o r chunked rises f g = absurd cc
-plex_shared Stripe u es x y e o r chunked rises f g = absurd cc
-plex_shared Raid5 u es x y e o r chunked rises f g = parity_spot_shared es u x y e o (chunked refl) (rises refl) f g
-
--- two sectors of the component with one parity are in one row of chunks, at one offset in their chunks
-pub parity_shared : (l : Layout) (es : List Extent) (x y : ℕ) (e : Extent) (o : ℕ) → l.shape ≡ Raid5 → PlexFacts l es → parity_at l.shape l.chunk es x ≡ Some (e, o) → parity_at l.shape l.chunk es y ≡ Some (e, o)
-    → (x / (l.chunk * (length es - 1)) ≡ y / (l.chunk * (length es - 1))) × (x % l.chunk ≡ y % l.chunk)
-parity_shared l es x y e o r facts f g = plex_shared l.shape l.chunk es x y e o r facts.chunked facts.rises f g

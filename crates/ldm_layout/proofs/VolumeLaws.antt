@@ -1,10 +1,9 @@
 -- What the components and partitions of a volume are read from, and that no two volumes share a component.
-use Rattle.std.proofs.Common.{◌≡◌, ℕ, zero, suc, ◌+◌, ◌-◌, ◌*◌, ◌/◌, ◌%◌, ◌^◌, ◌<◌, ◌==◌, inl, inr, true, List, [], ◌∷◌, length, get_or, map, refl, ap, sym, subst, ◌∙◌, arith, Option, Some, None, Ok, slice_get}
+use Rattle.std.proofs.Common.{◌≡◌, ℕ, zero, suc, ◌+◌, ◌*◌, ◌^◌, ◌<◌, ◌==◌, inl, inr, true, List, [], ◌∷◌, length, get_or, refl, ap, sym, subst, ◌∙◌, arith, Option, Some, None, slice_get}
 use Rattle.std.specs.List.{All, AllPairs, Contains, filter_map, cons_option}
 use Rattle.std.proofs.lemmas.List.Kept.{AllPairs-filter}
 use Rattle.ldm_group.specs.Order.{Rising, place_of}
 use Rattle.ldm_group.proofs.LookLaws.{one_record}
-use Rattle.std.specs.Option.{option_and_then}
 use Rattle.std.proofs.lemmas.Bool.{cases_lt, eqb-true}
 use Rattle.std.proofs.lemmas.List.{get_or_default}
 use Rattle.std.proofs.lemmas.List.Elements.{All-cons, All-filter, filter_passes}
@@ -13,16 +12,10 @@ use Rattle.ldm_records.specs.declared.types.Record.TheVariants as kinds
 use Rattle.ldm_records.specs.declared.types.Volume.{Volume}
 use Rattle.ldm_records.specs.declared.types.Component.{Component}
 use Rattle.ldm_records.specs.declared.types.Partition.{Partition}
-use Rattle.ldm_layout.proofs.DraftLaws.{laid_all, laid_out_volume}
-use Rattle.ldm_layout.proofs.PlanLaws.{PlexFacts, plex_facts}
-use Rattle.ldm_layout.proofs.SpotLaws.{some_same, plex_spot_inside, plex_spot_apart, parity_inside, parity_beside, parity_shared}
-use Rattle.ldm_layout.specs.Layouts.{Layout, plex_spot, parity_at, spot_in, parity_spot_in}
+use Rattle.ldm_layout.proofs.SpotLaws.{some_same}
 use Rattle.ldm_layout.specs.Parts.{plex_of, plex_in, plexes_of, extent_of, extent_in, extents_of}
-use Rattle.ldm_layout.specs.Volumes.{laid_out, unless_faulty, layout_of}
 use Rattle.ldm_layout.specs.declared.parts.Extent.{Extent}
 use Rattle.ldm_layout.specs.declared.parts.Plex.{Plex}
-use Rattle.ldm_layout.specs.declared.shape.Shape.{Shape}
-use Rattle.ldm_layout.specs.declared.shape.Shape.TheVariants.{Span, Stripe, Mirror, Raid5}
 
 -- ---- what the parts are read from
 

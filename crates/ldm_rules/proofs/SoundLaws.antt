@@ -1,6 +1,6 @@
 -- What a sound group has: no rule is broken, so its volumes have layouts, no two sectors have one place, and its partitions
 -- end within the numbers of the format.
-use Rattle.std.proofs.Common.{◌≡◌, ℕ, ◌^◌, ◌<◌, not, Bool, true, false, List, [], ◌∷◌, ◌++◌, refl, Option, Some, None, Result, Ok, Err, Contains}
+use Rattle.std.proofs.Common.{◌≡◌, ℕ, ◌^◌, ◌<◌, not, Bool, true, false, List, [], ◌∷◌, ◌++◌, refl, Option, Some, None, Result, Ok, Err, OnOk, Contains}
 use Rattle.std.specs.List.{All}
 use Rattle.ldm_records.specs.declared.types.Record.{Record}
 use Rattle.ldm_records.specs.declared.types.Record.TheVariants as kinds
@@ -15,10 +15,12 @@ use Rattle.ldm_rules.proofs.EndLaws.{all_end, data_low}
 use Rattle.ldm_rules.proofs.GroupLaws.{not_broken}
 use Rattle.ldm_rules.proofs.DisjointLaws.{places_apart, places_beside, parities_shared, rows_share, place_inside, parity_place_inside}
 use Rattle.ldm_rules.proofs.TableLaws.{rest_none}
-use Rattle.ldm_rules.specs.Disjoint.{HasLayout, HasDisjointPlaces}
+use Rattle.ldm_rules.specs.Disjoint.{HasLayout, AllLaidOut, HasDisjointPlaces}
 use Rattle.ldm_rules.specs.Ends.{data_size}
 use Rattle.ldm_rules.specs.Rules.{first_broken, fails, is_short, is_empty, passes_end, meets_another, has_layout_fault, passes_layout}
-use Rattle.ldm_rules.specs.Table.{first_fault, first_broken_rule, name_rules, tree_rules, sector_rules, IsSound}
+use Rattle.ldm_rules.specs.Table.{first_fault, first_broken_rule, name_rules, tree_rules, sector_rules, ChecksAs, IsSound}
+use Rattle.ldm_rules.specs.declared.fault.RuleError.{RuleError}
+use Rattle.ldm_rules.specs.declared.fault.RuleError.TheVariants.{Fault, NoMemory}
 
 -- none of the rules on sectors is broken
 pub record HasSectorsSound (records : List Record) (labels : List Label) : Type 0 where
@@ -62,6 +64,12 @@ layout_there records labels v sound there =
     (not_broken (has_layout_fault records) records (kinds.Volume v) sectors.faults there)
     (not_broken (passes_layout records) records (kinds.Volume v) sectors.sizes there) in
     (found.0, record { there = there; layout = found.1 })
+
+-- a check that finds nothing tells it
+pub checked_layouts : (records : List Record) (labels : List Label) (r : Result (Unit {0}) RuleError) → ChecksAs r (first_broken_rule records labels) → OnOk r (AllLaidOut records)
+checked_layouts records labels (Ok _) sound = λ v there. layout_there records labels v sound there
+checked_layouts records labels (Err (Fault f)) fault = tt
+checked_layouts records labels (Err NoMemory) fault = tt
 
 pub disjoint : (records : List Record) (labels : List Label) → Rising records → IsSound records labels → HasDisjointPlaces records
 disjoint records labels up sound =

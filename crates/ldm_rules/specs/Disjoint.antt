@@ -19,6 +19,10 @@ pub record HasLayout (records : List Record) (v : Volume) (l : Layout) : Type 0 
   pub there : Contains records (kinds.Volume v)
   pub layout : layout_of records v ≡ Ok l
 
+-- each volume of the group has one
+abbrev pub AllLaidOut : List Record → Type 0
+AllLaidOut records = (v : Volume) → Contains records (kinds.Volume v) → (l : Layout) × HasLayout records v l
+
 -- sector x of a volume, in the copy of this number
 pub record IsSector (records : List Record) (v : Volume) (l : Layout) (x copy : ℕ) : Type 0 where
   pub volume : HasLayout records v l
@@ -50,7 +54,7 @@ pub record IsSameRow (l : Layout) (x y : ℕ) : Type 0 where
 
 pub record HasDisjointPlaces (records : List Record) : Type 0 where
   -- each volume has a layout
-  pub laid_out : (v : Volume) → Contains records (kinds.Volume v) → (l : Layout) × HasLayout records v l
+  pub laid_out : AllLaidOut records
   -- each sector has a place, which lies in its own volume
   pub inside : (v : Volume) (l : Layout) (x copy : ℕ) → IsSector records v l x copy → IsSomeAnd (place_of records v x copy) (LiesInOwn records v)
   -- which no other has

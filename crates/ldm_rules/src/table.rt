@@ -1,5 +1,6 @@
 ghost use Rattle.std.specs.Prelude.{◌≡◌, All, OnOk};
 ghost use Rattle.ldm_layout.specs.Parts.{EndsInRange};
+ghost use Rattle.ldm_rules.specs.Disjoint.{AllLaidOut};
 ghost use Rattle.ldm_rules.specs.Table.{ChecksAs, first_fault, first_broken_rule, name_rules, tree_rules, sector_rules};
 ghost use Rattle.ldm_rules.specs.declared.fault.RuleError.TheVariants.{Fault};
 
@@ -92,6 +93,7 @@ fn check_sectors(alloc: Global, db: &Db, labels: &Labels) -> Result<(), RuleErro
 pub fn check(alloc: Global, db: &Db, labels: &Labels) -> Result<(), RuleError>
     ensures is { ChecksAs result (first_broken_rule db.now.records labels.now) }
     ensures ends { OnOk result (All EndsInRange db.now.records) }
+    ensures laid_out { OnOk result (AllLaidOut db.now.records) }
 {
     check_names(alloc, db)?;
     check_tree(alloc, db)?;

@@ -11,6 +11,7 @@ returns-clause-sound c =
       one_note = c.requires.one_note;
       sound = sound_of c.in-Some.newest.db c.args.labels c.in_ok-check_group.ensures.is;
       ends = c.in_ok-check_group.ensures.ends;
+      laid_out = c.in_ok-check_group.ensures.laid_out;
       room = room.room;
       each = room.each;
       blocked_is = c.blocked-blocked.ensures ∙ ap (λ (labels : List Label). blocked_in c.in-Some.newest.db labels) c.as_slice.ensures;

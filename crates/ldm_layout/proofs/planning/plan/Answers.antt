@@ -1,6 +1,5 @@
-use Rattle.std.proofs.Common.{◌≡◌, ◌==◌, ℕ, true, List, Option, Some, Ok, IfSome, Result, rules, ap, sym, subst, ◌∙◌}
-use Rattle.std.specs.List.{All, list_any}
-use Rattle.ldm_records.specs.declared.types.Record.{Record}
+use Rattle.std.proofs.Common.{◌≡◌, ℕ, true, Option, Some, IfSome, Result, rules, sym, subst}
+use Rattle.std.specs.List.{All}
 use Rattle.ldm_records.specs.declared.types.Volume.{Volume}
 use Rattle.ldm_layout.proofs.DraftLaws.{extents_end, plan_size}
 use Rattle.ldm_layout.proofs.ListLaws.{layout_is, lists_end}

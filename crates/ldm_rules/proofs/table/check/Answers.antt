@@ -1,5 +1,6 @@
 use Rattle.std.proofs.Common.{rules, ◌≡◌, ◌∙◌, ◌++◌, Err, sym, subst}
 use Rattle.ldm_rules.specs.Table.{ChecksAs, first_broken_rule, first_fault, name_rules, tree_rules, sector_rules}
+use Rattle.ldm_rules.proofs.SoundLaws.{checked_layouts}
 use Rattle.ldm_rules.proofs.TableLaws.{failed, in_rest}
 use Rattle.ldm_rules.proofs.table.check.Goals as goal
 
@@ -28,3 +29,6 @@ returns-clause-is c =
     let skipped = in_rest (name_rules c.args.db.now.records) rest c.in_ok-check_names.ensures
     ∙ in_rest (tree_rules c.args.db.now.records) (sector_rules c.args.db.now.records c.args.labels.now) c.in_ok-check_tree.ensures in
     subst (ChecksAs c.check_sectors.result) (sym skipped) c.check_sectors.ensures.is
+
+pub returns-clause-laid_out : goal.returns-clause-laid_out
+returns-clause-laid_out c = checked_layouts c.args.db.now.records c.args.labels.now c.check_sectors.result (returns-clause-is c)
