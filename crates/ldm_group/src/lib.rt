@@ -1,6 +1,7 @@
 //! The database of a group: a header and the records of its disks, volumes, components and partitions.
 //!
-//! The records stand in rising order of kind and id. The look-ups walk them and take no memory.
+//! The records stand in rising order of kind and id. The look-up by id is by halves,
+//! the others walk. They take no memory.
 #![tactic(auto)]
 
 mod db;

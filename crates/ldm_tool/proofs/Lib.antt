@@ -1,4 +1,4 @@
 pub mod Saying
 pub mod OneAnswer
 pub mod Files
-pub mod Named
+pub mod PlanLaws

@@ -1,8 +1,7 @@
 //! What is said of the sectors of a volume.
-ghost use Rattle.std.specs.Prelude.{◌≡◌, IfOk, Contains, Ok, All, ◌<◌, ◌^◌};
+ghost use Rattle.std.specs.Prelude.{◌≡◌, IfOk, Contains, Some, Ok};
 ghost use Rattle.ldm_records.specs.declared.types.Record.TheVariants as kinds;
-ghost use Rattle.ldm_group.specs.Order.{Rising};
-ghost use Rattle.ldm_layout.specs.Volumes.{layout_of};
+ghost use Rattle.ldm_layout.specs.Volumes.{layout_of, volume_with};
 ghost use Rattle.ldm_found.specs.Facts.{IsSoundGroup};
 ghost use Rattle.ldm_tool.specs.Runs.{HasAnswer};
 ghost use Rattle.ldm_tool.specs.Mapping.{is_bad_range, map_answer};
@@ -25,10 +24,10 @@ fn is_bad_range(size: u64, first: u64, count: u64) -> bool
 fn plan_of(alloc: Global, found: &Found, volume: &Volume) -> Result<Plan, NoMemory>
     requires sound { IsSoundGroup found.now }
     requires there { Contains found.now.db.records (kinds.Volume volume.now) }
-    ensures { IfOk result (λ plan. layout_of found.now.db.records volume.now ≡ Ok plan) }
+    requires again { volume_with volume.now.head.id found.now.db.records ≡ Some volume.now }
+    ensures is { IfOk result (λ plan. layout_of found.now.db.records volume.now ≡ Ok plan) }
+    ensures size { IfOk result (λ plan. plan.size ≡ volume.now.size) }
 {
-    let _records = found.db.as_slice();
-    let _labels = found.labels.as_slice();
     match plan(alloc, &found.db, volume.head.id) {
         Ok(plan) => Ok(plan),
         Err(LayoutError::NoMemory) => Err(NoMemory),
