@@ -1,5 +1,5 @@
 -- Copies that hold the same groups give answers that tell the same.
-use Rattle.std.proofs.Common.{◌≡◌, ℕ, suc, Bool, true, false, List, [], ◌∷◌, Option, Some, None, zero, Result, Ok, Err, refl, sym, ap, subst, ◌∙◌}
+use Rattle.std.proofs.Common.{◌≡◌, ℕ, suc, Bool, true, false, List, [], ◌∷◌, Option, Some, None, zero, Result, Err, refl, sym, ap, subst, ◌∙◌}
 use Rattle.std.specs.Prelude.{map, nat_lt, if◌then◌else◌}
 use Rattle.ldm_group.specs.Database.{Database, Core, IsSameCore}
 use Rattle.ldm_label.specs.declared.Label.{Label}

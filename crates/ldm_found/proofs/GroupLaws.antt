@@ -20,7 +20,7 @@ use Rattle.ldm_found.specs.declared.copies.Newest.{Newest}
 use Rattle.ldm_found.specs.declared.copies.Copies.{Copies}
 use Rattle.ldm_rules.specs.Table.{first_broken_rule, IsSound}
 use Rattle.ldm_found.specs.Editing.{first_of}
-use Rattle.ldm_found.specs.Gathers.{Gathers, IsFirst}
+use Rattle.ldm_found.specs.Gathers.{Gathers}
 use Rattle.ldm_found.specs.Labels.{IsLabelOf, twins, stranger}
 use Rattle.ldm_found.specs.Copies.{IsCopyIn, newest, Disagrees, note_of}
 use Rattle.ldm_found.specs.Opening.{group_faults, group_at, IsNewestGroup, IsGroupOfCopies, IsGroupOfDisks, IsGroupOfLabels, IsGroupIn}

@@ -1,6 +1,5 @@
 -- What looking for the group answers.
 use Rattle.std.specs.Prelude.{Result, Ok, Err, List, ℕ}
-use Rattle.ldm_found.specs.declared.fault.OpenFault.{OpenFault}
 use Rattle.ldm_found.specs.declared.fault.OpenError.{OpenError}
 use Rattle.ldm_found.specs.declared.fault.OpenError.TheVariants.{Fault, Disk, NoMemory}
 use Rattle.ldm_found.specs.declared.found.Found.{Found}

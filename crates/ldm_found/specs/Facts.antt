@@ -1,5 +1,5 @@
 -- What holds of a group that was found, whatever the host tells.
-use Rattle.std.specs.Prelude.{◌≡◌, ℕ, ◌<◌, ◌≤◌, List, All, length, slice_index, slice_get, Some}
+use Rattle.std.specs.Prelude.{◌≡◌, ℕ, ◌≤◌, List, All, length, slice_index, slice_get, Some}
 use Rattle.ldm_group.specs.Room.{need_of, room_of, IsFitting}
 use Rattle.ldm_label.specs.declared.Label.{Label}
 use Rattle.ldm_label.specs.LabelOf.{Fits}

@@ -1,5 +1,5 @@
 -- The text that says where the sectors of a volume lie.
-use Rattle.std.specs.Prelude.{ℕ, ◌+◌, List, [], ◌++◌, flat_map, codes, decimal, Option, Some, None, find}
+use Rattle.std.specs.Prelude.{ℕ, ◌+◌, List, [], ◌++◌, flat_map, codes, decimal, Option, Some, None}
 use Rattle.std.specs.List.{range_with_len}
 use Rattle.std.specs.Option.{option_map}
 use Rattle.ldm_records.specs.declared.types.Record.{Record}

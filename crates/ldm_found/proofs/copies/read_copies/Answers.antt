@@ -1,4 +1,4 @@
-use Rattle.std.proofs.Common.{◌≡◌, ◌+◌, ◌<◌, length, length-append, ◌∙◌, ap, arith}
+use Rattle.std.proofs.Common.{◌≡◌, length, length-append, ap, arith}
 use Rattle.ldm_host.proofs.Relations.{still_trans, quiet_trans}
 use Rattle.ldm_found.specs.declared.notes.Note.{Note}
 use Rattle.ldm_found.proofs.CopyLaws.{copies_next, copies_all, copies_passed, copy_fault}

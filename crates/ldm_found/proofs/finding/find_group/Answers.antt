@@ -1,4 +1,3 @@
-use Rattle.std.proofs.Common.{List, subst}
 use Rattle.ldm_host.proofs.Relations.{still_trans}
 use Rattle.ldm_found.proofs.GroupLaws.{one_group, finds, lies_on}
 use Rattle.ldm_found.proofs.finding.find_group.Goals as goal
