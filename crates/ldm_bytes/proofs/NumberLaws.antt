@@ -1,12 +1,12 @@
 -- A number that is read is spelled so, and one that is spelled is read.
-use Rattle.std.proofs.Common.{◌≡◌, ℕ, suc, get_or, ◌+◌, ◌^◌, ◌<◌, ◌≤◌, Bool, true, false, cond, ltb, List, [], ◌∷◌, ◌++◌, ◌-◌, length, take, drop, Option, Some, None, refl, sym, ap, subst, ◌∙◌, append_assoc, arith, inl, inr, set}
+use Rattle.std.proofs.Common.{◌≡◌, ℕ, suc, get_or, ◌+◌, ◌^◌, ◌<◌, ◌≤◌, Bool, true, false, cond, ltb, List, [], ◌∷◌, ◌++◌, ◌-◌, length, take, drop, Option, Some, None, refl, sym, ap, ◌∙◌, append_assoc, arith, inl, inr, set}
 use Rattle.std.proofs.Math.Nat.{pow-le-pow_right}
 use Rattle.std.proofs.lemmas.Bool.{ltb-false, le-ltb, lt-ltb, cases_lt}
-use Rattle.std.proofs.lemmas.List.{take_at, drop_at, take-append-drop, length-append, length-take, length-drop, take_rest, drop-drop, append-nil, take_more_set, drop-set-lt, length-set, get_or-drop}
+use Rattle.std.proofs.lemmas.List.{take_at, drop_at, take-append-drop, length-append, length-take, length-drop, take_rest, drop-drop, append-nil, take_more_set, drop-set-lt, get_or-drop}
 use Rattle.byteorder.specs.Endian.{big_number, big_bytes}
 use Rattle.byteorder.specs.Numbers.{big_from-append, big_number-reads_back, length-bytes_high_first, big_from-take, big_from-lt}
 use Rattle.ldm_bytes.specs.Places.{put}
-use Rattle.ldm_bytes.specs.Numbers.{IsNumber, IsText, width, own_number, number_at, text_at}
+use Rattle.ldm_bytes.specs.Numbers.{IsNumber, width, own_number, number_at, text_at}
 
 -- a test that did not fail
 pub guard_some : {A : Type 0} (b : Bool) (x : Option A) (y : A) → cond b None x ≡ Some y → (b ≡ false) × (x ≡ Some y)
@@ -85,12 +85,6 @@ pub number_only : (bytes : List ℕ) (at : ℕ) (read : Option (ℕ × List ℕ)
     → (v : ℕ) (w z : List ℕ) → IsNumber v w → drop at bytes ≡ w ++ z → read ≡ Some (v, z)
 number_only bytes at read e v w z h d =
     sym e ∙ ap number_at (take_rest bytes at ∙ d) ∙ number_again v w z h
-
-pub nothing_past : (bytes : List ℕ) (at v : ℕ) (w z : List ℕ) → length bytes ≤ at → IsNumber v w → drop at bytes ≡ w ++ z → ⊥
-nothing_past bytes at v [] z le h d = h
-nothing_past bytes at v (n ∷ w) z le h d =
-    let len : length bytes - at ≡ length (w ++ z) + 1 = sym (length-drop at bytes) ∙ ap length d ∙ omega arith in
-    omega arith
 
 -- ---- the own spelling
 

@@ -1,5 +1,5 @@
 -- Bytes that were put into a list, and bytes and numbers read from it at plain offsets.
-use Rattle.std.proofs.Common.{◌≡◌, ◌⊎◌, inl, inr, ℕ, zero, suc, ◌+◌, ◌-◌, ◌*◌, ◌^◌, ◌<◌, ◌≤◌, List, ◌++◌, length, take, drop, get_or, slice_range, min, refl, sym, ◌∙◌, ap, arith, append_assoc, length-append, length-take, length-drop}
+use Rattle.std.proofs.Common.{◌≡◌, ◌⊎◌, inl, inr, ℕ, zero, suc, ◌+◌, ◌-◌, ◌*◌, ◌^◌, ◌<◌, ◌≤◌, List, ◌++◌, length, take, drop, get_or, slice_range, refl, sym, ◌∙◌, ap, arith, append_assoc, length-append, length-take, length-drop}
 use Rattle.std.proofs.lemmas.List.{get_or-take, get_or-drop, get_or_append_left, get_or-append_right, drop_at, take_at, drop-drop, take-append-drop}
 use Rattle.std.proofs.lemmas.Grind.{same_number_lists}
 use Rattle.byteorder.specs.Endian.{big_from, big_number, big_bytes}

@@ -1,5 +1,5 @@
 -- What the tables of contents that parse say together.
-use Rattle.std.proofs.Common.{◌≡◌, ℕ, zero, suc, ◌+◌, ◌<◌, ◌≤◌, Bool, true, false, cond, ◌&&◌, ◌||◌, List, [], ◌∷◌, length, get_or, drop, Option, Some, None, Result, Ok, Err, refl, sym, ◌∙◌, ap, arith, drop-cons, add-one}
+use Rattle.std.proofs.Common.{◌≡◌, ℕ, ◌+◌, ◌<◌, ◌≤◌, Bool, true, false, cond, ◌&&◌, ◌||◌, List, [], ◌∷◌, length, get_or, drop, Option, Some, None, Result, Ok, Err, refl, sym, ◌∙◌, ap, arith, drop-cons, add-one}
 use Rattle.std.specs.Prelude.{not, nat_eq, slice_get, unwrap_or}
 use Rattle.std.specs.List.{cons_option, filter_map, list_any}
 use Rattle.std.proofs.lemmas.Bool.{ne_eqb}
@@ -17,13 +17,6 @@ use Rattle.ldm_label.proofs.AnswerLaws.{ok_value}
 -- the places of the four tables of contents
 abbrev pub places : List ℕ
 places = 1 ∷ 2 ∷ 2045 ∷ 2046 ∷ []
-
-pub place_small : (i : ℕ) → get_or places i 0 < 2047
-place_small zero = omega arith
-place_small (suc zero) = omega arith
-place_small (suc (suc zero)) = omega arith
-place_small (suc (suc (suc zero))) = omega arith
-place_small (suc (suc (suc (suc i)))) = omega arith
 
 abbrev pub after : Result (Option Toc) LabelFault → (Option Toc → Result (Option Toc) LabelFault) → Result (Option Toc) LabelFault
 after (Ok next) more = more next

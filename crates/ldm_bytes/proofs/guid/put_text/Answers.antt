@@ -1,4 +1,4 @@
-use Rattle.std.proofs.Common.{◌≡◌, ◌≤◌, length, take, arith, min, length-take}
+use Rattle.std.proofs.Common.{arith, length-take}
 use Rattle.ldm_bytes.proofs.guid.put_text.Goals as goal
 
 pub copy_from_slice-requires : goal.copy_from_slice-requires

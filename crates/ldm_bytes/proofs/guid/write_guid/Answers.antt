@@ -1,6 +1,4 @@
-use Rattle.std.proofs.Common.{sym, ap, ◌∙◌, ◌++◌, ◌≡◌, drop, length, List, ℕ, arith}
-use Rattle.byteorder.specs.Endian.{big_bytes}
-use Rattle.ldm_bytes.specs.Guid.{own_guid}
+use Rattle.std.proofs.Common.{ap, ◌∙◌, ◌++◌, drop, length, List, ℕ, arith}
 use Rattle.ldm_bytes.proofs.GuidLaws.{own_len, own_is, guid_again}
 use Rattle.ldm_bytes.proofs.guid.write_guid.Goals as goal
 

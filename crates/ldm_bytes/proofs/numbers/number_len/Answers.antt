@@ -1,5 +1,5 @@
 use Rattle.std.proofs.Common.{arith}
-use Rattle.ldm_bytes.proofs.NumberLaws.{own_number-is_number, own_len, own_fewest}
+use Rattle.ldm_bytes.proofs.NumberLaws.{own_number-is_number, own_fewest}
 use Rattle.ldm_bytes.proofs.numbers.number_len.Goals as goal
 
 pub returns-clause-spells : goal.returns-clause-spells

@@ -1,4 +1,4 @@
-use Rattle.std.proofs.Common.{subst, set, take, drop, ◌≡◌, ◌+◌, ◌++◌, List, ℕ, arith}
+use Rattle.std.proofs.Common.{subst, set, ◌≡◌, ◌+◌, ℕ, arith}
 use Rattle.std.proofs.lemmas.List.{length-set}
 use Rattle.byteorder.specs.Endian.{big_bytes}
 use Rattle.ldm_bytes.specs.Places.{put}

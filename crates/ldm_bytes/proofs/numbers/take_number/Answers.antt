@@ -1,5 +1,5 @@
-use Rattle.std.proofs.Common.{◌≡◌, ◌+◌, ◌-◌, ◌<◌, List, ℕ, Option, Some, None, length, ap, ◌∙◌, arith, refl}
-use Rattle.ldm_bytes.proofs.NumberLaws.{number_place, number_only, nothing_past, next_place, pair_0, pair_1}
+use Rattle.std.proofs.Common.{◌≡◌, ◌+◌, ◌-◌, ℕ, length, ap, ◌∙◌, refl}
+use Rattle.ldm_bytes.proofs.NumberLaws.{number_place, number_only, next_place, pair_0, pair_1}
 use Rattle.ldm_bytes.proofs.numbers.take_number.Goals as goal
 
 pub returns-in_err-value-clause-only : goal.returns-in_err-value-clause-only

@@ -1,5 +1,5 @@
-use Rattle.std.proofs.Common.{◌≡◌, ◌+◌, ◌-◌, ◌≤◌, ◌∷◌, ◌++◌, List, ℕ, Option, Some, None, length, drop, ap, ◌∙◌, arith, sym, get_or, refl}
-use Rattle.ldm_bytes.proofs.NumberLaws.{text_place, text_only, text_small, next_place, pair_0, pair_1}
+use Rattle.std.proofs.Common.{◌≡◌, ◌+◌, ◌-◌, ◌∷◌, ◌++◌, List, ℕ, length, ap, ◌∙◌, arith, sym, refl}
+use Rattle.ldm_bytes.proofs.NumberLaws.{text_place, text_only, text_small, next_place, pair_1}
 use Rattle.ldm_bytes.proofs.numbers.take_text.Goals as goal
 
 pub returns-in_err-rest-clause-only : goal.returns-in_err-rest-clause-only
