@@ -1,6 +1,6 @@
 -- What the bytes of a header sector say of its values and of its carried bytes.
-use Rattle.std.proofs.Common.{◌≡◌, ◌⊎◌, inl, inr, ⊎_elim, ℕ, ◌+◌, ◌-◌, ◌*◌, ◌<◌, ◌≤◌, ◌/◌, ◌==◌, Bool, true, false, ◌&&◌, List, ◌++◌, length, take, drop, get_or, replicate, slice_range, Option, Some, None, refl, sym, ◌∙◌, ap, arith, cond}
-use Rattle.std.specs.Prelude.{not, is_some, nat_lt, bytes_eq, codes}
+use Rattle.std.proofs.Common.{◌≡◌, ◌⊎◌, inl, inr, ⊎_elim, ℕ, ◌+◌, ◌-◌, ◌*◌, ◌<◌, ◌≤◌, ◌==◌, Bool, true, false, ◌&&◌, List, length, get_or, replicate, slice_range, Option, Some, None, refl, sym, ◌∙◌, ap, arith, cond}
+use Rattle.std.specs.Prelude.{not, is_some, nat_lt}
 use Rattle.std.specs.List.{before_first}
 use Rattle.std.proofs.lemmas.List.{get_or-replicate}
 use Rattle.std.proofs.lemmas.Bool.{cases_lt}
@@ -10,7 +10,7 @@ use Rattle.ldm_bytes.specs.Places.{put}
 use Rattle.ldm_bytes.specs.Guid.{guid_of}
 use Rattle.ldm_bytes.proofs.PlaceLaws.{length-put, get_or-put_outside, get_or-put_inside, same_number_at, same_range}
 use Rattle.ldm_vmdb.specs.declared.header.VmdbFault.{VmdbFault}
-use Rattle.ldm_vmdb.specs.Sectors.{has_magic, has_version, has_block_size, has_first_block, is_settled, last_of, fits_area, group_guid, group_name, sequence_of, carried, is_vmdb}
+use Rattle.ldm_vmdb.specs.Sectors.{has_magic, has_version, has_block_size, has_first_block, is_settled, last_of, fits_area, group_guid, group_name, carried, is_vmdb}
 use Rattle.ldm_vmdb.specs.Headers.{vmdb_fault}
 
 -- two sectors with the same bytes below 0x75

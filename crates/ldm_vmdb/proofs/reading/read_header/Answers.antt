@@ -1,4 +1,4 @@
-use Rattle.std.proofs.Common.{length, arith}
+use Rattle.std.proofs.Common.{arith}
 use Rattle.ldm_vmdb.specs.Sectors.{last_of, sequence_of}
 use Rattle.ldm_vmdb.proofs.KeptLaws.{kept_of}
 use Rattle.ldm_vmdb.proofs.reading.read_header.Goals as goal

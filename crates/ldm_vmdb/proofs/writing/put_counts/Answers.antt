@@ -1,7 +1,7 @@
-use Rattle.std.proofs.Common.{◌≡◌, ◌+◌, ◌++◌, ◌≤◌, List, ℕ, length, ap, sym, ◌∙◌, arith}
+use Rattle.std.proofs.Common.{◌+◌, ◌++◌, List, ℕ, ap, ◌∙◌, arith}
 use Rattle.byteorder.specs.Endian.{big_bytes}
 use Rattle.ldm_bytes.specs.Places.{put}
-use Rattle.ldm_bytes.proofs.PlaceLaws.{put-put, length-put}
+use Rattle.ldm_bytes.proofs.PlaceLaws.{put-put}
 use Rattle.ldm_vmdb.proofs.writing.put_counts.Goals as goal
 
 pub returns : goal.returns

@@ -1,4 +1,4 @@
-use Rattle.std.proofs.Common.{◌≡◌, ◌+◌, ◌<◌, ◌^◌, ◌++◌, ◌∙◌, ap, sym, subst, List, ℕ, length, refl, arith}
+use Rattle.std.proofs.Common.{◌≡◌, ◌++◌, ◌∙◌, ap, List, ℕ, length, arith}
 use Rattle.byteorder.specs.Endian.{big_bytes}
 use Rattle.ldm_bytes.specs.Places.{put}
 use Rattle.ldm_bytes.proofs.PlaceLaws.{put-put, length-put}
