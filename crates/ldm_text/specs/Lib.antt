@@ -1,5 +1,4 @@
 pub mod Texts
-pub mod Names
 pub mod Records
 pub mod Opening
 pub mod Check

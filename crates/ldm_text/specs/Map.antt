@@ -11,7 +11,7 @@ use Rattle.ldm_layout.specs.declared.shape.Place.{Place}
 use Rattle.ldm_rules.specs.Ends.{label_with}
 use Rattle.ldm_found.specs.declared.found.Found.{Found}
 use Rattle.ldm_text.specs.declared.mapped.MappedDisk.{MappedDisk}
-use Rattle.ldm_text.specs.Names.{esc}
+use Rattle.ldm_words.specs.Names.{esc}
 
 -- ---- disks
 

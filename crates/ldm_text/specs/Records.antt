@@ -20,7 +20,7 @@ use Rattle.ldm_copy.specs.declared.answer.CopyState.{CopyState}
 use Rattle.ldm_copy.specs.declared.answer.CopyState.TheVariants.{Closed, Valid}
 use Rattle.ldm_copy.specs.declared.answer.CopyFault.{CopyFault}
 use Rattle.ldm_copy.specs.declared.answer.CopyFault.TheVariants as faults
-use Rattle.ldm_text.specs.Names.{hex_byte, esc}
+use Rattle.ldm_words.specs.Names.{hex_byte, esc}
 
 abbrev pub disk_type : DiskForm → List ℕ
 disk_type (disk_forms.V3 alt fixed) = codes "dsk3"

@@ -13,7 +13,7 @@ use Rattle.ldm_layout.specs.Parts.{plexes_of}
 use Rattle.ldm_layout.specs.Volumes.{shape_of}
 use Rattle.ldm_layout.specs.declared.shape.Shape.{Shape}
 use Rattle.ldm_layout.specs.declared.shape.Shape.TheVariants.{Span, Stripe, Mirror, Raid5}
-use Rattle.ldm_text.specs.Names.{esc}
+use Rattle.ldm_words.specs.Names.{esc}
 
 -- a word, and then ID NAME
 unfoldable pub text_of_head : List ℕ → Head → List ℕ

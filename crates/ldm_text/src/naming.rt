@@ -1,21 +1,16 @@
 ghost use Rattle.std.specs.Prelude.{◌≡◌, ◌<◌, ◌++◌, OnOk, codes, decimal};
 ghost use Rattle.ldm_bytes.specs.Guid.{own_guid};
-ghost use Rattle.ldm_text.specs.Names.{hex_digit, hex_byte, is_plain, esc_byte, esc};
+ghost use Rattle.ldm_words.specs.Names.{hex_digit, hex_byte, esc_byte, esc};
 
 use crate::growing::Text;
 use ldm_bytes::NoMemory;
+use ldm_words::is_plain;
 
 fn hex_digit(d: u8) -> u8
     requires { d < 16 }
     ensures { result ≡ hex_digit d }
 {
     if d < 10 { 48 + d } else { 87 + d }
-}
-
-fn is_plain(c: u8) -> bool
-    ensures { result ≡ is_plain c }
-{
-    c >= 0x21 && c <= 0x7E && c != b'\\'
 }
 
 /// Two lower-case hexadecimal digits.

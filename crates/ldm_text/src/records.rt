@@ -1,7 +1,7 @@
 ghost use Rattle.std.specs.Prelude.{◌≡◌, ◌++◌, OnOk, IfOk, flat_map, codes, decimal};
 ghost use Rattle.ldm_group.specs.Order.{id_of};
 ghost use Rattle.ldm_group.specs.Room.{own_len};
-ghost use Rattle.ldm_text.specs.Names.{esc};
+ghost use Rattle.ldm_words.specs.Names.{esc};
 ghost use Rattle.ldm_text.specs.Records.{type_of, name_of, text_of_record, text_of_header, text_of_copy};
 
 use crate::growing::Text;

@@ -1,3 +1,4 @@
 pub mod NumberLaws
 pub mod SpelledLaws
 pub mod JobLaws
+pub mod NameLaws

@@ -1,5 +1,5 @@
 -- How a NAME is written.
-use Rattle.std.specs.Prelude.{ℕ, ◌+◌, ◌*◌, ◌-◌, ◌==◌, ◌&&◌, ◌||◌, not, nat_le, Bool, List, [], ◌∷◌, length, codes, bytes_eq, if◌then◌else◌, Option, Some, None}
+use Rattle.std.specs.Prelude.{◌≡◌, ℕ, ◌+◌, ◌*◌, ◌-◌, ◌/◌, ◌%◌, ◌<◌, ◌≤◌, ◌==◌, ◌&&◌, ◌||◌, not, nat_le, nat_lt, Bool, List, [], ◌∷◌, All, length, flat_map, codes, bytes_eq, if◌then◌else◌, Option, Some, None}
 use Rattle.ldm_words.specs.Numbers.{is_digit}
 
 -- a lower-case hexadecimal digit, and its value
@@ -43,3 +43,25 @@ name_of word =
     if length word == 0 then None
     else if bytes_eq word (codes "\\e") then Some []
     else at_most 255 (spelled word)
+
+-- ---- how a name is said
+
+abbrev pub hex_digit : ℕ → ℕ
+hex_digit d = if nat_lt d 10 then 48 + d else 87 + d
+
+-- two lower-case hexadecimal digits
+abbrev pub hex_byte : ℕ → List ℕ
+hex_byte c = hex_digit (c / 16) ∷ hex_digit (c % 16) ∷ []
+
+-- a byte of a name: itself, or \xHH
+abbrev pub esc_byte : ℕ → List ℕ
+esc_byte c = if is_plain c then c ∷ [] else 92 ∷ 120 ∷ hex_byte c
+
+-- a name; the empty name is \e
+abbrev pub esc : List ℕ → List ℕ
+esc [] = codes "\\e"
+esc (c ∷ cs) = flat_map esc_byte (c ∷ cs)
+
+-- what is said of a name of up to 255 bytes is a word that reads as the name
+abbrev pub NamesReadBack : Type 0
+NamesReadBack = (name : List ℕ) → All (λ c. c < 256) name → length name ≤ 255 → name_of (esc name) ≡ Some name

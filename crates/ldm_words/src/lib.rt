@@ -6,5 +6,5 @@ mod name;
 mod number;
 
 pub use job::{Job, WordsError, image_count, read_words};
-pub use name::read_name;
+pub use name::{is_plain, read_name};
 pub use number::read_number;

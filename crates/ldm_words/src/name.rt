@@ -1,5 +1,5 @@
 ghost use Rattle.std.specs.Prelude.{◌≡◌, ◌<◌, ◌≤◌, IfOk, IfSome, IsTrue, length};
-ghost use Rattle.ldm_words.specs.Names.{name_of, spelled, is_plain, is_hex, hex_value, escaped};
+ghost use Rattle.ldm_words.specs.Names.{name_of, spelled, is_plain, is_hex, hex_value, escaped, NamesReadBack};
 ghost use Rattle.ldm_words.specs.Units.{unit_of};
 
 use crate::number::is_digit;
@@ -20,7 +20,8 @@ fn hex_value(c: u8) -> u8
     if c >= b'a' { c - b'a' + 10 } else { c - b'0' }
 }
 
-fn is_plain(c: u8) -> bool
+/// Whether a byte stands for itself in a name: 0x21 to 0x7E, but the backslash.
+pub fn is_plain(c: u8) -> bool
     ensures { result ≡ is_plain c }
 {
     c >= 0x21 && c <= 0x7E && c != b'\\'
@@ -68,9 +69,10 @@ fn spell(alloc: Global, word: &[u8]) -> Result<Option<Bytes>, NoMemory>
 }
 
 /// The name that the word is. `None` exactly where it is none.
-#[tactic(auto, unfolding(crate::specs::Names::name_of))]
+#[tactic(auto, using(crate::proofs::NameLaws::names_back), unfolding(crate::specs::Names::name_of))]
 pub fn read_name(alloc: Global, word: &[u8]) -> Result<Option<Bytes>, NoMemory>
-    ensures { IfOk result (λ name. name ≡ name_of word.now) }
+    ensures is { IfOk result (λ name. name ≡ name_of word.now) }
+    ensures back { NamesReadBack }
 {
     if word.is_empty() {
         return Ok(None);
