@@ -2,7 +2,10 @@
 //! They are examples for `ldm`.
 #![tactic(auto)]
 
+ghost use Rattle.std.specs.Prelude.{◌≡◌, ◌++◌, IfOk, codes, string_bytes};
+
 use ldm_vectors::usual_images;
+use std::alloc::Global;
 use std::process::ExitCode;
 use std::{env, fs};
 
@@ -15,11 +18,18 @@ fn folder_of(rt: &HostRuntime) -> Result<String, &'static str> {
     }
 }
 
+// The path of a file in the folder.
+fn path_of(alloc: Global, folder: &str, name: &str) -> Result<String, &'static str>
+    ensures { IfOk result (λ path. string_bytes path ≡ folder.now ++ (codes "/" ++ name.now)) }
+{
+    format!(in alloc; "{folder}/{name}").map_err(|_| "no memory")
+}
+
 // Writes the images into the folder, and says the name of each when it is written.
 fn write_images(rt: &HostRuntime, folder: &str) -> Result<(), &'static str> {
     let images = usual_images(rt.alloc()).map_err(|_| "no memory")?;
     for (name, image) in ["a.img", "b.img", "c.img"].iter().zip(images.iter()) {
-        let path = format!(in rt.alloc(); "{folder}/{name}").map_err(|_| "no memory")?;
+        let path = path_of(rt.alloc(), folder, name)?;
         fs::write(rt, path.as_str(), image.as_slice()).map_err(|_| "cannot write")?;
         println!(rt; "{name}").map_err(|_| "cannot write")?;
     }
@@ -35,3 +45,6 @@ fn main(rt: HostRuntime) -> ExitCode {
         }
     }
 }
+
+#[cfg(test)]
+mod tests;
