@@ -4,6 +4,7 @@
 
 ghost use Rattle.std.specs.Prelude.{◌≡◌, ◌++◌, IfOk, codes, string_bytes};
 
+use ldm_bytes::NoMemory;
 use ldm_vectors::usual_images;
 use std::alloc::Global;
 use std::process::ExitCode;
@@ -19,17 +20,17 @@ fn folder_of(rt: &HostRuntime) -> Result<String, &'static str> {
 }
 
 // The path of a file in the folder.
-fn path_of(alloc: Global, folder: &str, name: &str) -> Result<String, &'static str>
+fn path_of(alloc: Global, folder: &str, name: &str) -> Result<String, NoMemory>
     ensures { IfOk result (λ path. string_bytes path ≡ folder.now ++ (codes "/" ++ name.now)) }
 {
-    format!(in alloc; "{folder}/{name}").map_err(|_| "no memory")
+    Ok(format!(in alloc; "{folder}/{name}")?)
 }
 
 // Writes the images into the folder, and says the name of each when it is written.
 fn write_images(rt: &HostRuntime, folder: &str) -> Result<(), &'static str> {
     let images = usual_images(rt.alloc()).map_err(|_| "no memory")?;
     for (name, image) in ["a.img", "b.img", "c.img"].iter().zip(images.iter()) {
-        let path = path_of(rt.alloc(), folder, name)?;
+        let path = path_of(rt.alloc(), folder, name).map_err(|_| "no memory")?;
         fs::write(rt, path.as_str(), image.as_slice()).map_err(|_| "cannot write")?;
         println!(rt; "{name}").map_err(|_| "cannot write")?;
     }
