@@ -10,6 +10,3 @@ mod reading;
 
 pub use answer::{CopyError, CopyFault, CopyState};
 pub use reading::read_copy;
-
-#[cfg(test)]
-mod tests;

@@ -19,6 +19,3 @@ pub use finding::find_group;
 pub use found::Found;
 pub use laws::group_alone;
 pub use notes::{Note, Notes};
-
-#[cfg(test)]
-mod tests;

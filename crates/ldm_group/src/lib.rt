@@ -16,6 +16,3 @@ pub use db::Db;
 pub use error::DbError;
 pub use order::{id_of, kind_of};
 pub use records::Records;
-
-#[cfg(test)]
-mod tests;

@@ -91,6 +91,3 @@ impl From<Failed> for LabelError {
         LabelError::Disk
     }
 }
-
-#[cfg(test)]
-mod tests;

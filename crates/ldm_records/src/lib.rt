@@ -25,6 +25,3 @@ pub use pieces::{DiskForm, GroupForm, Head, Striping, TwoIds};
 pub use reading::read_record;
 pub use types::{Component, Disk, GroupRec, Partition, Record, Volume};
 pub use writing::{spelled_len, spelling};
-
-#[cfg(test)]
-mod tests;

@@ -19,6 +19,3 @@ mod table;
 pub use fault::{RuleError, RuleFault};
 pub use laws::places_are_disjoint;
 pub use table::check;
-
-#[cfg(test)]
-mod tests;

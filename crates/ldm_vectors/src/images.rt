@@ -181,6 +181,3 @@ pub fn sample_images(alloc: Global, disks: u8, last: u32) -> Result<Vec<Vec<u8>>
     }
     Ok(images)
 }
-
-#[cfg(test)]
-mod tests;

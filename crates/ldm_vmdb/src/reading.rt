@@ -149,6 +149,3 @@ pub fn read_header(
         raw: carried_of(sector),
     })
 }
-
-#[cfg(test)]
-mod tests;

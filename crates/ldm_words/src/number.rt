@@ -28,29 +28,3 @@ pub fn read_number(word: &[u8]) -> Option<u64>
     let text = str::from_utf8(word).ok()?;
     text.parse().ok()
 }
-
-#[cfg(test)]
-mod tests {
-    use super::*;
-    use std::test::Fail;
-
-    #[test]
-    fn reads_numbers(rt: HostRuntime) -> Result<(), Fail> {
-        let numbers = [
-            ("0", Some(0)),
-            ("2057", Some(2057)),
-            ("00000000000000000007", Some(7)),
-            ("18446744073709551615", Some(18446744073709551615)),
-            ("18446744073709551616", None),
-            ("000000000000000000007", None),
-            ("", None),
-            ("-1", None),
-            ("+1", None),
-            ("0x1", None),
-        ];
-        for (word, number) in numbers {
-            assert_eq!(rt; read_number(word.as_bytes()), number, "{word}");
-        }
-        Ok(())
-    }
-}

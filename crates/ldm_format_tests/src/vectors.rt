@@ -1,4 +1,4 @@
-use super::*;
+use ldm_vectors::sample_images;
 use std::test::Fail;
 
 type Row = (usize, &'static [u8]);

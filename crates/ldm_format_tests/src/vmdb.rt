@@ -1,6 +1,6 @@
-use super::*;
-use crate::{Counts, write_header};
-use ldm_bytes::{put_u16, put_u32, put_u64};
+use ldm_bytes::{put_bytes, put_u16, put_u32, put_u64};
+use ldm_vmdb::{Counts, VmdbError, VmdbFault, read_header, write_header};
+use std::alloc::Global;
 use std::test::Fail;
 
 // The header of a group `Dg0` with three disks at sequence 7.

@@ -1,0 +1,171 @@
+use crate::made::bytes_of;
+use ldm_host::{Host, MemoryHost};
+use ldm_label::LabelFault::*;
+use ldm_label::{Label, LabelError, LabelFault, read_label};
+use ldm_vectors::sample_images;
+use std::alloc::Global;
+use std::test::Fail;
+
+// The label of the first image of the sample group.
+const USUAL: Label = Label {
+    disk_guid: 0x1111_1111_1111_1111_1111_1111_1111_1111,
+    minor: 11,
+    data_start: 63,
+    data_size: 6081,
+    config_start: 6144,
+    area_start: 17,
+    area_sectors: 1481,
+    log_start: 1498,
+    log_sectors: 224,
+};
+
+// The sector of the master boot record, of a private header or of a table of contents.
+fn sector_of(name: &str) -> usize {
+    match name {
+        "P1" => 6,
+        "P2" => 8000,
+        "P3" => 8191,
+        "T1" => 6145,
+        "T2" => 6146,
+        "T3" => 8189,
+        "T4" => 8190,
+        _ => 0,
+    }
+}
+
+// Does a change SECTOR+OFFSET=BYTES, all in hexadecimal.
+fn change(alloc: Global, image: &mut [u8], text: &str) -> Result<(), Fail> {
+    let Some((place, digits)) = text.split_once('=') else {
+        return Err(Fail::from("no bytes"));
+    };
+    let Some((sector, offset)) = place.split_once('+') else {
+        return Err(Fail::from("no place"));
+    };
+    let offset = usize::from_str_radix(offset, 16).map_err(|_| Fail::from("no offset"))?;
+    let start = offset.saturating_add(512 * sector_of(sector));
+    let bytes = bytes_of(alloc, digits)?;
+    let end = start.saturating_add(bytes.len());
+    if start <= end && end <= image.len() && end - start == bytes.len() {
+        image[start..end].copy_from_slice(&bytes);
+    }
+    Ok(())
+}
+
+// A host that has the first image of the sample group, changed and cut to so many sectors. The calls
+// with these numbers fail.
+fn host_with(
+    alloc: Global,
+    changes: &str,
+    sectors: usize,
+    failing: &[u64],
+) -> Result<MemoryHost, Fail> {
+    let mut images = sample_images(alloc, 1, 64)?;
+    for image in images.iter_mut() {
+        for text in changes.split_whitespace() {
+            change(alloc, image, text)?;
+        }
+        image.truncate(sectors.saturating_mul(512));
+    }
+    let host = MemoryHost::new(alloc, images, Vec::new(alloc))?;
+    Ok(host.with_failures(Vec::from_slice(alloc, failing)?))
+}
+
+fn label_on(host: &mut MemoryHost) -> Result<Result<Label, LabelError>, Fail> {
+    if host.disks() == 0 {
+        return Err(Fail::from("no disk"));
+    }
+    Ok(read_label(host, 0))
+}
+
+fn label_with(
+    alloc: Global,
+    changes: &str,
+    sectors: usize,
+) -> Result<Result<Label, LabelError>, Fail> {
+    label_on(&mut host_with(alloc, changes, sectors, &[])?)
+}
+
+// The entry of an LDM disk is the fourth; copies that have a fault of their own, and tables that don't
+// parse, are ignored.
+const USUAL_ROWS: &str = "
+M+1c2=00 M+1f2=42
+P3+0=0000000000000000 P2+0=70
+P2+0f=0a P2+30=39
+P2+13a=01 P2+30=39
+P3+129=0000 P3+30=39
+P3+38=31 P3+0f=0c
+T1+7=6b T2+2a=73 T3+49=73
+T4+0=0000000000000000 T2+24=43 T3+46=4c";
+
+#[test]
+fn usual_labels(rt: HostRuntime) -> Result<(), Fail> {
+    for row in USUAL_ROWS.lines() {
+        assert_eq!(rt; label_with(rt.alloc(), row, 8192)?, Ok(USUAL), "{row}");
+    }
+    let other = "P1+30=41414141 P2+30=61616161 P3+30=61416141 P1+f=0c P2+f=0c P3+f=0c";
+    let want = Label {
+        disk_guid: 0xAAAA_1111_1111_1111_1111_1111_1111_1111,
+        minor: 12,
+        ..USUAL
+    };
+    assert_eq!(rt; label_with(rt.alloc(), other, 8192)?, Ok(want));
+    Ok(())
+}
+
+// Changes, and the first fault. Of several faults, the earlier comes; sums reach past 2^64.
+const FAULTS: [(&str, LabelFault); 24] = [
+    ("M+1fe=00", NoSignature),
+    ("M+1ff=00 M+1c2=00", NoSignature),
+    ("M+1c2=00 M+1c1=42 P1+0=70", NoLdmEntry),
+    ("P1+0=00 P1+d=03", NoPrivhead),
+    ("P1+f=0d P1+13a=01", Version),
+    ("P1+133=01 P1+129=0000", DatabaseSize),
+    ("P1+129=0000", Range),
+    ("P1+122=40 P1+30=67", Range),
+    ("P1+11b=ffffffffffffffff", Range),
+    ("P1+123=ffffffffffffffff", Range),
+    ("P1+122=00 P1+129=0006 P1+131=0006", Range),
+    ("P1+12b=fffffffffffff800", Range),
+    ("P1+38=31 P2+f=0c", Guid),
+    ("P2+f=0c P3+f=0c", PrivheadsDiffer(2)),
+    ("P2+12a=c0", PrivheadsDiffer(2)),
+    (
+        "P3+53=32 T1+0=74 T2+0=74 T3+0=74 T4+0=74",
+        PrivheadsDiffer(3),
+    ),
+    ("P2+0=70 P2+f=0c P3+f=0c", PrivheadsDiffer(3)),
+    ("T1+7=6b T2+2a=73 T3+49=73 T4+24=43", NoToc),
+    ("T2+35=12", TocsDiffer),
+    ("T1+3c=0000", TocsDiffer),
+    ("T1+0=00 T2+0=00 T3+0=00 T4+3c=0000", TocRange),
+    ("T1+0=00 T2+0=00 T3+0=00 T4+34=0238", TocRange),
+    ("T1+0=00 T2+0=00 T3+0=00 T4+2e=ffffffffffffffff", TocRange),
+    ("T1+0=00 T2+0=00 T3+0=00 T4+56=0721", TocRange),
+];
+
+#[test]
+fn first_faults(rt: HostRuntime) -> Result<(), Fail> {
+    for (changes, fault) in FAULTS {
+        let label = label_with(rt.alloc(), changes, 8192)?;
+        assert_eq!(rt; label, Err(LabelError::Fault(fault)), "{changes}");
+    }
+    for (sectors, fault) in [(0, Short), (6, Short), (7, Range), (8191, Range)] {
+        let label = label_with(rt.alloc(), "", sectors)?;
+        assert_eq!(rt; label, Err(LabelError::Fault(fault)), "{sectors} sectors");
+    }
+    Ok(())
+}
+
+// A label takes eight reads, and nothing is read behind the first fault.
+#[test]
+fn failing_disks(rt: HostRuntime) -> Result<(), Fail> {
+    for call in [1, 8] {
+        let mut host = host_with(rt.alloc(), "", 8192, &[call])?;
+        assert_eq!(rt; label_on(&mut host)?, Err(LabelError::Disk), "call {call}");
+    }
+    let mut host = host_with(rt.alloc(), "", 8192, &[9])?;
+    assert_eq!(rt; label_on(&mut host)?, Ok(USUAL));
+    let mut host = host_with(rt.alloc(), "M+1fe=00", 8192, &[2])?;
+    assert_eq!(rt; label_on(&mut host)?, Err(LabelError::Fault(NoSignature)));
+    Ok(())
+}

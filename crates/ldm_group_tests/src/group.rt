@@ -1,0 +1,57 @@
+use crate::made::database;
+use ldm_group::{DbError, id_of, kind_of};
+use std::test::Fail;
+
+// Records in no order. Names are the bytes 65 to 71; the volume of components is 6, and partitions lie in
+// component 7 on disk 2.
+const MIXED: &str =
+    "5.1.71.0.8.7.2 2.3.65.65 3.6.68.1.8 4.7.67.1.6 1.9.70 3.4.68.1.8 2.2.65.65 4.1.67.1.6 5.8.68.0.8.7.2";
+
+#[test]
+fn records_stand_in_order(rt: HostRuntime) -> Result<(), Fail> {
+    let alloc = rt.alloc();
+    let db = database(alloc, 64, MIXED)??;
+    let mut order = String::new(alloc);
+    for r in db.as_slice() {
+        order.push_str(format!(in alloc; " {}.{}", kind_of(r), id_of(r))?.as_str())?;
+    }
+    assert_eq!(rt; order.as_str(), " 1.9 2.2 2.3 3.4 3.6 4.1 4.7 5.1 5.8");
+    assert_eq!(rt; db.header().last, 64);
+    assert_eq!(rt; db.by_id(4, 7).map(|r| kind_of(r)), Some(4));
+    assert_eq!(rt; db.by_id(3, 7).map(|r| kind_of(r)), None);
+    assert_eq!(rt; db.volume_named(b"D").map(|v| v.head.id), Some(4));
+    assert_eq!(rt; db.volume_named(b"A").map(|v| v.head.id), None);
+    assert_eq!(rt; db.disk_named(b"A").map(|d| d.head.id), Some(2));
+    assert_eq!(rt; db.disk_named(b"D").map(|d| d.head.id), None);
+    assert_eq!(rt; db.disk_with(0x41).map(|d| d.head.id), Some(2));
+    assert_eq!(rt; db.disk_with(0x42).map(|d| d.head.id), None);
+    for (kind, id, children) in [(3, 6, 2), (4, 7, 2), (2, 2, 2), (2, 3, 0), (5, 7, 0)] {
+        assert_eq!(rt; db.children_of(kind, id), children, "kind {kind} id {id}");
+    }
+    assert_eq!(rt; db.max_id(), 9);
+    Ok(())
+}
+
+#[test]
+fn the_least_id_that_two_have(rt: HostRuntime) -> Result<(), Fail> {
+    let rows = [
+        ("2.2.65.1 2.2.66.2", 2, 2),
+        ("5.1.80 5.1.81 2.2.65.1 2.2.66.2", 2, 2),
+        ("2.3.65 2.2.66 2.3.67 2.2.68", 2, 2),
+        ("1.4.70 3.4.68 4.4.67 4.4.66", 4, 4),
+    ];
+    for (records, kind, id) in rows {
+        let made = database(rt.alloc(), 64, records)?;
+        assert_eq!(rt; made.err(), Some(DbError::SameId { kind, id }), "{records}");
+    }
+    Ok(())
+}
+
+#[test]
+fn same_groups(rt: HostRuntime) -> Result<(), Fail> {
+    let alloc = rt.alloc();
+    let db = database(alloc, 64, "1.1.70 2.2.65")??;
+    assert!(rt; db.same_core(&database(alloc, 64, "2.2.65 1.1.70")??));
+    assert!(rt; !db.same_core(&database(alloc, 68, "1.1.70 2.2.65")??));
+    Ok(())
+}

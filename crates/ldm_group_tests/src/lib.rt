@@ -1,0 +1,15 @@
+//! Tests of the crates of groups, of what no clause of theirs says.
+#![tactic(auto)]
+
+#[cfg(test)]
+mod copy;
+#[cfg(test)]
+mod found;
+#[cfg(test)]
+mod group;
+#[cfg(test)]
+mod made;
+#[cfg(test)]
+mod rules;
+#[cfg(test)]
+mod text;

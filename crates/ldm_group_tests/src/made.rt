@@ -1,0 +1,119 @@
+use ldm_bytes::{put_bytes, put_u16, put_u32, put_u64};
+use ldm_group::{Db, DbError};
+use ldm_host::MemoryHost;
+use ldm_records::{Record, RecordError, read_record};
+use ldm_vectors::sample_images;
+use ldm_vmdb::{Header, VmdbError, read_header};
+use std::alloc::Global;
+use std::test::Fail;
+
+// The header of a group `Dg0` at sequence 0.
+fn header(alloc: Global, last: u32) -> Result<Header, VmdbError> {
+    let mut sector = [0u8; 512];
+    put_bytes(&mut sector, 0, b"VMDB");
+    put_u32(&mut sector, 0x04, last);
+    put_u32(&mut sector, 0x08, 128);
+    put_u32(&mut sector, 0x0C, 512);
+    put_u16(&mut sector, 0x10, 1);
+    put_u16(&mut sector, 0x12, 4);
+    put_u16(&mut sector, 0x14, 10);
+    put_bytes(&mut sector, 0x16, b"Dg0");
+    put_bytes(&mut sector, 0x35, b"aaaaaaaa-aaaa-aaaa-aaaa-aaaaaaaaaaaa");
+    read_header(alloc, &sector, 1481)
+}
+
+// A start of 255 stands for 2^64 - 1, and 254 for 2^64 - 2.
+fn start_of(start: u8) -> u64 {
+    match start {
+        255 => 0xFFFF_FFFF_FFFF_FFFF,
+        254 => 0xFFFF_FFFF_FFFF_FFFE,
+        _ => u64::from(start),
+    }
+}
+
+// A kind, an id and a name of one byte. Then, of a disk: its GUID; of a volume: its children number and
+// size; of a component: its children number, volume and layout; of a partition: its start, size,
+// component, disk and offset.
+type Row = [u8; 8];
+
+fn record_of(alloc: Global, row: &Row) -> Result<Record, RecordError> {
+    let mut payload = [0u8; 76];
+    put_bytes(&mut payload, 8, &[1, row[1], 1, row[2]]);
+    let (code, len) = match row[0] {
+        1 => (0x45, 48),
+        2 => {
+            payload[27] = row[3];
+            (0x44, 49)
+        }
+        3 => {
+            put_bytes(&mut payload, 35, &[1, row[3]]);
+            put_bytes(&mut payload, 53, &[1, row[4]]);
+            (0x51, 68)
+        }
+        4 => {
+            payload[13] = row[5];
+            put_bytes(&mut payload, 18, &[1, row[3]]);
+            put_bytes(&mut payload, 36, &[1, row[4]]);
+            (0x32, 31)
+        }
+        _ => {
+            put_u64(&mut payload, 24, start_of(row[3]));
+            put_u64(&mut payload, 32, u64::from(row[7]));
+            put_bytes(&mut payload, 40, &[1, row[4], 1, row[5], 1, row[6]]);
+            (0x33, 38)
+        }
+    };
+    payload[3] = code;
+    payload[7] = len;
+    read_record(alloc, &payload)
+}
+
+// The row of a word: its numbers, with points between them, and zeros behind them.
+fn row_of(word: &str) -> Row {
+    let mut row = [0u8; 8];
+    for (place, digits) in row.iter_mut().zip(word.split('.')) {
+        *place = digits.parse().unwrap_or(0);
+    }
+    row
+}
+
+// The records of the words of a text.
+pub fn records_of(alloc: Global, text: &str) -> Result<Vec<Record>, Fail> {
+    let mut records = Vec::new(alloc);
+    for word in text.split_whitespace() {
+        records.push(record_of(alloc, &row_of(word))?)?;
+    }
+    Ok(records)
+}
+
+// The database of the records of a text.
+pub fn database(alloc: Global, last: u32, text: &str) -> Result<Result<Db, DbError>, Fail> {
+    let records = records_of(alloc, text)?;
+    Ok(Db::new(alloc, header(alloc, last)?, records))
+}
+
+// Where the config area begins, in bytes: at sector 17 of the database, which begins at sector 6144.
+const AREA: usize = 512 * (6144 + 17);
+
+// A host that has the first images of the sample group, with these bytes at these places of the config
+// areas of images. The calls with these numbers fail.
+pub fn host_with(
+    alloc: Global,
+    count: usize,
+    changes: &[(usize, usize, &[u8])],
+    failing: &[u64],
+) -> Result<MemoryHost, Fail> {
+    let mut images = sample_images(alloc, 3, 64)?;
+    images.truncate(count);
+    for (disk, place, bytes) in changes {
+        if let Some(image) = images.get_mut(*disk) {
+            let start = place.saturating_add(AREA);
+            let end = start.saturating_add(bytes.len());
+            if end <= image.len() && start <= end && end - start == bytes.len() {
+                image[start..end].copy_from_slice(bytes);
+            }
+        }
+    }
+    let host = MemoryHost::new(alloc, images, Vec::new(alloc))?;
+    Ok(host.with_failures(Vec::from_slice(alloc, failing)?))
+}
