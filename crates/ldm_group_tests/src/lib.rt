@@ -8,6 +8,8 @@ mod found;
 #[cfg(test)]
 mod group;
 #[cfg(test)]
+mod layout;
+#[cfg(test)]
 mod made;
 #[cfg(test)]
 mod rules;

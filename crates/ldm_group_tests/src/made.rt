@@ -32,37 +32,52 @@ fn start_of(start: u8) -> u64 {
 }
 
 // A kind, an id and a name of one byte. Then, of a disk: its GUID; of a volume: its children number and
-// size; of a component: its children number, volume and layout; of a partition: its start, size,
-// component, disk and offset.
-type Row = [u8; 8];
+// size; of a component: its children number, volume and layout, and its chunk and columns if the latter
+// isn't 0; of a partition: its start, size, component, disk and offset, and its index plus 1 if it has one.
+type Row = [u8; 9];
+
+// Puts the body of a component, and answers its flags and length.
+fn put_component(payload: &mut [u8; 76], row: &Row) -> (u8, u8) {
+    payload[13] = row[5];
+    put_bytes(payload, 18, &[1, row[3]]);
+    put_bytes(payload, 36, &[1, row[4]]);
+    if row[7] == 0 {
+        return (0, 31);
+    }
+    put_bytes(payload, 39, &[1, row[6], 1, row[7]]);
+    (0x10, 35)
+}
+
+// Puts the body of a partition, and answers its flags and length.
+fn put_partition(payload: &mut [u8; 76], row: &Row) -> (u8, u8) {
+    put_u64(payload, 24, start_of(row[3]));
+    put_u64(payload, 32, u64::from(row[7]));
+    put_bytes(payload, 40, &[1, row[4], 1, row[5], 1, row[6]]);
+    if row[8] == 0 {
+        return (0, 38);
+    }
+    put_bytes(payload, 46, &[1, row[8] - 1]);
+    (0x08, 40)
+}
 
 fn record_of(alloc: Global, row: &Row) -> Result<Record, RecordError> {
     let mut payload = [0u8; 76];
     put_bytes(&mut payload, 8, &[1, row[1], 1, row[2]]);
-    let (code, len) = match row[0] {
-        1 => (0x45, 48),
+    let (code, (flags, len)) = match row[0] {
+        1 => (0x45, (0, 48)),
         2 => {
             payload[27] = row[3];
-            (0x44, 49)
+            (0x44, (0, 49))
         }
         3 => {
             put_bytes(&mut payload, 35, &[1, row[3]]);
             put_bytes(&mut payload, 53, &[1, row[4]]);
-            (0x51, 68)
+            (0x51, (0, 68))
         }
-        4 => {
-            payload[13] = row[5];
-            put_bytes(&mut payload, 18, &[1, row[3]]);
-            put_bytes(&mut payload, 36, &[1, row[4]]);
-            (0x32, 31)
-        }
-        _ => {
-            put_u64(&mut payload, 24, start_of(row[3]));
-            put_u64(&mut payload, 32, u64::from(row[7]));
-            put_bytes(&mut payload, 40, &[1, row[4], 1, row[5], 1, row[6]]);
-            (0x33, 38)
-        }
+        4 => (0x32, put_component(&mut payload, row)),
+        _ => (0x33, put_partition(&mut payload, row)),
     };
+    payload[2] = flags;
     payload[3] = code;
     payload[7] = len;
     read_record(alloc, &payload)
@@ -70,7 +85,7 @@ fn record_of(alloc: Global, row: &Row) -> Result<Record, RecordError> {
 
 // The row of a word: its numbers, with points between them, and zeros behind them.
 fn row_of(word: &str) -> Row {
-    let mut row = [0u8; 8];
+    let mut row = [0u8; 9];
     for (place, digits) in row.iter_mut().zip(word.split('.')) {
         *place = digits.parse().unwrap_or(0);
     }
@@ -78,7 +93,7 @@ fn row_of(word: &str) -> Row {
 }
 
 // The records of the words of a text.
-pub fn records_of(alloc: Global, text: &str) -> Result<Vec<Record>, Fail> {
+fn records_of(alloc: Global, text: &str) -> Result<Vec<Record>, Fail> {
     let mut records = Vec::new(alloc);
     for word in text.split_whitespace() {
         records.push(record_of(alloc, &row_of(word))?)?;
