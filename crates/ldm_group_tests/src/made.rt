@@ -102,7 +102,7 @@ fn records_of(alloc: Global, text: &str) -> Result<Vec<Record>, Fail> {
 }
 
 // The database of the records of a text.
-pub fn database(alloc: Global, last: u32, text: &str) -> Result<Result<Db, DbError>, Fail> {
+pub(crate) fn database(alloc: Global, last: u32, text: &str) -> Result<Result<Db, DbError>, Fail> {
     let records = records_of(alloc, text)?;
     Ok(Db::new(alloc, header(alloc, last)?, records))
 }
@@ -112,7 +112,7 @@ const AREA: usize = 512 * (6144 + 17);
 
 // A host that has the first images of the sample group, with these bytes at these places of the config
 // areas of images. The calls with these numbers fail.
-pub fn host_with(
+pub(crate) fn host_with(
     alloc: Global,
     count: usize,
     changes: &[(usize, usize, &[u8])],
