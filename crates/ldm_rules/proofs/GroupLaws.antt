@@ -9,21 +9,11 @@ use Rattle.ldm_records.specs.declared.types.Record.TheVariants as kinds
 use Rattle.ldm_records.specs.declared.types.Partition.{Partition}
 use Rattle.ldm_group.specs.Order.{Rising, place_of, id_of}
 use Rattle.ldm_group.proofs.Rise.{tested}
-use Rattle.ldm_group.proofs.LookLaws.{one_record}
+use Rattle.ldm_group.proofs.LookLaws.{none_found, one_record}
 use Rattle.ldm_rules.specs.Rules.{is_other_meeting, meets_another, first_broken}
 
 same_partition : {p q : Partition} → kinds.Partition p ≡ kinds.Partition q → p ≡ q
 same_partition h = cc
-
--- nothing is found only where no element passes
-none_found : {X : Type 0} (test : X → Bool) (xs : List X) (k : ℕ) (d : X) → find test xs ≡ None → k < length xs → test (get_or xs k d) ≡ false
-none_found test [] k d e h = absurd (omega arith)
-none_found {X} test (x ∷ xs) k d e h = go (test x) refl e k h (λ j l f. none_found test xs j d f l)
-  where
-    go : (b : Bool) → test x ≡ b → cond b (Some x) (find test xs) ≡ None → (k : ℕ) → k < length (x ∷ xs) → ((j : ℕ) → j < length xs → find test xs ≡ None → test (get_or xs j d) ≡ false) → test (get_or (x ∷ xs) k d) ≡ false
-    go true t f k l rest = absurd cc
-    go false t f zero l rest = t
-    go false t f (suc k) l rest = rest k (omega arith) f
 
 map_none : {A B : Type 0} (f : A → B) (o : Option A) → option_map f o ≡ None → o ≡ None
 map_none f None h = refl

@@ -1,7 +1,7 @@
 ghost use Rattle.std.specs.Prelude.{◌≡◌, ◌==◌, ◌-◌, ◌^◌, ◌<◌, All, ℕ, nat_eq, find, option_copied, IfOk, OnOk, Some, None, unwrap_or, if◌then◌else◌};
 ghost use Rattle.std.specs.HashMap as hash;
 ghost use Rattle.std.specs.Option.{option_or};
-ghost use Rattle.ldm_layout.specs.Parts.{EndsInRange};
+ghost use Rattle.ldm_group.specs.Partitions.{EndsInRange};
 ghost use Rattle.ldm_rules.specs.Rules.{first_broken, passes_end};
 ghost use Rattle.ldm_rules.specs.Ends.{label_with, sectors_by, data_size};
 ghost use Rattle.ldm_rules.specs.Sizes.{first_size};

@@ -1,8 +1,8 @@
 ghost use Rattle.std.specs.Prelude.{◌≡◌, ◌==◌, ◌&&◌, ◌≤◌, ◌<◌, ◌+◌, ◌^◌, not, nat_lt, max, min, ℕ, List, All, AllPairs, IfOk, IsTrue, find, option_copied, length, IsPermutation};
 ghost use Rattle.std.specs.List.{filter_map, list_any, AllAdjacentBelow};
 ghost use Rattle.std.specs.List.Sorted.{IsNonDecreasingBy};
-ghost use Rattle.ldm_rules.specs.Rules.{first_broken, meets, is_other_meeting, meets_another};
-ghost use Rattle.ldm_layout.specs.Parts.{EndsInRange};
+ghost use Rattle.ldm_group.specs.Partitions.{EndsInRange, meets};
+ghost use Rattle.ldm_rules.specs.Rules.{first_broken, is_other_meeting, meets_another};
 ghost use Rattle.ldm_rules.specs.Spans.{span_of};
 
 use crate::found::id_in;
