@@ -1,5 +1,5 @@
 -- Where the sorted spans lie apart, no partition meets another.
-use Rattle.std.proofs.Common.{◌≡◌, ◌≢◌, ℕ, zero, suc, ◌+◌, ◌<◌, ◌≤◌, ◌==◌, ◌&&◌, not, max, min, inl, inr, Bool, true, false, cond, zero-add, List, [], ◌∷◌, length, get_or, refl, ap, sym, subst, ◌∙◌, arith, count_by, eq-eqb, nat_lt, Option, Some, None, find}
+use Rattle.std.proofs.Common.{◌≡◌, ◌≢◌, ℕ, ◌+◌, ◌<◌, ◌≤◌, ◌==◌, ◌&&◌, not, max, min, inl, inr, Bool, true, false, cond, zero-add, List, [], ◌∷◌, length, get_or, refl, ap, sym, subst, ◌∙◌, arith, count_by, eq-eqb, nat_lt, Option, Some, None}
 use Rattle.std.proofs.lemmas.Bool.{cases_lt, cases_eq, ltb-true, lt-ltb, eqb-true}
 use Rattle.std.proofs.lemmas.List.{get_or_default}
 use Rattle.std.proofs.lemmas.List.Sums.{sum_by-cons}
