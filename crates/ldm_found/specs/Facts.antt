@@ -3,7 +3,7 @@ use Rattle.std.specs.Prelude.{◌≡◌, ℕ, ◌≤◌, List, All, length, slic
 use Rattle.ldm_group.specs.Room.{need_of, room_of, IsFitting}
 use Rattle.ldm_label.specs.declared.Label.{Label}
 use Rattle.ldm_label.specs.LabelOf.{Fits}
-use Rattle.ldm_layout.specs.Parts.{EndsInRange}
+use Rattle.ldm_group.specs.Partitions.{EndsInRange}
 use Rattle.ldm_rules.specs.Disjoint.{AllLaidOut}
 use Rattle.ldm_rules.specs.Table.{IsSound}
 use Rattle.ldm_found.specs.declared.found.Found.{Found}

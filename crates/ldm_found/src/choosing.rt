@@ -1,5 +1,5 @@
 ghost use Rattle.std.specs.Prelude.{◌≡◌, length, position, is_none, All, IfOk, IfSome, OnOk};
-ghost use Rattle.ldm_layout.specs.Parts.{EndsInRange};
+ghost use Rattle.ldm_group.specs.Partitions.{EndsInRange};
 ghost use Rattle.ldm_rules.specs.Disjoint.{AllLaidOut};
 ghost use Rattle.ldm_found.specs.Labels.{stranger};
 ghost use Rattle.ldm_found.specs.Editing.{first_of};

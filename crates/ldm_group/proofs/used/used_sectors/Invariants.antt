@@ -1,7 +1,7 @@
 use Rattle.std.proofs.Common.{◌≡◌, ◌≤◌, ◌*◌, ◌^◌, ℕ, take, unwrap_or, nat_eq}
 use Rattle.std.specs.HashMap as hash
-use Rattle.ldm_text.specs.Show.{used_on}
-use Rattle.ldm_text.proofs.used.used_sectors.Given as goal
+use Rattle.ldm_group.specs.Partitions.{used_on}
+use Rattle.ldm_group.proofs.used.used_sectors.Given as goal
 
 abbrev pub invariant-loop-r : goal.invariant-loop-r
 invariant-loop-r l = record {
