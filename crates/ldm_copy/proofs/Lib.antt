@@ -7,3 +7,5 @@ pub mod AreaLaws
 pub mod SoundLaws
 pub mod AnswerLaws
 pub mod ReadLaws
+pub mod BodyLaws
+pub mod WrittenLaws

@@ -6,9 +6,11 @@
 
 mod answer;
 mod database;
+mod laws;
 mod reading;
 
 pub use answer::{CopyError, CopyFault, CopyState};
+pub use laws::bodies_are_copies;
 pub use reading::read_copy;
 
 #[cfg(test)]
