@@ -2,3 +2,6 @@ pub mod Rise
 pub mod LookLaws
 pub mod OrderLaws
 pub mod NeedLaws
+pub mod OneOrder
+pub mod KinLaws
+pub mod EqualLaws

@@ -2,3 +2,4 @@ pub mod Order
 pub mod Database
 pub mod Looks
 pub mod Room
+pub mod Partitions

@@ -1,6 +1,6 @@
 -- Looking through the records of a database. They stand in rising order of kind and id, so the first that
 -- is found of a kind has the least id.
-use Rattle.std.specs.Prelude.{ℕ, ◌==◌, ◌&&◌, ◌||◌, max, Bool, false, List, Option, Some, None, bytes_eq, count_by, find, fold}
+use Rattle.std.specs.Prelude.{◌≡◌, ℕ, ◌==◌, ◌&&◌, ◌||◌, max, Bool, false, List, Option, Some, None, bytes_eq, count_by, filter, find, fold}
 use Rattle.ldm_records.specs.declared.types.Record.{Record}
 use Rattle.ldm_records.specs.declared.types.Record.TheVariants as kinds
 use Rattle.ldm_records.specs.declared.types.Volume.{Volume}
@@ -57,3 +57,11 @@ children_of kind id records = count_by (is_child kind id) records
 -- the greatest id of all records, 0 where there are none
 abbrev pub max_id : List Record → ℕ
 max_id records = fold (λ top r. max top (id_of r)) 0 records
+
+-- the records of one kind, in rising id
+abbrev pub of_kind : ℕ → List Record → List Record
+of_kind kind records = filter (λ r. kind_of r == kind) records
+
+-- both have the same disk records
+abbrev pub HasSameDisks : List Record → List Record → Type 0
+HasSameDisks a b = of_kind 2 a ≡ of_kind 2 b

@@ -1,5 +1,5 @@
 -- How many blocks (VBLKs) the records of a database take, and how many its header leaves them.
-use Rattle.std.specs.Prelude.{ℕ, ◌-◌, ◌*◌, ◌/◌, ◌≤◌, List, length, sum_by}
+use Rattle.std.specs.Prelude.{ℕ, ◌-◌, ◌*◌, ◌/◌, ◌≤◌, List, All, length, sum_by}
 use Rattle.ldm_records.specs.declared.types.Record.{Record}
 use Rattle.ldm_records.specs.Plain.{own_spelling}
 use Rattle.ldm_records.specs.Views.{plain_of}
@@ -21,3 +21,8 @@ need_of records = sum_by (λ r. parts_of (own_len r)) records
 -- down: they are 4q - 4, and none where q is 0.
 abbrev pub room_of : ℕ → ℕ
 room_of last = 4 * (last / 4) - 4
+
+-- the own spellings take so many blocks at most, and each of them four at most
+pub record HasRoom (blocks : ℕ) (records : List Record) : Type 0 where
+  pub need : need_of records ≤ blocks
+  pub each : All IsFitting records

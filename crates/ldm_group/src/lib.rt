@@ -11,11 +11,14 @@ mod order;
 mod records;
 mod room;
 mod same;
+mod used;
 
 pub use db::Db;
 pub use error::DbError;
 pub use order::{id_of, kind_of};
 pub use records::Records;
+pub use room::own_len;
+pub use used::{used_of, used_sectors};
 
 #[cfg(test)]
 mod tests;
