@@ -1,7 +1,6 @@
 pub mod Counting
 pub mod FewBlocks
 pub mod RecordLaws
-pub mod OneOrder
 pub mod OneCopy
 pub mod AreaLaws
 pub mod SoundLaws

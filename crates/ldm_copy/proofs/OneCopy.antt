@@ -26,7 +26,7 @@ use Rattle.ldm_copy.specs.declared.answer.CopyFault.TheVariants.{Vmdb, Frag, Bad
 use Rattle.ldm_copy.specs.Records.{SpellRecords, IsFirstFault, HoldRecords, HoldBadRecord}
 use Rattle.ldm_copy.specs.Copy.{header_sector, blocks_in_use, HasHeader, IsCopyOf}
 use Rattle.ldm_copy.proofs.RecordLaws.{one_records, one_first, all_or_first}
-use Rattle.ldm_copy.proofs.OneOrder.{one_rising}
+use Rattle.ldm_group.proofs.OneOrder.{one_rising}
 
 -- ---- headers and databases
 

@@ -16,11 +16,10 @@ use Rattle.ldm_frags.specs.Joins.{Joins}
 use Rattle.ldm_records.specs.declared.types.Record.{Record}
 use Rattle.ldm_records.specs.Plain.{Spells}
 use Rattle.ldm_records.specs.Views.{plain_of}
-use Rattle.ldm_group.specs.Room.{own_len, need_of, room_of, IsFitting}
+use Rattle.ldm_group.specs.Room.{own_len, need_of, room_of, IsFitting, HasRoom}
 use Rattle.ldm_group.specs.Database.{Database}
 use Rattle.ldm_copy.specs.Records.{SpellRecords}
 use Rattle.ldm_copy.specs.Answers.{FitsArea}
-use Rattle.ldm_copy.specs.Steps.{IsWithin}
 use Rattle.ldm_copy.proofs.FewBlocks.{few_blocks, short_payloads}
 
 not_below : (a b : ℕ) → not (nat_lt a b) ≡ true → b ≤ a
@@ -70,27 +69,29 @@ each_fits (j ∷ list) (r ∷ records) spelled short zero d lt =
 each_fits (j ∷ list) (r ∷ records) spelled short (suc k) d lt = each_fits list records spelled.1 (λ i e lt. short (suc i) e (omega arith)) k d (omega arith)
 
 -- in another order they take as many
-within_ordered : (blocks : ℕ) (xs ys : List Record) → IsPermutation xs ys → need_of xs ≤ blocks → All IsFitting xs → IsWithin blocks ys
+within_ordered : (blocks : ℕ) (xs ys : List Record) → IsPermutation xs ys → need_of xs ≤ blocks → All IsFitting xs → HasRoom blocks ys
 within_ordered blocks xs ys same need each = record {
   need = subst (λ (n : ℕ). n ≤ blocks) (sym (sum_by-IsPermutation (λ r. parts_of (own_len r)) xs ys same)) need;
   each = All-permutation IsFitting xs ys same each;
 }
 
 pub records_within : (blocks : List ℕ) (list : List Joined) (records ordered : List Record) → Joins blocks list → SpellRecords list records → IsPermutation records ordered
-    → IsWithin (count blocks) ordered
+    → HasRoom (count blocks) ordered
 records_within blocks list records ordered joins spelled same =
     within_ordered (count blocks) records ordered same (omega (arith, need_spelled list records spelled, few_blocks blocks list joins))
     (each_fits list records spelled (short_payloads blocks list joins))
 
 -- the database of these blocks fits the area
 pub fits_area_of : (sectors : ℕ) (header : Header) (blocks : List ℕ) (db : Database) → db.header ≡ header → header.last ≤ 4 * sectors
-    → length blocks ≡ 512 * (header.last / 4) - 512 → IsWithin (count blocks) db.records → FitsArea db sectors
+    → length blocks ≡ 512 * (header.last / 4) - 512 → HasRoom (count blocks) db.records → FitsArea db sectors
 fits_area_of sectors header blocks db same last size within =
     let same_last : db.header.last ≡ header.last = ap (λ (h : Header). h.last) same in
     let need : need_of db.records ≤ length blocks / 128 = within.need in
     let room : length blocks / 128 ≡ 4 * (header.last / 4) - 4 = omega arith in
     record {
       last = subst (λ (n : ℕ). n ≤ 4 * sectors) (sym same_last) last;
-      room = subst (λ (n : ℕ). need_of db.records ≤ room_of n) (sym same_last) (omega arith);
-      each = within.each;
+      room = record {
+        need = subst (λ (n : ℕ). need_of db.records ≤ room_of n) (sym same_last) (omega arith);
+        each = within.each;
+      };
     }

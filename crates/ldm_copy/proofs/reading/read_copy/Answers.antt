@@ -75,7 +75,7 @@ returns-in_ok-database_of-in-Some-clause-sound g c =
     let small = rw c.in-Some.is at c.in_ok-open_header.ensures.last in
     let made = c.in_ok-database_of-in-Some.ensures.makes in
     fits_area_of c.args.label.now.area_sectors c.in-Some.header c.deref.result.now c.in_ok-database_of-in-Some.field-0 made.2.header_is small
-    (c.deref.ensures.len ∙ c.in_ok-blocks-in-Some.ensures.size) c.in_ok-database_of-in-Some.ensures.within
+    (c.deref.ensures.len ∙ c.in_ok-blocks-in-Some.ensures.size) c.in_ok-database_of-in-Some.ensures.room
 
 pub returns-in_err-first-clause-one : goal.returns-in_err-first-clause-one
 returns-in_err-first-clause-one g c a b = one_copy (config_area c.args.label.now (image (g.H.Host.seen c.args.host.now).content c.args.disk)) c.args.label.now.area_sectors a b
