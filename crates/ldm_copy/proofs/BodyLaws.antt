@@ -1,31 +1,29 @@
 -- An area that begins with a body is a valid copy.
-use Rattle.std.proofs.Common.{◌≡◌, ◌⊎◌, inl, inr, ℕ, zero, suc, ◌+◌, ◌*◌, ◌/◌, ◌-◌, ◌<◌, ◌≤◌, List, [], ◌∷◌, ◌++◌, length, take, drop, get_or, slice_index, slice_range, refl, sym, ap, subst, ◌∙◌, arith, Bool, true, false, Result, Ok, None, Some}
-use Rattle.std.specs.Prelude.{filter, map, ◌==◌, ◌||◌, nat_lt, if◌then◌else◌, replicate}
+use Rattle.std.proofs.Common.{◌≡◌, ℕ, zero, suc, ◌+◌, ◌*◌, ◌/◌, ◌<◌, ◌≤◌, List, [], ◌∷◌, ◌++◌, length, drop, get_or, slice_index, slice_range, refl, sym, ap, subst, ◌∙◌, arith, Bool, true, false, Ok}
+use Rattle.std.specs.Prelude.{filter, map, ◌==◌, ◌||◌, nat_lt, if◌then◌else◌}
 use Rattle.std.specs.List.{All}
 use Rattle.std.specs.List.Sorted.{IsPermutation}
 use Rattle.std.proofs.lemmas.List.{map-append}
 use Rattle.std.proofs.lemmas.List.Sorted.{IsPermutation-refl, IsPermutation-sym, IsPermutation-trans, IsPermutation-cons, IsPermutation-middle, IsPermutation-append_left, IsPermutation-map, All-permutation}
-use Rattle.std.proofs.lemmas.Bool.{cases_Bool, cases_lt}
 use Rattle.std.proofs.lemmas.Bool.Decides.{nat_tests}
 use Rattle.ldm_frags.specs.declared.faults.Joined.{Joined}
-use Rattle.ldm_frags.specs.Blocks.{count, numbers_from}
+use Rattle.ldm_frags.specs.Blocks.{count}
 use Rattle.ldm_frags.specs.Joins.{Joins}
-use Rattle.ldm_frags.specs.Written.{Placed, Holds, IsPlaced, slot, joined_of, joined_below, filled, parts_of}
+use Rattle.ldm_frags.specs.Written.{Placed, IsPlaced, slot, joined_of, joined_below}
 use Rattle.ldm_frags.proofs.Below.{flat_map_below}
 use Rattle.ldm_frags.proofs.HoldLaws.{holds_joins}
 use Rattle.ldm_records.specs.declared.types.Record.{Record}
-use Rattle.ldm_records.specs.Plain.{own_spelling, IsRecord, Spells}
+use Rattle.ldm_records.specs.Plain.{IsRecord}
 use Rattle.ldm_records.specs.Views.{plain_of}
 use Rattle.ldm_records.proofs.PlainLaws.{own_spells}
 use Rattle.std.proofs.lemmas.List.{length-drop}
-use Rattle.ldm_bytes.proofs.PlaceLaws.{same_range}
 use Rattle.ldm_vmdb.specs.Sectors.{last_of}
 use Rattle.ldm_vmdb.specs.Headers.{vmdb_fault, IsHeaderOf}
 use Rattle.ldm_group.specs.Order.{Rising}
-use Rattle.ldm_group.specs.Database.{Database, IsDatabaseOf}
-use Rattle.ldm_copy.specs.declared.answer.CopyState.TheVariants.{Closed, Valid}
+use Rattle.ldm_group.specs.Database.{Database}
+use Rattle.ldm_copy.specs.declared.answer.CopyState.TheVariants.{Valid}
 use Rattle.ldm_copy.specs.Records.{SpellRecords, HoldRecords}
-use Rattle.ldm_copy.specs.Copy.{header_sector, blocks_in_use, IsCopyOf, HasHeader}
+use Rattle.ldm_copy.specs.Copy.{header_sector, blocks_in_use, IsCopyOf}
 use Rattle.ldm_copy.specs.Body.{Stored, placed_of, Store, IsBody}
 
 abbrev key : Stored → ℕ

@@ -8,3 +8,4 @@ pub mod AnswerLaws
 pub mod ReadLaws
 pub mod BodyLaws
 pub mod WrittenLaws
+pub mod MadeLaws

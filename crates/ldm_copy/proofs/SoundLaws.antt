@@ -1,9 +1,11 @@
 -- What a header without a fault and records that were read take.
-use Rattle.std.proofs.Common.{◌≡◌, ℕ, ◌-◌, ◌*◌, ◌/◌, ◌≤◌, Bool, true, false, not, cond, zero, suc, List, [], ◌∷◌, length, Option, Some, None, refl, sym, ap, subst, arith}
-use Rattle.std.specs.Prelude.{nat_lt, sum_by, All}
+use Rattle.std.proofs.Common.{◌≡◌, ℕ, ◌-◌, ◌*◌, ◌/◌, ◌≤◌, Bool, true, false, not, cond, zero, suc, List, [], ◌∷◌, length, take, slice_index, Option, Some, None, refl, sym, ap, subst, ◌∙◌, arith}
+use Rattle.std.specs.Prelude.{nat_lt, sum_by, All, bytes_eq, codes}
 use Rattle.std.specs.List.Sorted.{IsPermutation}
 use Rattle.std.proofs.lemmas.Bool.Decides.{nat_tests}
+use Rattle.std.proofs.lemmas.List.{get_or-take}
 use Rattle.std.proofs.lemmas.List.Sums.{sum_by-cons}
+use Rattle.std.proofs.lemmas.Slice.Eq.{bytes_eq-Decides}
 use Rattle.std.proofs.lemmas.List.Sorted.{sum_by-IsPermutation, All-permutation}
 use Rattle.ldm_vmdb.specs.declared.header.Header.{Header}
 use Rattle.ldm_vmdb.specs.declared.header.VmdbFault.{VmdbFault}
@@ -41,6 +43,14 @@ last_fits sector sectors none =
     let f = passed (not (nat_lt (4 * sectors) (last_of sector))) _ _ e.1 in
     let inside : not (nat_lt (4 * sectors) (last_of sector)) ≡ true = f.0 in
     not_below (4 * sectors) (last_of sector) inside
+
+-- a sector without a fault begins with the letter V
+pub magic_of : (sector : List ℕ) (sectors : ℕ) → vmdb_fault sector sectors ≡ None → slice_index sector 0 ≡ 0x56
+unfolding vmdb_fault has_magic
+magic_of sector sectors none =
+    let magic : bytes_eq (take 4 sector) (codes "VMDB") ≡ true = (passed (has_magic sector) _ _ none).0 in
+    let text : take 4 sector ≡ codes "VMDB" = (bytes_eq-Decides (take 4 sector) (codes "VMDB")).0 magic in
+    sym (get_or-take 4 sector 0 0 (omega arith)) ∙ ap (λ (l : List ℕ). slice_index l 0) text
 
 -- ---- the own spellings take no more than the payloads
 

@@ -1,16 +1,17 @@
 -- The copy of a database as it is written: a header sector, whose first byte is the gate, and written blocks up to the last in
 -- use. Any places will do for the records, so what was read as a copy without a fault, each record in its own spelling, is a
 -- body too.
-use Rattle.std.specs.Prelude.{◌≡◌, ◌⊎◌, ℕ, ◌+◌, ◌*◌, ◌/◌, ◌<◌, ◌≤◌, List, map, length, drop, slice_index, Option, None, Ok}
+use Rattle.std.specs.Prelude.{◌≡◌, ◌⊎◌, ℕ, ◌+◌, ◌*◌, ◌/◌, ◌<◌, ◌≤◌, ◌==◌, List, map, length, drop, slice_index, count_by, None, Ok}
 use Rattle.std.specs.List.{All}
 use Rattle.std.specs.List.Sorted.{IsPermutation}
-use Rattle.ldm_vmdb.specs.Headers.{vmdb_fault, IsHeaderOf}
-use Rattle.ldm_frags.specs.Written.{Placed, Holds}
+use Rattle.ldm_vmdb.specs.Headers.{vmdb_fault, IsHeaderOf, written}
+use Rattle.ldm_vmdb.specs.declared.header.Counts.{Counts}
+use Rattle.ldm_frags.specs.Written.{Placed, Holds, in_order}
 use Rattle.ldm_records.specs.declared.types.Record.{Record}
 use Rattle.ldm_records.specs.Plain.{own_spelling, IsRecord}
 use Rattle.ldm_records.specs.Views.{plain_of}
 use Rattle.ldm_label.specs.declared.Label.{Label}
-use Rattle.ldm_group.specs.Order.{Rising}
+use Rattle.ldm_group.specs.Order.{kind_of, Rising}
 use Rattle.ldm_group.specs.Database.{Database}
 use Rattle.ldm_copy.specs.declared.answer.CopyState.TheVariants.{Closed, Valid}
 use Rattle.ldm_copy.specs.Copy.{header_sector, config_area, gate_at, IsCopyOf}
@@ -44,6 +45,35 @@ pub record IsBodyOf (db : Database) (body : List ℕ) : Type 0 where
   pub rising : Rising db.records
   pub low : 4 ≤ db.header.last
 
+-- a body of some database
+abbrev pub IsSomeBody : List ℕ → Type 0
+IsSomeBody body = (db : Database) × IsBodyOf db body
+
+-- ---- the body that is made of a database: its header with the counts of its records, and these in their order
+
+-- how many records are of a kind
+abbrev pub count_of : ℕ → List Record → ℕ
+count_of kind records = count_by (λ r. kind_of r == kind) records
+
+abbrev pub counts_of : List Record → Counts
+counts_of records = record {
+  volumes = count_of 3 records;
+  components = count_of 4 records;
+  partitions = count_of 5 records;
+  disks = count_of 2 records;
+}
+
+-- the own spellings of the records
+abbrev pub spellings : List Record → List (List ℕ)
+spellings records = map (λ r. own_spelling (plain_of r)) records
+
+-- the header sector with the database's own sequence, and the records one after the other from block 4 on
+pub record IsMadeOf (db : Database) (body : List ℕ) : Type 0 where
+  pub header_is : header_sector body ≡ written db.header db.header.seq (counts_of db.records)
+  pub blocks_are : Holds (drop 512 body) (in_order 4 (spellings db.records))
+
+-- ---- on a disk
+
 -- a body of the database, which the area that the label says has room for
 pub record IsBodyOn (db : Database) (label : Label) (body : List ℕ) : Type 0 where
   pub is : IsBody db body
@@ -51,8 +81,6 @@ pub record IsBodyOn (db : Database) (label : Label) (body : List ℕ) : Type 0 w
   pub low : 4 ≤ db.header.last
   pub high : db.header.last ≤ 8192
   pub fits : db.header.last ≤ 4 * label.area_sectors
-
--- ---- on a disk
 
 -- the bytes of the body but the first stand behind the gate
 abbrev pub HasBody : Label → List ℕ → List ℕ → Type 0
