@@ -1,7 +1,9 @@
 -- The parts of an area, by their places on the disk.
-use Rattle.std.proofs.Common.{◌≡◌, ℕ, ◌+◌, ◌-◌, ◌*◌, ◌≤◌, List, take, drop, slice_index, slice_range, sym, ap, ◌∙◌, arith}
-use Rattle.std.proofs.lemmas.List.{take-take, drop-drop, drop-take, get_or-take, get_or-drop}
-use Rattle.ldm_copy.specs.Copy.{header_sector}
+use Rattle.std.proofs.Common.{◌≡◌, ℕ, ◌+◌, ◌-◌, ◌*◌, ◌<◌, ◌≤◌, List, length, take, drop, slice_index, slice_range, sym, ap, ◌∙◌, arith}
+use Rattle.std.proofs.lemmas.List.{take-take, drop-drop, drop-take, get_or-take, get_or-drop, length-take, length-drop}
+use Rattle.ldm_bytes.proofs.PlaceLaws.{same_range}
+use Rattle.ldm_label.specs.declared.Label.{Label}
+use Rattle.ldm_copy.specs.Copy.{header_sector, config_area, gate_at}
 
 -- a range of a range
 range_range : (xs : List ℕ) (a b from to : ℕ) → a + from ≤ b → a + to ≤ b → slice_range (slice_range xs a b) from to ≡ slice_range xs (a + from) (a + to)
@@ -27,3 +29,29 @@ blocks_there image start sectors q some within = sym (range_range image (512 * s
 -- the gate byte is the first of the header sector
 pub gate_there : (area : List ℕ) → slice_index (header_sector area) 0 ≡ slice_index area 0
 gate_there area = get_or-take 512 (drop 0 area) 0 0 (omega arith) ∙ get_or-drop 0 area 0 0
+
+-- ---- the area, by the bytes of its disk
+
+-- images of one length that agree in the area have one area
+pub area_same : (label : Label) (x y : List ℕ) → length x ≡ length y
+    → ((k : ℕ) → gate_at label ≤ k → k < gate_at label + 512 * label.area_sectors → slice_index x k ≡ slice_index y k) → config_area label x ≡ config_area label y
+area_same label x y size same =
+    let start = label.config_start + label.area_start in
+    same_range x y (512 * start) (512 * (start + label.area_sectors)) size (λ k from to. same k from (omega arith))
+
+-- the bytes of the area are those of the image
+pub area_byte : (label : Label) (image : List ℕ) (k : ℕ) → k < 512 * label.area_sectors → slice_index (config_area label image) k ≡ slice_index image (gate_at label + k)
+area_byte label image k lt =
+    let start = label.config_start + label.area_start in
+    let n : ℕ = 512 * (start + label.area_sectors) - 512 * start in
+    get_or-take n (drop (512 * start) image) k 0 (omega arith) ∙ get_or-drop (512 * start) image k 0
+
+-- the first byte of the area is the gate
+pub gate_of : (label : Label) (image : List ℕ) → 1 ≤ label.area_sectors → slice_index (config_area label image) 0 ≡ slice_index image (gate_at label)
+gate_of label image some = area_byte label image 0 (omega arith) ∙ ap (λ (k : ℕ). slice_index image k) (omega arith)
+
+-- the length of an area that lies on the image
+pub area_length : (label : Label) (image : List ℕ) → gate_at label + 512 * label.area_sectors ≤ length image → length (config_area label image) ≡ 512 * label.area_sectors
+area_length label image on =
+    let start = label.config_start + label.area_start in
+    omega (arith, on, length-take (512 * (start + label.area_sectors) - 512 * start) (drop (512 * start) image), length-drop (512 * start) image)

@@ -6,3 +6,6 @@ pub mod AreaLaws
 pub mod SoundLaws
 pub mod AnswerLaws
 pub mod ReadLaws
+pub mod BodyLaws
+pub mod WrittenLaws
+pub mod MadeLaws

@@ -1,9 +1,11 @@
 -- What a header without a fault and records that were read take.
-use Rattle.std.proofs.Common.{◌≡◌, ℕ, ◌-◌, ◌*◌, ◌/◌, ◌≤◌, Bool, true, false, not, cond, zero, suc, List, [], ◌∷◌, length, Option, Some, None, refl, sym, ap, subst, arith}
-use Rattle.std.specs.Prelude.{nat_lt, sum_by, All}
+use Rattle.std.proofs.Common.{◌≡◌, ℕ, ◌-◌, ◌*◌, ◌/◌, ◌≤◌, Bool, true, false, not, cond, zero, suc, List, [], ◌∷◌, length, take, slice_index, Option, Some, None, refl, sym, ap, subst, ◌∙◌, arith}
+use Rattle.std.specs.Prelude.{nat_lt, sum_by, All, bytes_eq, codes}
 use Rattle.std.specs.List.Sorted.{IsPermutation}
 use Rattle.std.proofs.lemmas.Bool.Decides.{nat_tests}
+use Rattle.std.proofs.lemmas.List.{get_or-take}
 use Rattle.std.proofs.lemmas.List.Sums.{sum_by-cons}
+use Rattle.std.proofs.lemmas.Slice.Eq.{bytes_eq-Decides}
 use Rattle.std.proofs.lemmas.List.Sorted.{sum_by-IsPermutation, All-permutation}
 use Rattle.ldm_vmdb.specs.declared.header.Header.{Header}
 use Rattle.ldm_vmdb.specs.declared.header.VmdbFault.{VmdbFault}
@@ -16,11 +18,10 @@ use Rattle.ldm_frags.specs.Joins.{Joins}
 use Rattle.ldm_records.specs.declared.types.Record.{Record}
 use Rattle.ldm_records.specs.Plain.{Spells}
 use Rattle.ldm_records.specs.Views.{plain_of}
-use Rattle.ldm_group.specs.Room.{own_len, need_of, room_of, IsFitting}
+use Rattle.ldm_group.specs.Room.{own_len, need_of, room_of, IsFitting, HasRoom}
 use Rattle.ldm_group.specs.Database.{Database}
 use Rattle.ldm_copy.specs.Records.{SpellRecords}
 use Rattle.ldm_copy.specs.Answers.{FitsArea}
-use Rattle.ldm_copy.specs.Steps.{IsWithin}
 use Rattle.ldm_copy.proofs.FewBlocks.{few_blocks, short_payloads}
 
 not_below : (a b : ℕ) → not (nat_lt a b) ≡ true → b ≤ a
@@ -42,6 +43,14 @@ last_fits sector sectors none =
     let f = passed (not (nat_lt (4 * sectors) (last_of sector))) _ _ e.1 in
     let inside : not (nat_lt (4 * sectors) (last_of sector)) ≡ true = f.0 in
     not_below (4 * sectors) (last_of sector) inside
+
+-- a sector without a fault begins with the letter V
+pub magic_of : (sector : List ℕ) (sectors : ℕ) → vmdb_fault sector sectors ≡ None → slice_index sector 0 ≡ 0x56
+unfolding vmdb_fault has_magic
+magic_of sector sectors none =
+    let magic : bytes_eq (take 4 sector) (codes "VMDB") ≡ true = (passed (has_magic sector) _ _ none).0 in
+    let text : take 4 sector ≡ codes "VMDB" = (bytes_eq-Decides (take 4 sector) (codes "VMDB")).0 magic in
+    sym (get_or-take 4 sector 0 0 (omega arith)) ∙ ap (λ (l : List ℕ). slice_index l 0) text
 
 -- ---- the own spellings take no more than the payloads
 
@@ -70,27 +79,29 @@ each_fits (j ∷ list) (r ∷ records) spelled short zero d lt =
 each_fits (j ∷ list) (r ∷ records) spelled short (suc k) d lt = each_fits list records spelled.1 (λ i e lt. short (suc i) e (omega arith)) k d (omega arith)
 
 -- in another order they take as many
-within_ordered : (blocks : ℕ) (xs ys : List Record) → IsPermutation xs ys → need_of xs ≤ blocks → All IsFitting xs → IsWithin blocks ys
+within_ordered : (blocks : ℕ) (xs ys : List Record) → IsPermutation xs ys → need_of xs ≤ blocks → All IsFitting xs → HasRoom blocks ys
 within_ordered blocks xs ys same need each = record {
   need = subst (λ (n : ℕ). n ≤ blocks) (sym (sum_by-IsPermutation (λ r. parts_of (own_len r)) xs ys same)) need;
   each = All-permutation IsFitting xs ys same each;
 }
 
 pub records_within : (blocks : List ℕ) (list : List Joined) (records ordered : List Record) → Joins blocks list → SpellRecords list records → IsPermutation records ordered
-    → IsWithin (count blocks) ordered
+    → HasRoom (count blocks) ordered
 records_within blocks list records ordered joins spelled same =
     within_ordered (count blocks) records ordered same (omega (arith, need_spelled list records spelled, few_blocks blocks list joins))
     (each_fits list records spelled (short_payloads blocks list joins))
 
 -- the database of these blocks fits the area
 pub fits_area_of : (sectors : ℕ) (header : Header) (blocks : List ℕ) (db : Database) → db.header ≡ header → header.last ≤ 4 * sectors
-    → length blocks ≡ 512 * (header.last / 4) - 512 → IsWithin (count blocks) db.records → FitsArea db sectors
+    → length blocks ≡ 512 * (header.last / 4) - 512 → HasRoom (count blocks) db.records → FitsArea db sectors
 fits_area_of sectors header blocks db same last size within =
     let same_last : db.header.last ≡ header.last = ap (λ (h : Header). h.last) same in
     let need : need_of db.records ≤ length blocks / 128 = within.need in
     let room : length blocks / 128 ≡ 4 * (header.last / 4) - 4 = omega arith in
     record {
       last = subst (λ (n : ℕ). n ≤ 4 * sectors) (sym same_last) last;
-      room = subst (λ (n : ℕ). need_of db.records ≤ room_of n) (sym same_last) (omega arith);
-      each = within.each;
+      room = record {
+        need = subst (λ (n : ℕ). need_of db.records ≤ room_of n) (sym same_last) (omega arith);
+        each = within.each;
+      };
     }

@@ -1,7 +1,7 @@
 -- What reading a copy answers.
-use Rattle.std.specs.Prelude.{◌≡◌, ℕ, ◌*◌, ◌≤◌, List, All, Result, Ok, Err}
+use Rattle.std.specs.Prelude.{◌≡◌, ℕ, ◌*◌, ◌≤◌, List, Result, Ok, Err}
 use Rattle.ldm_group.specs.Database.{Database}
-use Rattle.ldm_group.specs.Room.{need_of, room_of, IsFitting}
+use Rattle.ldm_group.specs.Room.{room_of, HasRoom}
 use Rattle.ldm_copy.specs.declared.answer.CopyState.{CopyState}
 use Rattle.ldm_copy.specs.declared.answer.CopyState.TheVariants.{Closed, Valid}
 use Rattle.ldm_copy.specs.declared.answer.CopyFault.{CopyFault}
@@ -23,12 +23,14 @@ Answers (Err (Fault fault)) copy = copy ≡ Err fault
 Answers (Err Disk) copy = Unit {0}
 Answers (Err NoMemory) copy = Unit {0}
 
--- the last VBLK sequence lies in an area of so many sectors, and the own spellings of the records in the blocks that it
--- leaves, at most four blocks each
+-- the records have room in the blocks that the header leaves them
+abbrev pub FitsHeader : Database → Type 0
+FitsHeader db = HasRoom (room_of db.header.last) db.records
+
+-- the last VBLK sequence lies in an area of so many sectors, and the records fit the header
 pub record FitsArea (db : Database) (sectors : ℕ) : Type 0 where
   pub last : db.header.last ≤ 4 * sectors
-  pub room : need_of db.records ≤ room_of db.header.last
-  pub each : All IsFitting db.records
+  pub room : FitsHeader db
 
 abbrev pub IsSoundState : ℕ → CopyState → Type 0
 IsSoundState sectors Closed = Unit {0}

@@ -15,6 +15,10 @@ use Rattle.ldm_copy.specs.declared.answer.CopyFault.{CopyFault}
 use Rattle.ldm_copy.specs.declared.answer.CopyFault.TheVariants.{Vmdb, Frag, BadRecord, SameId}
 use Rattle.ldm_copy.specs.Records.{HoldRecords, HoldBadRecord}
 
+-- the place on its disk of the first byte of the config area, which is the gate
+abbrev pub gate_at : Label → ℕ
+gate_at label = 512 * (label.config_start + label.area_start)
+
 -- the bytes of the config area that a label says
 abbrev pub config_area : Label → List ℕ → List ℕ
 config_area label image =

@@ -1,5 +1,6 @@
 pub mod Records
 pub mod Copy
+pub mod Body
 pub mod Answers
 pub mod Errors
 pub mod Steps

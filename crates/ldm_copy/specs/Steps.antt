@@ -1,5 +1,5 @@
 -- What the steps of reading a copy answer.
-use Rattle.std.specs.Prelude.{◌≡◌, ◌^◌, ◌<◌, ◌≤◌, ℕ, List, slice_index, Option, Some, None, Result, Ok, Err, All}
+use Rattle.std.specs.Prelude.{◌≡◌, ◌^◌, ◌<◌, ℕ, List, slice_index, Option, Some, None, Result, Ok, Err}
 use Rattle.std.specs.Global.{Vec}
 use Rattle.ldm_vmdb.specs.declared.header.Header.{Header}
 use Rattle.ldm_vmdb.specs.Headers.{vmdb_fault, IsHeaderOf}
@@ -10,7 +10,6 @@ use Rattle.ldm_records.specs.Plain.{Spells}
 use Rattle.ldm_records.specs.Views.{plain_of}
 use Rattle.ldm_group.specs.Order.{IsLeastTwice}
 use Rattle.ldm_group.specs.Database.{Database, IsDatabaseOf}
-use Rattle.ldm_group.specs.Room.{need_of, IsFitting}
 use Rattle.ldm_copy.specs.declared.answer.CopyFault.TheVariants.{Vmdb, Frag, BadRecord, SameId}
 use Rattle.ldm_copy.specs.declared.answer.CopyError.{CopyError}
 use Rattle.ldm_copy.specs.declared.answer.CopyError.TheVariants.{Fault, Disk, NoMemory}
@@ -46,11 +45,6 @@ MakesDatabase header blocks (Err (Fault (BadRecord block fault))) = HoldBadRecor
 MakesDatabase header blocks (Err (Fault (SameId kind id))) = (id < 2 ^ 64) × ((records : List Record) × HoldRecords blocks records × IsLeastTwice records kind id)
 MakesDatabase header blocks (Err NoMemory) = Unit {0}
 MakesDatabase header blocks (Err _) = ⊥
-
--- the own spellings of the records take so many blocks at most, and each of them four at most
-pub record IsWithin (blocks : ℕ) (records : List Record) : Type 0 where
-  pub need : need_of records ≤ blocks
-  pub each : All IsFitting records
 
 -- the error is no fault of the copy
 abbrev pub IsNoFault : CopyError → Type 0

@@ -1,6 +1,7 @@
 ghost use Rattle.std.specs.Prelude.{◌≡◌, ◌%◌, ◌*◌, ◌^◌, ◌<◌, ◌≤◌, length, IfOk, IfSome};
 ghost use Rattle.ldm_frags.specs.Blocks.{count};
-ghost use Rattle.ldm_copy.specs.Steps.{OpensHeader, ReadsRecord, ReadsRecords, MakesDatabase, IsWithin};
+ghost use Rattle.ldm_group.specs.Room.{HasRoom};
+ghost use Rattle.ldm_copy.specs.Steps.{OpensHeader, ReadsRecord, ReadsRecords, MakesDatabase};
 
 use crate::answer::{CopyError, CopyFault};
 use ldm_frags::{Joined, join};
@@ -66,7 +67,7 @@ pub fn database_of(alloc: Global, header: Header, blocks: &[u8]) -> Result<Db, C
     requires whole { length blocks.now % 128 ≡ 0 }
     requires small { length blocks.now ≤ 1048576 }
     ensures makes { MakesDatabase header blocks.now result }
-    ensures within { IfOk result (λ db. IsWithin (count blocks.now) db.records) }
+    ensures room { IfOk result (λ db. HasRoom (count blocks.now) db.records) }
 {
     let list = join(alloc, blocks)?;
     let records = records_of(alloc, &list)?;

@@ -5,8 +5,12 @@
 #![tactic(auto)]
 
 mod answer;
+mod body;
 mod database;
+mod laws;
 mod reading;
 
 pub use answer::{CopyError, CopyFault, CopyState};
+pub use body::{Body, body_of};
+pub use laws::bodies_are_copies;
 pub use reading::read_copy;

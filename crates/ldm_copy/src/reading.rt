@@ -63,6 +63,11 @@ pub fn read_copy<H: Host>(
         → IsCopyOf
         (config_area label.now (image (H.seen host.old).content disk)) label.now.area_sectors copy
         → Answers result copy }
+    // There is one copy at most.
+    ensures one { (a b : Result CopyState CopyFault)
+        → IsCopyOf (config_area label.now (image (H.seen host.old).content disk)) label.now.area_sectors a
+        → IsCopyOf (config_area label.now (image (H.seen host.old).content disk)) label.now.area_sectors b
+        → a ≡ b }
     // For every host, the database of a valid copy fits the area.
     ensures sound { IfOk result (λ state. IsSoundState label.now.area_sectors state) }
     ensures still { Still (H.seen host.old) (H.seen host.new) }

@@ -1,10 +1,10 @@
 -- The labels of all images.
-use Rattle.std.proofs.Common.{◌≡◌, ◌⊎◌, inl, inr, ⊎_elim, ℕ, zero, suc, ◌+◌, ◌-◌, ◌<◌, List, [], ◌∷◌, ◌++◌, length, get_or, drop, take, Option, Some, None, Result, Ok, Err, refl, sym, ap, subst, ◌∙◌, arith}
-use Rattle.std.specs.Prelude.{slice_get, slice_index, IsErrAnd}
-use Rattle.std.specs.Option.{option_map}
-use Rattle.std.proofs.Math.Seq.{drop-cons}
-use Rattle.std.proofs.lemmas.List.{take_all, length-drop}
-use Rattle.std.proofs.lemmas.Option.{none-some, same_Some}
+use Rattle.std.proofs.Common.{◌≡◌, ◌⊎◌, inl, inr, ⊎_elim, ℕ, zero, suc, ◌+◌, ◌-◌, ◌<◌, ◌≤◌, ◌==◌, Bool, true, false, List, [], ◌∷◌, ◌++◌, length, get_or, drop, take, Option, Some, None, Result, Ok, Err, refl, sym, ap, subst, ◌∙◌, arith}
+use Rattle.std.specs.Prelude.{position, slice_get, slice_index, IsErrAnd}
+use Rattle.std.proofs.lemmas.Bool.{cases_lt, cases_eq, eq-eqb, eqb-true, false≢true}
+use Rattle.std.proofs.lemmas.List.{take_all, length-drop, get_or-drop}
+use Rattle.std.proofs.lemmas.List.Quantifiers.{position-Some}
+use Rattle.std.proofs.lemmas.Option.{none-some, same_Some, slice_get_within, get_or_from_slice_get, slice_get-get_or}
 use Rattle.ldm_host.specs.Seen.{image}
 use Rattle.ldm_label.specs.declared.Label.{Label}
 use Rattle.ldm_label.specs.LabelOf.{Fits}
@@ -12,9 +12,10 @@ use Rattle.ldm_found.specs.declared.fault.OpenFault.TheVariants as faults
 use Rattle.ldm_found.specs.declared.fault.OpenError.{OpenError}
 use Rattle.ldm_found.specs.declared.fault.OpenError.TheVariants.{Fault, Disk, NoMemory}
 use Rattle.ldm_found.specs.Gathers.{Gathers}
-use Rattle.ldm_found.specs.Labels.{IsLabelOf, image_with, twins, twins_from}
+use Rattle.ldm_found.specs.Labels.{IsLabelOf, AreOneDisk, AreTwins}
 use Rattle.ldm_found.specs.Steps.{ReadsLabel, ReadsLabels}
 use Rattle.ldm_found.proofs.GatherLaws.{gather_ends}
+use Rattle.ldm_found.proofs.FirstLaws.{none_passes}
 
 -- ---- an element of a list with one more
 
@@ -36,42 +37,84 @@ fit_more labels sizes label disk at before here k other is =
 
 -- ---- images of one disk
 
--- two places behind so many labels
-abbrev pub shifted : ℕ → Option (ℕ × ℕ) → Option (ℕ × ℕ)
-shifted n pair = option_map (λ (p : ℕ × ℕ). (n + p.0, n + p.1)) pair
-
-shifted_next : (n : ℕ) (o : Option (ℕ × ℕ)) → shifted n (twins_from None o) ≡ shifted (n + 1) o
-shifted_next n None = refl
-shifted_next n (Some p) = let first : n + suc p.0 ≡ n + 1 + p.0 = omega arith in let second : n + suc p.1 ≡ n + 1 + p.1 = omega arith in cc
-
-twins_cons : (labels : List Label) (i : ℕ) (d : Label) → i < length labels
-    → twins (drop i labels) ≡ twins_from (image_with (get_or labels i d).disk_guid (drop (i + 1) labels)) (twins (drop (i + 1) labels))
-twins_cons labels i d lt =
-    let next : suc i ≡ i + 1 = omega arith in
-    ap twins (drop-cons labels i d lt) ∙ ap (λ (n : ℕ). twins_from (image_with (get_or labels i d).disk_guid (drop n labels)) (twins (drop n labels))) next
+-- no image before a place is of one disk with a later one
+abbrev pub NoneBefore : List Label → ℕ → Type 0
+NoneBefore labels place = (i j : ℕ) → i < place → AreOneDisk labels i j → ⊥
 
 -- the labels from a place on
 rest_all : (labels : List Label) (n : ℕ) → take (length labels - n) (drop n labels) ≡ drop n labels
 rest_all labels n = take_all (length labels - n) (drop n labels) (omega (arith, length-drop n labels))
 
--- no later image is of the disk of this one
-pub twins_next : (labels : List Label) (i : ℕ) (d : Label) → i < length labels → twins labels ≡ shifted i (twins (drop i labels))
-    → image_with (get_or labels i d).disk_guid (take (length labels - (i + 1)) (drop (i + 1) labels)) ≡ None → twins labels ≡ shifted (i + 1) (twins (drop (i + 1) labels))
-twins_next labels i d lt before none =
-    before ∙ ap (shifted i) (twins_cons labels i d lt)
-    ∙ ap (λ (o : Option ℕ). shifted i (twins_from o (twins (drop (i + 1) labels))))
-    (ap (image_with (get_or labels i d).disk_guid) (sym (rest_all labels (i + 1))) ∙ none) ∙ shifted_next i (twins (drop (i + 1) labels))
+module _ (labels : List Label) (i : ℕ) (d : Label) (lt : i < length labels) (before : NoneBefore labels i) where
+  abbrev here : Label → Bool
+  here label = label.disk_guid == (get_or labels i d).disk_guid
 
--- a later one is
-pub twins_here : (labels : List Label) (i j : ℕ) (d : Label) → i < length labels → twins labels ≡ shifted i (twins (drop i labels))
-    → image_with (get_or labels i d).disk_guid (take (length labels - (i + 1)) (drop (i + 1) labels)) ≡ Some j → twins labels ≡ Some (i, i + 1 + j)
-twins_here labels i j d lt before there =
-    let first : i + 0 ≡ i = omega arith in
-    let second : i + suc j ≡ i + 1 + j = omega arith in
-    let pair : ◌≡◌ {A = ℕ × ℕ} (i + 0, i + suc j) (i, i + 1 + j) = cc in
-    before ∙ ap (shifted i) (twins_cons labels i d lt)
-    ∙ ap (λ (o : Option ℕ). shifted i (twins_from o (twins (drop (i + 1) labels))))
-    (ap (image_with (get_or labels i d).disk_guid) (sym (rest_all labels (i + 1))) ∙ there) ∙ ap (λ (q : ℕ × ℕ). Some q) pair
+  -- a later image of this disk, as one behind this place
+  behind : (j : ℕ) → AreOneDisk labels i j → (j - (i + 1) < length (drop (i + 1) labels)) × (here (get_or (drop (i + 1) labels) (j - (i + 1)) d) ≡ true)
+  behind j one =
+      let order : i < j = one.order in
+      let within : j < length labels = slice_get_within labels j one.second one.second_is in
+      let first : get_or labels i d ≡ one.first = get_or_from_slice_get labels i one.first d one.first_is in
+      let place : i + 1 + (j - (i + 1)) ≡ j = omega arith in
+      let second : get_or (drop (i + 1) labels) (j - (i + 1)) d ≡ one.second =
+      get_or-drop (i + 1) labels (j - (i + 1)) d ∙ ap (λ (k : ℕ). get_or labels k d) place ∙ get_or_from_slice_get labels j one.second d one.second_is in
+      (omega (arith, length-drop (i + 1) labels), eq-eqb _ _ (ap (λ (l : Label). l.disk_guid) second ∙ sym one.same ∙ ap (λ (l : Label). l.disk_guid) (sym first)))
+
+  -- no later image is of the disk of this one
+  pub twins_next : position here (take (length labels - (i + 1)) (drop (i + 1) labels)) ≡ None → NoneBefore labels (i + 1)
+  twins_next none p q less one = elim (cases_eq p i) [
+    | inr ne ↦ before p q (omega arith) one
+    | inl same ↦
+        let at = behind q (subst (λ (n : ℕ). AreOneDisk labels n q) same one) in
+        false≢true (sym (none_passes here (drop (i + 1) labels) (ap (position here) (sym (rest_all labels (i + 1))) ∙ none) (q - (i + 1)) d at.0) ∙ at.1)
+  ]
+
+  -- a later one is
+  pub twins_here : (j : ℕ) → position here (take (length labels - (i + 1)) (drop (i + 1) labels)) ≡ Some j → AreTwins labels (Some (i, i + 1 + j))
+  twins_here j there =
+      let first = position-Some here (drop (i + 1) labels) j d (ap (position here) (sym (rest_all labels (i + 1))) ∙ there) in
+      let within : i + 1 + j < length labels = omega (arith, first.0, length-drop (i + 1) labels) in
+      let same : (get_or labels (i + 1 + j) d).disk_guid ≡ (get_or labels i d).disk_guid =
+      ap (λ (l : Label). l.disk_guid) (sym (get_or-drop (i + 1) labels j d)) ∙ eqb-true _ _ first.1 in (
+        record {
+          order = omega arith;
+          first = get_or labels i d;
+          first_is = slice_get-get_or labels i d lt;
+          second = get_or labels (i + 1 + j) d;
+          second_is = slice_get-get_or labels (i + 1 + j) d within;
+          same = sym same;
+        },
+        λ p q one. elim (cases_lt i p) [
+          | inl later ↦ inl later
+          | inr le ↦ elim (cases_eq p i) [
+            | inr ne ↦ absurd (before p q (omega arith) one)
+            | inl is ↦ elim (cases_lt q (i + 1 + j)) [
+              | inr ge ↦ inr (sym is, ge)
+              | inl less ↦
+                  let at = behind q (subst (λ (n : ℕ). AreOneDisk labels n q) is one) in
+                  let order : p < q = one.order in
+                  absurd (false≢true (sym (first.2 (q - (i + 1)) (omega arith)) ∙ at.1))
+            ]
+          ]
+        ],
+      )
+
+-- there is one first pair at most
+pub one_twins : (labels : List Label) (a b : Option (ℕ × ℕ)) → AreTwins labels a → AreTwins labels b → a ≡ b
+one_twins labels None None x y = refl
+one_twins labels None (Some q) x y = absurd (x q.0 q.1 y.0)
+one_twins labels (Some p) None x y = absurd (y p.0 p.1 x.0)
+one_twins labels (Some p) (Some q) x y =
+    let both = same_pair p.0 p.1 q.0 q.1 (x.1 q.0 q.1 y.0) (y.1 p.0 p.1 x.0) in
+    let first : p.0 ≡ q.0 = both.0 in
+    let second : p.1 ≡ q.1 = both.1 in
+    ap Some (λ k. (first k, second k))
+  where
+    same_pair : (a b c e : ℕ) → (a < c) ⊎ ((a ≡ c) × (b ≤ e)) → (c < a) ⊎ ((c ≡ a) × (e ≤ b)) → (a ≡ c) × (b ≡ e)
+    same_pair a b c e (inl x) (inl y) = absurd (omega arith)
+    same_pair a b c e (inl x) (inr y) = absurd (omega (arith, x, y.0))
+    same_pair a b c e (inr x) (inl y) = absurd (omega (arith, x.0, y))
+    same_pair a b c e (inr x) (inr y) = (x.0, omega (arith, x.1, y.1))
 
 -- ---- the answers
 

@@ -1,5 +1,11 @@
 -- The first of a list that has a property.
-use Rattle.std.proofs.Common.{◌≡◌, ℕ, zero, suc, List, [], ◌∷◌, ◌++◌, length, Option, Some, None, refl}
+use Rattle.std.proofs.Common.{◌≡◌, ⊎_elim, ℕ, zero, suc, ◌<◌, ◌≤◌, Bool, true, false, cond, List, [], ◌∷◌, ◌++◌, length, get_or, Option, Some, None, refl, sym, ap, ◌∙◌, arith}
+use Rattle.std.specs.Prelude.{position, nat_lt}
+use Rattle.std.specs.List.{position_or_len}
+use Rattle.std.proofs.lemmas.Bool.{cases_lt}
+use Rattle.std.proofs.lemmas.Bool.Decides.{nat_tests}
+use Rattle.std.proofs.lemmas.List.Sums.{fails_before_first}
+use Rattle.std.proofs.lemmas.Option.{none-some}
 use Rattle.ldm_found.specs.Gathers.{IsFirst}
 
 pub first_one : {A : Type 0} (Has : A → Type 0) (xs : List A) (a b : Option ℕ) → IsFirst Has xs a → IsFirst Has xs b → a ≡ b
@@ -31,3 +37,14 @@ pub first_stays : {A : Type 0} (Has : A → Type 0) (xs more : List A) (place : 
 first_stays Has [] more place first = absurd first
 first_stays Has (x ∷ xs) more zero first = first
 first_stays Has (x ∷ xs) more (suc place) first = (first.0, first_stays Has xs more place first.1)
+
+-- ---- by a test
+
+-- where no first one passes, none does
+pub none_passes : {X : Type 0} (test : X → Bool) (xs : List X) → position test xs ≡ None → (k : ℕ) (d : X) → k < length xs → test (get_or xs k d) ≡ false
+none_passes test xs none k d lt = ⊎_elim
+    (λ less. let at : position_or_len test xs < length xs = less in
+    let tested : nat_lt (position_or_len test xs) (length xs) ≡ true = grind (arith, nat_tests) in
+    absurd (none-some (position_or_len test xs) (sym (sym (ap (λ (b : Bool). cond b (Some (position_or_len test xs)) None) tested) ∙ none))))
+    (λ ge. fails_before_first test xs k d (omega (arith, ge, lt)))
+    (cases_lt (position_or_len test xs) (length xs))

@@ -21,14 +21,15 @@ use Rattle.ldm_found.specs.declared.copies.Copies.{Copies}
 use Rattle.ldm_rules.specs.Table.{first_broken_rule, IsSound}
 use Rattle.ldm_found.specs.Editing.{first_of}
 use Rattle.ldm_found.specs.Gathers.{Gathers}
-use Rattle.ldm_found.specs.Labels.{IsLabelOf, twins, stranger}
+use Rattle.ldm_found.specs.Labels.{IsLabelOf, AreApart, stranger}
 use Rattle.ldm_found.specs.Copies.{IsCopyIn, newest, Disagrees, note_of}
 use Rattle.ldm_found.specs.Opening.{group_faults, group_at, IsNewestGroup, IsGroupOfCopies, IsGroupOfDisks, IsGroupOfLabels, IsGroupIn}
-use Rattle.ldm_found.specs.Facts.{LiesOn}
+use Rattle.ldm_found.specs.Facts.{LieOn}
 use Rattle.ldm_found.specs.Answers.{FindsIn}
-use Rattle.ldm_found.specs.Steps.{LieOn, ReadsCopies, IsNewestOf, group_from, Gives}
+use Rattle.ldm_found.specs.Steps.{ReadsCopies, IsNewestOf, group_from, Gives}
 use Rattle.ldm_found.proofs.GatherLaws.{gathers_one}
 use Rattle.ldm_found.proofs.FirstLaws.{first_one}
+use Rattle.ldm_found.proofs.DiskLaws.{one_twins}
 
 -- ---- one group at most
 
@@ -60,7 +61,9 @@ one_of_disks None images labels a b x y =
 one_of_labels : (labels : Result (List Label) (ℕ × LabelFault)) (images : List (List ℕ)) (a b : Result Found OpenFault)
     → IsGroupOfLabels labels images a → IsGroupOfLabels labels images b → a ≡ b
 one_of_labels (Err at) images a b x y = x ∙ sym y
-one_of_labels (Ok labels) images a b x y = one_of_disks (twins labels) images labels a b x y
+one_of_labels (Ok labels) images a b x y =
+    let same : y.0 ≡ x.0 = one_twins labels y.0 x.0 y.1 x.1 in
+    one_of_disks x.0 images labels a b x.2 (subst (λ (twins : Option (ℕ × ℕ)). IsGroupOfDisks twins images labels b) same y.2)
 
 pub one_group : (images : List (List ℕ)) (a b : Result Found OpenFault) → IsGroupIn images a → IsGroupIn images b → a ≡ b
 one_group images a b x y =
@@ -78,16 +81,15 @@ found_newest copies (Some n) labels notes group is noted from =
     (n.other, is.1, sym from ∙ ap (λ (l : List Note). group_at n.image n.db n.other labels l) noted)
 
 -- the group of disks with these labels, no two of which are one
-pub found_disks : (images : List (List ℕ)) (labels : List Label) (group : Result Found OpenFault) → Gathers IsLabelOf images (Ok labels) → twins labels ≡ None
+pub found_disks : (images : List (List ℕ)) (labels : List Label) (group : Result Found OpenFault) → Gathers IsLabelOf images (Ok labels) → AreApart labels
     → IsGroupOfDisks None images labels group → IsGroupIn images group
-found_disks images labels group all apart of_disks =
-    (Ok labels, all, subst (λ (same : Option (ℕ × ℕ)). IsGroupOfDisks same images labels group) (sym apart) of_disks)
+found_disks images labels group all apart of_disks = (Ok labels, all, (None, apart, of_disks))
 
 found_copies : (images : List (List ℕ)) (labels : List Label) (read : Copies) (group : Result Found OpenFault) → ReadsCopies labels images (Ok read)
     → group_from read.newest labels read.notes ≡ group → IsGroupOfDisks None images labels group
 found_copies images labels read group (copies, all, is, noted) from = (Ok copies, all, found_newest copies read.newest labels read.notes group is noted from)
 
-pub finds : (images : List (List ℕ)) (labels : List Label) (read : Copies) (r : Result Found OpenError) → Gathers IsLabelOf images (Ok labels) → twins labels ≡ None
+pub finds : (images : List (List ℕ)) (labels : List Label) (read : Copies) (r : Result Found OpenError) → Gathers IsLabelOf images (Ok labels) → AreApart labels
     → ReadsCopies labels images (Ok read) → Gives r (group_from read.newest labels read.notes) → FindsIn images r
 finds images labels read (Ok found) all apart of_copies from = found_disks images labels (Ok found) all apart (found_copies images labels read (Ok found) of_copies from)
 finds images labels read (Err (Fault fault)) all apart of_copies from = found_disks images labels (Err fault) all apart (found_copies images labels read (Err fault) of_copies from)
@@ -106,11 +108,9 @@ pub sound_of : (db : Database) (labels : List Label) → first_of (group_faults 
 unfolding group_faults
 sound_of db labels none = no_rule (stranger db.records labels) (first_broken_rule db.records labels) none
 
-pub lies_on : (r : Result Found OpenError) (labels : List Label) (sizes : List ℕ) → IfOk r (λ found. found.labels ≡ labels) → LieOn labels sizes → IfOk r (λ found. LiesOn found sizes)
+pub lies_on : (r : Result Found OpenError) (labels : List Label) (sizes : List ℕ) → IfOk r (λ found. found.labels ≡ labels) → LieOn labels sizes → IfOk r (λ found. LieOn found.labels sizes)
 lies_on (Err e) labels sizes same lie = tt
-lies_on (Ok found) labels sizes same lie =
-    let there = subst (λ (l : List Label). LieOn l sizes) (sym same) lie in
-    record { one_label = there.one_label; fits = there.fits }
+lies_on (Ok found) labels sizes same lie = subst (λ (l : List Label). LieOn l sizes) (sym same) lie
 
 pub passed : (images : List (List ℕ)) (r : Result Found OpenError) (error : OpenError) → IsErrAnd r (λ e. e ≡ error) → FindsIn images (Err error) → FindsIn images r
 passed images (Ok found) error is finds = absurd is

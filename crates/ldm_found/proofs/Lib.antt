@@ -5,3 +5,6 @@ pub mod DiskLaws
 pub mod AlikeLaws
 pub mod CopyLaws
 pub mod GroupLaws
+pub mod ClearLaws
+pub mod FoundLaws
+pub mod SameDisks

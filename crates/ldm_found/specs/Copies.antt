@@ -1,6 +1,7 @@
 -- What the copies of the database on all images say together.
-use Rattle.std.specs.Prelude.{◌≡◌, ℕ, suc, nat_lt, List, [], ◌∷◌, Option, Some, None, Result, if◌then◌else◌}
+use Rattle.std.specs.Prelude.{◌≡◌, ◌⊎◌, ℕ, suc, ◌<◌, nat_lt, List, [], ◌∷◌, Option, Some, None, Result, Ok, slice_get, if◌then◌else◌}
 use Rattle.std.specs.Option.{option_map}
+use Rattle.ldm_host.specs.Seen.{image}
 use Rattle.ldm_label.specs.declared.Label.{Label}
 use Rattle.ldm_group.specs.Database.{Database, IsSameCore}
 use Rattle.ldm_copy.specs.declared.answer.CopyState.{CopyState}
@@ -34,3 +35,14 @@ Disagrees db (Valid other) = (other.header.seq ≡ db.header.seq) × (IsSameCore
 abbrev pub note_of : CopyState → Note
 note_of Closed = notes.Closed
 note_of (Valid db) = notes.Sequence db.header.seq
+
+-- ---- disk by disk
+
+-- the copy on the disk of this number is one that passes
+abbrev pub HasCopy : List Label → List (List ℕ) → ℕ → (CopyState → Type 0) → Type 0
+HasCopy labels images disk Is = (label : Label) × (slice_get labels disk ≡ Some label) × ((copy : CopyState) × IsCopyIn (label, image images disk) (Ok copy) × Is copy)
+
+-- closed, or of a lower sequence, or one of the two groups
+abbrev pub IsKnown : Database → Database → CopyState → Type 0
+IsKnown older newer Closed = Unit {0}
+IsKnown older newer (Valid db) = (db.header.seq < older.header.seq) ⊎ IsSameCore db older ⊎ IsSameCore db newer

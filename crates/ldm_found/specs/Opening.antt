@@ -13,7 +13,7 @@ use Rattle.ldm_found.specs.declared.fault.OpenFault.TheVariants as faults
 use Rattle.ldm_found.specs.declared.notes.Note.{Note}
 use Rattle.ldm_found.specs.declared.found.Found.{Found}
 use Rattle.ldm_found.specs.Gathers.{Gathers, IsFirst}
-use Rattle.ldm_found.specs.Labels.{IsLabelOf, twins, stranger}
+use Rattle.ldm_found.specs.Labels.{IsLabelOf, AreTwins, stranger}
 use Rattle.ldm_found.specs.Copies.{IsCopyIn, newest, Disagrees, note_of}
 use Rattle.ldm_found.specs.Editing.{first_of, blocked_in}
 
@@ -50,14 +50,14 @@ IsGroupOfCopies (Ok copies) labels group = IsNewestGroup (newest copies) copies 
 
 -- no two images are of one disk
 abbrev pub IsGroupOfDisks : Option (ℕ × ℕ) → List (List ℕ) → List Label → Result Found OpenFault → Type 0
-IsGroupOfDisks (Some twins) images labels group = group ≡ Err (faults.SameDisk twins.0 twins.1)
+IsGroupOfDisks (Some pair) images labels group = group ≡ Err (faults.SameDisk pair.0 pair.1)
 IsGroupOfDisks None images labels group =
     (copies : Result (List CopyState) (ℕ × CopyFault)) × Gathers IsCopyIn (zip labels images) copies × IsGroupOfCopies copies labels group
 
 -- each image has a label
 abbrev pub IsGroupOfLabels : Result (List Label) (ℕ × LabelFault) → List (List ℕ) → Result Found OpenFault → Type 0
 IsGroupOfLabels (Err at) images group = group ≡ Err (faults.Label at.0 at.1)
-IsGroupOfLabels (Ok labels) images group = IsGroupOfDisks (twins labels) images labels group
+IsGroupOfLabels (Ok labels) images group = (twins : Option (ℕ × ℕ)) × AreTwins labels twins × IsGroupOfDisks twins images labels group
 
 -- the group that the images hold, or the first fault; there is one
 abbrev pub IsGroupIn : List (List ℕ) → Result Found OpenFault → Type 0

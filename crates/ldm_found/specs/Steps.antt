@@ -1,9 +1,8 @@
 -- What the steps of finding a group answer.
-use Rattle.std.specs.Prelude.{◌≡◌, ℕ, ◌≤◌, List, All, length, map, zip, slice_get, slice_index, Option, Some, None, Result, Ok, Err}
+use Rattle.std.specs.Prelude.{◌≡◌, ℕ, List, map, zip, Option, Some, None, Result, Ok, Err}
 use Rattle.ldm_group.specs.Database.{Database}
-use Rattle.ldm_group.specs.Room.{need_of, room_of, IsFitting}
+use Rattle.ldm_copy.specs.Answers.{FitsHeader}
 use Rattle.ldm_label.specs.declared.Label.{Label}
-use Rattle.ldm_label.specs.LabelOf.{Fits}
 use Rattle.ldm_copy.specs.declared.answer.CopyState.{CopyState}
 use Rattle.ldm_copy.specs.declared.answer.CopyState.TheVariants.{Closed, Valid}
 use Rattle.ldm_found.specs.declared.fault.OpenFault.{OpenFault}
@@ -15,7 +14,7 @@ use Rattle.ldm_found.specs.declared.found.Found.{Found}
 use Rattle.ldm_found.specs.declared.copies.Newest.{Newest}
 use Rattle.ldm_found.specs.declared.copies.Copies.{Copies}
 use Rattle.ldm_found.specs.Gathers.{Gathers, IsFirst}
-use Rattle.ldm_found.specs.Labels.{IsLabelOf, twins}
+use Rattle.ldm_found.specs.Labels.{IsLabelOf, AreApart}
 use Rattle.ldm_found.specs.Copies.{IsCopyIn, newest, Disagrees, note_of}
 use Rattle.ldm_found.specs.Opening.{group_at, IsGroupIn, IsGroupOfDisks}
 
@@ -38,15 +37,10 @@ ReadsLabels images (Err NoMemory) = Unit {0}
 
 -- the same, where no two are of one disk
 abbrev pub ReadsDisks : List (List ℕ) → Result (List Label) OpenError → Type 0
-ReadsDisks images (Ok labels) = Gathers IsLabelOf images (Ok labels) × (twins labels ≡ None)
+ReadsDisks images (Ok labels) = Gathers IsLabelOf images (Ok labels) × AreApart labels
 ReadsDisks images (Err (Fault fault)) = IsGroupIn images (Err fault)
 ReadsDisks images (Err Disk) = Unit {0}
 ReadsDisks images (Err NoMemory) = Unit {0}
-
--- there is a label for each disk of so many sectors, and it fits it
-pub record LieOn (labels : List Label) (sizes : List ℕ) : Type 0 where
-  pub one_label : length labels ≡ length sizes
-  pub fits : (disk : ℕ) (label : Label) → slice_get labels disk ≡ Some label → Fits label (slice_index sizes disk)
 
 -- ---- copies
 
@@ -72,14 +66,9 @@ ReadsCopies labels images (Err (Fault fault)) = IsGroupOfDisks None images label
 ReadsCopies labels images (Err Disk) = Unit {0}
 ReadsCopies labels images (Err NoMemory) = Unit {0}
 
--- the own spellings of the records take no more blocks than the header leaves, at most four each
-pub record HasRoom (db : Database) : Type 0 where
-  pub room : need_of db.records ≤ room_of db.header.last
-  pub each : All IsFitting db.records
-
 abbrev pub IsRoomy : CopyState → Type 0
 IsRoomy Closed = Unit {0}
-IsRoomy (Valid db) = HasRoom db
+IsRoomy (Valid db) = FitsHeader db
 
 -- ---- the group
 

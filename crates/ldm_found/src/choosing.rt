@@ -1,11 +1,12 @@
-ghost use Rattle.std.specs.Prelude.{◌≡◌, length, position, is_none, All, IfOk, IfSome, OnOk};
+ghost use Rattle.std.specs.Prelude.{◌≡◌, None, length, position, is_none, All, IfOk, IfSome, OnOk};
 ghost use Rattle.ldm_group.specs.Partitions.{EndsInRange};
+ghost use Rattle.ldm_copy.specs.Answers.{FitsHeader};
 ghost use Rattle.ldm_rules.specs.Disjoint.{AllLaidOut};
-ghost use Rattle.ldm_found.specs.Labels.{stranger};
+ghost use Rattle.ldm_found.specs.Labels.{AreApart, stranger};
 ghost use Rattle.ldm_found.specs.Editing.{first_of};
 ghost use Rattle.ldm_found.specs.Opening.{group_faults};
 ghost use Rattle.ldm_found.specs.Facts.{IsSoundGroup};
-ghost use Rattle.ldm_found.specs.Steps.{ChecksGroup, Gives, group_from, HasRoom};
+ghost use Rattle.ldm_found.specs.Steps.{ChecksGroup, Gives, group_from};
 
 use crate::copies::Newest;
 use crate::editing::blocked;
@@ -30,6 +31,7 @@ fn stranger(db: &Db, labels: &[Label]) -> Option<usize>
 #[tactic(auto, unfolding(crate::specs::Opening::group_faults))]
 fn check_group(alloc: Global, db: &Db, labels: &Labels) -> Result<(), OpenError>
     ensures is { ChecksGroup result (first_of (group_faults db.now labels.now)) }
+    ensures own { OnOk result (stranger db.now.records labels.now ≡ None) }
     ensures ends { OnOk result (All EndsInRange db.now.records) }
     ensures laid_out { OnOk result (AllLaidOut db.now.records) }
 {
@@ -50,7 +52,8 @@ pub fn choose(
     labels: Labels,
     notes: Notes,
 ) -> Result<Found, OpenError>
-    requires room { IfSome newest (λ n. HasRoom n.db) }
+    requires room { IfSome newest (λ n. FitsHeader n.db) }
+    requires apart { AreApart labels }
     requires one_note { length notes ≡ length labels }
     ensures is { Gives result (group_from newest labels notes) }
     ensures sound { IfOk result (λ found. IsSoundGroup found) }

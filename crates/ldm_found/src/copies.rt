@@ -3,8 +3,10 @@ ghost use Rattle.ldm_host.specs.Seen.{image};
 ghost use Rattle.ldm_host.specs.Moves.{Rose, Still, Quiet};
 ghost use Rattle.ldm_label.specs.LabelOf.{Fits};
 ghost use Rattle.ldm_copy.specs.declared.answer.CopyState.{CopyState};
+ghost use Rattle.ldm_copy.specs.Answers.{FitsHeader};
 ghost use Rattle.ldm_found.specs.Copies.{note_of};
-ghost use Rattle.ldm_found.specs.Steps.{ReadsCopy, ReadsCopies, IsNewestOf, HasRoom, IsRoomy, LieOn};
+ghost use Rattle.ldm_found.specs.Facts.{LieOn};
+ghost use Rattle.ldm_found.specs.Steps.{ReadsCopy, ReadsCopies, IsNewestOf, IsRoomy};
 
 use crate::fault::{OpenError, OpenFault};
 use crate::notes::{Note, Notes};
@@ -64,11 +66,11 @@ fn note_of(copy: &CopyState) -> Note
 
 // The newest of the copies so far, and the copy of the next image.
 fn with_copy(newest: Option<Newest>, image: usize, copy: CopyState) -> Option<Newest>
-    requires newest { IfSome newest (λ n. HasRoom n.db) }
+    requires newest { IfSome newest (λ n. FitsHeader n.db) }
     requires copy { IsRoomy copy }
     ensures is { (copies : List CopyState) → length copies ≡ image → IsNewestOf copies newest
         → IsNewestOf (copies ++ copy ∷ []) result }
-    ensures room { IfSome result (λ n. HasRoom n.db) }
+    ensures room { IfSome result (λ n. FitsHeader n.db) }
 {
     let CopyState::Valid(db) = copy else {
         return newest;
@@ -104,7 +106,7 @@ pub fn read_copies<H: Host>(
     requires { LieOn labels.now (H.seen host.old).sizes }
     ensures is { H.tells_disks → ReadsCopies labels.now (H.seen host.old).content result }
     ensures one_note { IfOk result (λ copies. length copies.notes ≡ length labels.now) }
-    ensures room { IfOk result (λ copies. IfSome copies.newest (λ n. HasRoom n.db)) }
+    ensures room { IfOk result (λ copies. IfSome copies.newest (λ n. FitsHeader n.db)) }
     ensures still { Still (H.seen host.old) (H.seen host.new) }
     ensures quiet { Quiet (H.seen host.old) (H.seen host.new) }
     ensures cause { IsErrOf result OpenError.Disk → Rose (H.seen host.old).disk_faults (H.seen host.new).disk_faults }

@@ -2,8 +2,9 @@ ghost use Rattle.std.specs.Prelude.{◌≡◌, ◌<◌, List, ℕ, length, slice
 ghost use Rattle.ldm_host.specs.Seen.{image};
 ghost use Rattle.ldm_host.specs.Moves.{Rose, Still, Quiet};
 ghost use Rattle.ldm_label.specs.LabelOf.{Fits};
-ghost use Rattle.ldm_found.specs.Labels.{image_with, twins};
-ghost use Rattle.ldm_found.specs.Steps.{ReadsLabel, ReadsLabels, ReadsDisks, LieOn};
+ghost use Rattle.ldm_found.specs.Labels.{image_with, AreApart, AreTwins};
+ghost use Rattle.ldm_found.specs.Facts.{LieOn};
+ghost use Rattle.ldm_found.specs.Steps.{ReadsLabel, ReadsLabels, ReadsDisks};
 
 use crate::fault::{OpenError, OpenFault};
 use ldm_host::Host;
@@ -51,7 +52,7 @@ pub fn image_with(labels: &[Label], guid: u128) -> Option<usize>
 
 // The first image whose disk a later image is of too, and the first such image.
 fn twins(labels: &[Label]) -> Option<(usize, usize)>
-    ensures { result ≡ twins labels.now }
+    ensures { AreTwins labels.now result }
 {
     for (i, label) in labels.iter().enumerate() {
         if let Some(j) = image_with(&labels[i + 1..], label.disk_guid) {
@@ -64,6 +65,7 @@ fn twins(labels: &[Label]) -> Option<(usize, usize)>
 /// The labels of all images, where no two are of one disk, or the first fault.
 pub fn read_disks<H: Host>(alloc: Global, host: &mut H) -> Result<Labels, OpenError>
     ensures is { H.tells_disks → ReadsDisks (H.seen host.old).content result }
+    ensures apart { IfOk result (λ labels. AreApart labels) }
     ensures lie { IfOk result (λ labels. LieOn labels (H.seen host.old).sizes) }
     ensures still { Still (H.seen host.old) (H.seen host.new) }
     ensures quiet { Quiet (H.seen host.old) (H.seen host.new) }

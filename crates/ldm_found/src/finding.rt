@@ -3,7 +3,7 @@ ghost use Rattle.ldm_host.specs.Moves.{Rose, Still, Quiet};
 ghost use Rattle.ldm_found.specs.declared.fault.OpenFault.{OpenFault};
 ghost use Rattle.ldm_found.specs.declared.found.Found.{Found};
 ghost use Rattle.ldm_found.specs.Opening.{IsGroupIn};
-ghost use Rattle.ldm_found.specs.Facts.{IsSoundGroup, LiesOn};
+ghost use Rattle.ldm_found.specs.Facts.{IsSoundGroup, LieOn};
 ghost use Rattle.ldm_found.specs.Answers.{FindsIn};
 
 use crate::choosing::choose;
@@ -23,7 +23,7 @@ pub fn find_group<H: Host>(alloc: Global, host: &mut H) -> Result<Found, OpenErr
     ensures one { (a b : Result Found OpenFault) → IsGroupIn (H.seen host.old).content a → IsGroupIn (H.seen host.old).content b → a ≡ b }
     // For every host, these facts hold of the group.
     ensures sound { IfOk result (λ found. IsSoundGroup found) }
-    ensures lies { IfOk result (λ found. LiesOn found (H.seen host.old).sizes) }
+    ensures lies { IfOk result (λ found. LieOn found.labels (H.seen host.old).sizes) }
     ensures still { Still (H.seen host.old) (H.seen host.new) }
     ensures quiet { Quiet (H.seen host.old) (H.seen host.new) }
     ensures cause { IsErrOf result OpenError.Disk → Rose (H.seen host.old).disk_faults (H.seen host.new).disk_faults }

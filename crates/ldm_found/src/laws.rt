@@ -1,11 +1,13 @@
 ghost use Rattle.std.specs.Prelude.{◌≡◌, List, Result};
 ghost use Rattle.ldm_label.specs.declared.Label.{Label};
 ghost use Rattle.ldm_group.specs.Database.{Database, IsSameCore};
+ghost use Rattle.ldm_group.specs.Looks.{HasSameDisks};
 ghost use Rattle.ldm_copy.specs.declared.answer.CopyState.{CopyState};
 ghost use Rattle.ldm_found.specs.declared.fault.OpenFault.{OpenFault};
 ghost use Rattle.ldm_found.specs.declared.found.Found.{Found};
 ghost use Rattle.ldm_found.specs.Opening.{group_faults, IsGroupOfCopies};
 ghost use Rattle.ldm_found.specs.Editing.{blocked_in};
+ghost use Rattle.ldm_found.specs.Labels.{stranger};
 ghost use Rattle.ldm_found.specs.Alike.{AllAlike, AnswerAlike};
 
 /// That the group that is found, its faults and whether it may be edited depend on the labels and on what
@@ -15,4 +17,13 @@ pub fn group_alone()
     ensures blocked { (a b : Database) (labels : List Label) → IsSameCore a b → blocked_in a labels ≡ blocked_in b labels }
     ensures alike { (xs ys : List CopyState) (labels : List Label) (a b : Result Found OpenFault) → AllAlike xs ys
         → IsGroupOfCopies (Result.Ok xs) labels a → IsGroupOfCopies (Result.Ok ys) labels b → AnswerAlike a b }
+{}
+
+/// That what blocks editing depends on the disk records, the last VBLK sequence and the labels alone, and
+/// which image is of a strange disk on the disk records and the labels. The call does nothing.
+pub fn disks_alone()
+    ensures blocked { (a b : Database) (labels : List Label) → HasSameDisks a.records b.records → a.header.last ≡ b.header.last
+        → blocked_in a labels ≡ blocked_in b labels }
+    ensures stranger { (a b : Database) (labels : List Label) → HasSameDisks a.records b.records
+        → stranger a.records labels ≡ stranger b.records labels }
 {}

@@ -25,7 +25,7 @@ returns-in-Ok-clause-makes c =
     let held = holds c.args.blocks.now c.in_ok-list.list.items c.deref.result.now c.in_ok-records.records.items c.deref.ensures.value c.in_ok-list.ensures.answers c.in_ok-records.ensures in
     (c.in_ok-records.records.items, held, c.in-Ok.ensures)
 
-pub returns-in-Ok-clause-within : goal.returns-in-Ok-clause-within
-returns-in-Ok-clause-within c =
+pub returns-in-Ok-clause-room : goal.returns-in-Ok-clause-room
+returns-in-Ok-clause-room c =
     let spelled = subst (λ (l : List Joined). SpellRecords l c.in_ok-records.records.items) c.deref.ensures.value c.in_ok-records.ensures in
     records_within c.args.blocks.now c.in_ok-list.list.items c.in_ok-records.records.items c.in-Ok.db.records c.in_ok-list.ensures.answers spelled c.in-Ok.ensures.same

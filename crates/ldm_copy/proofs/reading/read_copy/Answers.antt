@@ -2,6 +2,7 @@ use Rattle.std.proofs.Common.{◌∙◌, Ok}
 use Rattle.ldm_host.specs.Seen.{image}
 use Rattle.ldm_copy.specs.declared.answer.CopyState.TheVariants.{Closed, Valid}
 use Rattle.ldm_copy.specs.Copy.{config_area}
+use Rattle.ldm_copy.proofs.OneCopy.{one_copy}
 use Rattle.ldm_copy.proofs.AnswerLaws.{no_fault, passed, answers_only}
 use Rattle.ldm_copy.proofs.ReadLaws.{closed_found, header_found, fault_found, database_found}
 use Rattle.ldm_copy.proofs.SoundLaws.{fits_area_of}
@@ -74,4 +75,22 @@ returns-in_ok-database_of-in-Some-clause-sound g c =
     let small = rw c.in-Some.is at c.in_ok-open_header.ensures.last in
     let made = c.in_ok-database_of-in-Some.ensures.makes in
     fits_area_of c.args.label.now.area_sectors c.in-Some.header c.deref.result.now c.in_ok-database_of-in-Some.field-0 made.2.header_is small
-    (c.deref.ensures.len ∙ c.in_ok-blocks-in-Some.ensures.size) c.in_ok-database_of-in-Some.ensures.within
+    (c.deref.ensures.len ∙ c.in_ok-blocks-in-Some.ensures.size) c.in_ok-database_of-in-Some.ensures.room
+
+pub returns-in_err-first-clause-one : goal.returns-in_err-first-clause-one
+returns-in_err-first-clause-one g c a b = one_copy (config_area c.args.label.now (image (g.H.Host.seen c.args.host.now).content c.args.disk)) c.args.label.now.area_sectors a b
+
+pub returns-in_err-open_header-clause-one : goal.returns-in_err-open_header-clause-one
+returns-in_err-open_header-clause-one g c a b = one_copy (config_area c.args.label.now (image (g.H.Host.seen c.args.host.now).content c.args.disk)) c.args.label.now.area_sectors a b
+
+pub returns-in_err-blocks-in-Some-clause-one : goal.returns-in_err-blocks-in-Some-clause-one
+returns-in_err-blocks-in-Some-clause-one g c a b = one_copy (config_area c.args.label.now (image (g.H.Host.seen c.args.host.now).content c.args.disk)) c.args.label.now.area_sectors a b
+
+pub returns-in_err-database_of-in-Some-clause-one : goal.returns-in_err-database_of-in-Some-clause-one
+returns-in_err-database_of-in-Some-clause-one g c a b = one_copy (config_area c.args.label.now (image (g.H.Host.seen c.args.host.now).content c.args.disk)) c.args.label.now.area_sectors a b
+
+pub returns-in-None-clause-one : goal.returns-in-None-clause-one
+returns-in-None-clause-one g c a b = one_copy (config_area c.args.label.now (image (g.H.Host.seen c.args.host.now).content c.args.disk)) c.args.label.now.area_sectors a b
+
+pub returns-in_ok-database_of-in-Some-clause-one : goal.returns-in_ok-database_of-in-Some-clause-one
+returns-in_ok-database_of-in-Some-clause-one g c a b = one_copy (config_area c.args.label.now (image (g.H.Host.seen c.args.host.now).content c.args.disk)) c.args.label.now.area_sectors a b

@@ -9,13 +9,13 @@ pub plan-requires-clause-there : goal.plan-requires-clause-there
 plan-requires-clause-there c = subst (λ (o : Option Volume). IsSome o) (sym c.requires.again) refl
 
 pub plan-requires-clause-ends : goal.plan-requires-clause-ends
-plan-requires-clause-ends c k d h of_volume = c.requires.sound.ends k d h
+plan-requires-clause-ends c k d h of_volume = c.requires.sound.group.ends k d h
 
 pub unreachable-requires : goal.unreachable-requires
 unreachable-requires c =
     let records = c.args.found.now.db.records in
     let volume = c.args.volume.now in
-    no_fault records volume c.plan.result c.in-Err-Fault.field-0 c.in-Err-Fault.field-0-0 c.requires.sound.laid_out c.requires.there
+    no_fault records volume c.plan.result c.in-Err-Fault.field-0 c.in-Err-Fault.field-0-0 c.requires.sound.group.laid_out c.requires.there
     (of_volume (λ w. PlansAs c.plan.result (layout_of records w)) records volume c.requires.again c.plan.ensures.is) c.in-Err-Fault.is c.in-Err-Fault.field-0-is
 
 pub returns-in-Ok-clause-is : goal.returns-in-Ok-clause-is

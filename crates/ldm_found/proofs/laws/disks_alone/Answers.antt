@@ -1,0 +1,8 @@
+use Rattle.ldm_found.proofs.SameDisks.{same_reasons, same_stranger}
+use Rattle.ldm_found.proofs.laws.disks_alone.Goals as goal
+
+pub returns-clause-blocked : goal.returns-clause-blocked
+returns-clause-blocked c a b labels disks last = same_reasons a b labels disks last
+
+pub returns-clause-stranger : goal.returns-clause-stranger
+returns-clause-stranger c a b labels disks = same_stranger a.records b.records labels disks
