@@ -28,13 +28,13 @@ module _ (first : State) (calls : List Call) (call : Call) where
   abbrev longer : List Call
   longer = calls ++ call ∷ []
 
-  sooner : (k : ℕ) → k ≤ length calls → state_at first longer k ≡ state_at first calls k
+  pub sooner : (k : ℕ) → k ≤ length calls → state_at first longer k ≡ state_at first calls k
   sooner k le = ap (λ (l : List Call). run first l) (take-append-le k calls (call ∷ []) le)
 
   count : length longer ≡ length calls + 1
   count = length_push calls call
 
-  last : (k : ℕ) → length calls < k → state_at first longer k ≡ after (run first calls) call
+  pub last : (k : ℕ) → length calls < k → state_at first longer k ≡ after (run first calls) call
   last k lt = all_calls first longer k (omega (arith, count)) ∙ run_push first calls call
 
   before_last : state_at first longer (length calls) ≡ run first calls

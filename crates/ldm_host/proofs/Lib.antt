@@ -1,6 +1,7 @@
 pub mod Relations
 mod Grows
 mod Handed
+mod HeldLaws
 mod Heard
 mod HowEnds
 mod InRange

@@ -48,6 +48,10 @@ impl Host for OneDisk {
 
     ghost same_length = { λ host disk c left. absurd left };
 
+    ghost left_bytes = { λ host disk c left. absurd left };
+
+    ghost bytes_since = { λ host t images said left disk lt. absurd (left.1 disk lt) };
+
     ghost counts_now = { λ host t images le left. (left.one_each, left.each, refl) };
 
     ghost only_now = { λ host images said left. (record { one_each = left.0; each = left.1 }, left.2) };
