@@ -8,11 +8,11 @@ use Rattle.ldm_host.specs.Ending.{TakesNothing}
 use Rattle.ldm_host.specs.Moves.{Begins, Torn, TornAt, Later, Still, Settled, Writes, Syncs}
 use Rattle.ldm_bytes.specs.Numbers.{IsBytes}
 use Rattle.ldm_bytes.specs.Places.{put}
-use Rattle.ldm_host.proofs.Relations.{begins_itself, torn_itself, torn_at_itself, torn_from}
+use Rattle.ldm_host.proofs.Relations.{torn_itself, torn_at_itself, torn_from}
 use Rattle.ldm_host.specs.declared.call.Call.{Call}
 use Rattle.ldm_host.specs.declared.call.Call.TheVariants.{Write, Sync, Hear, Say, Nothing}
 use Rattle.ldm_host.specs.Story.{Disk, State, Agrees, MayLeave, LeftSince, Counts, disk_at, no_disk, written_disk, synced_disk, sizes_of, contents, after, run, seen_from}
-use Rattle.ldm_host.specs.StoryLaws.{image_at, one_each, stays, begins_both, counts_now, only_now}
+use Rattle.ldm_host.specs.StoryLaws.{image_at, one_each, stays, begins_both, counts_now, only_now, begins_itself}
 use Rattle.ldm_host.proofs.Grows.{CountsRise, run_push, moments, later}
 use Rattle.ldm_host.proofs.Ranges.{unwritten, torn_agrees, length-put, torn_put}
 

@@ -1,4 +1,5 @@
 pub mod Relations
+pub mod ChangeLaws
 mod Grows
 mod Handed
 mod HeldLaws

@@ -25,7 +25,7 @@ one_each disks = length-map disks (λ disk. disk.content) ∙ sym (length-map di
 pub stays : (disk : Disk) → IsBytes disk.content → Agrees disk disk.content
 stays disk bytes = record { size = refl; bytes = bytes; outside = λ k out. refl }
 
-begins_itself : (x : List ℕ) → Begins x x
+pub begins_itself : (x : List ℕ) → Begins x x
 begins_itself x = ([], sym (append-nil x))
 
 -- two texts of which each begins with the other
