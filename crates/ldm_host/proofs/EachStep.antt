@@ -6,12 +6,13 @@ use Rattle.std.specs.declared.alloc.Global.{Global}
 use Rattle.ldm_host.specs.Seen.{Seen, Leaves, image}
 use Rattle.ldm_host.specs.Ending.{TakesNothing}
 use Rattle.ldm_host.specs.Moves.{Begins, Torn, TornAt, Later, Still, Settled, Writes, Syncs}
+use Rattle.ldm_bytes.specs.Numbers.{IsBytes}
 use Rattle.ldm_bytes.specs.Places.{put}
-use Rattle.ldm_host.proofs.Relations.{begins_itself, torn_itself, torn_at_itself, torn_from}
+use Rattle.ldm_host.proofs.Relations.{torn_itself, torn_at_itself, torn_from}
 use Rattle.ldm_host.specs.declared.call.Call.{Call}
 use Rattle.ldm_host.specs.declared.call.Call.TheVariants.{Write, Sync, Hear, Say, Nothing}
 use Rattle.ldm_host.specs.Story.{Disk, State, Agrees, MayLeave, LeftSince, Counts, disk_at, no_disk, written_disk, synced_disk, sizes_of, contents, after, run, seen_from}
-use Rattle.ldm_host.specs.StoryLaws.{image_at, one_each, stays, begins_both, counts_now, only_now}
+use Rattle.ldm_host.specs.StoryLaws.{image_at, one_each, stays, begins_both, counts_now, only_now, begins_itself}
 use Rattle.ldm_host.proofs.Grows.{CountsRise, run_push, moments, later}
 use Rattle.ldm_host.proofs.Ranges.{unwritten, torn_agrees, length-put, torn_put}
 
@@ -98,7 +99,7 @@ module _ (first : State) (calls : List Call) (script : List ℕ) (old new : Coun
       said_later (Say bytes) = (bytes.items, refl)
       said_later Nothing = begins_itself now.said
 
-  module _ (disk at asked : ℕ) (bytes : Vec ℕ Global) (in_range : disk < length (sizes_of now.disks)) (short : length bytes.items ≤ asked) (fits : at + asked ≤ length (disk_at now.disks disk).content) where
+  module _ (disk at asked : ℕ) (bytes : Vec ℕ Global) (in_range : disk < length (sizes_of now.disks)) (short : length bytes.items ≤ asked) (fits : at + asked ≤ length (disk_at now.disks disk).content) (small : IsBytes (disk_at now.disks disk).content) where
     abbrev call : Call
     call = Write disk at bytes asked
 
@@ -121,7 +122,7 @@ module _ (first : State) (calls : List Call) (script : List ℕ) (old new : Coun
     put_content is = ap contents is ∙ contents_set now.disks disk wrote_to ∙ ap (λ (l : List ℕ). set (contents now.disks) disk (put l at bytes.items)) (sym (image_at now.disks disk))
 
     here : (c : List ℕ) → later_seen.may_leave disk c → (b : List ℕ) × before.may_leave disk b × Torn at asked b c
-    here c left = unwritten (disk_at now.disks disk) at asked bytes.items c short fits
+    here c left = unwritten (disk_at now.disks disk) at asked bytes.items c short fits small
         (subst (λ (d : Disk). Agrees d c) (ap (λ (l : List Disk). disk_at l disk) disks_are ∙ disk_there now.disks disk wrote_to in_range) left)
 
     other_is : (other : ℕ) → other ≢ disk → disk_at (run first (calls ++ call ∷ [])).disks other ≡ disk_at now.disks other
@@ -146,10 +147,10 @@ module _ (first : State) (calls : List Call) (script : List ℕ) (old new : Coun
         fits_image : at + asked ≤ length (image (contents now.disks) disk)
         fits_image = omega (arith, fits, ap length (image_at now.disks disk))
 
-    pub pending_push : (was is : List ℕ) → before.may_leave disk was → Torn at asked was is → later_seen.may_leave disk is
-    pending_push was is left torn =
+    pub pending_push : (was is : List ℕ) → before.may_leave disk was → Torn at asked was is → IsBytes is → later_seen.may_leave disk is
+    pending_push was is left torn are =
         subst (λ (d : Disk). Agrees d is) (sym (ap (λ (l : List Disk). disk_at l disk) disks_are ∙ disk_there now.disks disk wrote_to in_range))
-        (torn_agrees (disk_at now.disks disk) at asked bytes.items was is short fits left torn)
+        (torn_agrees (disk_at now.disks disk) at asked bytes.items was is short fits left torn are)
 
     left_there : (images : List (List ℕ)) → MayLeave (after now call) images → Leaves later_seen images
     left_there images may = let there : MayLeave (run first (calls ++ call ∷ [])) images = subst (λ (s : State). MayLeave s images) (sym pushed) may in record { one_each = there.one_each; each = there.each }
@@ -248,7 +249,9 @@ module _ (first : State) (calls : List Call) (script : List ℕ) (old new : Coun
     sync_content = ap contents sync_disks ∙ contents_set now.disks disk (synced_disk (disk_at now.disks disk)) ∙ ap (λ (l : List ℕ). set (contents now.disks) disk l) (sym (image_at now.disks disk)) ∙ set-get_or (contents now.disks) disk []
 
     sync_left : (c : List ℕ) → sync_seen.may_leave disk c → before.may_leave disk c
-    sync_left c left = subst (λ (l : List ℕ). Agrees (disk_at now.disks disk) l) (sym (only_content (disk_at now.disks disk) c (subst (λ (d : Disk). Agrees d c) sync_here left))) (stays (disk_at now.disks disk))
+    sync_left c left =
+        let is = only_content (disk_at now.disks disk) c (subst (λ (d : Disk). Agrees d c) sync_here left) in
+        subst (λ (l : List ℕ). Agrees (disk_at now.disks disk) l) (sym is) (stays (disk_at now.disks disk) (subst IsBytes is left.bytes))
 
     pub settled : Settled sync_seen disk
     settled c left = only_content (disk_at now.disks disk) c (subst (λ (d : Disk). Agrees d c) sync_here left) ∙ sym (ap (λ (l : List (List ℕ)). image l disk) sync_content ∙ image_at now.disks disk)

@@ -2,11 +2,11 @@
 use Rattle.std.proofs.Common.{◌≡◌, ◌⊎◌, inl, inr, ⊎_elim, ℕ, ◌+◌, ◌<◌, ◌≤◌, List, [], ◌∷◌, ◌++◌, length, refl, sym, ◌∙◌, ap, subst, arith}
 use Rattle.std.proofs.lemmas.List.{take-append-le, length_push}
 use Rattle.ldm_host.specs.Moves.{Begins, Later}
-use Rattle.ldm_host.proofs.Relations.{begins_itself, begins_trans}
+use Rattle.ldm_host.proofs.Relations.{begins_trans}
 use Rattle.ldm_host.specs.declared.call.Call.{Call}
 use Rattle.ldm_host.specs.declared.call.Call.TheVariants.{Write, Sync, Hear, Say, Nothing}
 use Rattle.ldm_host.specs.Story.{State, MayLeave, LeftSince, Counts, sizes_of, after, run, state_at, seen_from}
-use Rattle.ldm_host.specs.StoryLaws.{begins_both, all_calls}
+use Rattle.ldm_host.specs.StoryLaws.{begins_both, all_calls, begins_itself}
 
 pub run_push : (first : State) (calls : List Call) (call : Call) → run first (calls ++ call ∷ []) ≡ after (run first calls) call
 run_push first [] call = refl
@@ -28,13 +28,13 @@ module _ (first : State) (calls : List Call) (call : Call) where
   abbrev longer : List Call
   longer = calls ++ call ∷ []
 
-  sooner : (k : ℕ) → k ≤ length calls → state_at first longer k ≡ state_at first calls k
+  pub sooner : (k : ℕ) → k ≤ length calls → state_at first longer k ≡ state_at first calls k
   sooner k le = ap (λ (l : List Call). run first l) (take-append-le k calls (call ∷ []) le)
 
   count : length longer ≡ length calls + 1
   count = length_push calls call
 
-  last : (k : ℕ) → length calls < k → state_at first longer k ≡ after (run first calls) call
+  pub last : (k : ℕ) → length calls < k → state_at first longer k ≡ after (run first calls) call
   last k lt = all_calls first longer k (omega (arith, count)) ∙ run_push first calls call
 
   before_last : state_at first longer (length calls) ≡ run first calls

@@ -24,7 +24,7 @@ nothing_still a b c first still quiet = record {
 
 -- a write, and then calls that change no disk
 pub pends_still : (disk at : ℕ) (bytes : List ℕ) (a b c : Seen) → Pends (Act.Write disk at bytes) a b → Still b c → Pends (Act.Write disk at bytes) a c
-pends_still disk at bytes a b c pending still before after was torn = (still.left disk after).1 (pending before after was torn)
+pends_still disk at bytes a b c pending still before after was torn are = (still.left disk after).1 (pending before after was torn are)
 
 pub on_ok : {T E : Type 0} (P : Type 0) (r : Result T E) → OnOk r P → IsFalse (is_err r) → P
 on_ok P (Ok x) is found = is

@@ -12,7 +12,7 @@ module _ (now : List (Vec ℕ Global)) (disks : List Disk) (is : items_of now �
   image_is = ap (λ (l : List (List ℕ)). image l disk) is
 
   pub size_is : length (image (items_of now) disk) / 512 ≡ slice_index (sizes_of disks) disk
-  size_is = ap (λ (l : List ℕ). length l / 512) image_is ∙ size_at disks disk lt
+  size_is = ap (λ (l : List ℕ). length l / 512) image_is ∙ size_at disks disk
 
   pub there : disk < length now
   there = omega (arith, lt, length-map now (λ v. v.items), ap length is, one_each disks)

@@ -1,6 +1,8 @@
 pub mod Relations
+pub mod ChangeLaws
 mod Grows
 mod Handed
+mod HeldLaws
 mod Heard
 mod HowEnds
 mod InRange

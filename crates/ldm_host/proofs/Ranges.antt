@@ -2,6 +2,7 @@
 use Rattle.std.proofs.Common.{◌≡◌, ◌⊎◌, inl, inr, ⊎_elim, ℕ, ◌+◌, ◌-◌, ◌<◌, ◌≤◌, List, length, drop, slice_index, slice_range, sym, ◌∙◌, ap, arith, rules}
 use Rattle.std.proofs.lemmas.List.{places, get_or-take, get_or-drop}
 use Rattle.ldm_host.specs.Moves.{Torn}
+use Rattle.ldm_bytes.specs.Numbers.{IsBytes}
 use Rattle.ldm_bytes.specs.Places.{put}
 use Rattle.ldm_host.specs.Story.{Disk, Agrees, Outside, written_disk}
 
@@ -18,13 +19,23 @@ module _ (old bytes : List ℕ) (at : ℕ) (fits : at + length bytes ≤ length 
   pub put_behind : (k : ℕ) → at + length bytes ≤ k → slice_index (put old at bytes) k ≡ slice_index old k
   put_behind k ge = search (rules, places)
 
-sides : (k at n : ℕ) → (k < at) ⊎ ((at ≤ k) × (k < at + n)) ⊎ (at + n ≤ k)
+pub sides : (k at n : ℕ) → (k < at) ⊎ ((at ≤ k) × (k < at + n)) ⊎ (at + n ≤ k)
 sides k at n = grind arith
 
+pub bytes_put : (old bytes : List ℕ) (at : ℕ) → at + length bytes ≤ length old → IsBytes old → IsBytes bytes → IsBytes (put old at bytes)
+bytes_put old bytes at fits was are k =
+    elim (sides k at (length bytes)) [
+      | inl lt ↦ omega (arith, put_before old bytes at fits k lt, was k)
+      | inr rest ↦ elim rest [
+        | inl both ↦ omega (arith, put_in old bytes at fits k both.0 both.1, are (k - at))
+        | inr ge ↦ omega (arith, put_behind old bytes at fits k ge, was k)
+      ]
+    ]
+
 -- What may be left after a write, from what could be left before it: the content stood in the range.
-pub unwritten : (disk : Disk) (at asked : ℕ) (bytes c : List ℕ) → length bytes ≤ asked → at + asked ≤ length disk.content → Agrees (written_disk disk at bytes asked) c
+pub unwritten : (disk : Disk) (at asked : ℕ) (bytes c : List ℕ) → length bytes ≤ asked → at + asked ≤ length disk.content → IsBytes disk.content → Agrees (written_disk disk at bytes asked) c
     → (b : List ℕ) × Agrees disk b × Torn at asked b c
-unwritten disk at asked bytes c short fits agrees = (b, before, torn)
+unwritten disk at asked bytes c short fits small agrees = (b, before, torn)
   where
     middle : List ℕ
     middle = slice_range disk.content at (at + asked)
@@ -63,8 +74,18 @@ unwritten disk at asked bytes c short fits agrees = (b, before, torn)
     at_k : (k : ℕ) → Outside disk.pending k → slice_index b k ≡ slice_index disk.content k
     at_k k free = ⊎_elim (λ lt. same k (inl lt) ∙ out k free (inl lt)) (λ rest. ⊎_elim (λ both. inside k both.0 both.1) (λ ge. same k (inr ge) ∙ out k free (inr ge)) rest) (sides k at asked)
 
+    b_bytes : IsBytes b
+    b_bytes k =
+        elim (sides k at asked) [
+          | inl lt ↦ omega (arith, same k (inl lt), agrees.bytes k)
+          | inr rest ↦ elim rest [
+            | inl both ↦ omega (arith, inside k both.0 both.1, small k)
+            | inr ge ↦ omega (arith, same k (inr ge), agrees.bytes k)
+          ]
+        ]
+
     before : Agrees disk b
-    before = record { size = length-put c middle at b_fits ∙ size; outside = at_k }
+    before = record { size = length-put c middle at b_fits ∙ size; bytes = b_bytes; outside = at_k }
 
     torn : Torn at asked b c
     torn = record { size = sym (length-put c middle at b_fits); outside = λ k side. sym (same k side) }
@@ -76,9 +97,10 @@ torn_put old bytes at asked short fits = record {
 }
 
 -- What may be left after a write: anything in the range, round what could be left before it.
-pub torn_agrees : (disk : Disk) (at asked : ℕ) (bytes before after : List ℕ) → length bytes ≤ asked → at + asked ≤ length disk.content → Agrees disk before → Torn at asked before after → Agrees (written_disk disk at bytes asked) after
-torn_agrees disk at asked bytes before after short fits agrees torn = record {
+pub torn_agrees : (disk : Disk) (at asked : ℕ) (bytes before after : List ℕ) → length bytes ≤ asked → at + asked ≤ length disk.content → Agrees disk before → Torn at asked before after → IsBytes after → Agrees (written_disk disk at bytes asked) after
+torn_agrees disk at asked bytes before after short fits agrees torn small = record {
   size = torn.size ∙ agrees.size ∙ sym whole.size;
+  bytes = small;
   outside = λ k free. torn.outside k free.0 ∙ agrees.outside k free.1 ∙ sym (whole.outside k free.0);
 }
   where

@@ -3,6 +3,7 @@ use Rattle.std.proofs.Common.{◌≡◌, ◌≢◌, inl, inr, ⊎_elim, ◌↔�
 use Rattle.std.proofs.lemmas.List.{append-nil, get_or-set_same, get_or-set_other, length-set, length-append, nil_from_length}
 use Rattle.std.proofs.lemmas.Bool.{cases_eq}
 use Rattle.ldm_host.specs.Seen.{Seen, Leaves, image}
+use Rattle.ldm_host.specs.StoryLaws.{begins_itself, begins_both}
 use Rattle.ldm_host.specs.Moves.{Rose, Begins, Torn, TornAt, Later, Quiet, Still, Writes, Syncs, Settled, Settles, Ticks}
 
 pub rose_later : (a b c : ℕ) → Rose a b → b ≤ c → Rose a c
@@ -12,9 +13,6 @@ rose_later a b c (inr last) le = inr (omega (arith, last, le))
 pub rose_sooner : (a b c : ℕ) → a ≤ b → Rose b c → Rose a c
 rose_sooner a b c le (inl less) = inl (omega arith)
 rose_sooner a b c le (inr last) = inr last
-
-pub begins_itself : (x : List ℕ) → Begins x x
-begins_itself x = ([], sym (append-nil x))
 
 pub begins_trans : (x y z : List ℕ) → Begins x y → Begins y z → Begins x z
 begins_trans x y z first second = (first.0 ++ second.0, second.1 ∙ ap (λ (l : List ℕ). l ++ second.0) first.1 ∙ append_assoc x first.0 second.0)
@@ -67,7 +65,7 @@ pub moments_trans : (a b c : Seen) (P : List (List ℕ) → List ℕ → Type 0)
 moments_trans a b c P first second before after images said left =
     ⊎_elim (λ sooner. before images said sooner) (λ later. after images said later) (second.nothing_else a.clock images said first.clock left)
 
-leaves_still : (a b : Seen) (images : List (List ℕ)) → Still a b → Leaves b images → Leaves a images
+pub leaves_still : (a b : Seen) (images : List (List ℕ)) → Still a b → Leaves b images → Leaves a images
 leaves_still a b images still left = record {
   one_each = left.one_each ∙ ap length still.later.sizes;
   each = λ disk lt. (still.left disk (image images disk)).0 (left.each disk (subst (λ (l : List ℕ). disk < length l) (sym still.later.sizes) lt));
@@ -108,12 +106,6 @@ module _ (a : Seen)
     left = λ disk c. (λ l. l, λ l. l);
     moments = λ images said left. let now = only images said left in (now.0, subst (λ (l : List ℕ). Begins a.said l) (sym now.1) (begins_itself a.said), subst (λ (l : List ℕ). Begins l a.said) (sym now.1) (begins_itself a.said));
   }
-
--- two texts of which each begins with the other
-pub begins_both : (x y : List ℕ) → Begins x y → Begins y x → y ≡ x
-begins_both x y one two =
-    let none : length one.0 ≡ 0 = omega (arith, ap length one.1, length-append x one.0, ap length two.1, length-append y two.0) in
-    one.1 ∙ ap (λ (l : List ℕ). x ++ l) (nil_from_length one.0 none) ∙ append-nil x
 
 -- a call that changes no disk and nothing of the talk is a sync that did nothing
 pub still_syncs : (disk : ℕ) (a b : Seen) → Still a b → Quiet a b → Syncs disk a b

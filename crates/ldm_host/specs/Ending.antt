@@ -1,5 +1,6 @@
 -- How each call of a host in memory ends.
 use Rattle.std.specs.Prelude.{◌≡◌, ◌↔◌, ◌/◌, ◌||◌, ◌&&◌, ℕ, List, ◌++◌, length, set, take, Bool, true, false, not, IsTrue, IsFalse, if◌then◌else◌, ⊤}
+use Rattle.ldm_bytes.specs.Numbers.{IsBytes}
 use Rattle.ldm_bytes.specs.Places.{put}
 use Rattle.ldm_host.specs.Seen.{Seen, image}
 use Rattle.ldm_host.specs.Moves.{Quiet, SameLeft, Torn}
@@ -44,7 +45,7 @@ TakesHalf (Say bytes) old new = new.said ≡ old.said ++ first_half bytes
 
 -- A stop may leave any bytes in the range of a write, besides what it could leave before.
 abbrev pub Pends : Act → Seen → Seen → Type 0
-Pends (Write disk at bytes) old new = (before after : List ℕ) → old.may_leave disk before → Torn at (length bytes) before after → new.may_leave disk after
+Pends (Write disk at bytes) old new = (before after : List ℕ) → old.may_leave disk before → Torn at (length bytes) before after → IsBytes after → new.may_leave disk after
 Pends Read old new = ⊤
 Pends (Sync disk) old new = ⊤
 Pends Hear old new = ⊤

@@ -64,6 +64,17 @@ pub record Writes (disk at n : ℕ) (old new : Seen) : Type 0 where
   pub left_others : (other : ℕ) (c : List ℕ) → other ≢ disk → new.may_leave other c ↔ old.may_leave other c
   pub moments : (images : List (List ℕ)) (said : List ℕ) → new.left_since old.clock images said → (before : List (List ℕ)) × Leaves old before × TornAt disk at n before images × (said ≡ old.said)
 
+-- A range of one disk may have changed, by any number of writes and syncs: what Writes says, but for how many bytes were
+-- handed.
+pub record Changes (disk at n : ℕ) (old new : Seen) : Type 0 where
+  pub later : Later old new
+  pub quiet : Quiet old new
+  pub content : TornAt disk at n old.content new.content
+  pub wrote_others : (other : ℕ) → other ≢ disk → slice_index new.wrote other ≡ slice_index old.wrote other
+  pub left : (c : List ℕ) → new.may_leave disk c → (b : List ℕ) × old.may_leave disk b × Torn at n b c
+  pub left_others : (other : ℕ) (c : List ℕ) → other ≢ disk → new.may_leave other c ↔ old.may_leave other c
+  pub moments : (images : List (List ℕ)) (said : List ℕ) → new.left_since old.clock images said → (before : List (List ℕ)) × Leaves old before × TornAt disk at n before images × (said ≡ old.said)
+
 -- One disk is synced. At each moment since the old state a stop leaves what it could leave then.
 pub record Syncs (disk : ℕ) (old new : Seen) : Type 0 where
   pub later : Later old new

@@ -1,14 +1,17 @@
 -- What a host in memory is after a list of calls.
 use Rattle.std.specs.Prelude.{◌≡◌, ◌⊎◌, ℕ, ◌+◌, ◌/◌, ◌<◌, ◌≤◌, List, [], ◌∷◌, ◌++◌, length, get_or, set, map, take, drop, slice_index}
 use Rattle.ldm_host.specs.Seen.{Seen, image}
+use Rattle.ldm_bytes.specs.Numbers.{IsBytes}
 use Rattle.ldm_bytes.specs.Places.{put}
 use Rattle.ldm_host.specs.Moves.{Begins}
 use Rattle.ldm_host.specs.declared.call.Call.{Call}
 use Rattle.ldm_host.specs.declared.call.Call.TheVariants.{Write, Sync, Hear, Say, Nothing}
 
--- a disk: its bytes, and the places and lengths of the ranges that are pending
+-- a disk: its bytes, those that it had after its last sync, or at the start, and the places and lengths of the ranges
+-- that are pending
 pub record Disk : Type 0 where
   pub content : List ℕ
+  pub synced : List ℕ
   pub pending : List (ℕ × ℕ)
 
 -- the disks, what was said, and how many bytes of the script were heard
@@ -18,7 +21,7 @@ pub record State : Type 0 where
   pub heard : ℕ
 
 abbrev pub no_disk : Disk
-no_disk = record { content = []; pending = [] }
+no_disk = record { content = []; synced = []; pending = [] }
 
 abbrev pub disk_at : List Disk → ℕ → Disk
 disk_at disks disk = get_or disks disk no_disk
@@ -31,15 +34,16 @@ Outside (range ∷ ranges) k = ((k < range.0) ⊎ (range.0 + range.1 ≤ k)) × 
 -- a stop may leave this of a disk: the content, but for any bytes in the pending ranges
 pub record Agrees (disk : Disk) (c : List ℕ) : Type 0 where
   pub size : length c ≡ length disk.content
+  pub bytes : IsBytes c
   pub outside : (k : ℕ) → Outside disk.pending k → slice_index c k ≡ slice_index disk.content k
 
 -- after a write of so many bytes, of which these were taken at their front
 abbrev pub written_disk : Disk → ℕ → List ℕ → ℕ → Disk
-written_disk disk at bytes asked = record { content = put disk.content at bytes; pending = (at, asked) ∷ disk.pending }
+written_disk disk at bytes asked = record { content = put disk.content at bytes; synced = disk.synced; pending = (at, asked) ∷ disk.pending }
 
 -- after a sync
 abbrev pub synced_disk : Disk → Disk
-synced_disk disk = record { content = disk.content; pending = [] }
+synced_disk disk = record { content = disk.content; synced = disk.content; pending = [] }
 
 -- after one call more
 abbrev pub after : State → Call → State
@@ -106,7 +110,7 @@ seen_from first calls script counts = record {
 
 -- these images, with nothing pending, said or heard
 abbrev pub fresh_state : List (List ℕ) → State
-fresh_state images = record { disks = map (λ bytes. record { content = bytes; pending = [] }) images; said = []; heard = 0 }
+fresh_state images = record { disks = map (λ bytes. record { content = bytes; synced = bytes; pending = [] }) images; said = []; heard = 0 }
 
 -- the images and the input at the start, and the calls since
 pub record Story : Type 0 where

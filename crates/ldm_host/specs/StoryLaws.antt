@@ -1,6 +1,9 @@
 -- The laws of a host hold of every story.
-use Rattle.std.proofs.Common.{◌≡◌, ℕ, zero, suc, ◌+◌, ◌/◌, ◌<◌, ◌≤◌, List, [], ◌∷◌, ◌++◌, length, slice_index, refl, sym, ◌∙◌, ap, subst, arith}
-use Rattle.std.proofs.lemmas.List.{length-map, take_all, append-nil, length-append}
+use Rattle.std.proofs.Common.{◌≡◌, ⊎_elim, ℕ, zero, suc, ◌+◌, ◌/◌, ◌<◌, ◌≤◌, List, [], ◌∷◌, ◌++◌, length, slice_index, refl, sym, ◌∙◌, ap, subst, append_assoc}
+use Rattle.std.proofs.Math.Nat.{le_refl, le-add_right, le_trans, suc-ne-zero, zero-lt-suc}
+use Rattle.std.proofs.lemmas.Bool.{cases_lt}
+use Rattle.std.proofs.lemmas.List.{length-map, take_all, append-nil, append_cancel_left, get_or_past}
+use Rattle.ldm_bytes.specs.Numbers.{IsBytes}
 use Rattle.ldm_host.specs.Seen.{Leaves, image}
 use Rattle.ldm_host.specs.Moves.{Begins}
 use Rattle.ldm_host.specs.declared.call.Call.{Call}
@@ -11,29 +14,30 @@ image_at [] disk = refl
 image_at (d ∷ disks) zero = refl
 image_at (d ∷ disks) (suc disk) = image_at disks disk
 
-pub size_at : (disks : List Disk) (disk : ℕ) → disk < length (sizes_of disks) → length (image (contents disks) disk) / 512 ≡ slice_index (sizes_of disks) disk
-size_at [] disk lt = absurd (omega arith)
-size_at (d ∷ disks) zero lt = refl
-size_at (d ∷ disks) (suc disk) lt = size_at disks disk (omega arith)
+pub size_at : (disks : List Disk) (disk : ℕ) → length (image (contents disks) disk) / 512 ≡ slice_index (sizes_of disks) disk
+size_at [] disk = refl
+size_at (d ∷ disks) zero = refl
+size_at (d ∷ disks) (suc disk) = size_at disks disk
 
 pub one_each : (disks : List Disk) → length (contents disks) ≡ length (sizes_of disks)
 one_each disks = length-map disks (λ disk. disk.content) ∙ sym (length-map disks (λ disk. length disk.content / 512))
 
-pub stays : (disk : Disk) → Agrees disk disk.content
-stays disk = record { size = refl; outside = λ k out. refl }
+pub stays : (disk : Disk) → IsBytes disk.content → Agrees disk disk.content
+stays disk bytes = record { size = refl; bytes = bytes; outside = λ k out. refl }
 
-begins_itself : (x : List ℕ) → Begins x x
+pub begins_itself : (x : List ℕ) → Begins x x
 begins_itself x = ([], sym (append-nil x))
 
 -- two texts of which each begins with the other
 pub begins_both : (x y : List ℕ) → Begins x y → Begins y x → y ≡ x
-begins_both x y one two =
-    let none : length one.0 ≡ 0 = omega (arith, ap length one.1, length-append x one.0, ap length two.1, length-append y two.0) in
-    one.1 ∙ ap (λ (l : List ℕ). x ++ l) (empty one.0 none) ∙ append-nil x
+begins_both x y one two = one.1 ∙ ap (λ (l : List ℕ). x ++ l) (empty one.0 two.0 none) ∙ append-nil x
   where
-    empty : (l : List ℕ) → length l ≡ 0 → l ≡ []
-    empty [] is = refl
-    empty (a ∷ l) is = absurd (omega arith)
+    none : one.0 ++ two.0 ≡ []
+    none = append_cancel_left x (one.0 ++ two.0) [] (sym (append_assoc x one.0 two.0) ∙ sym (ap (λ (l : List ℕ). l ++ two.0) one.1) ∙ sym two.1 ∙ sym (append-nil x))
+
+    empty : (a b : List ℕ) → a ++ b ≡ [] → a ≡ []
+    empty [] b is = refl
+    empty (n ∷ a) b is = absurd (suc-ne-zero (length (a ++ b)) (ap length is))
 
 -- all calls, and more than all
 pub all_calls : (first : State) (calls : List Call) (k : ℕ) → length calls ≤ k → state_at first calls k ≡ run first calls
@@ -44,17 +48,17 @@ pub counts_now : (first : State) (calls : List Call) (script : List ℕ) (counts
 counts_now first calls script counts t images le left = record {
   k = length calls;
   from = le;
-  to = omega arith;
+  to = le_refl (length calls);
   may = subst (λ (s : State). MayLeave s images) (sym here) (record { one_each = left.one_each; each = left.each });
   said_before = subst (λ (s : State). Begins s.said (run first calls).said) (sym here) (begins_itself (run first calls).said);
   said_after = subst (λ (s : State). Begins (run first calls).said s.said) (sym next) (begins_itself (run first calls).said);
 }
   where
     here : state_at first calls (length calls) ≡ run first calls
-    here = all_calls first calls (length calls) (omega arith)
+    here = all_calls first calls (length calls) (le_refl (length calls))
 
     next : state_at first calls (length calls + 1) ≡ run first calls
-    next = all_calls first calls (length calls + 1) (omega arith)
+    next = all_calls first calls (length calls + 1) (le-add_right (length calls) 1)
 
 pub only_now : (first : State) (calls : List Call) (script : List ℕ) (counts : Counts) (images : List (List ℕ)) (said : List ℕ)
     → LeftSince first calls (length calls) images said → Leaves (seen_from first calls script counts) images × (said ≡ (run first calls).said)
@@ -67,7 +71,18 @@ only_now first calls script counts images said left = (
     here = all_calls first calls left.k left.from
 
     next : state_at first calls (left.k + 1) ≡ run first calls
-    next = all_calls first calls (left.k + 1) (omega (arith, left.from))
+    next = all_calls first calls (left.k + 1) (le_trans left.from (le-add_right left.k 1))
 
     may : MayLeave (run first calls) images
     may = subst (λ (s : State). MayLeave s images) here left.may
+
+-- images that are left at some moment are bytes
+pub bytes_since : (first : State) (calls : List Call) (t : ℕ) (images : List (List ℕ)) (said : List ℕ) → LeftSince first calls t images said → (disk : ℕ) → IsBytes (image images disk)
+bytes_since first calls t images said left disk =
+    ⊎_elim
+    (λ lt. (left.may.each disk (subst (λ (n : ℕ). disk < n) left.may.one_each lt)).bytes)
+    (λ past. subst IsBytes (sym (get_or_past images disk [] past)) (λ k. subst (λ (n : ℕ). n < 256) (sym (none k)) (zero-lt-suc 255)))
+    (cases_lt disk (length images))
+  where
+    none : (k : ℕ) → slice_index [] k ≡ 0
+    none k = refl

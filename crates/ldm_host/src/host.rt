@@ -1,4 +1,5 @@
 ghost use Rattle.std.specs.Prelude.{◌≡◌, ◌↔◌, ◌^◌, ◌+◌, ◌-◌, ◌*◌, ◌/◌, ◌<◌, ◌≤◌, ◌++◌, min, List, ℕ, length, take, set, slice_index, slice_range, IfOk, OnOk, OnErr, IsErr, is_ok, Bool, ⊤};
+ghost use Rattle.ldm_bytes.specs.Numbers.{IsBytes};
 ghost use Rattle.ldm_bytes.specs.Places.{put};
 ghost use Rattle.ldm_host.specs.Seen.{Seen, Leaves, image};
 ghost use Rattle.ldm_host.specs.Moves.{Rose, Still, Quiet, Writes, Syncs, Settled, SameLeft, Ticks};
@@ -114,6 +115,13 @@ pub trait Host {
     /// What a stop may leave of a disk has its length.
     ghost same_length: { (host : Self) (disk : ℕ) (c : List ℕ) → (seen host).may_leave disk c
         → length c ≡ length (image (seen host).content disk) };
+
+    /// What a stop may leave of a disk is bytes.
+    ghost left_bytes: { (host : Self) (disk : ℕ) (c : List ℕ) → (seen host).may_leave disk c → IsBytes c };
+
+    /// So is what a stop could leave at any moment.
+    ghost bytes_since: { (host : Self) (t : ℕ) (images : List (List ℕ)) (said : List ℕ)
+        → (seen host).left_since t images said → (disk : ℕ) → disk < length (seen host).sizes → IsBytes (image images disk) };
 
     /// This moment is one of those since an earlier one.
     ghost counts_now: { (host : Self) (t : ℕ) (images : List (List ℕ)) → t ≤ (seen host).clock

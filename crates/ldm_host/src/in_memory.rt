@@ -6,7 +6,7 @@ impl Host for MemoryHost {
     ghost use Rattle.std.specs.Prelude.{⊤};
     ghost use Rattle.ldm_host.specs.Memory.{memory_seen};
     ghost use Rattle.ldm_host.specs.Ending.{Ends};
-    ghost use Rattle.ldm_host.specs.Laws.{law_one_each, law_counts_each, law_lengths, law_may_stay, law_same_length, law_counts_now, law_only_now};
+    ghost use Rattle.ldm_host.specs.Laws.{law_one_each, law_counts_each, law_lengths, law_may_stay, law_same_length, law_left_bytes, law_bytes_since, law_counts_now, law_only_now};
 
     ghost seen = { memory_seen };
 
@@ -22,11 +22,15 @@ impl Host for MemoryHost {
 
     ghost counts_each = { λ m. law_counts_each m };
 
-    ghost lengths = { λ tells m disk lt. law_lengths m disk lt };
+    ghost lengths = { λ tells m disk lt. law_lengths m disk };
 
     ghost may_stay = { λ tells m disk lt. law_may_stay m disk };
 
     ghost same_length = { λ m disk c left. law_same_length m disk c left };
+
+    ghost left_bytes = { λ m disk c left. law_left_bytes m disk c left };
+
+    ghost bytes_since = { λ m t images said left disk lt. law_bytes_since m t images said left disk };
 
     ghost counts_now = { λ m t images le left. law_counts_now m t images le left };
 

@@ -1,5 +1,6 @@
 // How a host in memory is made and looked at.
 ghost use Rattle.std.specs.Prelude.{◌≡◌, ◌<◌, List, [], ℕ, length, replicate, slice_index, IfOk};
+ghost use Rattle.ldm_bytes.specs.Numbers.{IsBytes};
 ghost use Rattle.ldm_host.specs.Images.{items_of};
 ghost use Rattle.ldm_host.specs.Memory.{memory_seen, story_of, counts_of, plan_of};
 ghost use Rattle.ldm_host.specs.Moves.{Settled};
@@ -10,13 +11,22 @@ use crate::MemoryHost;
 use ldm_bytes::NoMemory;
 use std::alloc::{AllocError, Global};
 
+// A copy of an image.
+fn copy_of(alloc: Global, image: &[u8]) -> Result<Vec<u8>, AllocError>
+    ensures is { IfOk result (λ copy. copy.items ≡ image.now) }
+    ensures bytes { IsBytes image.now }
+{
+    image.to_vec(alloc)
+}
+
 // A copy of each image.
 fn copies(alloc: Global, images: &[Vec<u8>]) -> Result<Vec<Vec<u8>>, AllocError>
-    ensures { IfOk result (λ all. items_of all.items ≡ items_of images.now) }
+    ensures is { IfOk result (λ all. items_of all.items ≡ items_of images.now) }
+    ensures bytes { IfOk result (λ all. (disk : ℕ) → IsBytes (image (items_of all.items) disk)) }
 {
     let mut all = Vec::new(alloc);
     for image in images {
-        let copy = image.to_vec(alloc)?;
+        let copy = copy_of(alloc, image)?;
         if all.push(copy).is_err() {
             return Err(AllocError);
         }

@@ -1,5 +1,6 @@
 // What the calls of a host in memory do, one by one.
 ghost use Rattle.std.specs.Prelude.{◌≡◌, ◌≤◌, ◌<◌, ◌+◌, ◌-◌, ◌^◌, ◌++◌, ℕ, List, length, set, slice_index, take, min, OnOk, OnErr, IfOk, Bool, true, false};
+ghost use Rattle.ldm_bytes.specs.Numbers.{IsBytes};
 ghost use Rattle.ldm_bytes.specs.Places.{put};
 ghost use Rattle.ldm_host.specs.Ending.{TakesNothing};
 ghost use Rattle.ldm_host.specs.Images.{items_of};
@@ -27,7 +28,7 @@ impl MemoryHost {
         ensures writes { Writes disk at asked (memory_seen self.old) (memory_seen self.new) }
         ensures wrote { (memory_seen self.new).wrote ≡ set (memory_seen self.old).wrote disk (min (slice_index (memory_seen self.old).wrote disk + asked) (2 ^ 64 - 1)) }
         ensures untaken { OnErr result (TakesNothing (memory_seen self.old) (memory_seen self.new)) }
-        ensures pending { OnOk result ((before after : List ℕ) → (memory_seen self.old).may_leave disk before → Torn at asked before after → (memory_seen self.new).may_leave disk after) }
+        ensures pending { OnOk result ((before after : List ℕ) → (memory_seen self.old).may_leave disk before → Torn at asked before after → IsBytes after → (memory_seen self.new).may_leave disk after) }
         ensures placed { OnOk result ((memory_seen self.new).content ≡ set (memory_seen self.old).content disk (put (image (memory_seen self.old).content disk) at taken.now)) }
         ensures ticks { Ticks (memory_seen self.old) (memory_seen self.new) }
         ensures plan { SameCounts self.old self.new }

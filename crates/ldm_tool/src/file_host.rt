@@ -103,6 +103,10 @@ impl<I: Read, O: Write> Host for FileHost<I, O> {
 
     ghost same_length = { λ host disk c left. absurd left };
 
+    ghost left_bytes = { λ host disk c left. absurd left };
+
+    ghost bytes_since = { λ host t images said left disk lt. absurd (left.1 disk lt) };
+
     ghost counts_now = { λ host t images le left. file_counts_now (map (λ image. image.sectors) host.images.items) host.disk_faults host.talk_faults host.wrote.items t images left };
 
     ghost only_now = { λ host images said left. file_only_now (map (λ image. image.sectors) host.images.items) host.disk_faults host.talk_faults host.wrote.items 0 images said left };

@@ -6,6 +6,7 @@ use Rattle.std.proofs.lemmas.List.{get_or-replicate}
 use Rattle.std.proofs.lemmas.Bool.{cases_lt}
 use Rattle.std.proofs.lemmas.Bool.Decides.{nat_tests}
 use Rattle.std.proofs.lemmas.Grind.{same_number_lists}
+use Rattle.ldm_bytes.specs.Numbers.{IsBytes}
 use Rattle.ldm_bytes.specs.Places.{put}
 use Rattle.ldm_bytes.specs.Guid.{guid_of}
 use Rattle.ldm_bytes.proofs.PlaceLaws.{length-put, get_or-put_outside, get_or-put_inside, same_number_at, same_range}
@@ -99,6 +100,9 @@ carried_changing s k size (inr at) =
     ap (λ (j : ℕ). get_or (put (put s 0x75 (replicate 32 0)) 0xA1 (replicate 16 0)) j 0) (omega arith)
     ∙ get_or-put_inside (put s 0x75 (replicate 32 0)) 0xA1 (replicate 16 0) (k - 0xA1) (omega arith) (omega arith)
     ∙ get_or-replicate {A = ℕ} 16 (k - 0xA1) 0 0 (omega arith)
+
+pub carried_bytes : (s : List ℕ) → length s ≡ 512 → IsBytes s → IsBytes (carried s)
+carried_bytes s size small k = ⊎_elim (λ at. omega (arith, carried_changing s k size at)) (λ at. omega (arith, carried_lasting s k size at, small k)) (changing_or_lasting k)
 
 -- sectors with the same lasting bytes carry the same
 pub same_carried : (a b : List ℕ) → length a ≡ 512 → length b ≡ 512 → ((k : ℕ) → Lasting k → get_or a k 0 ≡ get_or b k 0) → carried a ≡ carried b

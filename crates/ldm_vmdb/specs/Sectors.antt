@@ -1,6 +1,7 @@
 -- The header sector of the database (VMDB), by plain offsets, as the Linux kernel and the Linux-NTFS project describe it.
-use Rattle.std.specs.Prelude.{◌≡◌, ℕ, ◌*◌, ◌==◌, ◌&&◌, not, nat_lt, Bool, true, List, take, replicate, slice_range, codes, bytes_eq, Option, Some}
+use Rattle.std.specs.Prelude.{◌≡◌, ℕ, ◌*◌, ◌==◌, ◌&&◌, not, nat_lt, Bool, true, List, length, take, replicate, slice_range, codes, bytes_eq, Option, Some}
 use Rattle.std.specs.List.{before_first}
+use Rattle.ldm_bytes.specs.Numbers.{IsBytes}
 use Rattle.ldm_bytes.specs.Places.{u16_at, u32_at, u64_at, put}
 use Rattle.ldm_bytes.specs.Guid.{guid_of}
 
@@ -51,8 +52,11 @@ carried sector = put (put sector 0x75 (replicate 32 0)) 0xA1 (replicate 16 0)
 unfoldable pub is_vmdb : List ℕ → Bool
 is_vmdb sector = has_magic sector && (has_version sector && (has_block_size sector && (has_first_block sector && is_settled sector)))
 
--- What a header keeps: its values are those of its carried bytes, which pass every test but that of an area.
+-- What a header keeps: its carried bytes are a sector of bytes that passes every test but that of an area, and its
+-- values are those of that sector.
 pub record IsKept (last : ℕ) (name : List ℕ) (guid : ℕ) (raw : List ℕ) : Type 0 where
+  pub size : length raw ≡ 512
+  pub bytes : IsBytes raw
   pub is_header : is_vmdb raw ≡ true
   pub last_is : last ≡ last_of raw
   pub name_is : name ≡ group_name raw

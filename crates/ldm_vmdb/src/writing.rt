@@ -1,6 +1,5 @@
 ghost use Rattle.std.specs.Prelude.{◌≡◌, ◌++◌, ◌+◌, ◌*◌, ◌≤◌, ℕ, None, length};
 ghost use Rattle.byteorder.specs.Endian.{big_bytes};
-ghost use Rattle.ldm_bytes.specs.Numbers.{IsBytes};
 ghost use Rattle.ldm_bytes.specs.Places.{put};
 ghost use Rattle.ldm_vmdb.specs.Headers.{vmdb_fault, written, counts_bytes, ReadsBack};
 
@@ -10,8 +9,7 @@ use ldm_bytes::{put_u32, put_u64};
 // The carried header bytes, which the sector begins as.
 fn copy_carried(raw: &[u8], out: &mut [u8; 512])
     requires { length raw.now ≡ 512 }
-    ensures copied { out.new ≡ raw.now }
-    ensures bytes { IsBytes raw.now }
+    ensures { out.new ≡ raw.now }
 {
     out.copy_from_slice(raw);
 }

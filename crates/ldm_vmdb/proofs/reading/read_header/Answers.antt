@@ -8,7 +8,7 @@ unfolding last_of
 invariant_of-result c = record {
   kept =
       kept_of c.args.sector.now c.carried_of.result c.get_u32.result c.in_ok-name.name c.in-Ok.guid c.args.area_sectors (omega arith)
-      c.carried_of.ensures c.in-Ok.ensures.0 c.get_u32.ensures (c.in_ok-name.ensures {u = tt}) c.in-Ok.ensures.1;
+      c.carried_of.ensures c.fits-sector c.in-Ok.ensures.0 c.get_u32.ensures (c.in_ok-name.ensures {u = tt}) c.in-Ok.ensures.1;
 }
 
 pub returns : goal.returns

@@ -19,7 +19,7 @@ returns-clause-bytes c =
     c.put_counts-2.ensures
     ∙ ap (λ (l : List ℕ). put l 0xA1 n)
     (c.put_counts.ensures
-    ∙ ap (λ (l : List ℕ). put l 0x85 n) (c.put_u64-2.ensures ∙ ap (λ (l : List ℕ). put l 0x7D s) (c.put_u64.ensures ∙ ap (λ (l : List ℕ). put l 0x75 s) (c.put_u32.ensures ∙ ap (λ (l : List ℕ). put l 4 (big_bytes 4 c.args.header.now.last)) c.copy_carried.ensures.copied)) ∙ put-put first 0x75 s s (omega arith))
+    ∙ ap (λ (l : List ℕ). put l 0x85 n) (c.put_u64-2.ensures ∙ ap (λ (l : List ℕ). put l 0x7D s) (c.put_u64.ensures ∙ ap (λ (l : List ℕ). put l 0x75 s) (c.put_u32.ensures ∙ ap (λ (l : List ℕ). put l 4 (big_bytes 4 c.args.header.now.last)) c.copy_carried.ensures)) ∙ put-put first 0x75 s s (omega arith))
     ∙ put-put first 0x75 (s ++ s) n (omega arith))
 
 pub returns-clause-reads_back : goal.returns-clause-reads_back
@@ -27,14 +27,14 @@ unfolding written
 returns-clause-reads_back c =
     let h = c.args.header.now in
     let whole : length h.raw ≡ 512 = omega arith in
-    let is : c.put_counts-2.new.out ≡ plain h.last h.name h.guid h.raw h.kept whole c.copy_carried.ensures.bytes c.args.seq (omega arith) c.args.counts =
-    returns-clause-bytes c ∙ last_stands h.last h.name h.guid h.raw h.kept whole c.copy_carried.ensures.bytes c.args.seq (omega arith) c.args.counts in
+    let is : c.put_counts-2.new.out ≡ plain h.last h.name h.guid h.raw h.kept c.args.seq (omega arith) c.args.counts =
+    returns-clause-bytes c ∙ last_stands h.last h.name h.guid h.raw h.kept c.args.seq (omega arith) c.args.counts in
     record {
-      last_is = ap last_of is ∙ plain_last h.last h.name h.guid h.raw h.kept whole c.copy_carried.ensures.bytes c.args.seq (omega arith) c.args.counts;
-      seq_is = ap sequence_of is ∙ plain_sequence h.last h.name h.guid h.raw h.kept whole c.copy_carried.ensures.bytes c.args.seq (omega arith) c.args.counts;
-      name_is = ap group_name is ∙ plain_name h.last h.name h.guid h.raw h.kept whole c.copy_carried.ensures.bytes c.args.seq (omega arith) c.args.counts;
-      guid_is = ap group_guid is ∙ plain_guid h.last h.name h.guid h.raw h.kept whole c.copy_carried.ensures.bytes c.args.seq (omega arith) c.args.counts;
-      raw_is = ap carried is ∙ plain_carried h.last h.name h.guid h.raw h.kept whole c.copy_carried.ensures.bytes c.args.seq (omega arith) c.args.counts;
+      last_is = ap last_of is ∙ plain_last h.last h.name h.guid h.raw h.kept c.args.seq (omega arith) c.args.counts;
+      seq_is = ap sequence_of is ∙ plain_sequence h.last h.name h.guid h.raw h.kept c.args.seq (omega arith) c.args.counts;
+      name_is = ap group_name is ∙ plain_name h.last h.name h.guid h.raw h.kept c.args.seq (omega arith) c.args.counts;
+      guid_is = ap group_guid is ∙ plain_guid h.last h.name h.guid h.raw h.kept c.args.seq (omega arith) c.args.counts;
+      raw_is = ap carried is ∙ plain_carried h.last h.name h.guid h.raw h.kept c.args.seq (omega arith) c.args.counts;
     }
 
 pub returns-clause-no_fault : goal.returns-clause-no_fault
@@ -42,5 +42,5 @@ unfolding written
 returns-clause-no_fault c = λ area fits.
     let h = c.args.header.now in
     let whole : length h.raw ≡ 512 = omega arith in
-    let is = returns-clause-bytes c ∙ last_stands h.last h.name h.guid h.raw h.kept whole c.copy_carried.ensures.bytes c.args.seq (omega arith) c.args.counts in
-    ap (λ (l : List ℕ). vmdb_fault l area) is ∙ plain_fault h.last h.name h.guid h.raw h.kept whole c.copy_carried.ensures.bytes c.args.seq (omega arith) c.args.counts area fits
+    let is = returns-clause-bytes c ∙ last_stands h.last h.name h.guid h.raw h.kept c.args.seq (omega arith) c.args.counts in
+    ap (λ (l : List ℕ). vmdb_fault l area) is ∙ plain_fault h.last h.name h.guid h.raw h.kept c.args.seq (omega arith) c.args.counts area fits

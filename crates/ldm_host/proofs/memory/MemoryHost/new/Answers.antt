@@ -1,13 +1,16 @@
-use Rattle.std.proofs.Common.{rules, ◌≡◌, length}
+use Rattle.std.proofs.Common.{rules, ◌≡◌, ℕ, length}
 use Rattle.std.proofs.lemmas.List.{length-replicate}
+use Rattle.ldm_bytes.specs.Numbers.{IsBytes}
 use Rattle.ldm_host.specs.Images.{items_of}
+use Rattle.ldm_host.specs.Seen.{image}
 use Rattle.ldm_host.proofs.Fresh.{fresh_kept, fresh_settled}
 use Rattle.ldm_host.proofs.memory.MemoryHost.new.Goals as goal
 
 pub invariant_of-result : goal.invariant_of-result
 invariant_of-result c =
     let sized : length c.in_ok-handed.handed.items ≡ length c.args.images.items = search (rules, length-replicate) in
-    record { kept = fresh_kept (items_of c.in_ok-first.first.items) c.new.result.items c.args.script.items c.args.images.items c.new-2.result.items c.in_ok-handed.handed.items (search rules) (search rules) (search rules) sized }
+    let bytes : (disk : ℕ) → IsBytes (image (items_of c.in_ok-first.first.items) disk) = c.in_ok-first.ensures.bytes in
+    record { kept = fresh_kept (items_of c.in_ok-first.first.items) c.new.result.items c.args.script.items c.args.images.items c.new-2.result.items c.in_ok-handed.handed.items (search rules) (search rules) (search rules) sized bytes }
 
 pub returns-clause-settled : goal.returns-clause-settled
 returns-clause-settled c = fresh_settled (items_of c.in_ok-first.first.items) c.new.result.items (search rules)

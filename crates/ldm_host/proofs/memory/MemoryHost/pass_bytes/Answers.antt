@@ -6,6 +6,7 @@ use Rattle.ldm_host.specs.Moves.{Writes}
 use Rattle.ldm_host.specs.declared.call.Call.{Call}
 use Rattle.ldm_host.specs.declared.call.Call.TheVariants.{Nothing}
 use Rattle.ldm_host.specs.Kept.{IsKept}
+use Rattle.ldm_host.specs.Laws.{held_now}
 use Rattle.ldm_host.specs.Memory.{memory_seen, counts_of}
 use Rattle.ldm_host.specs.Story.{fresh_state, Counts, seen_from}
 use Rattle.ldm_host.proofs.Handed.{handed_here, handed_others}
@@ -21,7 +22,7 @@ invariant_of-self c =
     record {
       kept = kept_or_not (λ (l : List Call). IsKept (items_of m.first.items) l m.script.items m.held.items m.said.items m.heard c.hand.new.handed.items)
           (is_ok c.push.result) m.calls.items (m.calls.items ++ Nothing ∷ []) c.push.new.self.items c.push.ensures.items
-          (kept_same (items_of m.first.items) m.calls.items m.calls.items m.script.items m.held.items m.said.items m.heard c.hand.new.handed.items kept Nothing refl refl refl) kept;
+          (kept_same (items_of m.first.items) m.calls.items m.calls.items m.script.items m.held.items m.said.items m.heard c.hand.new.handed.items kept Nothing refl refl refl (held_now m)) kept;
     }
 
 pub returns-in_err-push-clause-writes : goal.returns-in_err-push-clause-writes

@@ -1,0 +1,59 @@
+-- How changes of one disk follow one another.
+use Rattle.std.proofs.Common.{◌≡◌, inl, inr, ⊎_elim, ℕ, ◌+◌, ◌<◌, ◌≤◌, List, length, slice_index, sym, ◌∙◌, ap, subst, arith}
+use Rattle.ldm_host.specs.StoryLaws.{begins_both}
+use Rattle.ldm_host.specs.Seen.{Seen, Leaves, image}
+use Rattle.ldm_host.specs.Moves.{Begins, Torn, TornAt, Quiet, Still, Writes, Changes}
+use Rattle.ldm_host.proofs.Relations.{later_trans, quiet_trans, moments_trans, iff_trans, torn_itself, torn_at_itself, torn_trans, torn_at_trans, torn_from}
+
+pub torn_wider : (at m begin n : ℕ) (old new : List ℕ) → begin ≤ at → at + m ≤ begin + n → Torn at m old new → Torn begin n old new
+torn_wider at m begin n old new low high torn = record {
+  size = torn.size;
+  outside = λ k out. torn.outside k (⊎_elim (λ lt. inl (omega (arith, lt, low))) (λ ge. inr (omega (arith, ge, high))) out);
+}
+
+torn_at_wider : (disk at m begin n : ℕ) (old new : List (List ℕ)) → begin ≤ at → at + m ≤ begin + n → TornAt disk at m old new → TornAt disk begin n old new
+torn_at_wider disk at m begin n old new low high torn = record {
+  count = torn.count;
+  here = torn_wider at m begin n (image old disk) (image new disk) low high torn.here;
+  others = torn.others;
+}
+
+-- a write within the range
+pub writes_change : (disk at m begin n : ℕ) (a b : Seen) → begin ≤ at → at + m ≤ begin + n → Writes disk at m a b → Changes disk begin n a b
+writes_change disk at m begin n a b low high writes = record {
+  later = writes.later;
+  quiet = writes.quiet;
+  content = torn_at_wider disk at m begin n a.content b.content low high writes.content;
+  wrote_others = writes.wrote_others;
+  left = λ c left. let from = writes.left c left in (from.0, from.1, torn_wider at m begin n from.0 c low high from.2);
+  left_others = writes.left_others;
+  moments = λ images said left. let m' = writes.moments images said left in (m'.0, m'.1, torn_at_wider disk at m begin n m'.0 images low high m'.2, m'.3);
+}
+
+-- calls that change no disk and nothing of the talk
+pub still_changes : (disk at n : ℕ) (a b : Seen) → Still a b → Quiet a b → Changes disk at n a b
+still_changes disk at n a b still quiet = record {
+  later = still.later;
+  quiet = quiet;
+  content = subst (λ (l : List (List ℕ)). TornAt disk at n a.content l) (sym still.content) (torn_at_itself disk at n a.content);
+  wrote_others = λ other ne. ap (λ (l : List ℕ). slice_index l other) still.wrote;
+  left = λ c left. (c, (still.left disk c).0 left, torn_itself at n c);
+  left_others = λ other c ne. still.left other c;
+  moments = λ images said left. let m = still.moments images said left in (images, m.0, torn_at_itself disk at n images, begins_both a.said said m.1 (subst (λ (l : List ℕ). Begins said l) quiet.said m.2));
+}
+
+pub changes_trans : (disk at n : ℕ) (a b c : Seen) → disk < length a.sizes → Changes disk at n a b → Changes disk at n b c → Changes disk at n a c
+changes_trans disk at n a b c in_range first second = record {
+  later = later_trans a b c first.later second.later;
+  quiet = quiet_trans a b c first.quiet second.quiet;
+  content = torn_at_trans disk at n a.content b.content c.content first.content second.content;
+  wrote_others = λ other ne. second.wrote_others other ne ∙ first.wrote_others other ne;
+  left = λ x left. let late = second.left x left in let early = first.left late.0 late.1 in (early.0, early.1, torn_trans at n early.0 late.0 x early.2 late.2);
+  left_others = λ other x ne. iff_trans (a.may_leave other x) (b.may_leave other x) (c.may_leave other x) (first.left_others other x ne) (second.left_others other x ne);
+  moments = moments_trans a b c (λ images said. (before : List (List ℕ)) × Leaves a before × TornAt disk at n before images × (said ≡ a.said)) first.later second.later
+      first.moments
+      (λ images said left.
+      let m = second.moments images said left in
+      let from = torn_from disk at n a b in_range first.later.sizes first.left (λ other x ne. (first.left_others other x ne).0) m.0 m.1 in
+      (from.0, from.1, torn_at_trans disk at n from.0 m.0 images from.2 m.2, m.3 ∙ first.quiet.said));
+}
