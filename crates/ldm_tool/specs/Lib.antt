@@ -2,4 +2,5 @@ pub mod FileSeen
 pub mod Said
 pub mod Mapping
 pub mod Answer
+pub mod Kinds
 pub mod Runs

@@ -1,21 +1,12 @@
 -- How a run of the program ends.
-use Rattle.std.specs.Prelude.{◌≡◌, ◌⊎◌, ℕ, ◌++◌, length, Option, Some, None}
+use Rattle.std.specs.Prelude.{◌≡◌, ◌≢◌, ◌⊎◌, ℕ, ◌++◌, length, Option, Some, None}
 use Rattle.ldm_host.specs.Seen.{Seen}
 use Rattle.ldm_host.specs.Moves.{Rose, Begins, Still}
 use Rattle.ldm_words.specs.declared.job.Job.{Job}
-use Rattle.ldm_words.specs.declared.job.Job.TheVariants.{Disk, Records, Show, Check, Map}
-use Rattle.ldm_tool.specs.Said.{Answer}
+use Rattle.ldm_tool.specs.Said.{Answer, HasAnswer, SaysNothing}
+use Rattle.ldm_tool.specs.Kinds.{kind_of, JobPremise, JobDisks, SameInput, JobInput, JobSays}
 use Rattle.ldm_tool.specs.declared.run.Status.{Status}
-use Rattle.ldm_tool.specs.declared.run.Status.TheVariants.{Done, Refused, Usage, DiskFault, NoMemory, TalkFault}
-
--- the statuses that an answer may have
-abbrev pub HasAnswer : Status → Type 0
-HasAnswer Done = Unit {0}
-HasAnswer Refused = Unit {0}
-HasAnswer Usage = ⊥
-HasAnswer DiskFault = ⊥
-HasAnswer NoMemory = ⊥
-HasAnswer TalkFault = ⊥
+use Rattle.ldm_tool.specs.declared.run.Status.TheVariants.{Usage, DiskFault, TalkFault}
 
 -- the status is the answer's, and since the old state just the answer's text was said
 pub record Whole (old new : Seen) (answer : Answer) (status : Status) : Type 0 where
@@ -47,43 +38,28 @@ abbrev pub HasImages : Option (Job × ℕ) → Seen → Type 0
 HasImages None host = Unit {0}
 HasImages (Some reading) host = length host.sizes ≡ reading.1
 
--- What a job asks of the disks for its answer to be that of their content: nothing, where it only reads.
-abbrev pub JobPremise : Job → Seen → Type 0
-JobPremise Disk host = Unit {0}
-JobPremise Records host = Unit {0}
-JobPremise Show host = Unit {0}
-JobPremise Check host = Unit {0}
-JobPremise (Map name first count) host = Unit {0}
-
 abbrev pub Premise : Option (Job × ℕ) → Seen → Type 0
 Premise None host = Unit {0}
-Premise (Some reading) host = JobPremise reading.0 host
+Premise (Some reading) host = JobPremise (kind_of reading.0) host
 
--- What becomes of the disks: a job that only reads leaves them as they are.
-abbrev pub JobDisks : Job → Seen → Seen → Type 0
-JobDisks Disk old new = Still old new
-JobDisks Records old new = Still old new
-JobDisks Show old new = Still old new
-JobDisks Check old new = Still old new
-JobDisks (Map name first count) old new = Still old new
+abbrev pub DisksAfter : Type 0 → Option (Job × ℕ) → Seen → Seen → Status → Type 0
+DisksAfter tells None old new status = Still old new
+DisksAfter tells (Some reading) old new status = JobDisks tells (kind_of reading.0) old new status
 
-abbrev pub DisksAfter : Option (Job × ℕ) → Seen → Seen → Type 0
-DisksAfter None old new = Still old new
-DisksAfter (Some reading) old new = JobDisks reading.0 old new
+abbrev pub InputAfter : Type 0 → Option (Job × ℕ) → Seen → Seen → Status → Type 0
+InputAfter tells None old new status = SameInput old new
+InputAfter tells (Some reading) old new status = JobInput tells (kind_of reading.0) old new status
 
--- the input is left as it was
-pub record SameInput (old new : Seen) : Type 0 where
-  pub input : new.input ≡ old.input
-  pub heard : new.heard ≡ old.heard
+-- what was said before a fault came
+abbrev pub SaysBefore : Type 0 → Option (Job × ℕ) → Seen → Seen → Status → Type 0
+SaysBefore tells None old new status = new.said ≡ old.said
+SaysBefore tells (Some reading) old new status = JobSays tells (kind_of reading.0) old new status
 
--- What is left of the input: all of it, by a job that hears no script.
-abbrev pub JobInput : Job → Seen → Seen → Type 0
-JobInput Disk old new = SameInput old new
-JobInput Records old new = SameInput old new
-JobInput Show old new = SameInput old new
-JobInput Check old new = SameInput old new
-JobInput (Map name first count) old new = SameInput old new
-
-abbrev pub InputAfter : Option (Job × ℕ) → Seen → Seen → Type 0
-InputAfter None old new = SameInput old new
-InputAfter (Some reading) old new = JobInput reading.0 old new
+-- What a job that only reads does: it answers one of these, or says why not, and changes nothing.
+pub record OnlyReads (tells : Type 0) (old new : Seen) (IsOne : Answer → Type 0) (status : Status) : Type 0 where
+  pub answers : tells → Answers old new IsOne status
+  pub no_usage : status ≢ Usage
+  pub causes : Causes old new status
+  pub silent : SaysNothing status → new.said ≡ old.said
+  pub still : Still old new
+  pub input : SameInput old new

@@ -3,7 +3,7 @@ ghost use Rattle.std.specs.Prelude.{◌≡◌, IfOk, Contains, Some, Ok};
 ghost use Rattle.ldm_records.specs.declared.types.Record.TheVariants as kinds;
 ghost use Rattle.ldm_layout.specs.Volumes.{layout_of, volume_with};
 ghost use Rattle.ldm_found.specs.Facts.{IsSoundGroup};
-ghost use Rattle.ldm_tool.specs.Runs.{HasAnswer};
+ghost use Rattle.ldm_tool.specs.Said.{HasAnswer};
 ghost use Rattle.ldm_tool.specs.Mapping.{is_bad_range, map_answer};
 
 use crate::run::Status;

@@ -10,9 +10,10 @@ ghost use Rattle.ldm_text.specs.Opening.{text_of_open_fault};
 ghost use Rattle.ldm_found.specs.declared.found.Found.{Found};
 ghost use Rattle.ldm_found.specs.Opening.{IsGroupIn};
 ghost use Rattle.ldm_found.specs.Facts.{IsSoundGroup};
-ghost use Rattle.ldm_tool.specs.Said.{Answer};
+ghost use Rattle.ldm_tool.specs.Said.{Answer, HasAnswer};
 ghost use Rattle.ldm_tool.specs.Answer.{IsAnswerTo, IsJobAnswer, IsCopyAnswer, IsGroupAnswer, refusal};
-ghost use Rattle.ldm_tool.specs.Runs.{HasAnswer, Whole, Answers, Completes, Causes, NoFault, HasImages, Premise, JobPremise, JobDisks, DisksAfter, SameInput, JobInput, InputAfter};
+ghost use Rattle.ldm_tool.specs.Kinds.{kind_of, JobPremise, JobDisks, JobInput, JobSays};
+ghost use Rattle.ldm_tool.specs.Runs.{Answers, Completes, Causes, NoFault, HasImages, Premise, DisksAfter, InputAfter, SaysBefore, OnlyReads};
 
 use crate::mapping::mapped;
 use ldm_bytes::{Bytes, NoMemory};
@@ -43,14 +44,23 @@ pub enum Status {
     TalkFault = 5,
 }
 
+const _: () = prove!(Status::Done as i32 == 0);
+
+const _: () = prove!(Status::Refused as i32 == 1);
+
+const _: () = prove!(Status::Usage as i32 == 2);
+
+const _: () = prove!(Status::DiskFault as i32 == 3);
+
+const _: () = prove!(Status::NoMemory as i32 == 4);
+
+const _: () = prove!(Status::TalkFault as i32 == 5);
+
 // Says a text that was made, whole.
 fn say_made<H: Host>(host: &mut H, made: Result<Bytes, NoMemory>, status: Status) -> Status
     requires { HasAnswer status }
-    ensures answers { H.tells_talk → (text : List ℕ) → IfOk made (λ m. m ≡ text) → Answers (H.seen host.old) (H.seen host.new) (λ answer. answer ≡ (text, status)) result }
-    ensures no_usage { result ≢ Status.Usage }
-    ensures causes { Causes (H.seen host.old) (H.seen host.new) result }
-    ensures still { Still (H.seen host.old) (H.seen host.new) }
-    ensures input { SameInput (H.seen host.old) (H.seen host.new) }
+    ensures { (text : List ℕ) → IfOk made (λ m. m ≡ text)
+        → OnlyReads H.tells_talk (H.seen host.old) (H.seen host.new) (λ answer. answer ≡ (text, status)) result }
 {
     match made {
         Err(NoMemory) => Status::NoMemory,
@@ -71,11 +81,8 @@ fn refusal(alloc: Global, image: usize, made: Result<Bytes, NoMemory>) -> Result
 
 // Refuses image 0 for the fault of its label.
 fn refuse_label<H: Host>(alloc: Global, host: &mut H, fault: LabelFault) -> Status
-    ensures answers { H.tells_talk → Answers (H.seen host.old) (H.seen host.new) (λ answer. answer ≡ refusal 0 (text_of_label_fault fault)) result }
-    ensures no_usage { result ≢ Status.Usage }
-    ensures causes { Causes (H.seen host.old) (H.seen host.new) result }
-    ensures still { Still (H.seen host.old) (H.seen host.new) }
-    ensures input { SameInput (H.seen host.old) (H.seen host.new) }
+    ensures { OnlyReads H.tells_talk (H.seen host.old) (H.seen host.new)
+        (λ answer. answer ≡ refusal 0 (text_of_label_fault fault)) result }
 {
     let line = refusal(alloc, 0, label_fault_text(alloc, fault));
     say_made(host, line, Status::Refused)
@@ -83,11 +90,8 @@ fn refuse_label<H: Host>(alloc: Global, host: &mut H, fault: LabelFault) -> Stat
 
 // Refuses image 0 for the fault of its copy.
 fn refuse_copy<H: Host>(alloc: Global, host: &mut H, fault: CopyFault) -> Status
-    ensures answers { H.tells_talk → Answers (H.seen host.old) (H.seen host.new) (λ answer. answer ≡ refusal 0 (text_of_copy_fault fault)) result }
-    ensures no_usage { result ≢ Status.Usage }
-    ensures causes { Causes (H.seen host.old) (H.seen host.new) result }
-    ensures still { Still (H.seen host.old) (H.seen host.new) }
-    ensures input { SameInput (H.seen host.old) (H.seen host.new) }
+    ensures { OnlyReads H.tells_talk (H.seen host.old) (H.seen host.new)
+        (λ answer. answer ≡ refusal 0 (text_of_copy_fault fault)) result }
 {
     let line = refusal(alloc, 0, copy_fault_text(alloc, fault));
     say_made(host, line, Status::Refused)
@@ -96,11 +100,8 @@ fn refuse_copy<H: Host>(alloc: Global, host: &mut H, fault: CopyFault) -> Status
 // disk on IMAGE
 fn disk<H: Host>(alloc: Global, host: &mut H) -> Status
     requires { length (H.seen host.old).sizes ≡ 1 }
-    ensures answers { H.tells_disks → Answers (H.seen host.old) (H.seen host.new) (IsJobAnswer jobs.Disk (H.seen host.old).content (H.seen host.old).input) result }
-    ensures no_usage { result ≢ Status.Usage }
-    ensures causes { Causes (H.seen host.old) (H.seen host.new) result }
-    ensures still { Still (H.seen host.old) (H.seen host.new) }
-    ensures input { SameInput (H.seen host.old) (H.seen host.new) }
+    ensures { OnlyReads H.tells_disks (H.seen host.old) (H.seen host.new)
+        (IsJobAnswer jobs.Disk (H.seen host.old).content (H.seen host.old).input) result }
 {
     match read_label(host, 0) {
         Err(LabelError::Disk) => Status::DiskFault,
@@ -114,11 +115,8 @@ fn copy_of_label<H: Host>(alloc: Global, host: &mut H, label: &Label) -> Status
     requires one { length (H.seen host.old).sizes ≡ 1 }
     requires fits { Fits label.now (slice_index (H.seen host.old).sizes 0) }
     requires label { H.tells_disks → label_of (image (H.seen host.old).content 0) ≡ Ok label.now }
-    ensures answers { H.tells_disks → Answers (H.seen host.old) (H.seen host.new) (IsCopyAnswer label.now (image (H.seen host.old).content 0)) result }
-    ensures no_usage { result ≢ Status.Usage }
-    ensures causes { Causes (H.seen host.old) (H.seen host.new) result }
-    ensures still { Still (H.seen host.old) (H.seen host.new) }
-    ensures input { SameInput (H.seen host.old) (H.seen host.new) }
+    ensures { OnlyReads H.tells_disks (H.seen host.old) (H.seen host.new)
+        (IsCopyAnswer label.now (image (H.seen host.old).content 0)) result }
 {
     match read_copy(alloc, host, 0, label) {
         Err(CopyError::Disk) => Status::DiskFault,
@@ -131,11 +129,8 @@ fn copy_of_label<H: Host>(alloc: Global, host: &mut H, label: &Label) -> Status
 // records on IMAGE
 fn records<H: Host>(alloc: Global, host: &mut H) -> Status
     requires { length (H.seen host.old).sizes ≡ 1 }
-    ensures answers { H.tells_disks → Answers (H.seen host.old) (H.seen host.new) (IsJobAnswer jobs.Records (H.seen host.old).content (H.seen host.old).input) result }
-    ensures no_usage { result ≢ Status.Usage }
-    ensures causes { Causes (H.seen host.old) (H.seen host.new) result }
-    ensures still { Still (H.seen host.old) (H.seen host.new) }
-    ensures input { SameInput (H.seen host.old) (H.seen host.new) }
+    ensures { OnlyReads H.tells_disks (H.seen host.old) (H.seen host.new)
+        (IsJobAnswer jobs.Records (H.seen host.old).content (H.seen host.old).input) result }
 {
     match read_label(host, 0) {
         Err(LabelError::Disk) => Status::DiskFault,
@@ -154,12 +149,8 @@ fn opening_refusal(alloc: Global, fault: &OpenFault) -> Result<Bytes, NoMemory>
 
 // Refuses the images for a fault of opening.
 fn refuse_opening<H: Host>(alloc: Global, host: &mut H, fault: &OpenFault) -> Status
-    ensures answers { H.tells_talk → Answers (H.seen host.old) (H.seen host.new)
+    ensures { OnlyReads H.tells_talk (H.seen host.old) (H.seen host.new)
         (λ answer. answer ≡ (text_of_refusal (text_of_open_fault fault.now), Status.Refused)) result }
-    ensures no_usage { result ≢ Status.Usage }
-    ensures causes { Causes (H.seen host.old) (H.seen host.new) result }
-    ensures still { Still (H.seen host.old) (H.seen host.new) }
-    ensures input { SameInput (H.seen host.old) (H.seen host.new) }
 {
     let line = opening_refusal(alloc, fault);
     say_made(host, line, Status::Refused)
@@ -171,12 +162,10 @@ fn open_group<H: Host>(alloc: Global, host: &mut H) -> Result<Found, Status>
     ensures found { H.tells_disks → IfOk result (λ found. IsGroupIn (H.seen host.old).content (Ok found)) }
     ensures sound { IfOk result (λ found. IsSoundGroup found) }
     ensures quiet { OnOk result (Quiet (H.seen host.old) (H.seen host.new)) }
-    ensures answers { H.tells_disks → IfErr result (λ status. (answer_of : Found → Answer)
-        → Answers (H.seen host.old) (H.seen host.new) (IsGroupAnswer answer_of (H.seen host.old).content) status) }
-    ensures no_usage { IfErr result (λ status. status ≢ Status.Usage) }
-    ensures causes { IfErr result (λ status. Causes (H.seen host.old) (H.seen host.new) status) }
-    ensures still { Still (H.seen host.old) (H.seen host.new) }
-    ensures input { SameInput (H.seen host.old) (H.seen host.new) }
+    ensures still { OnOk result (Still (H.seen host.old) (H.seen host.new)) }
+    ensures fault { IfErr result (λ status. (answer_of : Found → Answer)
+        → OnlyReads H.tells_disks (H.seen host.old) (H.seen host.new)
+        (IsGroupAnswer answer_of (H.seen host.old).content) status) }
 {
     match find_group(alloc, host) {
         Ok(found) => Ok(found),
@@ -189,11 +178,8 @@ fn open_group<H: Host>(alloc: Global, host: &mut H) -> Result<Found, Status>
 // show on IMAGE...
 fn show<H: Host>(alloc: Global, host: &mut H) -> Status
     requires { 0 < length (H.seen host.old).sizes }
-    ensures answers { H.tells_disks → Answers (H.seen host.old) (H.seen host.new) (IsJobAnswer jobs.Show (H.seen host.old).content (H.seen host.old).input) result }
-    ensures no_usage { result ≢ Status.Usage }
-    ensures causes { Causes (H.seen host.old) (H.seen host.new) result }
-    ensures still { Still (H.seen host.old) (H.seen host.new) }
-    ensures input { SameInput (H.seen host.old) (H.seen host.new) }
+    ensures { OnlyReads H.tells_disks (H.seen host.old) (H.seen host.new)
+        (IsJobAnswer jobs.Show (H.seen host.old).content (H.seen host.old).input) result }
 {
     match open_group(alloc, host) {
         Err(status) => status,
@@ -204,11 +190,8 @@ fn show<H: Host>(alloc: Global, host: &mut H) -> Status
 // check on IMAGE...
 fn check<H: Host>(alloc: Global, host: &mut H) -> Status
     requires { 0 < length (H.seen host.old).sizes }
-    ensures answers { H.tells_disks → Answers (H.seen host.old) (H.seen host.new) (IsJobAnswer jobs.Check (H.seen host.old).content (H.seen host.old).input) result }
-    ensures no_usage { result ≢ Status.Usage }
-    ensures causes { Causes (H.seen host.old) (H.seen host.new) result }
-    ensures still { Still (H.seen host.old) (H.seen host.new) }
-    ensures input { SameInput (H.seen host.old) (H.seen host.new) }
+    ensures { OnlyReads H.tells_disks (H.seen host.old) (H.seen host.new)
+        (IsJobAnswer jobs.Check (H.seen host.old).content (H.seen host.old).input) result }
 {
     match open_group(alloc, host) {
         Err(status) => status,
@@ -219,11 +202,8 @@ fn check<H: Host>(alloc: Global, host: &mut H) -> Status
 // map NAME FIRST COUNT on IMAGE...
 fn map<H: Host>(alloc: Global, host: &mut H, name: &Bytes, first: u64, count: u64) -> Status
     requires { 0 < length (H.seen host.old).sizes }
-    ensures answers { H.tells_disks → Answers (H.seen host.old) (H.seen host.new) (IsJobAnswer (jobs.Map name.now first count) (H.seen host.old).content (H.seen host.old).input) result }
-    ensures no_usage { result ≢ Status.Usage }
-    ensures causes { Causes (H.seen host.old) (H.seen host.new) result }
-    ensures still { Still (H.seen host.old) (H.seen host.new) }
-    ensures input { SameInput (H.seen host.old) (H.seen host.new) }
+    ensures { OnlyReads H.tells_disks (H.seen host.old) (H.seen host.new)
+        (IsJobAnswer (jobs.Map name.now first count) (H.seen host.old).content (H.seen host.old).input) result }
 {
     let found = match open_group(alloc, host) {
         Err(status) => return status,
@@ -238,12 +218,13 @@ fn map<H: Host>(alloc: Global, host: &mut H, name: &Bytes, first: u64, count: u6
 // Does a job.
 fn do_job<H: Host>(alloc: Global, job: Job, host: &mut H) -> Status
     requires { HasCount job (length (H.seen host.old).sizes) }
-    ensures answers { H.tells_disks → JobPremise job (H.seen host.old)
+    ensures answers { H.tells_disks → JobPremise (kind_of job) (H.seen host.old)
         → Answers (H.seen host.old) (H.seen host.new) (IsJobAnswer job (H.seen host.old).content (H.seen host.old).input) result }
     ensures no_usage { result ≢ Status.Usage }
     ensures causes { Causes (H.seen host.old) (H.seen host.new) result }
-    ensures disks { JobDisks job (H.seen host.old) (H.seen host.new) }
-    ensures input { JobInput job (H.seen host.old) (H.seen host.new) }
+    ensures disks { JobDisks H.tells_disks (kind_of job) (H.seen host.old) (H.seen host.new) result }
+    ensures input { JobInput H.tells_talk (kind_of job) (H.seen host.old) (H.seen host.new) result }
+    ensures silent { JobSays H.tells_disks (kind_of job) (H.seen host.old) (H.seen host.new) result }
 {
     match job {
         Job::Disk => disk(alloc, host),
@@ -272,8 +253,10 @@ pub fn run<H: Host>(alloc: Global, words: &[String], host: &mut H) -> Status
     ensures complete { H.tells_disks → Premise (job_of (texts words.now)) (H.seen host.old)
         → NoFault (H.seen host.old) (H.seen host.new) → result ≢ Status.NoMemory
         → Completes (H.seen host.old) (H.seen host.new) (IsAnswerTo (texts words.now) (H.seen host.old).content (H.seen host.old).input) result }
-    ensures disks { DisksAfter (job_of (texts words.now)) (H.seen host.old) (H.seen host.new) }
-    ensures input { InputAfter (job_of (texts words.now)) (H.seen host.old) (H.seen host.new) }
+    ensures disks { DisksAfter H.tells_disks (job_of (texts words.now)) (H.seen host.old) (H.seen host.new) result }
+    ensures input { InputAfter H.tells_talk (job_of (texts words.now)) (H.seen host.old) (H.seen host.new) result }
+    // After a fault nothing more is said.
+    ensures silent { SaysBefore H.tells_disks (job_of (texts words.now)) (H.seen host.old) (H.seen host.new) result }
 {
     match read_words(alloc, words) {
         Err(WordsError::Usage) => Status::Usage,

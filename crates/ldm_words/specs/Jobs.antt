@@ -1,5 +1,5 @@
 -- What a command line says: JOB on IMAGE.., where the first word `on` separates. A word is one token.
-use Rattle.std.specs.Prelude.{◌≡◌, ◌≤◌, ℕ, ◌==◌, ◌&&◌, nat_le, Bool, List, [], ◌∷◌, length, map, codes, bytes_eq, if◌then◌else◌, Option, Some, None, String, string_bytes}
+use Rattle.std.specs.Prelude.{◌≡◌, ◌≤◌, ℕ, ◌==◌, ◌&&◌, nat_le, Bool, false, List, [], ◌∷◌, length, map, position, codes, bytes_eq, if◌then◌else◌, Option, Some, None, is_some, String, string_bytes}
 use Rattle.std.specs.List.{before_first, after_first}
 use Rattle.std.specs.declared.alloc.Global.{Global}
 use Rattle.ldm_words.specs.declared.job.Job.{Job}
@@ -18,27 +18,49 @@ is_on word = bytes_eq word (codes "on")
 abbrev pub images_of : List (List ℕ) → ℕ
 images_of words = length (after_first is_on words)
 
--- as many images as a group may have
-abbrev pub is_group : ℕ → Bool
-is_group images = nat_le 1 images && nat_le images 64
+-- how many words follow the first `on`, if there is one
+abbrev pub images_behind : List (List ℕ) → Option ℕ
+images_behind words = if is_some (position is_on words) then Some (images_of words) else None
+
+-- a job that takes no words of its own, and one image
+abbrev pub on_one : Job → List (List ℕ) → Option ℕ → Option Job
+on_one job [] (Some images) = if images == 1 then Some job else None
+on_one job rest images = None
+
+-- `on` and as many images as a group may have
+abbrev pub is_group : Option ℕ → Bool
+is_group None = false
+is_group (Some images) = nat_le 1 images && nat_le images 64
+
+-- a job that takes no words of its own, and the images of a group
+abbrev pub on_group : Job → List (List ℕ) → Option ℕ → Option Job
+on_group job [] images = if is_group images then Some job else None
+on_group job rest images = None
 
 -- the volume, its first sector and how many sectors, where all three can be read
 abbrev pub map_with : Option (List ℕ) → Option ℕ → Option ℕ → Option Job
 map_with (Some name) (Some first) (Some count) = Some (Map name first count)
 map_with name first count = None
 
--- the job that stands before `on`, with so many images behind it
-abbrev pub job_form : List (List ℕ) → ℕ → Option Job
-job_form (word ∷ []) images =
-    if bytes_eq word (codes "disk") && (images == 1) then Some Disk
-    else if bytes_eq word (codes "records") && (images == 1) then Some Records
-    else if bytes_eq word (codes "show") && is_group images then Some Show
-    else if bytes_eq word (codes "check") && is_group images then Some Check
+-- NAME FIRST COUNT, and the images of a group
+abbrev pub map_form : List (List ℕ) → Option ℕ → Option Job
+map_form (name ∷ first ∷ count ∷ []) images = if is_group images then map_with (name_of name) (number_of first) (number_of count) else None
+map_form rest images = None
+
+-- the form of each job: its first word, and then the words behind that and the images
+abbrev pub form_of : List ℕ → List (List ℕ) → Option ℕ → Option Job
+form_of word rest images =
+    if bytes_eq word (codes "disk") then on_one Disk rest images
+    else if bytes_eq word (codes "records") then on_one Records rest images
+    else if bytes_eq word (codes "show") then on_group Show rest images
+    else if bytes_eq word (codes "check") then on_group Check rest images
+    else if bytes_eq word (codes "map") then map_form rest images
     else None
-job_form (word ∷ name ∷ first ∷ count ∷ []) images =
-    if bytes_eq word (codes "map") && is_group images then map_with (name_of name) (number_of first) (number_of count)
-    else None
-job_form words images = None
+
+-- the job that stands before `on`, with so many images behind it if there is an `on`
+abbrev pub job_form : List (List ℕ) → Option ℕ → Option Job
+job_form [] images = None
+job_form (word ∷ rest) images = form_of word rest images
 
 abbrev pub with_count : ℕ → Option Job → Option (Job × ℕ)
 with_count images None = None
@@ -46,7 +68,7 @@ with_count images (Some job) = Some (job, images)
 
 -- the job of the words, and the number of its images; nothing where they have no reading
 unfoldable pub job_of : List (List ℕ) → Option (Job × ℕ)
-job_of words = with_count (images_of words) (job_form (before_first is_on words) (images_of words))
+job_of words = with_count (images_of words) (job_form (before_first is_on words) (images_behind words))
 
 -- how many images a job may have
 abbrev pub HasCount : Job → ℕ → Type 0

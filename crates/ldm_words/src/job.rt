@@ -1,6 +1,6 @@
-ghost use Rattle.std.specs.Prelude.{◌≡◌, ◌≤◌, [], ◌∷◌, IfOk, IfSome, length, map, string_bytes};
+ghost use Rattle.std.specs.Prelude.{◌≡◌, ◌≤◌, ℕ, IfOk, IfSome, length, unwrap_or};
 ghost use Rattle.std.specs.List.{position_or_len};
-ghost use Rattle.ldm_words.specs.Jobs.{texts, is_on, images_of, job_of, job_form, is_group, HasCount};
+ghost use Rattle.ldm_words.specs.Jobs.{texts, is_on, images_of, images_behind, on_one, is_group, on_group, map_form, job_form, job_of, HasCount};
 ghost use Rattle.ldm_words.specs.Readings.{Reads};
 
 use crate::name::read_name;
@@ -71,43 +71,59 @@ pub fn image_count(words: &[String]) -> usize
     }
 }
 
-// As many images as a group may have.
-fn is_group(images: usize) -> bool
-    ensures { result ≡ is_group images }
+// How many words follow the first `on`, if there is one.
+fn images_behind(words: &[String]) -> Option<usize>
+    ensures { result ≡ images_behind (texts words.now) }
 {
-    images >= 1 && images <= 64
-}
-
-// The job that one word names.
-fn job_of_word(word: &[u8], images: usize) -> Option<Job>
-    ensures is { result ≡ job_form (word.now ∷ []) images }
-    ensures count { IfSome result (λ job. HasCount job images) }
-{
-    if word == b"disk".as_slice() && images == 1 {
-        Some(Job::Disk)
-    } else if word == b"records".as_slice() && images == 1 {
-        Some(Job::Records)
-    } else if word == b"show".as_slice() && is_group(images) {
-        Some(Job::Show)
-    } else if word == b"check".as_slice() && is_group(images) {
-        Some(Job::Check)
+    if on_place(words) < words.len() {
+        Some(image_count(words))
     } else {
         None
     }
 }
 
-// The job that stands before `on`.
-fn read_job(alloc: Global, words: &[String], images: usize) -> Result<Option<Job>, NoMemory>
-    ensures is { IfOk result (λ found. found ≡ job_form (map string_bytes words.now) images) }
-    ensures count { IfOk result (λ found. IfSome found (λ job. HasCount job images)) }
+// A job that takes no words of its own, and one image.
+fn on_one(job: Job, rest: &[String], images: Option<usize>) -> Option<Job>
+    requires { HasCount job 1 }
+    ensures is { result ≡ on_one job (texts rest.now) images }
+    ensures count { IfSome result (λ found. HasCount found (unwrap_or images 0)) }
 {
-    if let [word] = words {
-        return Ok(job_of_word(word.as_bytes(), images));
+    if rest.is_empty() && images == Some(1) {
+        Some(job)
+    } else {
+        None
     }
-    let [word, name, first, count] = words else {
+}
+
+// As many images as a group may have.
+fn is_group(images: Option<usize>) -> bool
+    ensures { result ≡ is_group images }
+{
+    matches!(images, Some(1..=64))
+}
+
+// A job that takes no words of its own, and the images of a group.
+fn on_group(job: Job, rest: &[String], images: Option<usize>) -> Option<Job>
+    requires { (n : ℕ) → 1 ≤ n → n ≤ 64 → HasCount job n }
+    ensures is { result ≡ on_group job (texts rest.now) images }
+    ensures count { IfSome result (λ found. HasCount found (unwrap_or images 0)) }
+{
+    if rest.is_empty() && is_group(images) {
+        Some(job)
+    } else {
+        None
+    }
+}
+
+// map NAME FIRST COUNT
+fn read_map(alloc: Global, rest: &[String], images: Option<usize>) -> Result<Option<Job>, NoMemory>
+    ensures is { IfOk result (λ found. found ≡ map_form (texts rest.now) images) }
+    ensures count { IfOk result (λ found. IfSome found (λ job. HasCount job (unwrap_or images 0))) }
+{
+    let [name, first, count] = rest else {
         return Ok(None);
     };
-    if word.as_bytes() != b"map".as_slice() || !is_group(images) {
+    if !is_group(images) {
         return Ok(None);
     }
     let Some(name) = read_name(alloc, name.as_bytes())? else {
@@ -122,6 +138,24 @@ fn read_job(alloc: Global, words: &[String], images: usize) -> Result<Option<Job
     Ok(Some(Job::Map { name, first, count }))
 }
 
+// The job that stands before `on`.
+fn read_job(alloc: Global, words: &[String], images: Option<usize>) -> Result<Option<Job>, NoMemory>
+    ensures is { IfOk result (λ found. found ≡ job_form (texts words.now) images) }
+    ensures count { IfOk result (λ found. IfSome found (λ job. HasCount job (unwrap_or images 0))) }
+{
+    let [word, rest @ ..] = words else {
+        return Ok(None);
+    };
+    match word.as_str() {
+        "disk" => Ok(on_one(Job::Disk, rest, images)),
+        "records" => Ok(on_one(Job::Records, rest, images)),
+        "show" => Ok(on_group(Job::Show, rest, images)),
+        "check" => Ok(on_group(Job::Check, rest, images)),
+        "map" => read_map(alloc, rest, images),
+        _ => Ok(None),
+    }
+}
+
 /// The job of the words, and the number of its images. Usage comes exactly where they have no
 /// reading.
 #[tactic(auto, unfolding(crate::specs::Jobs::job_of))]
@@ -133,7 +167,7 @@ pub fn read_words(alloc: Global, words: &[String]) -> Result<(Job, usize), Words
 {
     let place = on_place(words);
     let images = image_count(words);
-    match read_job(alloc, &words[..place], images)? {
+    match read_job(alloc, &words[..place], images_behind(words))? {
         Some(job) => Ok((job, images)),
         None => Err(WordsError::Usage),
     }

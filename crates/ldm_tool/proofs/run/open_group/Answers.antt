@@ -1,7 +1,8 @@
-use Rattle.ldm_host.proofs.Relations.{still_trans}
+use Rattle.std.proofs.Common.{Err}
+use Rattle.ldm_tool.proofs.Saying.{reads_first}
 use Rattle.ldm_tool.proofs.run.open_group.Goals as goal
 
-pub returns-in-Err-Fault-clause-still : goal.returns-in-Err-Fault-clause-still
-returns-in-Err-Fault-clause-still g c =
-    let seen = g.H.Host.seen in
-    still_trans (seen c.args.host.now) (seen c.find_group.new.host) (seen c.refuse_opening.new.host) c.find_group.ensures.still c.refuse_opening.ensures.still
+pub returns-in-Err-Fault-clause-fault : goal.returns-in-Err-Fault-clause-fault
+returns-in-Err-Fault-clause-fault g c answer_of =
+    reads_first c.refuse_opening.ensures c.find_group.ensures.quiet c.find_group.ensures.still g.met.H.Host.tells_both
+    (λ tells answer e. (Err c.in-Err-Fault.fault, rw c.in-Err-Fault.field-0-is at (c.in-Err-Fault.ensures.found tells), e))

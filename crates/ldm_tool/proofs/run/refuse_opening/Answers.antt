@@ -2,5 +2,5 @@ use Rattle.ldm_text.specs.Texts.{text_of_refusal}
 use Rattle.ldm_text.specs.Opening.{text_of_open_fault}
 use Rattle.ldm_tool.proofs.run.refuse_opening.Goals as goal
 
-pub returns-clause-answers : goal.returns-clause-answers
-returns-clause-answers g c tells = c.say_made.ensures.answers tells (text_of_refusal (text_of_open_fault c.args.fault.now)) c.opening_refusal-line.ensures
+pub returns : goal.returns
+returns g c = c.say_made.ensures (text_of_refusal (text_of_open_fault c.args.fault.now)) c.opening_refusal-line.ensures
