@@ -34,7 +34,10 @@ fn writes_the_images_and_over_no_file(rt: HostRuntime) -> Result<(), Fail> {
     let taken = path_of(alloc, name, "c.img")?;
     fs::write(&rt, taken.as_str(), b"mine")?;
     assert_eq!(rt; write_images(&rt, name), Err(SamplesError::Taken("c.img")));
-    assert_eq!(rt; fs::read(&rt, taken.as_str())?.as_slice(), b"mine".as_slice());
+    assert_eq!(rt;
+        fs::read(&rt, taken.as_str())?.as_slice(),
+        b"mine".as_slice()
+    );
     assert!(rt; !fs::exists(&rt, path_of(alloc, name, "a.img")?.as_str())?);
     fs::remove_dir_all(&rt, &folder)?;
     Ok(())
