@@ -1,5 +1,5 @@
 //! Writes the images of the three disks of a usual group into a folder, as `a.img`, `b.img` and `c.img`.
-//! They are examples for `ldm`.
+//! They are examples for `ldm`. It writes over no file: where one of the names is taken, it writes none.
 #![tactic(auto)]
 
 ghost use Rattle.std.specs.Prelude.{◌≡◌, ◌++◌, IfOk, codes, string_bytes};
@@ -7,15 +7,42 @@ ghost use Rattle.std.specs.Prelude.{◌≡◌, ◌++◌, IfOk, codes, string_byt
 use ldm_bytes::NoMemory;
 use ldm_vectors::usual_images;
 use std::alloc::Global;
+use std::fs::File;
+use std::io::{ErrorKind, Write};
 use std::process::ExitCode;
 use std::{env, fs};
+use thiserror::Error;
+
+/// Why not all images were written.
+#[derive(Clone, Copy, Debug, PartialEq, Eq, Drop, Error)]
+enum SamplesError {
+    #[error("usage: samples FOLDER")]
+    Usage,
+    #[error("no memory")]
+    NoMemory,
+    #[error("{0} is there already, and no file is written over")]
+    Taken(&'static str),
+    #[error("cannot write {0}")]
+    CannotWrite(&'static str),
+    /// Standard output failed.
+    #[error("talk fault")]
+    TalkFault,
+}
+
+impl From<NoMemory> for SamplesError {
+    fn from(_: NoMemory) -> SamplesError {
+        SamplesError::NoMemory
+    }
+}
+
+const NAMES: [&str; 3] = ["a.img", "b.img", "c.img"];
 
 // The folder that the only word of the command line names.
-fn folder_of(rt: &HostRuntime) -> Result<String, &'static str> {
-    let mut words = env::args(rt).map_err(|_| "no words")?.skip(1);
+fn folder_of(rt: &HostRuntime) -> Result<String, SamplesError> {
+    let mut words = env::args(rt).map_err(|_| SamplesError::Usage)?.skip(1);
     match (words.next(), words.next()) {
         (Some(folder), None) => Ok(folder),
-        _ => Err("usage: samples FOLDER"),
+        _ => Err(SamplesError::Usage),
     }
 }
 
@@ -26,13 +53,45 @@ fn path_of(alloc: Global, folder: &str, name: &str) -> Result<String, NoMemory>
     Ok(format!(in alloc; "{folder}/{name}")?)
 }
 
-// Writes the images into the folder, and says the name of each when it is written.
-fn write_images(rt: &HostRuntime, folder: &str) -> Result<(), &'static str> {
-    let images = usual_images(rt.alloc()).map_err(|_| "no memory")?;
-    for (name, image) in ["a.img", "b.img", "c.img"].iter().zip(images.iter()) {
-        let path = path_of(rt.alloc(), folder, name).map_err(|_| "no memory")?;
-        fs::write(rt, path.as_str(), image.as_slice()).map_err(|_| "cannot write")?;
-        println!(rt; "{name}").map_err(|_| "cannot write")?;
+// Refuses a folder in which one of the names is taken, be it by a link to nothing.
+fn require_free(rt: &HostRuntime, folder: &str) -> Result<(), SamplesError> {
+    for name in NAMES {
+        let path = path_of(rt.alloc(), folder, name)?;
+        match fs::symlink_metadata(rt, path.as_str()) {
+            Ok(_) => return Err(SamplesError::Taken(name)),
+            Err(error) if error.kind() == ErrorKind::NotFound => {}
+            Err(_) => return Err(SamplesError::CannotWrite(name)),
+        }
+    }
+    Ok(())
+}
+
+// Makes a new file of the image.
+fn write_image(
+    rt: &HostRuntime,
+    folder: &str,
+    name: &'static str,
+    image: &[u8],
+) -> Result<(), SamplesError> {
+    let path = path_of(rt.alloc(), folder, name)?;
+    let mut file = match File::create_new(rt, path.as_str()) {
+        Ok(file) => file,
+        Err(error) if error.kind() == ErrorKind::AlreadyExists => {
+            return Err(SamplesError::Taken(name));
+        }
+        Err(_) => return Err(SamplesError::CannotWrite(name)),
+    };
+    file.write_all(image)
+        .map_err(|_| SamplesError::CannotWrite(name))
+}
+
+// Writes the images into the folder, and says the name of each when its file is written and closed.
+fn write_images(rt: &HostRuntime, folder: &str) -> Result<(), SamplesError> {
+    let images = usual_images(rt.alloc())?;
+    require_free(rt, folder)?;
+    for (name, image) in NAMES.into_iter().zip(images.iter()) {
+        write_image(rt, folder, name, image.as_slice())?;
+        println!(rt; "{name}").map_err(|_| SamplesError::TalkFault)?;
     }
     Ok(())
 }

@@ -1,25 +1,52 @@
 //! A host over files, standard input and standard output.
-ghost use Rattle.std.specs.Prelude.{◌≡◌, ◌≤◌, ◌<◌, ◌^◌, length, map, IfOk};
+ghost use Rattle.std.specs.Prelude.{◌≡◌, ◌≤◌, ◌<◌, ◌^◌, ◌≤ℤ◌, length, map, IfOk};
+ghost use Rattle.std.specs.Fd.{file_raw_fd};
+ghost use Rattle.ldm_tool.specs.declared.streams.TheConstants.{STREAMS};
 
+use crate::streams::STREAMS;
 use ldm_bytes::NoMemory;
 use ldm_host::{Failed, Host};
 use std::alloc::Global;
-use std::fs::File;
-use std::io::{self, ErrorKind, Read, Write};
-use std::os::unix::fs::FileExt;
+use std::fs::{File, Metadata};
+use std::io::{self, ErrorKind, Read, Seek, SeekFrom, Write};
+use std::os::fd::AsRawFd;
+use std::os::unix::fs::{FileExt, FileTypeExt};
 
-/// An image that is open for its disk, and how long it is.
+/// An image that is open for its disk, and how long it is. It is on no standard stream.
 #[derive(Drop)]
 pub struct ImageFile {
     file: File,
     sectors: u64,
     ghost small: { sectors < 2 ^ 55 },
+    ghost apart: { STREAMS ≤ℤ file_raw_fd file },
+}
+
+// Refuses what holds no disk: only a regular file and a block device do.
+fn require_disk(metadata: &Metadata) -> io::Result<()> {
+    if metadata.is_file() || metadata.file_type().is_block_device() {
+        Ok(())
+    } else {
+        Err(io::Error::from(ErrorKind::InvalidInput))
+    }
 }
 
 impl ImageFile {
-    /// Takes an open file for an image, and asks for its length: whole sectors count.
+    /// Opens an image for reading. What holds no disk isn't even opened, since a named pipe would wait
+    /// for a writer; what was opened is looked at again, since the name may stand for another file by then.
+    pub(crate) fn open(rt: &HostRuntime, path: &str) -> io::Result<ImageFile> {
+        require_disk(&std::fs::metadata(rt, path)?)?;
+        let file = File::open(rt, path)?;
+        require_disk(&file.metadata()?)?;
+        ImageFile::of(file)
+    }
+
+    /// Takes an open file for an image, but none that is on a standard stream. Its length is where it
+    /// ends, since the metadata of a block device has none; whole sectors count.
     pub(crate) fn of(file: File) -> io::Result<ImageFile> {
-        let sectors = file.metadata()?.len() / 512;
+        if file.as_raw_fd() < STREAMS {
+            return Err(io::Error::from(ErrorKind::InvalidInput));
+        }
+        let sectors = (&file).seek(SeekFrom::End(0))? / 512;
         Ok(ImageFile { file, sectors })
     }
 }
@@ -164,14 +191,5 @@ impl<I: Read, O: Write> Host for FileHost<I, O> {
             self.talk_faults = self.talk_faults.saturating_add(1);
         }
         done
-    }
-}
-
-#[cfg(test)]
-impl<I, O> FileHost<I, O> {
-    pub fn output(&self) -> &O
-        ensures { result.now ≡ self.now.output }
-    {
-        &self.output
     }
 }

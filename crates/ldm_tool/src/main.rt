@@ -4,21 +4,22 @@
 //! trusted edge.
 #![tactic(auto)]
 
-ghost use Rattle.std.specs.Prelude.{◌≡◌, IfOk, length, vec_len};
+ghost use Rattle.std.specs.Prelude.{◌≡◌, ◌≢◌, ◌⊎◌, IfOk, IfErr, length, vec_len};
 
 mod file_host;
 mod mapping;
 mod run;
+mod streams;
 
 use file_host::{FileHost, ImageFile};
 use ldm_bytes::NoMemory;
 use ldm_words::{WordsError, read_words};
 use run::{Status, run};
 use std::alloc::Global;
-use std::fs::File;
-use std::io::ErrorKind;
+use std::io::{ErrorKind, Read, Write};
 use std::process::ExitCode;
 use std::{env, io};
+use streams::take_closed_streams;
 
 // How the program ends before a run.
 #[derive(Clone, Copy, Debug, PartialEq, Eq)]
@@ -29,7 +30,9 @@ enum Stop {
 }
 
 // Want of memory, or else the other stop.
-fn stop_for(error: &io::Error, other: Stop) -> Stop {
+fn stop_for(error: &io::Error, other: Stop) -> Stop
+    ensures { (result ≡ Stop.NoMemory) ⊎ (result ≡ other) }
+{
     if error.kind() == ErrorKind::OutOfMemory {
         Stop::NoMemory
     } else {
@@ -54,11 +57,12 @@ fn words_of(alloc: Global, rt: &HostRuntime) -> Result<Vec<String>, Stop> {
 
 // Opens the images that the words name, in their order, for reading.
 fn open_images(alloc: Global, rt: &HostRuntime, names: &[String]) -> Result<Vec<ImageFile>, Stop>
-    ensures { IfOk result (λ images. vec_len images ≡ length names.now) }
+    ensures all { IfOk result (λ images. vec_len images ≡ length names.now) }
+    ensures no_usage { IfErr result (λ stop. stop ≢ Stop.Usage) }
 {
     let mut images = Vec::new(alloc);
     for name in names {
-        let image = match File::open(rt, name.as_str()).and_then(ImageFile::of) {
+        let image = match ImageFile::open(rt, name.as_str()) {
             Ok(image) => image,
             Err(error) => return Err(stop_for(&error, Stop::CannotOpen)),
         };
@@ -69,8 +73,12 @@ fn open_images(alloc: Global, rt: &HostRuntime, names: &[String]) -> Result<Vec<
     Ok(images)
 }
 
-// Opens the images, and runs the words over them.
-fn run_words(rt: &HostRuntime, words: &[String]) -> Result<Status, Stop> {
+// Opens the images, and runs the words over them and these streams.
+fn run_words<I, O>(rt: &HostRuntime, words: &[String], input: I, output: O) -> Result<Status, Stop>
+where
+    I: Read + Drop,
+    O: Write + Drop,
+{
     let alloc = rt.alloc();
     let count = match read_words(alloc, words) {
         Err(WordsError::Usage) => return Err(Stop::Usage),
@@ -78,11 +86,24 @@ fn run_words(rt: &HostRuntime, words: &[String]) -> Result<Status, Stop> {
         Ok((_, count)) => count,
     };
     let images = open_images(alloc, rt, &words[words.len() - count..])?;
-    match FileHost::new(alloc, images, rt.stdin(), rt.stdout()) {
+    match FileHost::new(alloc, images, input, output) {
         Ok(mut host) => Ok(run(alloc, words, &mut host)),
         Err(NoMemory) => Err(Stop::NoMemory),
     }
 }
+
+// The exit statuses that callers of the program rely on.
+const _: () = prove!(Status::Done as u8 == 0);
+
+const _: () = prove!(Status::Refused as u8 == 1);
+
+const _: () = prove!(Status::Usage as u8 == 2);
+
+const _: () = prove!(Status::DiskFault as u8 == 3);
+
+const _: () = prove!(Status::NoMemory as u8 == 4);
+
+const _: () = prove!(Status::TalkFault as u8 == 5);
 
 // The line for standard error, and the exit status.
 fn ending(done: Result<Status, Stop>) -> (&'static str, u8) {
@@ -104,12 +125,21 @@ fn ending(done: Result<Status, Stop>) -> (&'static str, u8) {
 }
 
 fn main(rt: HostRuntime) -> ExitCode {
-    let done = words_of(rt.alloc(), &rt).and_then(|words| run_words(&rt, &words));
+    // Where it fails, an image that gets the descriptor of a closed stream is refused.
+    let _ = take_closed_streams(&rt);
+    let done = words_of(rt.alloc(), &rt).and_then(|words| run_words(
+        &rt,
+        &words,
+        rt.stdin(),
+        rt.stdout(),
+    ));
     let (line, status) = ending(done);
     let _ = eprint!(rt; "{line}");
     ExitCode::from(status)
 }
 
+#[cfg(test)]
+mod file_tests;
 #[cfg(test)]
 mod group_tests;
 #[cfg(test)]

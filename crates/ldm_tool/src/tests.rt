@@ -238,24 +238,3 @@ fn says_nothing_without_a_reading_or_at_a_fault(rt: HostRuntime) -> Result<(), F
     assert_eq!(rt; host.said(), b"".as_slice());
     Ok(())
 }
-
-#[test]
-fn reads_a_file(rt: HostRuntime) -> Result<(), Fail> {
-    let alloc = rt.alloc();
-    let image = image_with(alloc, &[])?;
-    let mut path = env::temp_dir(&rt)?;
-    let id = std::process::id(rt.process());
-    path.push(format!(in alloc; "ldm-{id}.img")?)?;
-    std::fs::write(&rt, &path, &image)?;
-    let mut images = Vec::new(alloc);
-    images.push(ImageFile::of(File::open(&rt, &path)?)?)?;
-    let input: &[u8] = b"";
-    let Ok(mut host) = FileHost::new(alloc, images, input, Vec::new(alloc)) else {
-        return Err(Fail::from("no host"));
-    };
-    let words = words_in(alloc, "disk on A")?;
-    assert_eq!(rt; run_over(alloc, &words, &mut host), Some(Status::Done));
-    assert_eq!(rt; host.output().as_slice(), LABEL.as_bytes());
-    std::fs::remove_file(&rt, &path)?;
-    Ok(())
-}
