@@ -1,4 +1,5 @@
-//! One copy of a group's database, read whole from the config area of a disk.
+//! One copy of a group's database, read from the config area of a disk: its header sector, and where it
+//! is open the blocks in use.
 //!
 //! Sectors have 512 bytes, blocks 128. What a copy is, and its faults in their order, is in
 //! `specs/Copy.antt`.

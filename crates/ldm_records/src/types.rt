@@ -8,7 +8,7 @@ use crate::pieces::{DiskForm, GroupForm, Head, Striping, TwoIds};
 use ldm_bytes::{Bytes, NoMemory};
 use std::alloc::Global;
 
-/// A volume. Its kind is `gen` or `raid5`; its size is in sectors.
+/// A volume. Its kind is any text, on usual disks `gen` or `raid5`; its size is in sectors.
 #[derive(Debug, Drop)]
 pub struct Volume {
     pub head: Head,
@@ -119,7 +119,8 @@ impl Component {
 }
 
 /// A partition of a component: a piece of a disk. It begins at the sector `start` of the disk's data
-/// area, and has `offset` sectors of the component before it.
+/// area. In a span or a mirror it has `offset` sectors of the component before it; a column has 0 there,
+/// which nothing reads.
 #[derive(Debug, Drop)]
 pub struct Partition {
     pub head: Head,

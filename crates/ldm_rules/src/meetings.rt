@@ -112,8 +112,8 @@ fn sorted(spans: Vec<Span>) -> Result<Vec<Span>, NoMemory>
     Ok(spans)
 }
 
-/// The least partition that meets another of its disk. Only where two meet, all pairs are looked at:
-/// the sorted sectors tell where none do.
+/// The least partition that meets another of its disk. The sorted sectors tell where none does. All
+/// pairs are looked at only where two meet, or one ends past 2^64 - 1.
 pub fn meeting(alloc: Global, db: &Db) -> Result<Option<u64>, NoMemory>
     ensures { IfOk result (λ id. id ≡ first_broken (meets_another db.now.records) db.now.records) }
 {
