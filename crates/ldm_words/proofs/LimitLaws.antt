@@ -18,7 +18,7 @@ use Rattle.ldm_words.specs.declared.reading.Columns.{Columns}
 use Rattle.ldm_words.specs.Names.{spelled, at_most, name_of}
 use Rattle.ldm_words.specs.Numbers.{is_digit, is_number, number_of}
 use Rattle.ldm_words.specs.Commands.{both, all_three, each, many, is_equals, piece_of, columns_of, mirror_of, layout_of, new_name, create_of, extend_of, delete_of, command_of}
-use Rattle.ldm_words.specs.Limits.{ArePieces, AreDisks, AreColumns, AreCopies, IsNewLayout, IsCreate, IsExtend, IsCommand, CommandsKeepLimits}
+use Rattle.ldm_words.specs.Limits.{ArePieces, AreDisks, AreColumns, IsNewLayout, IsCommand, CommandsKeepLimits}
 
 -- ---- parts
 

@@ -1,4 +1,4 @@
-use Rattle.std.proofs.Common.{rules, tests, ◌≡◌, ℕ, ◌+◌, ◌-◌, ◌<◌, List, length, take, drop, subst, sym, ◌∙◌, Some, None}
+use Rattle.std.proofs.Common.{rules, tests, ℕ, ◌+◌, ◌<◌, List, length, take, subst, sym, ◌∙◌}
 use Rattle.std.specs.List.{position_or_len}
 use Rattle.std.proofs.lemmas.Iterator.{YieldsList-from_slice}
 use Rattle.std.proofs.lemmas.Iterator.Search.{position_from_yields_List}
