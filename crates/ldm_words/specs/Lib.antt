@@ -3,3 +3,7 @@ pub mod Names
 pub mod Units
 pub mod Jobs
 pub mod Readings
+pub mod Commands
+pub mod Equals
+pub mod Limits
+pub mod Lines

@@ -1,10 +1,16 @@
 //! The grammar of command lines: the words of a command line, and the job that they name.
 #![tactic(auto)]
 
+mod command;
 mod job;
+mod line;
 mod name;
 mod number;
+mod reading;
 
+pub use command::{Command, Names, NewLayout, Piece, Pieces};
 pub use job::{Job, WordsError, image_count, read_words};
+pub use line::{LineError, front_line, read_line};
 pub use name::{is_plain, read_name};
 pub use number::read_number;
+pub use reading::read_command;

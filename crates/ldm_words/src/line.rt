@@ -1,0 +1,69 @@
+ghost use Rattle.std.specs.Prelude.{◌≡◌, [], IfOk, MatchOption, map};
+ghost use Rattle.ldm_words.specs.Commands.{bytes_of, command_of};
+ghost use Rattle.ldm_words.specs.Limits.{IsCommand};
+ghost use Rattle.ldm_words.specs.Lines.{tokens_of, lines_of, IsFrontLine, ReadsLine};
+
+use crate::command::Command;
+use crate::reading::read_command;
+use ldm_bytes::NoMemory;
+use std::alloc::Global;
+use thiserror::Error;
+
+/// Why a line gives no command.
+#[derive(Clone, Copy, Debug, PartialEq, Eq, Error)]
+pub enum LineError {
+    /// The line has no reading.
+    #[error("bad line")]
+    BadLine,
+    #[error("no memory")]
+    NoMemory,
+}
+
+impl From<NoMemory> for LineError {
+    ghost use Rattle.std.specs.Prelude.{◌≡◌};
+    ghost use Rattle.ldm_words.specs.declared.line.LineError.TheVariants.{NoMemory};
+
+    ghost from_gives = { λ _ error. error ≡ NoMemory };
+
+    fn from(_error: NoMemory) -> Self {
+        LineError::NoMemory
+    }
+}
+
+// The tokens of a line, which lie in it.
+fn split_tokens(alloc: Global, line: &[u8]) -> Result<Vec<&[u8]>, NoMemory>
+    ensures { IfOk result (λ tokens. bytes_of tokens.items ≡ tokens_of line.now) }
+{
+    let mut tokens = Vec::new(alloc);
+    for part in line.split(|c| *c == b' ') {
+        if !part.is_empty() {
+            tokens.push(part)?;
+        }
+    }
+    Ok(tokens)
+}
+
+/// The command that a line of a script says. BadLine comes exactly where it has no reading.
+pub fn read_line(alloc: Global, line: &[u8]) -> Result<Command, LineError>
+    ensures reads { ReadsLine result (command_of (tokens_of line.now)) }
+    ensures limits { IfOk result IsCommand }
+{
+    let tokens = split_tokens(alloc, line)?;
+    match read_command(alloc, &tokens)? {
+        Some(command) => Ok(command),
+        None => Err(LineError::BadLine),
+    }
+}
+
+/// The first line of a script, and the bytes after it. `None` exactly where there is no line.
+pub fn front_line(script: &[u8]) -> Option<(&[u8], &[u8])>
+    ensures { MatchOption result (lines_of script.now ≡ []) (λ front. IsFrontLine script.now front.0.now front.1.now) }
+{
+    if script.is_empty() {
+        return None;
+    }
+    match script.iter().position(|c| *c == b'\n') {
+        Some(place) => Some((&script[..place], &script[place + 1..])),
+        None => Some((script, &[])),
+    }
+}

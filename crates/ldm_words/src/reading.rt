@@ -1,0 +1,224 @@
+ghost use Rattle.std.specs.Prelude.{◌≡◌, IfOk, IfSome};
+ghost use Rattle.std.specs.List.{list_any, before_last, after_last};
+ghost use Rattle.ldm_words.specs.Names.{name_of};
+ghost use Rattle.ldm_words.specs.Commands.{bytes_of, many, piece_of, columns_of, mirror_of, layout_of, new_name, create_of, extend_of, delete_of, command_of};
+ghost use Rattle.ldm_words.specs.Equals.{IsLastEquals};
+ghost use Rattle.ldm_words.specs.Limits.{IsCommand, CommandsKeepLimits};
+
+use crate::command::{Command, Names, NewLayout, Piece, Pieces};
+use crate::name::read_name;
+use crate::number::read_number;
+use ldm_bytes::{Bytes, NoMemory, read_guid};
+use std::alloc::Global;
+
+// The most pieces or disks of a command.
+const MOST: usize = 64;
+
+// What a stripe and RAID-5 are made of.
+#[derive(Drop)]
+struct Columns {
+    chunk: u64,
+    len: u64,
+    disks: Names,
+}
+
+// The place of the last `=`.
+fn last_equals(token: &[u8]) -> Option<usize>
+    ensures { IsLastEquals token.now result }
+{
+    let mut at = token.len();
+    while at > 0 {
+        if token[at - 1] == b'=' {
+            return Some(at - 1);
+        }
+        at -= 1;
+    }
+    None
+}
+
+// The piece that the token is.
+#[tactic(auto, unfolding(crate::specs::Commands::piece_of))]
+fn read_piece(alloc: Global, token: &[u8]) -> Result<Option<Piece>, NoMemory>
+    ensures { IfOk result (λ piece. piece ≡ piece_of token.now) }
+{
+    let Some(place) = last_equals(token) else {
+        return Ok(None);
+    };
+    let Some(disk) = read_name(alloc, &token[..place])? else {
+        return Ok(None);
+    };
+    let Some(len) = read_number(&token[place + 1..]) else {
+        return Ok(None);
+    };
+    Ok(Some(Piece { disk, len }))
+}
+
+// The pieces that the tokens are, 1 to 64 of them.
+fn read_pieces(alloc: Global, tokens: &[&[u8]]) -> Result<Option<Pieces>, NoMemory>
+    ensures { IfOk result (λ pieces. pieces ≡ many 1 piece_of (bytes_of tokens.now)) }
+{
+    if tokens.is_empty() || tokens.len() > MOST {
+        return Ok(None);
+    }
+    let mut pieces = Vec::new(alloc);
+    for token in tokens {
+        let Some(piece) = read_piece(alloc, token)? else {
+            return Ok(None);
+        };
+        pieces.push(piece)?;
+    }
+    Ok(Some(Pieces::from_vec(pieces)))
+}
+
+// The names that the tokens are, `least` to 64 of them.
+fn read_names(alloc: Global, tokens: &[&[u8]], least: usize) -> Result<Option<Names>, NoMemory>
+    ensures { IfOk result (λ names. names ≡ many least name_of (bytes_of tokens.now)) }
+{
+    if tokens.len() < least || tokens.len() > MOST {
+        return Ok(None);
+    }
+    let mut names = Vec::new(alloc);
+    for token in tokens {
+        let Some(name) = read_name(alloc, token)? else {
+            return Ok(None);
+        };
+        names.push(name)?;
+    }
+    Ok(Some(Names::from_vec(names)))
+}
+
+// The columns that the tokens are, on `least` to 64 disks.
+fn read_columns(alloc: Global, tokens: &[&[u8]], least: usize) -> Result<Option<Columns>, NoMemory>
+    ensures { IfOk result (λ columns. columns ≡ columns_of least (bytes_of tokens.now)) }
+{
+    let [chunk, len, disks @ ..] = tokens else {
+        return Ok(None);
+    };
+    let Some(chunk) = read_number(chunk) else {
+        return Ok(None);
+    };
+    let Some(len) = read_number(len) else {
+        return Ok(None);
+    };
+    let Some(disks) = read_names(alloc, disks, least)? else {
+        return Ok(None);
+    };
+    Ok(Some(Columns { chunk, len, disks }))
+}
+
+// The mirror that the tokens are.
+fn read_mirror(alloc: Global, tokens: &[&[u8]]) -> Result<Option<NewLayout>, NoMemory>
+    ensures { IfOk result (λ layout. layout ≡ mirror_of (bytes_of tokens.now)) }
+{
+    let [len, disks @ ..] = tokens else {
+        return Ok(None);
+    };
+    let Some(len) = read_number(len) else {
+        return Ok(None);
+    };
+    let Some(disks) = read_names(alloc, disks, 2)? else {
+        return Ok(None);
+    };
+    Ok(Some(NewLayout::Mirror { len, disks }))
+}
+
+// The layout of this kind that the tokens are.
+fn read_layout(alloc: Global, kind: &[u8], tokens: &[&[u8]]) -> Result<Option<NewLayout>, NoMemory>
+    ensures { IfOk result (λ layout. layout ≡ layout_of kind.now (bytes_of tokens.now)) }
+{
+    if kind == b"span".as_slice() {
+        let pieces = read_pieces(alloc, tokens)?;
+        Ok(pieces.map(|pieces| NewLayout::Span { pieces }))
+    } else if kind == b"stripe".as_slice() {
+        let columns = read_columns(alloc, tokens, 2)?;
+        Ok(columns.map(|Columns { chunk, len, disks }| NewLayout::Stripe { chunk, len, disks }))
+    } else if kind == b"mirror".as_slice() {
+        read_mirror(alloc, tokens)
+    } else if kind == b"raid5".as_slice() {
+        let columns = read_columns(alloc, tokens, 3)?;
+        Ok(columns.map(|Columns { chunk, len, disks }| NewLayout::Raid5 { chunk, len, disks }))
+    } else {
+        Ok(None)
+    }
+}
+
+// The name of a new volume.
+fn read_new_name(alloc: Global, token: &[u8]) -> Result<Option<Bytes>, NoMemory>
+    ensures { IfOk result (λ name. name ≡ new_name (name_of token.now)) }
+{
+    let Some(name) = read_name(alloc, token)? else {
+        return Ok(None);
+    };
+    let len = name.as_slice().len();
+    if len >= 1 && len <= 63 {
+        Ok(Some(name))
+    } else {
+        Ok(None)
+    }
+}
+
+fn read_create(alloc: Global, tokens: &[&[u8]]) -> Result<Option<Command>, NoMemory>
+    ensures { IfOk result (λ command. command ≡ create_of (bytes_of tokens.now)) }
+{
+    let [name, guid, kind, rest @ ..] = tokens else {
+        return Ok(None);
+    };
+    let Some(guid) = read_guid(guid) else {
+        return Ok(None);
+    };
+    let Some(name) = read_new_name(alloc, name)? else {
+        return Ok(None);
+    };
+    let Some(layout) = read_layout(alloc, kind, rest)? else {
+        return Ok(None);
+    };
+    Ok(Some(Command::Create { name, guid, layout }))
+}
+
+fn read_extend(alloc: Global, tokens: &[&[u8]]) -> Result<Option<Command>, NoMemory>
+    ensures { IfOk result (λ command. command ≡ extend_of (bytes_of tokens.now)) }
+{
+    let [name, pieces @ ..] = tokens else {
+        return Ok(None);
+    };
+    let Some(name) = read_name(alloc, name)? else {
+        return Ok(None);
+    };
+    let Some(pieces) = read_pieces(alloc, pieces)? else {
+        return Ok(None);
+    };
+    Ok(Some(Command::Extend { name, pieces }))
+}
+
+fn read_delete(alloc: Global, tokens: &[&[u8]]) -> Result<Option<Command>, NoMemory>
+    ensures { IfOk result (λ command. command ≡ delete_of (bytes_of tokens.now)) }
+{
+    let [name] = tokens else {
+        return Ok(None);
+    };
+    let Some(name) = read_name(alloc, name)? else {
+        return Ok(None);
+    };
+    Ok(Some(Command::Delete { name }))
+}
+
+/// The command that the tokens say. `None` exactly where they have no reading.
+#[tactic(auto, using(crate::proofs::LimitLaws::keep_limits), unfolding(crate::specs::Commands::command_of))]
+pub fn read_command(alloc: Global, tokens: &[&[u8]]) -> Result<Option<Command>, NoMemory>
+    ensures is { IfOk result (λ found. found ≡ command_of (bytes_of tokens.now)) }
+    ensures limits { IfOk result (λ found. IfSome found IsCommand) }
+    ensures all_keep { CommandsKeepLimits }
+{
+    let [word, rest @ ..] = tokens else {
+        return Ok(None);
+    };
+    if *word == b"create".as_slice() {
+        read_create(alloc, rest)
+    } else if *word == b"extend".as_slice() {
+        read_extend(alloc, rest)
+    } else if *word == b"delete".as_slice() {
+        read_delete(alloc, rest)
+    } else {
+        Ok(None)
+    }
+}
