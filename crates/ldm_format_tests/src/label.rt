@@ -42,7 +42,7 @@ fn change(alloc: Global, image: &mut [u8], text: &str) -> Result<(), Fail> {
         return Err(Fail::from("no place"));
     };
     let offset = usize::from_str_radix(offset, 16).map_err(|_| Fail::from("no offset"))?;
-    let start = offset.saturating_add(512 * sector_of(sector));
+    let start = offset.saturating_add(sector_of(sector).saturating_mul(512));
     let bytes = bytes_of(alloc, digits)?;
     let end = start.saturating_add(bytes.len());
     if start <= end && end <= image.len() && end - start == bytes.len() {

@@ -11,7 +11,7 @@ fn push_hex(bytes: &mut Vec<u8>, digits: &str) -> Result<(), Fail> {
 
 // The bytes of a text of words: `zN` is N zeros, `lN` the length N in four bytes, `'text` the text's
 // bytes, and any other word is in hexadecimal digits.
-pub fn bytes_of(alloc: Global, text: &str) -> Result<Vec<u8>, Fail> {
+pub(crate) fn bytes_of(alloc: Global, text: &str) -> Result<Vec<u8>, Fail> {
     let mut bytes = Vec::new(alloc);
     for word in text.split_whitespace() {
         if let Some(count) = word.strip_prefix("z") {

@@ -6,6 +6,8 @@ use std::test::Fail;
 
 const DISK: &str = "00000034 l58 0102 05 'Disk1 24 '11111111-1111-1111-1111-111111111111 00 z12";
 
+const GUID: u128 = 0x1111_1111_1111_1111_1111_1111_1111_1111;
+
 const PARTITION: &str = "00000033 l40 0107 02 'p7 z28 020800 0106 0102";
 
 // Two longer numbers, and filling.
@@ -39,13 +41,13 @@ fn is_spelled(alloc: Global, payload: &str, own: &str) -> Result<bool, Fail> {
     Ok(len == Some(own.len()) && again.as_slice() == own.as_slice())
 }
 
-// Numbers of what the payload spells: the id, and a few of its type.
+// Numbers of what the payload spells: the id, and a few of its type; of a disk whether it has that GUID.
 fn numbers_of(alloc: Global, payload: &str) -> Result<[u64; 4], Fail> {
     let record = read_record(alloc, &bytes_of(alloc, payload)?)?;
     Ok(match &record {
         Record::Volume(v) => [v.head.id, v.children, v.size, u64::from(v.part_type)],
         Record::Partition(p) => [p.head.id, p.size, p.parent, p.disk],
-        Record::Disk(d) => [d.head.id, d.guid as u64, 0, 0],
+        Record::Disk(d) => [d.head.id, u64::from(d.guid == GUID), 0, 0],
         _ => [0; 4],
     })
 }
@@ -56,7 +58,7 @@ fn values(rt: HostRuntime) -> Result<(), Fail> {
     assert_eq!(rt; numbers_of(alloc, PARTITION)?, [7, 2048, 6, 2]);
     assert_eq!(rt; numbers_of(alloc, LONGER)?, [7, 2048, 6, 2]);
     assert_eq!(rt; numbers_of(alloc, VOLUME)?, [5, 1, 2058, 7]);
-    assert_eq!(rt; numbers_of(alloc, DISK)?, [2, 0x1111_1111_1111_1111, 0, 0]);
+    assert_eq!(rt; numbers_of(alloc, DISK)?, [2, 1, 0, 0]);
     assert!(rt; is_spelled(alloc, LONGER, PARTITION)?);
     Ok(())
 }
