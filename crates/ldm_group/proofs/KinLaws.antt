@@ -37,6 +37,16 @@ filter_keeps t [] x (k, lt, is) holds = absurd (omega arith)
 filter_keeps t (y ∷ xs) x (zero, lt, is) holds = subst (λ (b : Bool). Contains (if b then y ∷ filter t xs else filter t xs) x) (sym (ap t is ∙ holds)) (zero, omega arith, is)
 filter_keeps t (y ∷ xs) x (suc k, lt, is) holds = one_later (t y) y (filter t xs) x (filter_keeps t xs x (k, omega arith, is) holds)
 
+-- what an element names is in the list of what they name
+pub named_there : {X Y : Type 0} (f : X → Option Y) (xs : List X) (d : X) (k : ℕ) (y : Y) → k < length xs → f (get_or xs k d) ≡ Some y → Contains (filter_map f xs) y
+named_there f [] d k y h e = absurd (omega arith)
+named_there {X} {Y} f (x ∷ xs) d zero y h e = subst (λ (o : Option Y). Contains (cons_option o (filter_map f xs)) y) (sym e) (0, omega arith, refl)
+named_there {X} {Y} f (x ∷ xs) d (suc k) y h e = later (f x) (named_there f xs d k y (omega arith) e)
+  where
+    later : (o : Option Y) → Contains (filter_map f xs) y → Contains (cons_option o (filter_map f xs)) y
+    later None there = there
+    later (Some z) there = (suc there.0, omega arith, there.2)
+
 -- where the same records pass a test, they are the same list
 pub kin_same : (t : Record → Bool) (old next : List Record) → Rising old → Rising next
     → ((r : Record) → t r ≡ true → Contains old r → Contains next r) → ((r : Record) → t r ≡ true → Contains next r → Contains old r)

@@ -16,15 +16,21 @@ find_there {X} t (y ∷ ys) x e = go (t y) refl e (λ f. find_there t ys x f)
     go true h f later = let same : y ≡ x = cc in ((0, omega arith, same), ap t (sym same) ∙ h)
     go false h f later = let found = later f in ((suc found.0.0, omega (arith, found.0.1), found.0.2), found.1)
 
-find_none : {X : Type 0} (t : X → Bool) (xs : List X) (k : ℕ) (d : X) → find t xs ≡ None → k < length xs → t (get_or xs k d) ≡ false
-find_none t [] k d e lt = absurd (omega (arith, lt))
-find_none {X} t (x ∷ xs) k d e lt = go (t x) refl e k lt (λ j f l. find_none t xs j d f l)
+-- nothing is found only where no element passes
+pub none_found : {X : Type 0} (t : X → Bool) (xs : List X) (k : ℕ) (d : X) → find t xs ≡ None → k < length xs → t (get_or xs k d) ≡ false
+none_found t [] k d e lt = absurd (omega (arith, lt))
+none_found {X} t (x ∷ xs) k d e lt = go (t x) refl e k lt (λ j f l. none_found t xs j d f l)
   where
     go : (b : Bool) → t x ≡ b → cond b (Some x) (find t xs) ≡ None → (k : ℕ) → k < length (x ∷ xs) → ((j : ℕ) → find t xs ≡ None → j < length xs → t (get_or xs j d) ≡ false)
         → t (get_or (x ∷ xs) k d) ≡ false
     go true h f k l later = absurd cc
     go false h f zero l later = h
     go false h f (suc k) l later = later k f (omega (arith, l))
+
+-- a test that holds of no element finds nothing
+pub find_none : {X : Type 0} (p : X → Bool) (xs : List X) → ((k : ℕ) (d : X) → k < length xs → p (get_or xs k d) ≡ false) → find p xs ≡ None
+find_none p [] none = refl
+find_none p (x ∷ xs) none = rw (none 0 x (omega arith)) (find_none p xs (λ k d h. none (suc k) d (omega arith)))
 
 -- two records of a group at one place of the order are one
 pub one_record : (records : List Record) (r s : Record) → Rising records → Contains records r → Contains records s → place_of r ≡ place_of s → r ≡ s
@@ -55,7 +61,7 @@ found_again records r up there = go (by_id (kind_of r) (id_of r) records) refl
   where
     go : (o : Option Record) → by_id (kind_of r) (id_of r) records ≡ o → by_id (kind_of r) (id_of r) records ≡ Some r
     go None e =
-        let fails : is_at (kind_of r) (id_of r) (get_or records there.0 r) ≡ false = find_none (is_at (kind_of r) (id_of r)) records there.0 r e there.1 in
+        let fails : is_at (kind_of r) (id_of r) (get_or records there.0 r) ≡ false = none_found (is_at (kind_of r) (id_of r)) records there.0 r e there.1 in
         let bad : true ≡ false = sym (at_own r) ∙ ap (is_at (kind_of r) (id_of r)) (sym there.2) ∙ fails in
         absurd cc
     go (Some s) e =

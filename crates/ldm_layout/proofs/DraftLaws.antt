@@ -11,7 +11,8 @@ use Rattle.ldm_records.specs.declared.types.Record.TheVariants as kinds
 use Rattle.ldm_records.specs.declared.types.Volume.{Volume}
 use Rattle.ldm_layout.specs.Answers.{PlansAs, AllEnd, IsPlan}
 use Rattle.ldm_layout.specs.Layouts.{Layout, is_tiled, first_fault, copies_by}
-use Rattle.ldm_layout.specs.Parts.{plexes_of, extent_in, extent_of, extents_of, insert_by, in_rising, by_offset, by_index, tile_key, is_partition_of, EndsInRange}
+use Rattle.ldm_group.specs.Partitions.{EndsInRange}
+use Rattle.ldm_layout.specs.Parts.{plexes_of, extent_in, extent_of, extents_of, insert_by, in_rising, by_offset, by_index, tile_key, is_partition_of}
 use Rattle.ldm_layout.specs.Volumes.{is_basic, shape_of, striping_of, laid_out, draft_of, unless_faulty, checked, layout_of}
 use Rattle.ldm_layout.specs.declared.parts.Extent.{Extent}
 use Rattle.ldm_layout.specs.declared.parts.Plex.{Plex}

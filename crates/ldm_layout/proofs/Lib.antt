@@ -9,3 +9,4 @@ pub mod PlanLaws
 pub mod DraftLaws
 pub mod SpotLaws
 pub mod VolumeLaws
+pub mod ChildLaws

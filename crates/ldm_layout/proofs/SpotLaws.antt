@@ -1,9 +1,10 @@
 -- Each sector of a volume has a spot of its own in each copy: a partition, and an offset inside it. No parity has one of these.
-use Rattle.std.proofs.Common.{◌≡◌, ℕ, zero, suc, ◌+◌, ◌-◌, ◌*◌, ◌/◌, ◌%◌, ◌<◌, ◌≤◌, inl, inr, Bool, true, false, cond, List, [], ◌∷◌, length, get_or, refl, ap, sym, subst, ◌∙◌, arith, nat_le, nat_lt, Option, Some, None, find, slice_get, sum_by}
+use Rattle.std.proofs.Common.{◌≡◌, ℕ, zero, suc, ◌+◌, ◌-◌, ◌*◌, ◌/◌, ◌%◌, ◌<◌, ◌≤◌, inl, inr, true, false, List, [], ◌∷◌, length, get_or, refl, ap, sym, subst, ◌∙◌, arith, nat_le, nat_lt, Option, Some, None, find, slice_get, sum_by}
 use Rattle.std.specs.List.{All}
 use Rattle.std.specs.Option.{option_map}
 use Rattle.std.proofs.lemmas.Bool.{cases_lt, and_parts, and_from, and_right, leb-true, ltb-true, le-leb, lt-ltb, le-ltb, cond-true, cond-false}
 use Rattle.std.proofs.lemmas.List.Sums.{sum_by-cons}
+use Rattle.ldm_group.proofs.LookLaws.{find_there}
 use Rattle.ldm_layout.proofs.ColumnLaws.{sizes, least_at, get_at, some_columns}
 use Rattle.ldm_layout.proofs.PlaceLaws.{stripe_inside, stripe_apart, raid5_inside, raid5_apart, no_parity, one_parity}
 use Rattle.ldm_layout.proofs.PlanLaws.{PlexFacts}
@@ -28,15 +29,6 @@ pub record IsInside (P : Extent → Type 0) (spot : Option (Extent × ℕ)) : Ty
 
 -- ---- tiles
 
--- what is found passes
-pub find_passes : (test : Extent → Bool) (es : List Extent) (e : Extent) → find test es ≡ Some e → test e ≡ true
-find_passes test [] e h = absurd cc
-find_passes test (f ∷ fs) e h = go (test f) refl h (λ g. find_passes test fs e g)
-  where
-    go : (b : Bool) → test f ≡ b → cond b (Some f) (find test fs) ≡ Some e → (find test fs ≡ Some e → test e ≡ true) → test e ≡ true
-    go true t g rest = ap test (sym (some_same g)) ∙ t
-    go false t g rest = rest g
-
 covers_parts : (x : ℕ) (e : Extent) → covers x e ≡ true → (e.offset ≤ x) × (x < e.offset + e.size)
 covers_parts x e h =
     let parts : (nat_le e.offset x ≡ true) × (nat_lt x (e.offset + e.size) ≡ true) = and_parts (nat_le e.offset x) (nat_lt x (e.offset + e.size)) h in
@@ -52,7 +44,7 @@ tile_spot_at es x e o h = go (find (covers x) es) refl h
         let one : Extent × ℕ = (f, x - f.offset) in
         let two : Extent × ℕ = (e, o) in
         let pair : one ≡ two = some_same g in
-        let low : f.offset ≤ x = (covers_parts x f (find_passes (covers x) es f is)).0 in
+        let low : f.offset ≤ x = (covers_parts x f (find_there (covers x) es f is).1).0 in
         let offsets : f.offset ≡ e.offset = ap (λ (y : Extent × ℕ). y.0.offset) pair in
         let rest : x - f.offset ≡ o = ap (λ (y : Extent × ℕ). y.1) pair in
         omega arith
@@ -85,7 +77,7 @@ pub tile_spot_inside : (P : Extent → Type 0) (es : List Extent) (x : ℕ) (d :
 tile_spot_inside P es x d tiled all h =
     let hit = tile_covered 0 x es d (tiles_zero es tiled) (omega arith) (omega (arith, h)) in
     let e = get_or es hit.0 d in
-    let parts : (e.offset ≤ x) × (x < e.offset + e.size) = covers_parts x e (find_passes (covers x) es e hit.2) in
+    let parts : (e.offset ≤ x) × (x < e.offset + e.size) = covers_parts x e (find_there (covers x) es e hit.2).1 in
     record {
       part = e;
       offset = x - e.offset;

@@ -21,7 +21,8 @@ first_tile at e es tiled =
     let parts : ((e.offset == at) ≡ true) × (tiles_from (at + e.size) es ≡ true) = and_parts (e.offset == at) (tiles_from (at + e.size) es) tiled in
     (eqb-true e.offset at parts.0, parts.1)
 
-begins_behind : (at : ℕ) (es : List Extent) (k : ℕ) (d : Extent) → tiles_from at es ≡ true → k < length es → at ≤ (get_or es k d).offset
+-- no tile begins before them
+pub begins_behind : (at : ℕ) (es : List Extent) (k : ℕ) (d : Extent) → tiles_from at es ≡ true → k < length es → at ≤ (get_or es k d).offset
 begins_behind at [] k d tiled h = absurd (omega arith)
 begins_behind at (e ∷ es) zero d tiled h = (let first : (e.offset ≡ at) × (tiles_from (at + e.size) es ≡ true) = first_tile at e es tiled in omega arith)
 begins_behind at (e ∷ es) (suc k) d tiled h =

@@ -1,5 +1,5 @@
 -- What a layout is made of: the components of a volume (plexes), and the partitions of a component (extents), in their orders.
-use Rattle.std.specs.Prelude.{ℕ, ◌+◌, ◌*◌, ◌^◌, ◌<◌, ◌==◌, ◌&&◌, min, Bool, true, false, List, [], ◌∷◌, Option, Some, None, filter, nat_le, unwrap_or, if◌then◌else◌}
+use Rattle.std.specs.Prelude.{ℕ, ◌+◌, ◌*◌, ◌^◌, ◌==◌, ◌&&◌, min, Bool, true, false, List, [], ◌∷◌, Option, Some, None, filter, nat_le, unwrap_or, if◌then◌else◌}
 use Rattle.std.specs.List.{filter_map, list_any}
 use Rattle.ldm_records.specs.declared.types.Record.{Record}
 use Rattle.ldm_records.specs.declared.types.Record.TheVariants as kinds
@@ -84,8 +84,3 @@ least (n ∷ (m ∷ ns)) = min n (least (m ∷ ns))
 abbrev pub is_partition_of : ℕ → List Record → Record → Bool
 is_partition_of volume records (kinds.Partition p) = list_any (λ plex. plex.id == p.parent) (plexes_of volume records)
 is_partition_of volume records _ = false
-
--- it ends at or below the greatest sector that a number of the format says
-abbrev pub EndsInRange : Record → Type 0
-EndsInRange (kinds.Partition p) = p.start + p.size < 2 ^ 64
-EndsInRange _ = Unit {0}

@@ -1,5 +1,6 @@
 ghost use Rattle.std.specs.Prelude.{◌≡◌, true, IsSome, All, IfOk, IfSome, option_copied};
-ghost use Rattle.ldm_layout.specs.Parts.{EndsInRange, is_partition_of, plexes_at, extents_at};
+ghost use Rattle.ldm_group.specs.Partitions.{EndsInRange};
+ghost use Rattle.ldm_layout.specs.Parts.{is_partition_of, plexes_at, extents_at};
 ghost use Rattle.ldm_layout.specs.Volumes.{draft_of, checked, layout_of, volume_with};
 ghost use Rattle.ldm_layout.specs.Answers.{PlansAs, AllEnd};
 

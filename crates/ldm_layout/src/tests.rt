@@ -1,5 +1,5 @@
 ghost use Rattle.std.specs.Prelude.{IsTrue, IsSome, All};
-ghost use Rattle.ldm_layout.specs.Parts.{EndsInRange};
+ghost use Rattle.ldm_group.specs.Partitions.{EndsInRange};
 ghost use Rattle.ldm_layout.specs.Volumes.{volume_with};
 
 use super::*;

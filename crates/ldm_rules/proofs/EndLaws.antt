@@ -9,9 +9,10 @@ use Rattle.ldm_records.specs.declared.types.Record.TheVariants as kinds
 use Rattle.ldm_records.specs.declared.types.Disk.{Disk}
 use Rattle.ldm_group.specs.Looks.{by_id, disk_in}
 use Rattle.ldm_label.specs.declared.Label.{Label}
-use Rattle.ldm_layout.specs.Parts.{EndsInRange}
+use Rattle.ldm_group.specs.Partitions.{EndsInRange}
 use Rattle.ldm_rules.proofs.GroupLaws.{not_broken}
-use Rattle.ldm_rules.specs.Ends.{label_with, sectors_by, data_size}
+use Rattle.ldm_rules.specs.Ends.{sectors_by, data_size}
+use Rattle.ldm_rules.specs.Present.{label_with}
 use Rattle.ldm_rules.specs.Rules.{first_broken, passes_end}
 
 record_ends : (sectors : ℕ → ℕ) (r : Record) → ((disk : ℕ) → sectors disk < 2 ^ 64) → passes_end sectors r ≡ false → EndsInRange r

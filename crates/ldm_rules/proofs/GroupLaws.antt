@@ -1,29 +1,20 @@
 -- In a group that rises, whose partitions don't meet, one sector of a disk is of one partition.
-use Rattle.std.proofs.Common.{◌≡◌, ℕ, zero, suc, ◌+◌, ◌*◌, ◌^◌, max, min, ◌<◌, ◌==◌, not, inl, inr, Bool, true, false, cond, List, [], ◌∷◌, length, get_or, refl, ap, sym, ◌∙◌, arith, Option, Some, None, find, Contains}
+use Rattle.std.proofs.Common.{◌≡◌, ℕ, ◌+◌, ◌*◌, ◌^◌, max, min, ◌<◌, ◌==◌, not, inl, inr, Bool, true, false, List, get_or, refl, ap, sym, ◌∙◌, arith, Option, Some, None, find, Contains}
 use Rattle.std.specs.Option.{option_map}
 use Rattle.std.specs.List.{list_any}
 use Rattle.std.proofs.lemmas.Bool.{and_from, lt-ltb, eq-eqb, eqb-true}
 use Rattle.std.proofs.lemmas.List.Folds.{list_any_at}
+use Rattle.std.proofs.lemmas.List.Elements.{Contains-get_or}
 use Rattle.ldm_records.specs.declared.types.Record.{Record}
 use Rattle.ldm_records.specs.declared.types.Record.TheVariants as kinds
 use Rattle.ldm_records.specs.declared.types.Partition.{Partition}
 use Rattle.ldm_group.specs.Order.{Rising, place_of, id_of}
 use Rattle.ldm_group.proofs.Rise.{tested}
-use Rattle.ldm_group.proofs.LookLaws.{one_record}
+use Rattle.ldm_group.proofs.LookLaws.{none_found, find_none, one_record}
 use Rattle.ldm_rules.specs.Rules.{is_other_meeting, meets_another, first_broken}
 
 same_partition : {p q : Partition} → kinds.Partition p ≡ kinds.Partition q → p ≡ q
 same_partition h = cc
-
--- nothing is found only where no element passes
-none_found : {X : Type 0} (test : X → Bool) (xs : List X) (k : ℕ) (d : X) → find test xs ≡ None → k < length xs → test (get_or xs k d) ≡ false
-none_found test [] k d e h = absurd (omega arith)
-none_found {X} test (x ∷ xs) k d e h = go (test x) refl e k h (λ j l f. none_found test xs j d f l)
-  where
-    go : (b : Bool) → test x ≡ b → cond b (Some x) (find test xs) ≡ None → (k : ℕ) → k < length (x ∷ xs) → ((j : ℕ) → j < length xs → find test xs ≡ None → test (get_or xs j d) ≡ false) → test (get_or (x ∷ xs) k d) ≡ false
-    go true t f k l rest = absurd cc
-    go false t f zero l rest = t
-    go false t f (suc k) l rest = rest k (omega arith) f
 
 map_none : {A B : Type 0} (f : A → B) (o : Option A) → option_map f o ≡ None → o ≡ None
 map_none f None h = refl
@@ -33,6 +24,10 @@ map_none f (Some a) h = absurd cc
 pub not_broken : (broken : Record → Bool) (records : List Record) (r : Record) → first_broken broken records ≡ None → Contains records r → broken r ≡ false
 not_broken broken records r sound at =
     ap broken (sym at.2) ∙ none_found broken records at.0 r (map_none id_of (find broken records) sound) at.1
+
+-- and one that holds of each record isn't
+pub none_broken : (broken : Record → Bool) (records : List Record) → ((r : Record) → Contains records r → broken r ≡ false) → first_broken broken records ≡ None
+none_broken broken records keeps = ap (option_map id_of) (find_none broken records (λ k d lt. keeps (get_or records k d) (Contains-get_or records k d lt)))
 
 pub one_spot : (records : List Record) (p q : Partition) (o r : ℕ) → Rising records → first_broken (meets_another records) records ≡ None → Contains records (kinds.Partition p) → Contains records (kinds.Partition q)
     → o < p.size → r < q.size → p.disk ≡ q.disk → p.start + o ≡ q.start + r → (p ≡ q) × (o ≡ r)

@@ -7,5 +7,6 @@ pub mod LayoutLaws
 pub mod GroupLaws
 pub mod SectorLaws
 pub mod DisjointLaws
+pub mod PresentLaws
 pub mod EndLaws
 pub mod SoundLaws

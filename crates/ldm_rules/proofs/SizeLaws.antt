@@ -7,7 +7,8 @@ use Rattle.ldm_records.specs.declared.types.Record.TheVariants as kinds
 use Rattle.ldm_records.specs.declared.types.Disk.{Disk}
 use Rattle.ldm_group.specs.Looks.{by_id, disk_in}
 use Rattle.ldm_label.specs.declared.Label.{Label}
-use Rattle.ldm_rules.specs.Ends.{label_with, sectors_by, data_size}
+use Rattle.ldm_rules.specs.Ends.{sectors_by, data_size}
+use Rattle.ldm_rules.specs.Present.{label_with}
 use Rattle.ldm_rules.specs.Sizes.{size_at, first_size}
 
 or_none : (a : Option ℕ) → option_or a None ≡ a

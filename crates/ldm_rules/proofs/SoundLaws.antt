@@ -1,50 +1,94 @@
 -- What a sound group has: no rule is broken, so its volumes have layouts, no two sectors have one place, and its partitions
 -- end within the numbers of the format.
-use Rattle.std.proofs.Common.{◌≡◌, ℕ, ◌^◌, ◌<◌, not, Bool, true, false, List, [], ◌∷◌, ◌++◌, refl, Option, Some, None, Result, Ok, Err, OnOk, Contains}
-use Rattle.std.specs.List.{All}
+use Rattle.std.proofs.Common.{◌≡◌, ℕ, ◌^◌, ◌<◌, not, Bool, true, false, List, [], ◌∷◌, refl, Option, Some, None, Result, Ok, Err, OnOk, Contains}
+use Rattle.std.specs.List.{All, filter_map}
+use Rattle.std.specs.Prelude.{count_by}
 use Rattle.ldm_records.specs.declared.types.Record.{Record}
 use Rattle.ldm_records.specs.declared.types.Record.TheVariants as kinds
 use Rattle.ldm_records.specs.declared.types.Volume.{Volume}
 use Rattle.ldm_group.specs.Order.{Rising}
+use Rattle.ldm_group.specs.Looks.{is_at, is_disk_with, is_volume_named, children_of}
 use Rattle.ldm_label.specs.declared.Label.{Label}
 use Rattle.ldm_layout.specs.Layouts.{Layout}
-use Rattle.ldm_layout.specs.Parts.{EndsInRange}
+use Rattle.ldm_group.specs.Partitions.{EndsInRange}
 use Rattle.ldm_layout.specs.Volumes.{layout_of}
 use Rattle.ldm_layout.specs.declared.shape.LayoutFault.{LayoutFault}
 use Rattle.ldm_rules.proofs.EndLaws.{all_end, data_low}
 use Rattle.ldm_rules.proofs.GroupLaws.{not_broken}
 use Rattle.ldm_rules.proofs.DisjointLaws.{places_apart, places_beside, parities_shared, rows_share, place_inside, parity_place_inside}
-use Rattle.ldm_rules.proofs.TableLaws.{rest_none}
 use Rattle.ldm_rules.specs.Disjoint.{HasLayout, AllLaidOut, HasDisjointPlaces}
 use Rattle.ldm_rules.specs.Ends.{data_size}
-use Rattle.ldm_rules.specs.Rules.{first_broken, fails, is_short, is_empty, passes_end, meets_another, has_layout_fault, passes_layout}
+use Rattle.ldm_rules.specs.Rules.{first_broken, group_id, group_fault, has_twin_guid, has_namesake, lacks_volume, lacks_component, lacks_disk, miscounts_components, miscounts_partitions, fails, is_short, is_empty, passes_end, meets_another, has_layout_fault, passes_layout}
 use Rattle.ldm_rules.specs.Table.{first_fault, first_broken_rule, name_rules, tree_rules, sector_rules, ChecksAs, IsSound}
 use Rattle.ldm_rules.specs.declared.fault.RuleError.{RuleError}
 use Rattle.ldm_rules.specs.declared.fault.RuleError.TheVariants.{Fault, NoMemory}
 
--- none of the rules on sectors is broken
-pub record HasSectorsSound (records : List Record) (labels : List Label) : Type 0 where
+-- ---- the rules, each for itself
+
+pub record EachRule (records : List Record) (labels : List Label) : Type 0 where
+  pub one_group : group_fault (filter_map group_id records) ≡ None
+  pub guids : first_broken (has_twin_guid (λ guid. count_by (is_disk_with guid) records)) records ≡ None
+  pub names : first_broken (has_namesake (λ name. count_by (is_volume_named name) records)) records ≡ None
+  pub volumes : first_broken (lacks_volume (λ id. count_by (is_at 3 id) records)) records ≡ None
+  pub components : first_broken (lacks_component (λ id. count_by (is_at 4 id) records)) records ≡ None
+  pub disks : first_broken (lacks_disk (λ id. count_by (is_at 2 id) records)) records ≡ None
+  pub component_counts : first_broken (miscounts_components (λ id. children_of 3 id records)) records ≡ None
+  pub partition_counts : first_broken (miscounts_partitions (λ id. children_of 4 id records)) records ≡ None
+  pub sizes : first_broken is_empty records ≡ None
   pub ends : first_broken (passes_end (data_size labels records)) records ≡ None
-  pub meets : first_broken (meets_another records) records ≡ None
-  pub faults : first_broken (has_layout_fault records) records ≡ None
-  pub sizes : first_broken (passes_layout records) records ≡ None
+  pub meetings : first_broken (meets_another records) records ≡ None
+  pub layouts : first_broken (has_layout_fault records) records ≡ None
+  pub capacities : first_broken (passes_layout records) records ≡ None
 
-five_none : (a b c d e : Option ℕ) → first_fault ((9, a) ∷ ((10, b) ∷ ((11, c) ∷ ((12, d) ∷ ((13, e) ∷ []))))) ≡ None → (b ≡ None) × (c ≡ None) × (d ≡ None) × (e ≡ None)
-five_none None None None None None h = (refl, refl, refl, refl)
-five_none (Some id) b c d e h = absurd cc
-five_none None (Some id) c d e h = absurd cc
-five_none None None (Some id) d e h = absurd cc
-five_none None None None (Some id) e h = absurd cc
-five_none None None None None (Some id) h = absurd cc
+abbrev table : Option ℕ → Option ℕ → Option ℕ → Option ℕ → Option ℕ → Option ℕ → Option ℕ → Option ℕ → Option ℕ → Option ℕ → Option ℕ → Option ℕ → Option ℕ → List (ℕ × Option ℕ)
+table a b c d e f g h i j k l m = (1, a) ∷ ((2, b) ∷ ((3, c) ∷ ((4, d) ∷ ((5, e) ∷ ((6, f) ∷ ((7, g) ∷ ((8, h) ∷ ((9, i) ∷ ((10, j) ∷ ((11, k) ∷ ((12, l) ∷ ((13, m) ∷ []))))))))))))
 
-pub sectors_sound : (records : List Record) (labels : List Label) → IsSound records labels → HasSectorsSound records labels
-unfolding first_broken_rule sector_rules
-sectors_sound records labels sound =
-    let sectors : first_fault (sector_rules records labels) ≡ None =
-    rest_none (tree_rules records) (sector_rules records labels) (rest_none (name_rules records) (tree_rules records ++ sector_rules records labels) sound) in
-    let each = five_none (first_broken is_empty records) (first_broken (passes_end (data_size labels records)) records) (first_broken (meets_another records) records)
-    (first_broken (has_layout_fault records) records) (first_broken (passes_layout records) records) sectors in
-    record { ends = each.0; meets = each.1; faults = each.2; sizes = each.3 }
+all_none : (a b c d e f g h i j k l m : Option ℕ) → a ≡ None → b ≡ None → c ≡ None → d ≡ None → e ≡ None → f ≡ None → g ≡ None → h ≡ None → i ≡ None → j ≡ None → k ≡ None → l ≡ None → m ≡ None
+    → first_fault (table a b c d e f g h i j k l m) ≡ None
+all_none a b c d e f g h i j k l m A B C D E F G H I J K L M = rw (A, B, C, D, E, F, G, H, I, J, K, L, M)
+
+-- no rule is broken where each is kept
+pub sound_from : (records : List Record) (labels : List Label) → EachRule records labels → IsSound records labels
+unfolding first_broken_rule name_rules tree_rules sector_rules
+sound_from records labels each =
+    all_none _ _ _ _ _ _ _ _ _ _ _ _ _ each.one_group each.guids each.names each.volumes each.components each.disks each.component_counts each.partition_counts each.sizes each.ends each.meetings each.layouts each.capacities
+
+next_none : (rule : ℕ) (o : Option ℕ) (rest : List (ℕ × Option ℕ)) → first_fault ((rule, o) ∷ rest) ≡ None → (o ≡ None) × (first_fault rest ≡ None)
+next_none rule None rest h = (refl, h)
+next_none rule (Some id) rest h = absurd cc
+
+-- and each is kept where none is
+pub sound_parts : (records : List Record) (labels : List Label) → IsSound records labels → EachRule records labels
+unfolding first_broken_rule name_rules tree_rules sector_rules
+sound_parts records labels sound =
+    let a = next_none 1 _ _ sound in
+    let b = next_none 2 _ _ a.1 in
+    let c = next_none 3 _ _ b.1 in
+    let d = next_none 4 _ _ c.1 in
+    let e = next_none 5 _ _ d.1 in
+    let f = next_none 6 _ _ e.1 in
+    let g = next_none 7 _ _ f.1 in
+    let h = next_none 8 _ _ g.1 in
+    let i = next_none 9 _ _ h.1 in
+    let j = next_none 10 _ _ i.1 in
+    let k = next_none 11 _ _ j.1 in
+    let l = next_none 12 _ _ k.1 in
+    let m = next_none 13 _ _ l.1 in
+    record {
+      one_group = a.0;
+      guids = b.0;
+      names = c.0;
+      volumes = d.0;
+      components = e.0;
+      disks = f.0;
+      component_counts = g.0;
+      partition_counts = h.0;
+      sizes = i.0;
+      ends = j.0;
+      meetings = k.0;
+      layouts = l.0;
+      capacities = m.0;
+    }
 
 -- ---- layouts
 
@@ -59,10 +103,10 @@ has_layout records v (Err f) is a b = absurd (one_of_two (is_short f) a b)
 
 pub layout_there : (records : List Record) (labels : List Label) (v : Volume) → IsSound records labels → Contains records (kinds.Volume v) → (l : Layout) × HasLayout records v l
 layout_there records labels v sound there =
-    let sectors = sectors_sound records labels sound in
+    let each = sound_parts records labels sound in
     let found = has_layout records v (layout_of records v) refl
-    (not_broken (has_layout_fault records) records (kinds.Volume v) sectors.faults there)
-    (not_broken (passes_layout records) records (kinds.Volume v) sectors.sizes there) in
+    (not_broken (has_layout_fault records) records (kinds.Volume v) each.layouts there)
+    (not_broken (passes_layout records) records (kinds.Volume v) each.capacities there) in
     (found.0, record { there = there; layout = found.1 })
 
 -- a check that finds nothing tells it
@@ -73,7 +117,7 @@ checked_layouts records labels (Err NoMemory) fault = tt
 
 pub disjoint : (records : List Record) (labels : List Label) → Rising records → IsSound records labels → HasDisjointPlaces records
 disjoint records labels up sound =
-    let meets : first_broken (meets_another records) records ≡ None = (sectors_sound records labels sound).meets in
+    let meets : first_broken (meets_another records) records ≡ None = (sound_parts records labels sound).meetings in
     record {
       laid_out = λ v there. layout_there records labels v sound there;
       inside = λ v l x copy s. place_inside records v l x copy s;
@@ -89,4 +133,4 @@ disjoint records labels up sound =
 -- ---- ends
 
 pub ends_in_range : (records : List Record) (labels : List Label) → All (λ l. l.data_size < 2 ^ 64) labels → IsSound records labels → All EndsInRange records
-ends_in_range records labels low sound = all_end (data_size labels records) records (data_low labels records low) (sectors_sound records labels sound).ends
+ends_in_range records labels low sound = all_end (data_size labels records) records (data_low labels records low) (sound_parts records labels sound).ends

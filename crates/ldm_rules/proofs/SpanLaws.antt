@@ -1,5 +1,5 @@
 -- Where the sorted spans lie apart, no partition meets another.
-use Rattle.std.proofs.Common.{◌≡◌, ◌≢◌, ℕ, zero, suc, ◌+◌, ◌<◌, ◌≤◌, ◌==◌, ◌&&◌, not, max, min, inl, inr, Bool, true, false, cond, zero-add, List, [], ◌∷◌, length, get_or, refl, ap, sym, subst, ◌∙◌, arith, count_by, eq-eqb, nat_lt, Option, Some, None, find}
+use Rattle.std.proofs.Common.{◌≡◌, ◌≢◌, ℕ, ◌+◌, ◌<◌, ◌≤◌, ◌==◌, ◌&&◌, not, max, min, inl, inr, Bool, true, false, cond, zero-add, List, [], ◌∷◌, length, get_or, refl, ap, sym, subst, ◌∙◌, arith, count_by, eq-eqb, nat_lt, Option, Some, None}
 use Rattle.std.proofs.lemmas.Bool.{cases_lt, cases_eq, ltb-true, lt-ltb, eqb-true}
 use Rattle.std.proofs.lemmas.List.{get_or_default}
 use Rattle.std.proofs.lemmas.List.Sums.{sum_by-cons}
@@ -11,16 +11,14 @@ use Rattle.ldm_records.specs.declared.types.Record.{Record}
 use Rattle.ldm_records.specs.declared.types.Record.TheVariants as kinds
 use Rattle.ldm_records.specs.declared.types.Partition.{Partition}
 use Rattle.ldm_group.proofs.Rise.{tested, two_places, counted_two, count_no}
-use Rattle.ldm_rules.specs.Rules.{meets, is_other_meeting, meets_another, first_broken}
+use Rattle.ldm_group.proofs.LookLaws.{find_none}
+use Rattle.ldm_group.proofs.KinLaws.{named_there}
+use Rattle.ldm_group.specs.Partitions.{meets}
+use Rattle.ldm_rules.specs.Rules.{is_other_meeting, meets_another, first_broken}
 use Rattle.std.specs.Option.{option_map}
 use Rattle.ldm_group.specs.Order.{id_of}
 use Rattle.ldm_rules.specs.Spans.{span, span_of, Apart}
 use Rattle.ldm_rules.specs.declared.meetings.Span.{Span}
-
--- a test that holds of no element finds nothing
-pub find_none : {X : Type 0} (p : X → Bool) (xs : List X) → ((k : ℕ) (d : X) → k < length xs → p (get_or xs k d) ≡ false) → find p xs ≡ None
-find_none p [] none = refl
-find_none p (x ∷ xs) none = rw (none 0 x (omega arith)) (find_none p xs (λ k d h. none (suc k) d (omega arith)))
 
 both_left : (a b : Bool) → (a && b) ≡ true → a ≡ true
 both_left true b h = refl
@@ -53,16 +51,6 @@ count-filter_map {X} {Y} f test (x ∷ xs) = step (f x) refl (count-filter_map f
         ∙ (ap (λ n. cond (test y) 1 0 + n) h
         ∙ (ap (λ o. cond (passes test o) 1 0 + count_by (λ z. passes test (f z)) xs) (sym e)
         ∙ sym (sum_by-cons (λ z. cond (passes test (f z)) 1 0) x xs))))
-
--- what an element names is in the list of what they name
-pub named_there : {X Y : Type 0} (f : X → Option Y) (xs : List X) (d : X) (k : ℕ) (y : Y) → k < length xs → f (get_or xs k d) ≡ Some y → Contains (filter_map f xs) y
-named_there f [] d k y h e = absurd (omega arith)
-named_there {X} {Y} f (x ∷ xs) d zero y h e = subst (λ (o : Option Y). Contains (cons_option o (filter_map f xs)) y) (sym e) (0, omega arith, refl)
-named_there {X} {Y} f (x ∷ xs) d (suc k) y h e = later (f x) (named_there f xs d k y (omega arith) e)
-  where
-    later : (o : Option Y) → Contains (filter_map f xs) y → Contains (cons_option o (filter_map f xs)) y
-    later None there = there
-    later (Some z) there = (suc there.0, omega arith, there.2)
 
 abbrev pub overlaps : Span → Span → Bool
 overlaps a b = nat_lt (max a.start b.start) (min a.end b.end)

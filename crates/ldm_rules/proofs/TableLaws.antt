@@ -18,9 +18,3 @@ in_rest ((rule, Some id) ∷ xs) ys h = absurd cc
 pub failed : (xs ys : List (ℕ × Option ℕ)) (e : RuleError) → ChecksAs (Err e) (first_fault xs) → ChecksAs (Err e) (first_fault (xs ++ ys))
 failed xs ys (Fault f) h = in_first xs ys (f.rule, f.id) h
 failed xs ys NoMemory h = tt
-
--- a table without a fault has none in its rest
-pub rest_none : (xs ys : List (ℕ × Option ℕ)) → first_fault (xs ++ ys) ≡ None → first_fault ys ≡ None
-rest_none [] ys h = h
-rest_none ((rule, None) ∷ xs) ys h = rest_none xs ys h
-rest_none ((rule, Some id) ∷ xs) ys h = absurd cc

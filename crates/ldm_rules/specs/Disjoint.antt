@@ -8,7 +8,7 @@ use Rattle.ldm_records.specs.declared.types.Partition.{Partition}
 use Rattle.ldm_group.specs.Order.{Rising}
 use Rattle.ldm_label.specs.declared.Label.{Label}
 use Rattle.ldm_layout.specs.Layouts.{Layout, copies_of}
-use Rattle.ldm_layout.specs.Parts.{EndsInRange}
+use Rattle.ldm_group.specs.Partitions.{EndsInRange}
 use Rattle.ldm_layout.specs.Volumes.{layout_of, place_of, parity_of}
 use Rattle.ldm_layout.specs.declared.shape.Place.{Place}
 use Rattle.ldm_layout.specs.declared.shape.Shape.TheVariants.{Raid5}

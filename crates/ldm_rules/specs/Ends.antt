@@ -1,12 +1,9 @@
 -- Where the data of a disk of the group end: its label says so, where an image of the disk is there.
-use Rattle.std.specs.Prelude.{ℕ, ◌-◌, ◌^◌, ◌==◌, List, Option, Some, None, find, option_and_then}
+use Rattle.std.specs.Prelude.{ℕ, ◌-◌, ◌^◌, List, Option, Some, None, option_and_then}
 use Rattle.ldm_records.specs.declared.types.Record.{Record}
 use Rattle.ldm_group.specs.Looks.{by_id, disk_in}
 use Rattle.ldm_label.specs.declared.Label.{Label}
-
--- the label of the first image of the disk with this GUID
-abbrev pub label_with : ℕ → List Label → Option Label
-label_with guid labels = find (λ l. l.disk_guid == guid) labels
+use Rattle.ldm_rules.specs.Present.{label_with}
 
 -- the sectors of a disk with this label; of an absent disk, the most that a number of the format says
 abbrev pub sectors_by : Option Label → ℕ

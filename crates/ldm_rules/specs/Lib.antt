@@ -1,4 +1,5 @@
 pub mod Rules
+pub mod Present
 pub mod Ends
 pub mod Table
 pub mod Counts

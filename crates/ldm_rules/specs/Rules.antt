@@ -1,12 +1,13 @@
 -- What a sound group of the Windows Logical Disk Manager doesn't have: the tests of its rules, each on one record. Where a
 -- rule counts, `count` tells how many records have an id, a GUID or a name, or name a record as their parent.
-use Rattle.std.specs.Prelude.{ℕ, ◌+◌, ◌==◌, ◌&&◌, not, max, min, nat_lt, nat_le, Bool, true, false, List, [], ◌∷◌, Option, Some, None, Result, Ok, Err, find}
+use Rattle.std.specs.Prelude.{ℕ, ◌+◌, ◌==◌, ◌&&◌, not, nat_lt, nat_le, Bool, true, false, List, [], ◌∷◌, Option, Some, None, Result, Ok, Err, find}
 use Rattle.std.specs.List.{list_any}
 use Rattle.std.specs.Option.{option_map}
 use Rattle.ldm_records.specs.declared.types.Record.{Record}
 use Rattle.ldm_records.specs.declared.types.Record.TheVariants as kinds
 use Rattle.ldm_records.specs.declared.types.Partition.{Partition}
 use Rattle.ldm_group.specs.Order.{id_of}
+use Rattle.ldm_group.specs.Partitions.{meets}
 use Rattle.ldm_layout.specs.Layouts.{Layout}
 use Rattle.ldm_layout.specs.Volumes.{layout_of}
 use Rattle.ldm_layout.specs.declared.shape.LayoutFault.{LayoutFault}
@@ -76,10 +77,6 @@ passes_end sectors (kinds.Partition p) = nat_lt (sectors p.disk) (p.start + p.si
 passes_end sectors _ = false
 
 -- ---- partitions that meet
-
--- both have a sector of one disk
-abbrev pub meets : Partition → Partition → Bool
-meets p q = (p.disk == q.disk) && nat_lt (max p.start q.start) (min (p.start + p.size) (q.start + q.size))
 
 abbrev pub is_other_meeting : Partition → Record → Bool
 is_other_meeting p (kinds.Partition q) = not (q.head.id == p.head.id) && meets p q

@@ -5,7 +5,8 @@ use Rattle.std.specs.Option.{option_or}
 use Rattle.ldm_records.specs.declared.types.Record.{Record}
 use Rattle.ldm_records.specs.declared.types.Record.TheVariants as kinds
 use Rattle.ldm_label.specs.declared.Label.{Label}
-use Rattle.ldm_rules.specs.Ends.{label_with, sectors_by}
+use Rattle.ldm_rules.specs.Ends.{sectors_by}
+use Rattle.ldm_rules.specs.Present.{label_with}
 
 -- the sectors of the disk, where it has this id
 abbrev pub size_at : List Label → ℕ → Record → Option ℕ

@@ -1,24 +1,20 @@
 ghost use Rattle.std.specs.Prelude.{◌≡◌, ◌==◌, ◌-◌, ◌^◌, ◌<◌, All, ℕ, nat_eq, find, option_copied, IfOk, OnOk, Some, None, unwrap_or, if◌then◌else◌};
 ghost use Rattle.std.specs.HashMap as hash;
 ghost use Rattle.std.specs.Option.{option_or};
-ghost use Rattle.ldm_layout.specs.Parts.{EndsInRange};
+ghost use Rattle.ldm_group.specs.Partitions.{EndsInRange};
 ghost use Rattle.ldm_rules.specs.Rules.{first_broken, passes_end};
-ghost use Rattle.ldm_rules.specs.Ends.{label_with, sectors_by, data_size};
+ghost use Rattle.ldm_rules.specs.Ends.{sectors_by, data_size};
+ghost use Rattle.ldm_rules.specs.Present.{label_with};
 ghost use Rattle.ldm_rules.specs.Sizes.{first_size};
 
 use crate::found::id_in;
+use crate::present::label_with;
 use ldm_bytes::NoMemory;
 use ldm_group::Db;
 use ldm_label::{Label, Labels};
 use ldm_records::Record;
 use std::alloc::Global;
 use std::collections::HashMap;
-
-fn label_with(labels: &[Label], guid: u128) -> Option<&Label>
-    ensures { option_copied result ≡ label_with guid labels.now }
-{
-    labels.iter().find(|l| l.disk_guid == guid)
-}
 
 // The sectors of the disk of this GUID.
 fn sectors_of(labels: &[Label], guid: u128) -> u64

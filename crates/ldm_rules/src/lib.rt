@@ -13,11 +13,13 @@ mod laws;
 mod layouts;
 mod meetings;
 mod names;
+mod present;
 mod single;
 mod table;
 
 pub use fault::{RuleError, RuleFault};
 pub use laws::places_are_disjoint;
+pub use present::{image_with, label_with};
 pub use table::check;
 
 #[cfg(test)]

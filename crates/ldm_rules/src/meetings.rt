@@ -1,8 +1,8 @@
-ghost use Rattle.std.specs.Prelude.{◌≡◌, ◌==◌, ◌&&◌, ◌≤◌, ◌<◌, ◌+◌, ◌^◌, not, nat_lt, max, min, ℕ, List, All, AllPairs, IfOk, IsTrue, find, option_copied, length, IsPermutation};
+ghost use Rattle.std.specs.Prelude.{◌≡◌, ◌↔◌, ◌==◌, ◌&&◌, ◌≤◌, ◌<◌, ◌+◌, ◌^◌, not, nat_lt, max, min, ℕ, List, All, AllPairs, IfOk, IsTrue, find, option_copied, length, IsPermutation};
 ghost use Rattle.std.specs.List.{filter_map, list_any, AllAdjacentBelow};
 ghost use Rattle.std.specs.List.Sorted.{IsNonDecreasingBy};
-ghost use Rattle.ldm_rules.specs.Rules.{first_broken, meets, is_other_meeting, meets_another};
-ghost use Rattle.ldm_layout.specs.Parts.{EndsInRange};
+ghost use Rattle.ldm_group.specs.Partitions.{EndsInRange, meets};
+ghost use Rattle.ldm_rules.specs.Rules.{first_broken, is_other_meeting, meets_another};
 ghost use Rattle.ldm_rules.specs.Spans.{span_of};
 
 use crate::found::id_in;
@@ -62,7 +62,7 @@ fn first_meeting(records: &[Record]) -> Option<&Record>
 
 // Whether each partition ends below 2^64.
 fn all_end_in_range(records: &[Record]) -> bool
-    ensures { IsTrue result → All EndsInRange records.now }
+    ensures { IsTrue result ↔ All EndsInRange records.now }
 {
     for r in records {
         if let Record::Partition(p) = r {
@@ -92,7 +92,7 @@ fn spans_of(alloc: Global, records: &[Record]) -> Result<Vec<Span>, NoMemory>
 
 // Whether each ends before the next.
 fn are_apart(spans: &[Span]) -> bool
-    ensures { IsTrue result → AllAdjacentBelow (λ a b. a.end ≤ b.start) spans.now (length spans.now) }
+    ensures { IsTrue result ↔ AllAdjacentBelow (λ a b. a.end ≤ b.start) spans.now (length spans.now) }
 {
     for at in 1..spans.len() {
         if spans[at].start < spans[at - 1].end {

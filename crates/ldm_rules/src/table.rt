@@ -1,5 +1,5 @@
 ghost use Rattle.std.specs.Prelude.{◌≡◌, All, OnOk};
-ghost use Rattle.ldm_layout.specs.Parts.{EndsInRange};
+ghost use Rattle.ldm_group.specs.Partitions.{EndsInRange};
 ghost use Rattle.ldm_rules.specs.Disjoint.{AllLaidOut};
 ghost use Rattle.ldm_rules.specs.Table.{ChecksAs, first_fault, first_broken_rule, name_rules, tree_rules, sector_rules};
 ghost use Rattle.ldm_rules.specs.declared.fault.RuleError.TheVariants.{Fault};

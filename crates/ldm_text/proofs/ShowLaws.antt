@@ -2,7 +2,8 @@
 use Rattle.std.proofs.Common.{◌≡◌, ◌∙◌, ℕ, List, ap}
 use Rattle.ldm_records.specs.declared.types.Record.{Record}
 use Rattle.ldm_label.specs.declared.Label.{Label}
-use Rattle.ldm_text.specs.Show.{used_on, text_of_disks}
+use Rattle.ldm_group.specs.Partitions.{used_on}
+use Rattle.ldm_text.specs.Show.{text_of_disks}
 
 pub same_disks : (used : ℕ → ℕ) (labels : List Label) (zs records : List Record)
     → ((disk : ℕ) → used disk ≡ used_on zs disk) → zs ≡ records → text_of_disks used labels records ≡ text_of_disks (used_on records) labels records

@@ -8,7 +8,7 @@ use Rattle.ldm_group.specs.Looks.{by_id, disk_in}
 use Rattle.ldm_label.specs.declared.Label.{Label}
 use Rattle.ldm_layout.specs.Layouts.{Layout, copies_of, place_in, parity_in}
 use Rattle.ldm_layout.specs.declared.shape.Place.{Place}
-use Rattle.ldm_rules.specs.Ends.{label_with}
+use Rattle.ldm_rules.specs.Present.{data_start_with}
 use Rattle.ldm_found.specs.declared.found.Found.{Found}
 use Rattle.ldm_text.specs.declared.mapped.MappedDisk.{MappedDisk}
 use Rattle.ldm_words.specs.Names.{esc}
@@ -17,7 +17,7 @@ use Rattle.ldm_words.specs.Names.{esc}
 
 -- the name of a disk, and where its data begin on its first image, if an image of it is there
 abbrev pub mapped_disk : List Label → Disk → MappedDisk
-mapped_disk labels d = record { name = d.head.name; data_start = option_map (λ label. label.data_start) (label_with d.guid labels) }
+mapped_disk labels d = record { name = d.head.name; data_start = data_start_with d.guid labels }
 
 -- the disk of this id
 abbrev pub mapped_at : List Label → List Record → ℕ → Option MappedDisk

@@ -1,10 +1,11 @@
 -- The text that shows a group.
-use Rattle.std.specs.Prelude.{ℕ, ◌-◌, ◌==◌, List, [], ◌++◌, flat_map, sum_by, slice_get, codes, decimal, Option, Some, None, if◌then◌else◌}
+use Rattle.std.specs.Prelude.{ℕ, ◌-◌, List, [], ◌++◌, flat_map, slice_get, codes, decimal, Option, Some, None}
 use Rattle.ldm_bytes.specs.Guid.{own_guid}
 use Rattle.ldm_records.specs.declared.types.Record.{Record}
 use Rattle.ldm_records.specs.declared.types.Record.TheVariants as kinds
 use Rattle.ldm_records.specs.declared.types.Disk.{Disk}
 use Rattle.ldm_group.specs.Database.{Database}
+use Rattle.ldm_group.specs.Partitions.{used_on}
 use Rattle.ldm_group.specs.Room.{need_of, room_of}
 use Rattle.ldm_label.specs.declared.Label.{Label}
 use Rattle.ldm_rules.specs.Ends.{sectors_by}
@@ -21,15 +22,6 @@ text_of_group db =
     ++ (codes " blocks " ++ decimal (need_of db.records))
     ++ (codes " of " ++ decimal (room_of db.header.last))
     ++ codes "\n"
-
--- the sectors of a partition of the disk
-abbrev pub size_on : ℕ → Record → ℕ
-size_on disk (kinds.Partition p) = if p.disk == disk then p.size else 0
-size_on disk _ = 0
-
--- the sectors of all partitions of the disk
-abbrev pub used_on : List Record → ℕ → ℕ
-used_on records disk = sum_by (size_on disk) records
 
 -- image I free F, where F is what the partitions leave of the image's data; or missing
 abbrev pub text_of_place : ℕ → List Label → Option ℕ → List ℕ

@@ -13,7 +13,6 @@ mod opening;
 mod records;
 mod refusal;
 mod show;
-mod used;
 mod volumes;
 
 pub use check::check_text;

@@ -1,12 +1,13 @@
 ghost use Rattle.std.specs.Prelude.{◌≡◌, ◌==◌, ℕ, nat_eq, OnOk, IfOk, Some, None, if◌then◌else◌};
 ghost use Rattle.std.specs.HashMap as hash;
 ghost use Rattle.std.specs.Option.{option_map, option_or};
-ghost use Rattle.ldm_rules.specs.Ends.{label_with};
+ghost use Rattle.ldm_rules.specs.Present.{data_start_with};
 ghost use Rattle.ldm_text.specs.Map.{mapped_disk, mapped_at};
 
 use ldm_bytes::{Bytes, NoMemory};
 use ldm_label::Label;
 use ldm_records::{Disk, Record};
+use ldm_rules::label_with;
 use std::alloc::Global;
 use std::collections::HashMap;
 
@@ -19,12 +20,9 @@ pub(crate) struct MappedDisk {
 
 // Where the data of the disk with this GUID begin on its first image.
 fn data_start(labels: &[Label], guid: u128) -> Option<u64>
-    ensures { result ≡ option_map (λ label. label.data_start) (label_with guid labels.now) }
+    ensures { result ≡ data_start_with guid labels.now }
 {
-    labels
-        .iter()
-        .find(|label| label.disk_guid == guid)
-        .map(|label| label.data_start)
+    label_with(labels, guid).map(|label| label.data_start)
 }
 
 fn mapped_disk(alloc: Global, labels: &[Label], d: &Disk) -> Result<MappedDisk, NoMemory>

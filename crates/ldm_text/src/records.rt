@@ -1,6 +1,5 @@
 ghost use Rattle.std.specs.Prelude.{◌≡◌, ◌++◌, OnOk, IfOk, flat_map, codes, decimal};
 ghost use Rattle.ldm_group.specs.Order.{id_of};
-ghost use Rattle.ldm_group.specs.Room.{own_len};
 ghost use Rattle.ldm_words.specs.Names.{esc};
 ghost use Rattle.ldm_text.specs.Records.{type_of, name_of, text_of_record, text_of_header, text_of_copy};
 
@@ -8,8 +7,8 @@ use crate::growing::Text;
 use crate::naming::{push_name, push_named, push_number};
 use ldm_bytes::{Bytes, NoMemory};
 use ldm_copy::CopyState;
-use ldm_group::id_of;
-use ldm_records::{DiskForm, GroupForm, Record, spelled_len};
+use ldm_group::{id_of, own_len};
+use ldm_records::{DiskForm, GroupForm, Record};
 use ldm_vmdb::Header;
 use std::alloc::Global;
 
@@ -52,14 +51,6 @@ fn push_type(text: &mut Text, r: &Record) -> Result<(), NoMemory>
     text.push_number(id_of(r))
 }
 
-// The length of the record's own spelling.
-#[tactic(auto, unfolding(ldm_group::specs::Room::own_len))]
-fn own_len(r: &Record) -> u64
-    ensures { result ≡ own_len r.now }
-{
-    spelled_len(r) as u64
-}
-
 // The line of a record.
 #[tactic(auto, unfolding(crate::specs::Records::text_of_record))]
 fn push_record(text: &mut Text, r: &Record) -> Result<(), NoMemory>
@@ -67,7 +58,7 @@ fn push_record(text: &mut Text, r: &Record) -> Result<(), NoMemory>
 {
     push_type(text, r)?;
     push_name(text, b" ", name_of(r))?;
-    push_number(text, b" ", own_len(r))?;
+    push_number(text, b" ", own_len(r) as u64)?;
     text.push(b"\n")
 }
 

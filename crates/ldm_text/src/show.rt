@@ -1,18 +1,18 @@
 ghost use Rattle.std.specs.Prelude.{◌≡◌, ◌++◌, ◌-◌, ◌<◌, nat_eq, length, slice_get, Some, All, OnOk, IfOk, unwrap_or};
 ghost use Rattle.std.specs.HashMap as hash;
+ghost use Rattle.ldm_group.specs.Partitions.{used_on};
 ghost use Rattle.ldm_group.specs.Room.{IsFitting};
 ghost use Rattle.ldm_rules.specs.Ends.{sectors_by};
 ghost use Rattle.ldm_found.specs.Facts.{IsSoundGroup};
 ghost use Rattle.ldm_found.specs.Labels.{image_with};
-ghost use Rattle.ldm_text.specs.Show.{text_of_group, text_of_place, text_of_disk_at, line_of_disk, used_on, text_of_disks, text_of_show};
+ghost use Rattle.ldm_text.specs.Show.{text_of_group, text_of_place, text_of_disk_at, line_of_disk, text_of_disks, text_of_show};
 
 use crate::growing::Text;
 use crate::naming::{push_named, push_number};
-use crate::used::{used_of, used_sectors};
 use crate::volumes::push_all_volumes;
 use ldm_bytes::{Bytes, NoMemory};
 use ldm_found::Found;
-use ldm_group::Db;
+use ldm_group::{Db, used_of, used_sectors};
 use ldm_label::{Label, Labels};
 use ldm_records::{Disk, Record};
 use std::alloc::Global;

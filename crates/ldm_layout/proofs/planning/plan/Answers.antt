@@ -6,7 +6,8 @@ use Rattle.ldm_layout.proofs.ListLaws.{layout_is, lists_end}
 use Rattle.ldm_layout.specs.Answers.{PlansAs}
 use Rattle.ldm_layout.specs.Grouped.{IsListsOf}
 use Rattle.ldm_layout.specs.Layouts.{Layout}
-use Rattle.ldm_layout.specs.Parts.{EndsInRange, is_partition_of}
+use Rattle.ldm_group.specs.Partitions.{EndsInRange}
+use Rattle.ldm_layout.specs.Parts.{is_partition_of}
 use Rattle.ldm_layout.specs.Volumes.{layout_of, volume_with}
 use Rattle.ldm_layout.specs.declared.shape.LayoutFault.{LayoutFault}
 use Rattle.ldm_layout.proofs.planning.plan.Goals as goal

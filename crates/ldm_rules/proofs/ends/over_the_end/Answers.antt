@@ -5,7 +5,7 @@ use Rattle.std.specs.Option.{option_map}
 use Rattle.ldm_records.specs.declared.types.Record.{Record}
 use Rattle.ldm_group.specs.Order.{id_of}
 use Rattle.ldm_label.specs.declared.Label.{Label}
-use Rattle.ldm_layout.specs.Parts.{EndsInRange}
+use Rattle.ldm_group.specs.Partitions.{EndsInRange}
 use Rattle.ldm_rules.specs.Rules.{passes_end}
 use Rattle.ldm_rules.specs.Ends.{data_size}
 use Rattle.ldm_rules.specs.Sizes.{first_size}

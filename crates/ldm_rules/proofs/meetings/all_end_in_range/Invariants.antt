@@ -1,6 +1,6 @@
 use Rattle.std.proofs.Common.{ℕ, ◌<◌, slice_index_or}
 use Rattle.ldm_records.specs.declared.types.Record.{Record}
-use Rattle.ldm_layout.specs.Parts.{EndsInRange}
+use Rattle.ldm_group.specs.Partitions.{EndsInRange}
 use Rattle.ldm_rules.proofs.meetings.all_end_in_range.Given as goal
 
 abbrev pub invariant-loop-r : goal.invariant-loop-r

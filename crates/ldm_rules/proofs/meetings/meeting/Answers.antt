@@ -8,7 +8,7 @@ use Rattle.ldm_rules.proofs.meetings.meeting.Goals as goal
 pub returns-then-are_apart : goal.returns-then-are_apart
 returns-then-are_apart c =
     let neighbors : AllAdjacentBelow (λ a b. a.end ≤ b.start) c.in_ok-spans.spans.items (length c.in_ok-spans.spans.items) =
-    subst (λ (xs : List Span). AllAdjacentBelow (λ a b. a.end ≤ b.start) xs (length xs)) c.as_slice-then-all_end_in_range-2.ensures.value (c.if-are_apart.ensures (search rules)) in
+    subst (λ (xs : List Span). AllAdjacentBelow (λ a b. a.end ≤ b.start) xs (length xs)) c.as_slice-then-all_end_in_range-2.ensures.value (c.if-are_apart.ensures.0 (search rules)) in
     let apart = apart_from c.in_ok-spans.spans.items c.in_ok-spans.ensures.rising neighbors in
     let listed : c.in_ok-spans_of.field-0.items ≡ filter_map span_of c.args.db.now.records = c.in_ok-spans_of.ensures ∙ ap (filter_map span_of) c.as_slice-then-all_end_in_range.ensures.all in
     sym (meets_none c.args.db.now.records c.in_ok-spans.spans.items apart
