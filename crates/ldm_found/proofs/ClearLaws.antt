@@ -10,9 +10,10 @@ use Rattle.ldm_label.specs.Laws.{IsClearOfLabel}
 use Rattle.ldm_label.proofs.OkLaws.{label_stays}
 use Rattle.ldm_group.specs.Order.{id_of}
 use Rattle.ldm_group.specs.Database.{Database}
+use Rattle.ldm_rules.specs.Present.{is_absent}
 use Rattle.ldm_found.specs.declared.fault.OpenFault.{OpenFault}
 use Rattle.ldm_found.specs.declared.fault.OpenFault.TheVariants as faults
-use Rattle.ldm_found.specs.Editing.{first_of, reasons, is_absent, is_small, clashes, blocked_in}
+use Rattle.ldm_found.specs.Editing.{first_of, reasons, is_small, clashes, blocked_in}
 use Rattle.ldm_found.specs.Gathers.{Gathers}
 use Rattle.ldm_found.specs.Labels.{IsLabelOf, AreSameOutside}
 use Rattle.ldm_found.proofs.FirstLaws.{none_passes}

@@ -8,8 +8,9 @@ use Rattle.ldm_group.specs.Order.{kind_of}
 use Rattle.ldm_group.specs.Looks.{is_disk_with, disk_in, disk_with, HasSameDisks}
 use Rattle.ldm_group.specs.Database.{Database}
 use Rattle.ldm_group.proofs.KinLaws.{same_found}
+use Rattle.ldm_rules.specs.Present.{is_absent}
 use Rattle.ldm_found.specs.Labels.{stranger}
-use Rattle.ldm_found.specs.Editing.{is_absent, reasons, blocked_in}
+use Rattle.ldm_found.specs.Editing.{reasons, blocked_in}
 
 absent_disk : (labels : List Label) (r : Record) → is_absent labels r ≡ true → kind_of r ≡ 2
 absent_disk labels (kinds.Disk d) e = refl

@@ -1,25 +1,18 @@
 -- Whether a group that was found may be edited.
-use Rattle.std.specs.Prelude.{ℕ, ◌+◌, ◌*◌, ◌||◌, max, min, nat_lt, is_none, Bool, false, List, [], ◌∷◌, length, Option, Some, None, find, position, if◌then◌else◌}
+use Rattle.std.specs.Prelude.{ℕ, ◌+◌, ◌*◌, ◌||◌, max, min, nat_lt, Bool, List, [], ◌∷◌, length, Option, Some, None, find, position, if◌then◌else◌}
 use Rattle.std.specs.Option.{option_map}
-use Rattle.ldm_records.specs.declared.types.Record.{Record}
-use Rattle.ldm_records.specs.declared.types.Record.TheVariants as kinds
 use Rattle.ldm_group.specs.Order.{id_of}
 use Rattle.ldm_group.specs.Database.{Database}
 use Rattle.ldm_label.specs.declared.Label.{Label}
+use Rattle.ldm_rules.specs.Present.{is_absent}
 use Rattle.ldm_found.specs.declared.fault.OpenFault.{OpenFault}
 use Rattle.ldm_found.specs.declared.fault.OpenFault.TheVariants as faults
-use Rattle.ldm_found.specs.Labels.{image_with}
 
 -- the first fault of a table
 abbrev pub first_of : List (Option OpenFault) → Option OpenFault
 first_of [] = None
 first_of (None ∷ rest) = first_of rest
 first_of (Some fault ∷ rest) = Some fault
-
--- a disk record without an image
-abbrev pub is_absent : List Label → Record → Bool
-is_absent labels (kinds.Disk d) = is_none (image_with d.guid labels)
-is_absent labels _ = false
 
 -- the area is too small for a database whose last VBLK sequence is this
 abbrev pub is_small : ℕ → Label → Bool

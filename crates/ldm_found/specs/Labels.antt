@@ -1,23 +1,16 @@
 -- What the labels of all images say together.
-use Rattle.std.specs.Prelude.{◌≡◌, ◌⊎◌, ℕ, ◌<◌, ◌≤◌, ◌==◌, Bool, List, Option, Some, None, Result, position, option_and_then, is_none, slice_get}
+use Rattle.std.specs.Prelude.{◌≡◌, ◌⊎◌, ℕ, ◌<◌, ◌≤◌, List, Option, Some, None, Result, position, option_and_then, is_none, slice_get}
 use Rattle.ldm_host.specs.Seen.{image}
 use Rattle.ldm_records.specs.declared.types.Record.{Record}
 use Rattle.ldm_group.specs.Looks.{by_id, disk_in, disk_with}
 use Rattle.ldm_label.specs.declared.Label.{Label}
 use Rattle.ldm_label.specs.declared.LabelFault.{LabelFault}
 use Rattle.ldm_label.specs.LabelOf.{label_of, SameOutsideArea}
+use Rattle.ldm_rules.specs.Present.{image_with}
 
 -- the label of an image, or its first fault
 abbrev pub IsLabelOf : List ℕ → Result Label LabelFault → Type 0
 IsLabelOf image label = label_of image ≡ label
-
--- the label is of the disk with this GUID
-abbrev pub has_guid : ℕ → Label → Bool
-has_guid guid label = label.disk_guid == guid
-
--- the first image of the disk with this GUID
-abbrev pub image_with : ℕ → List Label → Option ℕ
-image_with guid labels = position (has_guid guid) labels
 
 -- the first image of the disk record of this id
 abbrev pub image_of : ℕ → List Record → List Label → Option ℕ

@@ -2,13 +2,14 @@ ghost use Rattle.std.specs.Prelude.{◌≡◌, ◌<◌, List, ℕ, length, slice
 ghost use Rattle.ldm_host.specs.Seen.{image};
 ghost use Rattle.ldm_host.specs.Moves.{Rose, Still, Quiet};
 ghost use Rattle.ldm_label.specs.LabelOf.{Fits};
-ghost use Rattle.ldm_found.specs.Labels.{image_with, AreApart, AreTwins};
+ghost use Rattle.ldm_found.specs.Labels.{AreApart, AreTwins};
 ghost use Rattle.ldm_found.specs.Facts.{LieOn};
 ghost use Rattle.ldm_found.specs.Steps.{ReadsLabel, ReadsLabels, ReadsDisks};
 
 use crate::fault::{OpenError, OpenFault};
 use ldm_host::Host;
 use ldm_label::{Label, LabelError, Labels, read_label};
+use ldm_rules::image_with;
 use std::alloc::Global;
 
 // The label of one image.
@@ -41,13 +42,6 @@ fn read_labels<H: Host>(alloc: Global, host: &mut H) -> Result<Labels, OpenError
         labels.push(label_at(host, disk)?)?;
     }
     Ok(Labels::from_vec(labels))
-}
-
-/// The first image of the disk with this GUID.
-pub fn image_with(labels: &[Label], guid: u128) -> Option<usize>
-    ensures { result ≡ image_with guid labels.now }
-{
-    labels.iter().position(|label| label.disk_guid == guid)
 }
 
 // The first image whose disk a later image is of too, and the first such image.

@@ -1,12 +1,13 @@
 ghost use Rattle.std.specs.Prelude.{◌≡◌};
-ghost use Rattle.ldm_found.specs.Labels.{image_with, image_of};
+ghost use Rattle.ldm_rules.specs.Present.{image_with};
+ghost use Rattle.ldm_found.specs.Labels.{image_of};
 
-use crate::disks::image_with;
 use crate::fault::OpenFault;
 use crate::notes::Notes;
 use ldm_group::Db;
 use ldm_label::Labels;
 use ldm_records::Record;
+use ldm_rules::image_with;
 
 /// The group that images hold: its database, and a label and a note for each image in their order.
 /// `blocked` is the first reason that it may not be edited.
@@ -20,7 +21,8 @@ pub struct Found {
 
 impl Found {
     ghost use Rattle.std.specs.Prelude.{◌≡◌};
-    ghost use Rattle.ldm_found.specs.Labels.{image_with, image_of};
+    ghost use Rattle.ldm_rules.specs.Present.{image_with};
+    ghost use Rattle.ldm_found.specs.Labels.{image_of};
 
     /// The first image of the disk with this GUID.
     pub fn image_with(&self, guid: u128) -> Option<usize>

@@ -4,7 +4,7 @@ ghost use Rattle.ldm_group.specs.Partitions.{used_on};
 ghost use Rattle.ldm_group.specs.Room.{IsFitting};
 ghost use Rattle.ldm_rules.specs.Ends.{sectors_by};
 ghost use Rattle.ldm_found.specs.Facts.{IsSoundGroup};
-ghost use Rattle.ldm_found.specs.Labels.{image_with};
+ghost use Rattle.ldm_rules.specs.Present.{image_with};
 ghost use Rattle.ldm_text.specs.Show.{text_of_group, text_of_place, text_of_disk_at, line_of_disk, text_of_disks, text_of_show};
 
 use crate::growing::Text;
