@@ -3,6 +3,8 @@ pub mod ChangeLaws
 mod Grows
 mod Handed
 mod HeldLaws
+mod LastSync
+mod LeftLaws
 mod Heard
 mod HowEnds
 mod InRange

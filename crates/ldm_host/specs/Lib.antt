@@ -9,4 +9,5 @@ pub mod StoryLaws
 pub mod Kept
 pub mod Memory
 pub mod Ending
+pub mod Left
 pub mod Laws

@@ -10,10 +10,12 @@
 mod call;
 mod host;
 mod in_memory;
+mod left;
 mod made;
 mod memory;
 mod outcome;
 mod steps;
 
 pub use host::{Failed, Host};
+pub use left::Filling;
 pub use memory::MemoryHost;

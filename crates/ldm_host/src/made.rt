@@ -12,7 +12,7 @@ use ldm_bytes::NoMemory;
 use std::alloc::{AllocError, Global};
 
 // A copy of an image.
-fn copy_of(alloc: Global, image: &[u8]) -> Result<Vec<u8>, AllocError>
+pub(crate) fn copy_of(alloc: Global, image: &[u8]) -> Result<Vec<u8>, AllocError>
     ensures is { IfOk result (λ copy. copy.items ≡ image.now) }
     ensures bytes { IsBytes image.now }
 {

@@ -1,0 +1,27 @@
+use Rattle.std.proofs.Common.{◌≡◌, ◌<◌, ◌≤◌, List, ℕ, length, map, sym, ◌∙◌, ap, arith, [], ◌∷◌, ◌++◌, Vec}
+use Rattle.std.proofs.lemmas.List.{length-map, take_all}
+use Rattle.std.specs.declared.alloc.Global.{Global}
+use Rattle.ldm_host.specs.Images.{items_of}
+use Rattle.ldm_host.specs.Left.{left_of, left_on}
+use Rattle.ldm_host.specs.Memory.{story_of}
+use Rattle.ldm_host.specs.Story.{fresh_state, run}
+use Rattle.ldm_host.proofs.LeftLaws.{held_count, left_leaves, left_push}
+use Rattle.ldm_host.proofs.memory.MemoryHost.left.Goals as goal
+
+pub loop-disk-preserved : goal.loop-disk-preserved
+loop-disk-preserved c =
+    let m = c.args.self.now in
+    let disks = (run (fresh_state (items_of m.first.items)) m.calls.items).disks in
+    let lt : c.loop-disk.disk < length disks = omega (arith, c.loop-disk-test.true, c.len-disk-end.ensures, m.held.ok.0, held_count m) in (
+      ap items_of c.in_ok-push.ensures.items ∙ left_push c.args.filling disks c.loop-disk.disk c.loop-disk.images.items c.in_ok-left_on.field-0 lt c.loop-disk.invariant.0 c.in_ok-left_on.ensures.is,
+      λ some. c.left_on.ensures.small,
+    )
+
+pub returns-clause-leaves : goal.returns-clause-leaves
+returns-clause-leaves c =
+    let m = c.args.self.now in
+    let disks = (run (fresh_state (items_of m.first.items)) m.calls.items).disks in
+    let many : length (map (left_on c.args.filling) disks) ≡ length disks = length-map disks (left_on c.args.filling) in
+    let end : length m.held.items ≤ c.loop-disk.disk = omega (arith, c.loop-disk-test.false, c.len-disk-end.ensures, m.held.ok.0) in
+    left_leaves m c.args.filling (items_of c.loop-disk.images.items) (λ some. c.loop-disk.invariant.1 (omega (arith, some, end)))
+    (c.loop-disk.invariant.0 ∙ take_all c.loop-disk.disk (left_of c.args.filling (story_of m)) (omega (arith, end, many, held_count m)))
