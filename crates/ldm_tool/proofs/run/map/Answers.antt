@@ -1,4 +1,4 @@
-use Rattle.std.proofs.Common.{◌≡◌, List, ℕ, refl, ap, ◌∙◌, Ok}
+use Rattle.std.proofs.Common.{List, ℕ, refl, ap, ◌∙◌, Ok}
 use Rattle.ldm_tool.specs.Mapping.{map_answer}
 use Rattle.ldm_tool.proofs.Saying.{reads_first}
 use Rattle.ldm_tool.proofs.run.map.Goals as goal
