@@ -178,6 +178,7 @@ prove_all() {
     total=$(grep -c . "$rooms/plan")
     at_once=$(lanes)
     began=$(date +%s)
+    spoke=$began
     running='' proved=' ' wide='' started=0 ended=0
     while [ -n "$left$running" ]; do
         start_ready
@@ -185,6 +186,11 @@ prove_all() {
         for name in $running; do
             [ ! -f "$rooms/$name/status" ] || end_of "$name" || return 1
         done
+        now=$(date +%s)
+        if [ $((now - spoke)) -ge 60 ]; then
+            spoke=$now
+            say "still proving: ${running% }; $ended of $total in $((now - began)) s"
+        fi
     done
 }
 
@@ -229,6 +235,7 @@ end_of() {
         return 1
     fi
     ended=$((ended + 1))
+    spoke=$now
     say "$1 proved in $took s; $ended of $total in $((now - began)) s"
     proved="$proved$1 "
     running=$(echo " $running" | sed "s/ $1 / /; s/^ *//")
