@@ -9,3 +9,5 @@ pub mod ReadLaws
 pub mod BodyLaws
 pub mod WrittenLaws
 pub mod MadeLaws
+pub mod GateLaws
+pub mod LeftLaws

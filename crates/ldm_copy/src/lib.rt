@@ -8,10 +8,12 @@
 mod answer;
 mod body;
 mod database;
+mod gate;
 mod laws;
 mod reading;
 
 pub use answer::{CopyError, CopyFault, CopyState};
 pub use body::{Body, body_of};
+pub use gate::{close, fill, unseal};
 pub use laws::bodies_are_copies;
 pub use reading::read_copy;
