@@ -83,6 +83,9 @@ fresh_disk [] disk = refl
 fresh_disk (bytes ∷ images) zero = refl
 fresh_disk (bytes ∷ images) (suc disk) = fresh_disk images disk
 
+fresh_count : (images : List (List ℕ)) → length (fresh_state images).disks ≡ length images
+fresh_count images = length-map images (λ bytes. record { content = bytes; synced = bytes; pending = [] })
+
 count_after : (s : State) (call : Call) → length (after s call).disks ≡ length s.disks
 count_after s (Write written at bytes asked) = length-set s.disks written (written_disk (disk_at s.disks written) at bytes.items asked)
 count_after s (Sync synced) = length-set s.disks synced (synced_disk (disk_at s.disks synced))
@@ -182,9 +185,7 @@ module _ (disk : ℕ) where
     call_at k = get_or calls k Nothing
 
     there : (k : ℕ) → disk < length (state_at (fresh_state first) calls k).disks
-    there k =
-        let many : length (fresh_state first).disks ≡ length first = length-map first (λ bytes. record { content = bytes; synced = bytes; pending = [] }) in
-        omega (arith, lt, count_run (fresh_state first) (take k calls), many)
+    there k = omega (arith, lt, count_run (fresh_state first) (take k calls), fresh_count first)
 
     one_more : (k : ℕ) → k < length calls → take (k + 1) calls ≡ take k calls ++ call_at k ∷ []
     one_more k less = let next : k + 1 ≡ suc k = omega arith in ap (λ (n : ℕ). take n calls) next ∙ take-suc calls k Nothing less
@@ -273,10 +274,9 @@ pub as_many : (m : MemoryHost) → length (items_of m.first.items) ≡ length m.
 as_many m =
     let first = items_of m.first.items in
     let disks = (run (fresh_state first) m.calls.items).disks in
-    let start : length (fresh_state first).disks ≡ length first = length-map first (λ bytes. record { content = bytes; synced = bytes; pending = [] }) in
     let all : length (contents disks) ≡ length disks = length-map disks (λ d. d.content) in
     let now : length (items_of m.held.items) ≡ length m.held.items = length-map m.held.items (λ v. v.items) in
-    omega (arith, start, all, now, count_run (fresh_state first) m.calls.items, ap length m.kept.content)
+    omega (arith, fresh_count first, all, now, count_run (fresh_state first) m.calls.items, ap length m.kept.content)
 
 -- the content of a disk keeps its length
 pub held_length : (m : MemoryHost) (disk : ℕ) → disk < length (items_of m.first.items) → length (image (items_of m.held.items) disk) ≡ length (image (items_of m.first.items) disk)
@@ -290,8 +290,7 @@ held_length m disk lt =
 pub held_count : (m : MemoryHost) → length (run (fresh_state (items_of m.first.items)) m.calls.items).disks ≡ length m.held.items
 held_count m =
     let first = items_of m.first.items in
-    let start : length (fresh_state first).disks ≡ length first = length-map first (λ bytes. record { content = bytes; synced = bytes; pending = [] }) in
-    count_run (fresh_state first) m.calls.items ∙ start ∙ as_many m
+    count_run (fresh_state first) m.calls.items ∙ fresh_count first ∙ as_many m
 
 pub content_is : (m : MemoryHost) (disk : ℕ) → image (items_of m.held.items) disk ≡ (disk_at (run (fresh_state (items_of m.first.items)) m.calls.items).disks disk).content
 content_is m disk = ap (λ (l : List (List ℕ)). image l disk) m.kept.content ∙ image_at (run (fresh_state (items_of m.first.items)) m.calls.items).disks disk
