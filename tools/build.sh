@@ -253,18 +253,25 @@ leave_rooms() {
     rm -rf "$rooms"
 }
 
+# (A redirection that fails ends some shells, but for one that is in a shell of its own.)
+copy_sources() {
+    rm -rf "$rooms"
+    mkdir -p "$rooms/source/crates" && (: >"$here/build.log") && cp "$here/crates.txt" "$here/HANDLES" "$rooms/source/" || return 1
+    for it in $(folders_of "$here"); do
+        mkdir -p "$(dirname "$rooms/source/$it")" && cp -R "$here/$it" "$rooms/source/$it" || return 1
+    done
+}
+
 # Builds the program from a copy of the sources, and notes of what it was built.
 build() {
     command -v rt >/dev/null 2>&1 || {
         say "there is no rt, the command of the Rattle kit: see README.md"
         return 1
     }
-    rm -rf "$rooms"
-    mkdir -p "$rooms/source/crates" && : >"$here/build.log" || return 1
-    cp "$here/crates.txt" "$here/HANDLES" "$rooms/source/" || return 1
-    for it in $(folders_of "$here"); do
-        mkdir -p "$(dirname "$rooms/source/$it")" && cp -R "$here/$it" "$rooms/source/$it" || return 1
-    done
+    copy_sources || {
+        say "the sources can't be copied to $rooms"
+        return 1
+    }
     for it in "$rooms"/source/crates/*; do
         echo "= $(basename "$it") $(find "$it" -type f -exec cat {} + | wc -l)"
     done >"$rooms/sizes"
