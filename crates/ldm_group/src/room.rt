@@ -6,7 +6,7 @@ use crate::db::Db;
 use ldm_frags::parts_of;
 use ldm_records::{Record, spelled_len};
 
-// The length of the record's own spelling.
+/// The length of the record's own spelling in bytes, at least 1.
 #[tactic(auto, unfolding(crate::specs::Room::own_len))]
 pub fn own_len(r: &Record) -> usize
     ensures is { result ≡ own_len r.now }
