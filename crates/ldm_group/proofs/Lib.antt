@@ -4,4 +4,5 @@ pub mod OrderLaws
 pub mod NeedLaws
 pub mod OneOrder
 pub mod KinLaws
+pub mod KindLaws
 pub mod EqualLaws

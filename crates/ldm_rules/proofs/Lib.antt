@@ -10,3 +10,4 @@ pub mod DisjointLaws
 pub mod PresentLaws
 pub mod EndLaws
 pub mod SoundLaws
+pub mod HeadLaws

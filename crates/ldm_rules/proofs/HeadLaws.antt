@@ -1,0 +1,126 @@
+-- Which rules the group and disk records keep alone, and which a test on each other record does.
+use Rattle.std.proofs.Common.{◌≡◌, ℕ, ◌+◌, ◌*◌, ◌^◌, ◌≤◌, ◌==◌, List, refl, sym, ap, subst, ◌∙◌, arith, Bool, true, false, Option, None, Ok, find, count_by, Contains, bytes_eq}
+use Rattle.std.specs.Prelude.{is_some, nat_le, option_and_then}
+use Rattle.std.specs.List.{filter_map}
+use Rattle.std.specs.Option.{option_map}
+use Rattle.std.proofs.lemmas.Bool.{eqb-true}
+use Rattle.ldm_records.specs.declared.types.Record.{Record}
+use Rattle.ldm_records.specs.declared.types.Record.TheVariants as kinds
+use Rattle.ldm_records.specs.declared.types.Volume.{Volume}
+use Rattle.ldm_records.specs.declared.types.Component.{Component}
+use Rattle.ldm_records.specs.declared.types.Partition.{Partition}
+use Rattle.ldm_records.specs.declared.types.Disk.{Disk}
+use Rattle.ldm_records.specs.declared.types.GroupRec.{GroupRec}
+use Rattle.ldm_records.specs.declared.pieces.Head.{Head}
+use Rattle.ldm_group.specs.Order.{Rising, place_of, kind_of, id_of}
+use Rattle.ldm_group.specs.Looks.{is_at, is_disk_with, is_volume_named, disk_in, HasSameDisks}
+use Rattle.ldm_group.proofs.KinLaws.{kin_same, kin_count, kin_found, kin_named, once_from, once_at}
+use Rattle.ldm_group.proofs.KindLaws.{named_volume}
+use Rattle.ldm_label.specs.declared.Label.{Label}
+use Rattle.ldm_layout.specs.Layouts.{Layout}
+use Rattle.ldm_layout.specs.Volumes.{layout_of}
+use Rattle.ldm_layout.specs.declared.shape.LayoutFault.{LayoutFault}
+use Rattle.ldm_rules.proofs.GroupLaws.{not_broken, none_broken}
+use Rattle.ldm_rules.specs.Ends.{data_size, sectors_by}
+use Rattle.ldm_rules.specs.Present.{label_with}
+use Rattle.ldm_rules.specs.Rules.{first_broken, group_id, group_fault, has_twin_guid, has_namesake, lacks_disk, passes_end, fails}
+
+-- a test that no volume, component or partition passes
+pub low : (t : Record → Bool) → ((v : Volume) → t (kinds.Volume v) ≡ false) → ((c : Component) → t (kinds.Component c) ≡ false) → ((p : Partition) → t (kinds.Partition p) ≡ false)
+    → (r : Record) → t r ≡ true → kind_of r ≤ 2
+low t v c p (kinds.Group g) h = omega arith
+low t v c p (kinds.Disk d) h = omega arith
+low t v c p (kinds.Volume x) h = absurd (cc (v x))
+low t v c p (kinds.Component x) h = absurd (cc (c x))
+low t v c p (kinds.Partition x) h = absurd (cc (p x))
+
+-- a rule on volumes, components and partitions that each keeps isn't broken
+pub none_by : (t : Record → Bool) (records : List Record) → ((g : GroupRec) → t (kinds.Group g) ≡ false) → ((d : Disk) → t (kinds.Disk d) ≡ false)
+    → ((v : Volume) → Contains records (kinds.Volume v) → t (kinds.Volume v) ≡ false) → ((c : Component) → Contains records (kinds.Component c) → t (kinds.Component c) ≡ false)
+    → ((p : Partition) → Contains records (kinds.Partition p) → t (kinds.Partition p) ≡ false) → first_broken t records ≡ None
+none_by t records g d v c p = none_broken t records at
+  where
+    at : (r : Record) → Contains records r → t r ≡ false
+    at (kinds.Group x) there = g x
+    at (kinds.Disk x) there = d x
+    at (kinds.Volume x) there = v x there
+    at (kinds.Component x) there = c x there
+    at (kinds.Partition x) there = p x there
+
+-- the rules on layouts, where each volume has one
+pub laid_none : (records : List Record) (test : LayoutFault → Bool) → ((v : Volume) → Contains records (kinds.Volume v) → (l : Layout) × (layout_of records v ≡ Ok l))
+    → (t : Record → Bool) → ((g : GroupRec) → t (kinds.Group g) ≡ false) → ((d : Disk) → t (kinds.Disk d) ≡ false) → ((c : Component) → t (kinds.Component c) ≡ false) → ((p : Partition) → t (kinds.Partition p) ≡ false)
+    → ((v : Volume) → t (kinds.Volume v) ≡ fails test (layout_of records v)) → first_broken t records ≡ None
+laid_none records test laid t g d c p is = none_by t records g d (λ v there. is v ∙ ap (fails test) (laid v there).1) (λ x there. c x) (λ x there. p x)
+
+-- ---- the same group and disk records
+
+pub record SameHeads (old next : List Record) : Type 0 where
+  pub up : Rising old
+  pub vp : Rising next
+  pub there : (r : Record) → kind_of r ≤ 2 → Contains old r → Contains next r
+  pub back : (r : Record) → kind_of r ≤ 2 → Contains next r → Contains old r
+
+-- so they have the same disk records
+pub same_disks : (old next : List Record) → SameHeads old next → HasSameDisks old next
+same_disks old next heads = kin_same (λ r. kind_of r == 2) old next heads.up heads.vp (λ r is. heads.there r (of_two r is)) (λ r is. heads.back r (of_two r is))
+  where
+    of_two : (r : Record) → (kind_of r == 2) ≡ true → kind_of r ≤ 2
+    of_two r is = let e : kind_of r ≡ 2 = eqb-true (kind_of r) 2 is in omega arith
+
+module _ (old next : List Record) (heads : SameHeads old next) where
+  pub head_found : (t : Record → Bool) → ((r : Record) → t r ≡ true → kind_of r ≤ 2) → find t old ≡ find t next
+  head_found t is = kin_found old next heads.up heads.vp t (λ r h. heads.there r (is r h)) (λ r h. heads.back r (is r h))
+
+  pub head_count : (t : Record → Bool) → ((r : Record) → t r ≡ true → kind_of r ≤ 2) → count_by t old ≡ count_by t next
+  head_count t is = kin_count old next heads.up heads.vp t (λ r h. heads.there r (is r h)) (λ r h. heads.back r (is r h))
+
+  pub disk_count : (id : ℕ) → count_by (is_at 2 id) old ≡ count_by (is_at 2 id) next
+  disk_count id = head_count (is_at 2 id) (low (is_at 2 id) (λ v. refl) (λ c. refl) (λ p. refl))
+
+  pub data_same : (labels : List Label) (disk : ℕ) → data_size labels old disk ≡ data_size labels next disk
+  data_same labels disk = ap (λ (o : Option Record). sectors_by (option_and_then (λ d. label_with d.guid labels) (disk_in o))) (head_found (is_at 2 disk) (low (is_at 2 disk) (λ v. refl) (λ c. refl) (λ p. refl)))
+
+  pub disks_kept : first_broken (lacks_disk (λ id. count_by (is_at 2 id) old)) next ≡ None → first_broken (lacks_disk (λ id. count_by (is_at 2 id) next)) next ≡ None
+  disks_kept h = subst (λ (count : ℕ → ℕ). first_broken (lacks_disk count) next ≡ None) (λ i id. disk_count id i) h
+
+  pub ends_kept : (labels : List Label) → first_broken (passes_end (data_size labels old)) next ≡ None → first_broken (passes_end (data_size labels next)) next ≡ None
+  ends_kept labels h = subst (λ (sectors : ℕ → ℕ). first_broken (passes_end sectors) next ≡ None) (λ i disk. data_same labels disk i) h
+
+  pub group_kept : group_fault (filter_map group_id old) ≡ None → group_fault (filter_map group_id next) ≡ None
+  group_kept h =
+      let is : (r : Record) → is_some (group_id r) ≡ true → kind_of r ≤ 2 = low (λ r. is_some (group_id r)) (λ v. refl) (λ c. refl) (λ p. refl) in
+      ap group_fault (sym (kin_named group_id old next heads.up heads.vp (λ r e. heads.there r (is r e)) (λ r e. heads.back r (is r e)))) ∙ h
+
+  pub guids_kept : first_broken (has_twin_guid (λ guid. count_by (is_disk_with guid) old)) old ≡ None → first_broken (has_twin_guid (λ guid. count_by (is_disk_with guid) next)) next ≡ None
+  guids_kept h =
+      let counts : (guid : ℕ) → count_by (is_disk_with guid) old ≡ count_by (is_disk_with guid) next = λ guid. head_count (is_disk_with guid) (low (is_disk_with guid) (λ v. refl) (λ c. refl) (λ p. refl)) in
+      let t : Record → Bool = has_twin_guid (λ guid. count_by (is_disk_with guid) old) in
+      let same : first_broken t next ≡ None = ap (λ (o : Option Record). option_map id_of o) (sym (head_found t (low t (λ v. refl) (λ c. refl) (λ p. refl)))) ∙ h in
+      subst (λ (count : ℕ → ℕ). first_broken (has_twin_guid count) next ≡ None) (λ i guid. counts guid i) same
+
+-- ---- names
+
+-- each volume has the id and name of one that was there
+pub names_kept : (old next : List Record) → Rising next → ((v : Volume) → Contains next (kinds.Volume v) → (w : Volume) × Contains old (kinds.Volume w) × (w.head ≡ v.head))
+    → first_broken (has_namesake (λ name. count_by (is_volume_named name) old)) old ≡ None → first_broken (has_namesake (λ name. count_by (is_volume_named name) next)) next ≡ None
+unfolding place_of
+names_kept old next vp back h = none_by (has_namesake (λ name. count_by (is_volume_named name) next)) next (λ g. refl) (λ d. refl) at (λ c there. refl) (λ p there. refl)
+  where
+    placed : (v w : Volume) → w.head ≡ v.head → place_of (kinds.Volume v) ≡ place_of (kinds.Volume w)
+    placed v w e = ap (λ (x : Head). 3 * 2 ^ 64 + x.id) (sym e)
+
+    at : (v : Volume) → Contains next (kinds.Volume v) → nat_le 2 (count_by (is_volume_named v.head.name) next) ≡ false
+    at v there =
+        let was = back v there in
+        let few : nat_le 2 (count_by (is_volume_named v.head.name) old) ≡ false =
+        ap (λ (x : Head). nat_le 2 (count_by (is_volume_named x.name) old)) (sym was.2) ∙ not_broken (has_namesake (λ name. count_by (is_volume_named name) old)) old (kinds.Volume was.0) h was.1 in
+        once_from (is_volume_named v.head.name) next (kinds.Volume v) vp (λ r s at_r at_s holds_r holds_s.
+        let a = named_volume v.head.name r holds_r in
+        let b = named_volume v.head.name s holds_s in
+        let c = back a.0 (subst (λ (x : Record). Contains next x) a.1 at_r) in
+        let d = back b.0 (subst (λ (x : Record). Contains next x) b.1 at_s) in
+        let of_c : is_volume_named v.head.name (kinds.Volume c.0) ≡ true = ap (λ (x : Head). bytes_eq x.name v.head.name) c.2 ∙ ap (is_volume_named v.head.name) (sym a.1) ∙ holds_r in
+        let of_d : is_volume_named v.head.name (kinds.Volume d.0) ≡ true = ap (λ (x : Head). bytes_eq x.name v.head.name) d.2 ∙ ap (is_volume_named v.head.name) (sym b.1) ∙ holds_s in
+        let one = once_at (is_volume_named v.head.name) old (kinds.Volume c.0) (kinds.Volume d.0) few c.1 d.1 of_c of_d in
+        ap place_of a.1 ∙ placed a.0 c.0 c.2 ∙ one ∙ sym (placed b.0 d.0 d.2) ∙ sym (ap place_of b.1))
