@@ -1,4 +1,5 @@
-//! The grammar of command lines: the words of a command line, and the job that they name.
+//! The grammar of command lines and scripts: the job that the words of a command line name, and the
+//! command that a line of a script says.
 #![tactic(auto)]
 
 mod command;

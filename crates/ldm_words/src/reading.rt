@@ -157,6 +157,7 @@ fn read_new_name(alloc: Global, token: &[u8]) -> Result<Option<Bytes>, NoMemory>
     }
 }
 
+// The command behind the word `create`.
 fn read_create(alloc: Global, tokens: &[&[u8]]) -> Result<Option<Command>, NoMemory>
     ensures { IfOk result (λ command. command ≡ create_of (bytes_of tokens.now)) }
 {
@@ -175,6 +176,7 @@ fn read_create(alloc: Global, tokens: &[&[u8]]) -> Result<Option<Command>, NoMem
     Ok(Some(Command::Create { name, guid, layout }))
 }
 
+// The command behind the word `extend`.
 fn read_extend(alloc: Global, tokens: &[&[u8]]) -> Result<Option<Command>, NoMemory>
     ensures { IfOk result (λ command. command ≡ extend_of (bytes_of tokens.now)) }
 {
@@ -190,6 +192,7 @@ fn read_extend(alloc: Global, tokens: &[&[u8]]) -> Result<Option<Command>, NoMem
     Ok(Some(Command::Extend { name, pieces }))
 }
 
+// The command behind the word `delete`.
 fn read_delete(alloc: Global, tokens: &[&[u8]]) -> Result<Option<Command>, NoMemory>
     ensures { IfOk result (λ command. command ≡ delete_of (bytes_of tokens.now)) }
 {
@@ -202,7 +205,8 @@ fn read_delete(alloc: Global, tokens: &[&[u8]]) -> Result<Option<Command>, NoMem
     Ok(Some(Command::Delete { name }))
 }
 
-/// The command that the tokens say. `None` exactly where they have no reading.
+/// The command that the tokens say. `None` exactly where they have no reading. On a command line each
+/// word is one token.
 #[tactic(auto, using(crate::proofs::LimitLaws::keep_limits), unfolding(crate::specs::Commands::command_of))]
 pub fn read_command(alloc: Global, tokens: &[&[u8]]) -> Result<Option<Command>, NoMemory>
     ensures is { IfOk result (λ found. found ≡ command_of (bytes_of tokens.now)) }
