@@ -92,19 +92,6 @@ where
     }
 }
 
-// The exit statuses that callers of the program rely on.
-const _: () = prove!(Status::Done as u8 == 0);
-
-const _: () = prove!(Status::Refused as u8 == 1);
-
-const _: () = prove!(Status::Usage as u8 == 2);
-
-const _: () = prove!(Status::DiskFault as u8 == 3);
-
-const _: () = prove!(Status::NoMemory as u8 == 4);
-
-const _: () = prove!(Status::TalkFault as u8 == 5);
-
 // The line for standard error, and the exit status.
 fn ending(done: Result<Status, Stop>) -> (&'static str, u8) {
     let line = match done {
