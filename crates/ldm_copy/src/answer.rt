@@ -11,7 +11,7 @@ use ldm_vmdb::{VmdbError, VmdbFault};
 use std::alloc::{AllocError, AllocFailed};
 
 /// What a copy without a fault is.
-#[derive(Debug, Drop)]
+#[derive(Drop)]
 pub enum CopyState {
     /// The first byte of the area isn't the letter V. Nothing else of it is looked at.
     Closed,

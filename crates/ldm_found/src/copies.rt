@@ -18,7 +18,7 @@ use std::alloc::Global;
 
 /// The first image with the greatest sequence, its database, and the first image that has another group
 /// at that sequence.
-#[derive(Debug, Drop)]
+#[derive(Drop)]
 pub struct Newest {
     pub image: usize,
     pub db: Db,
@@ -26,7 +26,7 @@ pub struct Newest {
 }
 
 /// What the copies on all images say together.
-#[derive(Debug, Drop)]
+#[derive(Drop)]
 pub struct Copies {
     pub newest: Option<Newest>,
     pub notes: Notes,

@@ -11,7 +11,7 @@ use ldm_rules::image_with;
 
 /// The group that images hold: its database, and a label and a note for each image in their order.
 /// `blocked` is the first reason that it may not be edited.
-#[derive(Debug, Drop)]
+#[derive(Drop)]
 pub struct Found {
     pub db: Db,
     pub labels: Labels,

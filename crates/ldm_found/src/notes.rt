@@ -12,7 +12,7 @@ pub enum Note {
 }
 
 /// The notes of images, in their order. Contracts see them as that list.
-#[derive(Debug, Drop)]
+#[derive(Drop)]
 pub struct Notes {
     items: Vec<Note>,
 }

@@ -41,7 +41,7 @@ impl From<NoMemory> for FragError {
 }
 
 /// A record's payload, and the number of its whole block or of its block of part 0.
-#[derive(Debug, Drop)]
+#[derive(Drop)]
 pub struct Joined {
     /// The number of a block, from 4 on.
     pub block: u32,

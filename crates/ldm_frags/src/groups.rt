@@ -10,7 +10,7 @@ use ldm_bytes::NoMemory;
 use std::collections::BTreeMap;
 
 /// The fragments of one group that were met so far.
-#[derive(Clone, Copy, Debug)]
+#[derive(Clone, Copy)]
 pub struct Group {
     /// How many parts the group has.
     pub parts: u16,

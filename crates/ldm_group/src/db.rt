@@ -7,7 +7,7 @@ use std::alloc::Global;
 use std::marker::Model;
 
 /// A group's header and its records, in rising order of kind and id.
-#[derive(Debug, Drop)]
+#[derive(Drop)]
 pub struct Db {
     header: Header,
     records: Records,

@@ -5,7 +5,7 @@ use ldm_records::Record;
 use std::marker::Model;
 
 /// A list of records. Contracts see it as that list.
-#[derive(Debug, Drop)]
+#[derive(Drop)]
 pub struct Records {
     items: Vec<Record>,
 }

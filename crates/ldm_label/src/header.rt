@@ -8,7 +8,7 @@ use crate::LabelFault;
 use ldm_bytes::{get_u16, get_u64, read_guid};
 
 /// The values of a private header. Starts and sizes are in sectors of the disk.
-#[derive(Clone, Copy, Debug)]
+#[derive(Clone, Copy)]
 pub struct PrivateHeader {
     pub disk_guid: u128,
     pub minor: u16,

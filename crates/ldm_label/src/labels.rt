@@ -5,7 +5,7 @@ use crate::Label;
 use std::marker::Model;
 
 /// The labels of images, in their order. Contracts see them as that list.
-#[derive(Debug, Drop)]
+#[derive(Drop)]
 pub struct Labels {
     items: Vec<Label>,
 }

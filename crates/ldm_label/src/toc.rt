@@ -6,7 +6,7 @@ use crate::LabelFault;
 use ldm_bytes::get_u64;
 
 /// The values of a table of contents. Starts and sizes are in sectors of the database.
-#[derive(Clone, Copy, Debug)]
+#[derive(Clone, Copy)]
 pub struct Toc {
     pub area_start: u64,
     pub area_sectors: u64,

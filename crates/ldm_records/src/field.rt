@@ -1,5 +1,5 @@
 /// The value of a field, as it is written.
-#[derive(Clone, Copy, Debug)]
+#[derive(Clone, Copy)]
 pub enum Field<'a> {
     Fixed(&'a [u8]),
     /// Eight bytes, big-endian.

@@ -5,7 +5,7 @@ use std::alloc::Global;
 
 /// What every record begins with. `mark` is carried and not interpreted; `flags` says which
 /// optional fields are there, and its other bits are carried.
-#[derive(Debug, Drop)]
+#[derive(Drop)]
 pub struct Head {
     pub mark: u16,
     pub flags: u8,
@@ -37,7 +37,7 @@ pub struct Striping {
 }
 
 /// Two texts of a group, carried and not interpreted.
-#[derive(Debug, Drop)]
+#[derive(Drop)]
 pub struct TwoIds {
     pub first: Bytes,
     pub second: Bytes,
@@ -58,7 +58,7 @@ impl TwoIds {
 
 /// What a disk has beside its GUID, in the two versions of its record. Version 3 spells the GUID as
 /// a text, version 4 as 16 bytes.
-#[derive(Debug, Drop)]
+#[derive(Drop)]
 pub enum DiskForm {
     V3 { alt: Bytes, fixed12: [u8; 12] },
     V4 { fixed29: [u8; 29] },
@@ -83,7 +83,7 @@ impl DiskForm {
 }
 
 /// What a group has in the two versions of its record. The GUID of version 3 is carried as a text.
-#[derive(Debug, Drop)]
+#[derive(Drop)]
 pub enum GroupForm {
     V3 { guid: Bytes, fixed12: [u8; 12] },
     V4 { fixed44: [u8; 44] },

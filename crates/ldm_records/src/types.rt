@@ -9,7 +9,7 @@ use ldm_bytes::{Bytes, NoMemory};
 use std::alloc::Global;
 
 /// A volume. Its kind is any text, on usual disks `gen` or `raid5`; its size is in sectors.
-#[derive(Debug, Drop)]
+#[derive(Drop)]
 pub struct Volume {
     pub head: Head,
     pub kind: Bytes,
@@ -75,7 +75,7 @@ impl Volume {
 
 /// A component of a volume: a layout over partitions. The layout type is 1 for stripe, 2 for basic
 /// and 3 for RAID; other values are carried.
-#[derive(Debug, Drop)]
+#[derive(Drop)]
 pub struct Component {
     pub head: Head,
     pub state: Bytes,
@@ -121,7 +121,7 @@ impl Component {
 /// A partition of a component: a piece of a disk. It begins at the sector `start` of the disk's data
 /// area. In a span or a mirror it has `offset` sectors of the component before it; a column has 0 there,
 /// which nothing reads.
-#[derive(Debug, Drop)]
+#[derive(Drop)]
 pub struct Partition {
     pub head: Head,
     pub fixed12: [u8; 12],
@@ -162,7 +162,7 @@ impl Partition {
 }
 
 /// A disk of the group.
-#[derive(Debug, Drop)]
+#[derive(Drop)]
 pub struct Disk {
     pub head: Head,
     pub guid: u128,
@@ -190,7 +190,7 @@ impl Disk {
 }
 
 /// The group itself.
-#[derive(Debug, Drop)]
+#[derive(Drop)]
 pub struct GroupRec {
     pub head: Head,
     pub form: GroupForm,
@@ -222,7 +222,7 @@ impl GroupRec {
 
 /// A record of the database. Each optional field is there exactly where its flag is set, each text
 /// has at most 255 bytes, and the own spelling's length fits its four bytes.
-#[derive(Debug, Drop)]
+#[derive(Drop)]
 pub enum Record {
     Volume(Volume),
     Component(Component),

@@ -4,7 +4,7 @@ use ldm_bytes::{Bytes, NoMemory};
 
 /// The header of a database. It keeps the sector that it was read from, but for what changes with
 /// each commit.
-#[derive(Debug, Drop)]
+#[derive(Drop)]
 pub struct Header {
     /// The last VBLK sequence.
     pub last: u32,
