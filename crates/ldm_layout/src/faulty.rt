@@ -13,7 +13,7 @@ use ldm_records::{Record, Volume};
 use std::alloc::Global;
 
 /// A volume without a layout, and its first fault.
-#[derive(Clone, Copy, Debug, PartialEq, Eq)]
+#[derive(Clone, Copy)]
 pub struct VolumeFault {
     pub volume: u64,
     pub fault: LayoutFault,

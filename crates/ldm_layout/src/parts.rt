@@ -10,7 +10,7 @@ use std::alloc::Global;
 use std::marker::Model;
 
 /// What a layout reads of a component.
-#[derive(Clone, Copy, Debug, PartialEq, Eq)]
+#[derive(Clone, Copy)]
 pub struct Plex {
     pub volume: u64,
     pub id: u64,
@@ -19,7 +19,7 @@ pub struct Plex {
 }
 
 /// What a layout reads of a partition. An absent index is 0.
-#[derive(Clone, Copy, Debug, PartialEq, Eq)]
+#[derive(Clone, Copy)]
 pub struct Extent {
     pub component: u64,
     pub disk: u64,

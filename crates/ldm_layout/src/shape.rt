@@ -4,7 +4,7 @@ ghost use Rattle.ldm_layout.specs.declared.shape.LayoutError.TheVariants as erro
 use ldm_bytes::NoMemory;
 
 /// How the sectors of a volume are spread over its partitions.
-#[derive(Clone, Copy, Debug, PartialEq, Eq)]
+#[derive(Clone, Copy, PartialEq, Eq)]
 pub enum Shape {
     Span,
     Stripe,
@@ -13,14 +13,14 @@ pub enum Shape {
 }
 
 /// A sector of a disk's data area. The disk is named by the id of its record.
-#[derive(Clone, Copy, Debug, PartialEq, Eq)]
+#[derive(Clone, Copy)]
 pub struct Place {
     pub disk: u64,
     pub sector: u64,
 }
 
 /// Why a volume has no layout. Where there are more than one, the first counts.
-#[derive(Clone, Copy, Debug, PartialEq, Eq)]
+#[derive(Clone, Copy, Debug)]
 pub enum LayoutFault {
     /// Its components make no shape.
     Unknown,
@@ -35,7 +35,7 @@ pub enum LayoutFault {
 }
 
 /// Why no layout was made.
-#[derive(Clone, Copy, Debug, PartialEq, Eq)]
+#[derive(Clone, Copy, Debug)]
 pub enum LayoutError {
     Fault(LayoutFault),
     NoMemory,

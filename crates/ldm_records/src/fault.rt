@@ -29,7 +29,7 @@ impl From<NoMemory> for RecordError {
 }
 
 /// The bytes spell no such field, or the record's own spelling has no room.
-#[derive(Clone, Copy, Debug, PartialEq, Eq)]
+#[derive(Clone, Copy)]
 pub struct Malformed;
 
 impl From<Malformed> for RecordError {

@@ -30,7 +30,7 @@ impl Head {
 }
 
 /// How the columns of a component are striped: sectors of a chunk, and the number of columns.
-#[derive(Clone, Copy, Debug, PartialEq, Eq)]
+#[derive(Clone, Copy)]
 pub struct Striping {
     pub chunk: u64,
     pub columns: u64,

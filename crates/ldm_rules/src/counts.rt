@@ -11,7 +11,7 @@ use std::alloc::Global;
 use std::collections::HashMap;
 
 /// By what records are counted.
-#[derive(Clone, Copy, Debug, PartialEq, Eq)]
+#[derive(Clone, Copy)]
 pub enum Counted {
     /// Disks by their GUIDs.
     Guids,

@@ -12,7 +12,7 @@ pub struct RuleFault {
 }
 
 /// Why a group isn't known to be sound.
-#[derive(Clone, Copy, Debug, PartialEq, Eq)]
+#[derive(Clone, Copy)]
 pub enum RuleError {
     Fault(RuleFault),
     NoMemory,

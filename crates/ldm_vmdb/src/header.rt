@@ -20,7 +20,7 @@ pub struct Header {
 }
 
 /// How many records of each kind a database has, as its header counts them.
-#[derive(Clone, Copy, Debug, PartialEq, Eq)]
+#[derive(Clone, Copy)]
 pub struct Counts {
     pub volumes: u32,
     pub components: u32,
@@ -48,7 +48,7 @@ pub enum VmdbFault {
 }
 
 /// Why a header can't be read.
-#[derive(Clone, Copy, Debug, PartialEq, Eq)]
+#[derive(Clone, Copy, Debug)]
 pub enum VmdbError {
     Fault(VmdbFault),
     NoMemory,
