@@ -16,7 +16,7 @@ use std::marker::Model;
 
 /// The bytes of a written copy, from its gate on up to the last block in use. Contracts see them as that
 /// list.
-#[derive(Debug, Drop)]
+#[derive(Drop)]
 pub struct Body {
     bytes: Bytes,
 }
