@@ -1,6 +1,6 @@
 -- What depends on the disk records of a database alone.
-use Rattle.std.proofs.Common.{◌≡◌, ℕ, List, [], ◌∷◌, Bool, true, false, Option, Some, None, refl, ap, ◌∙◌}
-use Rattle.std.specs.Prelude.{position, find, is_none}
+use Rattle.std.proofs.Common.{◌≡◌, ℕ, List, Bool, true, refl, ap}
+use Rattle.std.specs.Prelude.{position, is_none}
 use Rattle.ldm_records.specs.declared.types.Record.{Record}
 use Rattle.ldm_records.specs.declared.types.Record.TheVariants as kinds
 use Rattle.ldm_label.specs.declared.Label.{Label}

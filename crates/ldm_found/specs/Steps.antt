@@ -1,6 +1,5 @@
 -- What the steps of finding a group answer.
 use Rattle.std.specs.Prelude.{◌≡◌, ℕ, List, map, zip, Option, Some, None, Result, Ok, Err}
-use Rattle.ldm_group.specs.Database.{Database}
 use Rattle.ldm_copy.specs.Answers.{FitsHeader}
 use Rattle.ldm_label.specs.declared.Label.{Label}
 use Rattle.ldm_copy.specs.declared.answer.CopyState.{CopyState}
