@@ -1,13 +1,12 @@
 -- What each disk is, from call to call.
-use Rattle.std.proofs.Common.{◌≡◌, inl, inr, ℕ, zero, suc, ◌+◌, ◌<◌, ◌≤◌, List, [], ◌∷◌, ◌++◌, length, set, refl, sym, ◌∙◌, ap, subst, arith, slice_index}
+use Rattle.std.proofs.Common.{inl, inr, ℕ, zero, suc, ◌+◌, ◌≤◌, List, [], ◌∷◌, ◌++◌, length, set, refl, sym, subst, arith}
 use Rattle.std.proofs.lemmas.Bool.{cases_lt}
 use Rattle.std.proofs.Math.Seq.{take-nil}
 use Rattle.ldm_bytes.specs.Numbers.{IsBytes}
-use Rattle.ldm_bytes.specs.Places.{put}
 use Rattle.ldm_host.specs.Seen.{image}
-use Rattle.ldm_host.specs.Kept.{IsHeld, reach}
+use Rattle.ldm_host.specs.Kept.{IsHeld}
 use Rattle.ldm_host.specs.declared.call.Call.{Call}
-use Rattle.ldm_host.specs.Story.{Disk, State, Agrees, disk_at, no_disk, written_disk, synced_disk, after, run, state_at, fresh_state}
+use Rattle.ldm_host.specs.Story.{Disk, State, disk_at, written_disk, synced_disk, after, run, state_at, fresh_state}
 use Rattle.ldm_host.proofs.Relations.{torn_itself}
 use Rattle.ldm_host.proofs.Grows.{sooner, last}
 use Rattle.ldm_host.proofs.Ranges.{length-put, bytes_put, torn_agrees}

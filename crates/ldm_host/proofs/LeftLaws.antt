@@ -21,7 +21,7 @@ use Rattle.ldm_host.specs.Memory.{memory_seen, story_of}
 use Rattle.ldm_host.specs.Kept.{IsHeld, reach}
 use Rattle.ldm_host.specs.Left.{filled, left_on, left_of, IsLastSync, taken_on, filled_on}
 use Rattle.ldm_host.proofs.Grows.{run_push}
-use Rattle.ldm_host.proofs.Ranges.{length-put, put_before, put_in, put_behind, bytes_put}
+use Rattle.ldm_host.proofs.Ranges.{length-put, put_before, put_behind, bytes_put}
 
 -- ---- ranges filled with one byte
 

@@ -1,5 +1,5 @@
 -- What a stop leaves where the ranges that are pending hold what a filling says.
-use Rattle.std.specs.Prelude.{◌≡◌, ◌≢◌, ◌⊎◌, ℕ, ◌+◌, ◌-◌, ◌<◌, ◌≤◌, ◌==◌, List, [], ◌∷◌, length, get_or, map, replicate, if◌then◌else◌}
+use Rattle.std.specs.Prelude.{◌≡◌, ◌≢◌, ◌⊎◌, ℕ, ◌-◌, ◌<◌, ◌≤◌, ◌==◌, List, [], ◌∷◌, length, get_or, map, replicate, if◌then◌else◌}
 use Rattle.ldm_bytes.specs.Places.{put}
 use Rattle.ldm_host.specs.declared.call.Call.{Call}
 use Rattle.ldm_host.specs.declared.call.Call.TheVariants.{Write, Sync, Hear, Say, Nothing}

@@ -1,6 +1,5 @@
-use Rattle.std.proofs.Common.{◌≡◌, ◌<◌, ◌≤◌, List, ℕ, length, map, sym, ◌∙◌, ap, arith, [], ◌∷◌, ◌++◌, Vec}
+use Rattle.std.proofs.Common.{◌≡◌, ◌<◌, ◌≤◌, length, map, ◌∙◌, ap, arith}
 use Rattle.std.proofs.lemmas.List.{length-map, take_all}
-use Rattle.std.specs.declared.alloc.Global.{Global}
 use Rattle.ldm_host.specs.Images.{items_of}
 use Rattle.ldm_host.specs.Left.{left_of, left_on}
 use Rattle.ldm_host.specs.Memory.{story_of}

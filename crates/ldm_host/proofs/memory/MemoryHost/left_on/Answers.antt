@@ -1,4 +1,4 @@
-use Rattle.std.proofs.Common.{rules, ◌≡◌, ℕ, List, sym, ◌∙◌, ap}
+use Rattle.std.proofs.Common.{rules, ◌≡◌, sym, ◌∙◌, ap}
 use Rattle.ldm_host.specs.Images.{items_of}
 use Rattle.ldm_host.specs.Left.{left_on}
 use Rattle.ldm_host.specs.Story.{fresh_state, run, disk_at}
