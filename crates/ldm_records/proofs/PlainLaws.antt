@@ -16,7 +16,7 @@ use Rattle.ldm_records.proofs.ValueLaws.{IsBytes-take, IsBytes-drop, bind_some, 
 pub own_body_len : (p : Plain) → length (own_body p) ≡ body_len p
 own_body_len p = omega (arith, length-append (own_values p.fields) p.tail, own_values-len p.fields)
 
-own-len : (p : Plain) → length (own_spelling p) ≡ 8 + body_len p
+pub own-len : (p : Plain) → length (own_spelling p) ≡ 8 + body_len p
 own-len p = omega (arith, own_body_len p)
 
 room_ok : (room : ℕ) (p q : Plain) → with_room room p ≡ Some q → (p ≡ q) × (8 + body_len p ≤ room) × (body_len p < 2 ^ 32)

@@ -1,0 +1,311 @@
+-- New records are there where their numbers are those of the format and their names are short, and fit the 448 bytes of
+-- four blocks. Changed records are there where the old ones did, and are longer or shorter by the number that changed.
+use Rattle.std.proofs.Common.{◌≡◌, ◌∙◌, ap, sym, refl, ℕ, ◌+◌, ◌≤◌, ◌<◌, ◌^◌, [], length, arith, Some, None, List, Bool, true, false, Option}
+use Rattle.std.specs.Prelude.{option_and_then, replicate, nat_lt, nat_le, unwrap_or, is_some}
+use mathlib.Core.Bool.{Bool-set}
+use Rattle.std.proofs.lemmas.Bool.{lt-ltb, le-leb, ltb-true, leb-true}
+use Rattle.std.proofs.lemmas.Fmt.{length-decimal-le}
+use Rattle.byteorder.specs.Endian.{big_bytes}
+use Rattle.byteorder.specs.Numbers.{length-bytes_high_first}
+use Rattle.ldm_bytes.specs.Numbers.{own_number}
+use Rattle.ldm_bytes.proofs.NumberLaws.{own_len, width_fits}
+use Rattle.ldm_records.specs.declared.pieces.Striping.{Striping}
+use Rattle.ldm_records.specs.declared.types.Volume.{Volume}
+use Rattle.ldm_records.specs.declared.types.Component.{Component}
+use Rattle.ldm_records.specs.declared.types.Partition.{Partition}
+use Rattle.ldm_records.specs.declared.types.Record.{Record}
+use Rattle.ldm_records.specs.declared.types.Record.TheVariants as kinds
+use Rattle.ldm_records.specs.Values.{Value, values_len, value_len}
+use Rattle.ldm_records.specs.Fields.{component_values, volume_values, number_option}
+use Rattle.ldm_records.specs.Forms.{chunk_value, columns_value}
+use Rattle.ldm_records.specs.Plain.{body_len, own_spelling}
+use Rattle.ldm_records.specs.Views.{plain_of}
+use Rattle.ldm_records.specs.Made.{given, given_short, new_partition, new_partition_values, part_name, index_flags, index_flagged, IsStriping, new_component, new_component_values, component_name, striping_flags, striping_flagged, active, active_short, with_children, new_volume, new_volume_values, volume_kind, volume_kind_short, volume_fixed21, resized}
+use Rattle.ldm_records.proofs.PlainLaws.{own-len}
+use Rattle.ldm_records.proofs.OneRecord.{one_record}
+
+-- what is made is of a test that passed
+pub given_some : {A : Type 0} (test : Bool) (make : test ≡ true → A) (x : A) → given test make ≡ Some x → (e : test ≡ true) × (make e ≡ x)
+given_some true make x e = (refl, cc)
+given_some false make x e = absurd cc
+
+-- a test that passes makes it
+pub given_true : {A : Type 0} (test : Bool) (make : test ≡ true → A) (e : test ≡ true) → given test make ≡ Some (make e)
+given_true true make e = ap (λ (p : true ≡ true). Some (make p)) (Bool-set true true refl e)
+given_true false make e = absurd cc
+
+-- what is there passed its test
+pub given_there : {A : Type 0} (test : Bool) (make : test ≡ true → A) → is_some (given test make) ≡ true → test ≡ true
+given_there true make e = refl
+given_there false make e = absurd cc
+
+and_then_some : {A B : Type 0} (f : A → Option B) (o : Option A) (a : A) (b : B) → o ≡ Some a → f a ≡ Some b → option_and_then f o ≡ Some b
+and_then_some {A = A} f o a b e g = ap (λ (x : Option A). option_and_then f x) e ∙ g
+
+-- the tests of a name and of a length
+is_named : (name : List ℕ) → length name ≤ 255 → nat_le (length name) 255 ≡ true
+is_named name few = le-leb _ _ few
+
+is_short : (values : List Value) → values_len values + 0 < 2 ^ 32 → nat_lt (values_len values + 0) (2 ^ 32) ≡ true
+is_short values few = lt-ltb _ _ few
+
+short_given : {A : Type 0} (name : List ℕ) (values : List Value) (make : length name ≤ 255 → values_len values + 0 < 2 ^ 32 → A)
+    → (named : nat_le (length name) 255 ≡ true) (short : nat_lt (values_len values + 0) (2 ^ 32) ≡ true)
+    → given_short name values make ≡ Some (make (leb-true _ _ named) (ltb-true _ _ short))
+short_given name values make named short =
+    and_then_some _ _ _ _ (given_true (nat_le (length name) 255) _ named) (given_true (nat_lt (values_len values + 0) (2 ^ 32)) _ short)
+
+-- ---- lengths
+
+pub name_len : (id : ℕ) → id < 2 ^ 64 → length (part_name id) ≤ 21
+name_len id fits = let l = length-decimal-le 20 id (omega arith) (omega arith) fits in omega arith
+
+pub component_name_len : (id : ℕ) → id < 2 ^ 64 → length (component_name id) ≤ 21
+component_name_len id fits = let l = length-decimal-le 20 id (omega arith) (omega arith) fits in omega arith
+
+pub number_len : (v : ℕ) → v < 2 ^ 64 → length (own_number v) ≤ 9
+number_len v fits = let w = width_fits v fits in let few = w.1 in omega (arith, own_len v, few)
+
+pub index_len : (index : Option ℕ) → unwrap_or index 0 < 2 ^ 64 → value_len (number_option index) ≤ 9
+index_len None fits = omega arith
+index_len (Some index) fits = number_len index fits
+
+pub chunk_len : (striping : Option Striping) → IsStriping striping → value_len (chunk_value striping) + value_len (columns_value striping) ≤ 18
+chunk_len None fits = omega arith
+chunk_len (Some s) fits = omega (arith, number_len s.chunk fits.0, number_len s.columns fits.1)
+
+pub kind_len : (raid : Bool) → length (volume_kind raid) ≤ 5
+kind_len true = omega arith
+kind_len false = omega arith
+
+pub fixed_len : (raid : Bool) → length (volume_fixed21 raid) ≡ 21
+fixed_len true = refl
+fixed_len false = refl
+
+-- ---- partitions
+
+-- a new partition of these values
+pub record MakesPartition (id start offset size parent disk : ℕ) (index : Option ℕ) : Type 0 where
+  pub partition : Partition
+  pub made : new_partition id start offset size parent disk index ≡ Some (kinds.Partition partition)
+  pub plain_is : plain_of (kinds.Partition partition) ≡ record { mark = 0; flags = index_flags index; type = 0x33; fields = new_partition_values id start offset size parent disk index; tail = [] }
+  pub id_is : partition.head.id ≡ id
+  pub start_is : partition.start ≡ start
+  pub offset_is : partition.offset ≡ offset
+  pub size_is : partition.size ≡ size
+  pub parent_is : partition.parent ≡ parent
+  pub disk_is : partition.disk ≡ disk
+  pub index_is : partition.index ≡ index
+  pub fitting : length (own_spelling (plain_of (kinds.Partition partition))) ≤ 448
+
+pub makes_partition : (id start offset size parent disk : ℕ) (index : Option ℕ) → id < 2 ^ 64 → size < 2 ^ 64 → parent < 2 ^ 64 → disk < 2 ^ 64 → unwrap_or index 0 < 2 ^ 64
+    → MakesPartition id start offset size parent disk index
+makes_partition id start offset size parent disk index a b c d e =
+    let len : values_len (new_partition_values id start offset size parent disk index) + 0 ≤ 200 =
+    omega (arith, name_len id a, number_len id a, number_len size b, number_len parent c, number_len disk d, index_len index e) in
+    let named = is_named (part_name id) (omega (arith, name_len id a)) in
+    let short = is_short (new_partition_values id start offset size parent disk index) (omega arith) in
+    let p : Partition = record {
+      head = record { mark = 0; flags = index_flags index; id = id; name = part_name id; name_short = leb-true _ _ named };
+      fixed12 = replicate 12 0;
+      start = start;
+      offset = offset;
+      size = size;
+      parent = parent;
+      disk = disk;
+      index = index;
+      tail = [];
+      flagged = index_flagged index;
+      short = ltb-true _ _ short;
+    } in
+    record {
+      partition = p;
+      made = short_given (part_name id) (new_partition_values id start offset size parent disk index) _ named short;
+      plain_is = refl;
+      id_is = refl;
+      start_is = refl;
+      offset_is = refl;
+      size_is = refl;
+      parent_is = refl;
+      disk_is = refl;
+      index_is = refl;
+      fitting = (let l = own-len (plain_of (kinds.Partition p)) in omega arith);
+    }
+
+-- a record of these plain values is the one that is made
+pub partition_is : (id start offset size parent disk : ℕ) (index : Option ℕ) → id < 2 ^ 64 → size < 2 ^ 64 → parent < 2 ^ 64 → disk < 2 ^ 64 → unwrap_or index 0 < 2 ^ 64 → (r : Record)
+    → plain_of r ≡ record { mark = 0; flags = index_flags index; type = 0x33; fields = new_partition_values id start offset size parent disk index; tail = [] }
+    → new_partition id start offset size parent disk index ≡ Some r
+partition_is id start offset size parent disk index a b c d e r is =
+    let m = makes_partition id start offset size parent disk index a b c d e in
+    m.made ∙ ap (λ (x : Record). Some x) (one_record (kinds.Partition m.partition) r (m.plain_is ∙ sym is))
+
+-- ---- components
+
+-- a new component of these values
+pub record MakesComponent (id parent layout children : ℕ) (striping : Option Striping) : Type 0 where
+  pub component : Component
+  pub made : new_component id parent layout children striping ≡ Some (kinds.Component component)
+  pub plain_is : plain_of (kinds.Component component) ≡ record { mark = 0; flags = striping_flags striping; type = 0x32; fields = new_component_values id parent layout children striping; tail = [] }
+  pub id_is : component.head.id ≡ id
+  pub parent_is : component.parent ≡ parent
+  pub layout_is : component.layout ≡ layout
+  pub striping_is : component.striping ≡ striping
+  pub children_is : component.children ≡ children
+  pub fitting : length (own_spelling (plain_of (kinds.Component component))) ≤ 448
+
+pub makes_component : (id parent layout children : ℕ) (striping : Option Striping) → id < 2 ^ 64 → parent < 2 ^ 64 → children < 2 ^ 64 → IsStriping striping → MakesComponent id parent layout children striping
+makes_component id parent layout children striping a b c d =
+    let len : values_len (new_component_values id parent layout children striping) + 0 ≤ 200 =
+    omega (arith, component_name_len id a, number_len id a, number_len parent b, number_len children c, chunk_len striping d) in
+    let named = is_named (component_name id) (omega (arith, component_name_len id a)) in
+    let short = is_short (new_component_values id parent layout children striping) (omega arith) in
+    let c : Component = record {
+      head = record { mark = 0; flags = striping_flags striping; id = id; name = component_name id; name_short = leb-true _ _ named };
+      state = active;
+      layout = layout;
+      fixed4 = replicate 4 0;
+      children = children;
+      fixed16 = replicate 16 0;
+      parent = parent;
+      fixed1 = 0;
+      striping = striping;
+      tail = [];
+      state_short = active_short;
+      flagged = striping_flagged striping;
+      short = ltb-true _ _ short;
+    } in
+    record {
+      component = c;
+      made = short_given (component_name id) (new_component_values id parent layout children striping) _ named short;
+      plain_is = refl;
+      id_is = refl;
+      parent_is = refl;
+      layout_is = refl;
+      striping_is = refl;
+      children_is = refl;
+      fitting = (let l = own-len (plain_of (kinds.Component c)) in omega arith);
+    }
+
+-- a record of these plain values is the one that is made
+pub component_is : (id parent layout children : ℕ) (striping : Option Striping) → id < 2 ^ 64 → parent < 2 ^ 64 → children < 2 ^ 64 → IsStriping striping → (r : Record)
+    → plain_of r ≡ record { mark = 0; flags = striping_flags striping; type = 0x32; fields = new_component_values id parent layout children striping; tail = [] } → new_component id parent layout children striping ≡ Some r
+component_is id parent layout children striping a b c d r is =
+    let m = makes_component id parent layout children striping a b c d in
+    m.made ∙ ap (λ (x : Record). Some x) (one_record (kinds.Component m.component) r (m.plain_is ∙ sym is))
+
+-- the same component with another number of partitions
+pub record MakesChildren (c : Component) (children : ℕ) : Type 0 where
+  pub component : Component
+  pub made : with_children c children ≡ Some component
+  pub head_is : component.head ≡ c.head
+  pub parent_is : component.parent ≡ c.parent
+  pub layout_is : component.layout ≡ c.layout
+  pub striping_is : component.striping ≡ c.striping
+  pub children_is : component.children ≡ children
+  pub len_is : length (own_spelling (plain_of (kinds.Component component))) + length (own_number c.children) ≡ length (own_spelling (plain_of (kinds.Component c))) + length (own_number children)
+
+pub makes_children : (c : Component) (children : ℕ) → children < 2 ^ 64 → length (own_spelling (plain_of (kinds.Component c))) ≤ 448 → MakesChildren c children
+makes_children c children fits fitting =
+    let old = own-len (plain_of (kinds.Component c)) in
+    let short : nat_lt (values_len (component_values c.head.id c.head.name c.state c.layout c.fixed4 children c.fixed16 c.parent c.fixed1 (chunk_value c.striping) (columns_value c.striping)) + length c.tail) (2 ^ 32) ≡ true =
+    lt-ltb _ _ (omega (arith, number_len children fits)) in
+    let d : Component = record c { children = children; short = ltb-true _ _ short } in
+    record {
+      component = d;
+      made = given_true _ _ short;
+      head_is = refl;
+      parent_is = refl;
+      layout_is = refl;
+      striping_is = refl;
+      children_is = refl;
+      len_is = (let new = own-len (plain_of (kinds.Component d)) in omega arith);
+    }
+
+-- ---- volumes
+
+-- a new volume of these values
+pub record MakesVolume (id : ℕ) (name : List ℕ) (guid : ℕ) (raid : Bool) (children size : ℕ) : Type 0 where
+  pub volume : Volume
+  pub made : new_volume id name guid raid children size ≡ Some (kinds.Volume volume)
+  pub plain_is : plain_of (kinds.Volume volume) ≡ record { mark = 0; flags = 0; type = 0x51; fields = new_volume_values id name guid raid children size; tail = [] }
+  pub id_is : volume.head.id ≡ id
+  pub name_is : volume.head.name ≡ name
+  pub children_is : volume.children ≡ children
+  pub size_is : volume.size ≡ size
+  pub fitting : length (own_spelling (plain_of (kinds.Volume volume))) ≤ 448
+
+pub makes_volume : (id : ℕ) (name : List ℕ) (guid : ℕ) (raid : Bool) (children size : ℕ) → id < 2 ^ 64 → length name ≤ 255 → children < 2 ^ 64 → size < 2 ^ 64 → MakesVolume id name guid raid children size
+makes_volume id name guid raid children size a b c d =
+    let len : values_len (new_volume_values id name guid raid children size) + 0 ≤ 400 =
+    omega (arith, number_len id a, number_len children c, number_len size d, kind_len raid, fixed_len raid, length-bytes_high_first 16 guid) in
+    let named = is_named name b in
+    let short = is_short (new_volume_values id name guid raid children size) (omega arith) in
+    let v : Volume = record {
+      head = record { mark = 0; flags = 0; id = id; name = name; name_short = leb-true _ _ named };
+      kind = volume_kind raid;
+      second = [];
+      fixed21 = volume_fixed21 raid;
+      children = children;
+      fixed16 = replicate 16 0;
+      size = size;
+      fixed4 = replicate 4 0;
+      part_type = 0x07;
+      guid = big_bytes 16 guid;
+      id1 = None;
+      id2 = None;
+      size2 = None;
+      hint = None;
+      tail = [];
+      kind_short = volume_kind_short raid;
+      second_short = leb-true 0 255 refl;
+      id1_short = leb-true 0 255 refl;
+      id2_short = leb-true 0 255 refl;
+      hint_short = leb-true 0 255 refl;
+      id1_flagged = refl;
+      id2_flagged = refl;
+      size2_flagged = refl;
+      hint_flagged = refl;
+      short = ltb-true _ _ short;
+    } in
+    record {
+      volume = v;
+      made = short_given name (new_volume_values id name guid raid children size) _ named short;
+      plain_is = refl;
+      id_is = refl;
+      name_is = refl;
+      children_is = refl;
+      size_is = refl;
+      fitting = (let l = own-len (plain_of (kinds.Volume v)) in omega arith);
+    }
+
+-- a record of these plain values is the one that is made
+pub volume_is : (id : ℕ) (name : List ℕ) (guid : ℕ) (raid : Bool) (children size : ℕ) → id < 2 ^ 64 → length name ≤ 255 → children < 2 ^ 64 → size < 2 ^ 64 → (r : Record)
+    → plain_of r ≡ record { mark = 0; flags = 0; type = 0x51; fields = new_volume_values id name guid raid children size; tail = [] } → new_volume id name guid raid children size ≡ Some r
+volume_is id name guid raid children size a b c d r is =
+    let m = makes_volume id name guid raid children size a b c d in
+    m.made ∙ ap (λ (x : Record). Some x) (one_record (kinds.Volume m.volume) r (m.plain_is ∙ sym is))
+
+-- the same volume of another size
+pub record MakesSize (v : Volume) (size : ℕ) : Type 0 where
+  pub volume : Volume
+  pub made : resized v size ≡ Some volume
+  pub head_is : volume.head ≡ v.head
+  pub children_is : volume.children ≡ v.children
+  pub size_is : volume.size ≡ size
+  pub len_is : length (own_spelling (plain_of (kinds.Volume volume))) + length (own_number v.size) ≡ length (own_spelling (plain_of (kinds.Volume v))) + length (own_number size)
+
+pub makes_size : (v : Volume) (size : ℕ) → size < 2 ^ 64 → length (own_spelling (plain_of (kinds.Volume v))) ≤ 448 → MakesSize v size
+makes_size v size fits fitting =
+    let old = own-len (plain_of (kinds.Volume v)) in
+    let short : nat_lt (values_len (volume_values v.head.id v.head.name v.kind v.second v.fixed21 v.children v.fixed16 size v.fixed4 v.part_type v.guid v.id1 v.id2 v.size2 v.hint) + length v.tail) (2 ^ 32) ≡ true =
+    lt-ltb _ _ (omega (arith, number_len size fits)) in
+    let w : Volume = record v { size = size; short = ltb-true _ _ short } in
+    record {
+      volume = w;
+      made = given_true _ _ short;
+      head_is = refl;
+      children_is = refl;
+      size_is = refl;
+      len_is = (let new = own-len (plain_of (kinds.Volume w)) in omega arith);
+    }
