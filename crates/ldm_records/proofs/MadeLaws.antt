@@ -18,11 +18,11 @@ use Rattle.ldm_records.specs.declared.types.Record.TheVariants as kinds
 use Rattle.ldm_records.specs.Values.{Value, values_len, value_len}
 use Rattle.ldm_records.specs.Fields.{component_values, volume_values, number_option}
 use Rattle.ldm_records.specs.Forms.{chunk_value, columns_value}
-use Rattle.ldm_records.specs.Plain.{body_len, own_spelling}
-use Rattle.ldm_records.specs.Views.{plain_of}
-use Rattle.ldm_records.specs.Made.{given, given_short, new_partition, new_partition_values, part_name, index_flags, index_flagged, IsStriping, new_component, new_component_values, component_name, striping_flags, striping_flagged, active, active_short, with_children, new_volume, new_volume_values, volume_kind, volume_kind_short, volume_fixed21, resized}
+use Rattle.ldm_records.specs.Plain.{Plain, own_spelling}
+use Rattle.ldm_records.specs.Views.{plain_volume, plain_component, plain_of}
+use Rattle.ldm_records.specs.Made.{given, given_short, partition_with, component_with, volume_with, new_partition, new_partition_values, part_name, index_flags, index_flagged, IsStriping, new_component, new_component_values, component_name, striping_flags, striping_flagged, active, active_short, with_children, new_volume, new_volume_values, volume_kind, volume_kind_short, volume_fixed21, resized}
 use Rattle.ldm_records.proofs.PlainLaws.{own-len}
-use Rattle.ldm_records.proofs.OneRecord.{one_record}
+use Rattle.ldm_records.proofs.OneRecord.{one_volume, one_component, one_record}
 
 -- what is made is of a test that passed
 pub given_some : {A : Type 0} (test : Bool) (make : test ≡ true → A) (x : A) → given test make ≡ Some x → (e : test ≡ true) × (make e ≡ x)
@@ -105,22 +105,10 @@ makes_partition id start offset size parent disk index a b c d e =
     omega (arith, name_len id a, number_len id a, number_len size b, number_len parent c, number_len disk d, index_len index e) in
     let named = is_named (part_name id) (omega (arith, name_len id a)) in
     let short = is_short (new_partition_values id start offset size parent disk index) (omega arith) in
-    let p : Partition = record {
-      head = record { mark = 0; flags = index_flags index; id = id; name = part_name id; name_short = leb-true _ _ named };
-      fixed12 = replicate 12 0;
-      start = start;
-      offset = offset;
-      size = size;
-      parent = parent;
-      disk = disk;
-      index = index;
-      tail = [];
-      flagged = index_flagged index;
-      short = ltb-true _ _ short;
-    } in
+    let p : Partition = partition_with id start offset size parent disk index (leb-true _ _ named) (ltb-true _ _ short) in
     record {
       partition = p;
-      made = short_given (part_name id) (new_partition_values id start offset size parent disk index) _ named short;
+      made = short_given (part_name id) (new_partition_values id start offset size parent disk index) (λ a b. kinds.Partition (partition_with id start offset size parent disk index a b)) named short;
       plain_is = refl;
       id_is = refl;
       start_is = refl;
@@ -160,24 +148,10 @@ makes_component id parent layout children striping a b c d =
     omega (arith, component_name_len id a, number_len id a, number_len parent b, number_len children c, chunk_len striping d) in
     let named = is_named (component_name id) (omega (arith, component_name_len id a)) in
     let short = is_short (new_component_values id parent layout children striping) (omega arith) in
-    let c : Component = record {
-      head = record { mark = 0; flags = striping_flags striping; id = id; name = component_name id; name_short = leb-true _ _ named };
-      state = active;
-      layout = layout;
-      fixed4 = replicate 4 0;
-      children = children;
-      fixed16 = replicate 16 0;
-      parent = parent;
-      fixed1 = 0;
-      striping = striping;
-      tail = [];
-      state_short = active_short;
-      flagged = striping_flagged striping;
-      short = ltb-true _ _ short;
-    } in
+    let c : Component = component_with id parent layout children striping (leb-true _ _ named) (ltb-true _ _ short) in
     record {
       component = c;
-      made = short_given (component_name id) (new_component_values id parent layout children striping) _ named short;
+      made = short_given (component_name id) (new_component_values id parent layout children striping) (λ a b. kinds.Component (component_with id parent layout children striping a b)) named short;
       plain_is = refl;
       id_is = refl;
       parent_is = refl;
@@ -222,6 +196,14 @@ makes_children c children fits fitting =
       len_is = (let new = own-len (plain_of (kinds.Component d)) in omega arith);
     }
 
+-- a component of these plain values is the one of another number of partitions
+abbrev plain_children : Component → ℕ → Plain
+plain_children c children = record { mark = c.head.mark; flags = c.head.flags; type = 0x32; fields = component_values c.head.id c.head.name c.state c.layout c.fixed4 children c.fixed16 c.parent c.fixed1 (chunk_value c.striping) (columns_value c.striping); tail = c.tail }
+
+pub children_is : (c copy d : Component) (children : ℕ) → is_some (with_children c children) ≡ true → copy ≡ c → plain_component d ≡ plain_children copy children → with_children c children ≡ Some d
+children_is c copy d children there same is =
+    given_true _ _ (given_there _ _ there) ∙ ap (λ (x : Component). Some x) (one_component _ d (ap (λ (x : Component). plain_children x children) (sym same) ∙ sym is))
+
 -- ---- volumes
 
 -- a new volume of these values
@@ -241,36 +223,10 @@ makes_volume id name guid raid children size a b c d =
     omega (arith, number_len id a, number_len children c, number_len size d, kind_len raid, fixed_len raid, length-bytes_high_first 16 guid) in
     let named = is_named name b in
     let short = is_short (new_volume_values id name guid raid children size) (omega arith) in
-    let v : Volume = record {
-      head = record { mark = 0; flags = 0; id = id; name = name; name_short = leb-true _ _ named };
-      kind = volume_kind raid;
-      second = [];
-      fixed21 = volume_fixed21 raid;
-      children = children;
-      fixed16 = replicate 16 0;
-      size = size;
-      fixed4 = replicate 4 0;
-      part_type = 0x07;
-      guid = big_bytes 16 guid;
-      id1 = None;
-      id2 = None;
-      size2 = None;
-      hint = None;
-      tail = [];
-      kind_short = volume_kind_short raid;
-      second_short = leb-true 0 255 refl;
-      id1_short = leb-true 0 255 refl;
-      id2_short = leb-true 0 255 refl;
-      hint_short = leb-true 0 255 refl;
-      id1_flagged = refl;
-      id2_flagged = refl;
-      size2_flagged = refl;
-      hint_flagged = refl;
-      short = ltb-true _ _ short;
-    } in
+    let v : Volume = volume_with id name guid raid children size (leb-true _ _ named) (ltb-true _ _ short) in
     record {
       volume = v;
-      made = short_given name (new_volume_values id name guid raid children size) _ named short;
+      made = short_given name (new_volume_values id name guid raid children size) (λ a b. kinds.Volume (volume_with id name guid raid children size a b)) named short;
       plain_is = refl;
       id_is = refl;
       name_is = refl;
@@ -309,3 +265,11 @@ makes_size v size fits fitting =
       size_is = refl;
       len_is = (let new = own-len (plain_of (kinds.Volume w)) in omega arith);
     }
+
+-- a volume of these plain values is the one of another size
+abbrev plain_sized : Volume → ℕ → Plain
+plain_sized v size = record { mark = v.head.mark; flags = v.head.flags; type = 0x51; fields = volume_values v.head.id v.head.name v.kind v.second v.fixed21 v.children v.fixed16 size v.fixed4 v.part_type v.guid v.id1 v.id2 v.size2 v.hint; tail = v.tail }
+
+pub resized_is : (v copy w : Volume) (size : ℕ) → is_some (resized v size) ≡ true → copy ≡ v → plain_volume w ≡ plain_sized copy size → resized v size ≡ Some w
+resized_is v copy w size there same is =
+    given_true _ _ (given_there _ _ there) ∙ ap (λ (x : Volume). Some x) (one_volume _ w (ap (λ (x : Volume). plain_sized x size) (sym same) ∙ sym is))

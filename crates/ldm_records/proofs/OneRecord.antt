@@ -161,7 +161,7 @@ same_group p q head form ids tail = λ i. record {
 
 -- ---- from equal values to equal fields
 
-one_volume : (p q : Volume) → plain_volume p ≡ plain_volume q → p ≡ q
+pub one_volume : (p q : Volume) → plain_volume p ≡ plain_volume q → p ≡ q
 one_volume p q e =
     let fields = ap (λ (x : Plain). x.fields) e in
     let id : p.head.id ≡ q.head.id = cc in
@@ -183,7 +183,7 @@ one_volume p q e =
     same_volume p q head kind second fixed21 children fixed16 size fixed4 part_type guid
     (one_text p.id1 q.id1 id1) (one_text p.id2 q.id2 id2) (one_number p.size2 q.size2 size2) (one_text p.hint q.hint hint) (ap (λ (x : Plain). x.tail) e)
 
-one_component : (p q : Component) → plain_component p ≡ plain_component q → p ≡ q
+pub one_component : (p q : Component) → plain_component p ≡ plain_component q → p ≡ q
 one_component p q e =
     let fields = ap (λ (x : Plain). x.fields) e in
     let id : p.head.id ≡ q.head.id = cc in

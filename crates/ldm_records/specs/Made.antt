@@ -8,6 +8,7 @@ use Rattle.byteorder.specs.Endian.{big_bytes}
 use Rattle.ldm_records.specs.declared.pieces.Striping.{Striping}
 use Rattle.ldm_records.specs.declared.types.Volume.{Volume}
 use Rattle.ldm_records.specs.declared.types.Component.{Component}
+use Rattle.ldm_records.specs.declared.types.Partition.{Partition}
 use Rattle.ldm_records.specs.declared.types.Record.{Record}
 use Rattle.ldm_records.specs.declared.types.Record.TheVariants as kinds
 use Rattle.ldm_records.specs.Values.{Value, values_len}
@@ -44,21 +45,24 @@ part_name id = 112 ∷ decimal id
 abbrev pub new_partition_values : (id start offset size parent disk : ℕ) → Option ℕ → List Value
 new_partition_values id start offset size parent disk index = partition_values id (part_name id) (replicate 12 0) start offset size parent disk index
 
+abbrev pub partition_with : (id start offset size parent disk : ℕ) (index : Option ℕ) → length (part_name id) ≤ 255 → values_len (new_partition_values id start offset size parent disk index) + 0 < 2 ^ 32 → Partition
+partition_with id start offset size parent disk index named short = record {
+  head = record { mark = 0; flags = index_flags index; id = id; name = part_name id; name_short = named };
+  fixed12 = replicate 12 0;
+  start = start;
+  offset = offset;
+  size = size;
+  parent = parent;
+  disk = disk;
+  index = index;
+  tail = [];
+  flagged = index_flagged index;
+  short = short;
+}
+
 abbrev pub new_partition : (id start offset size parent disk : ℕ) → Option ℕ → Option Record
 new_partition id start offset size parent disk index =
-    given_short (part_name id) (new_partition_values id start offset size parent disk index) (λ named short. kinds.Partition (record {
-      head = record { mark = 0; flags = index_flags index; id = id; name = part_name id; name_short = named };
-      fixed12 = replicate 12 0;
-      start = start;
-      offset = offset;
-      size = size;
-      parent = parent;
-      disk = disk;
-      index = index;
-      tail = [];
-      flagged = index_flagged index;
-      short = short;
-    }))
+    given_short (part_name id) (new_partition_values id start offset size parent disk index) (λ named short. kinds.Partition (partition_with id start offset size parent disk index named short))
 
 -- ---- components
 
@@ -91,23 +95,26 @@ abbrev pub new_component_values : (id parent layout children : ℕ) → Option S
 new_component_values id parent layout children striping =
     component_values id (component_name id) active layout (replicate 4 0) children (replicate 16 0) parent 0 (chunk_value striping) (columns_value striping)
 
+abbrev pub component_with : (id parent layout children : ℕ) (striping : Option Striping) → length (component_name id) ≤ 255 → values_len (new_component_values id parent layout children striping) + 0 < 2 ^ 32 → Component
+component_with id parent layout children striping named short = record {
+  head = record { mark = 0; flags = striping_flags striping; id = id; name = component_name id; name_short = named };
+  state = active;
+  layout = layout;
+  fixed4 = replicate 4 0;
+  children = children;
+  fixed16 = replicate 16 0;
+  parent = parent;
+  fixed1 = 0;
+  striping = striping;
+  tail = [];
+  state_short = active_short;
+  flagged = striping_flagged striping;
+  short = short;
+}
+
 abbrev pub new_component : (id parent layout children : ℕ) → Option Striping → Option Record
 new_component id parent layout children striping =
-    given_short (component_name id) (new_component_values id parent layout children striping) (λ named short. kinds.Component (record {
-      head = record { mark = 0; flags = striping_flags striping; id = id; name = component_name id; name_short = named };
-      state = active;
-      layout = layout;
-      fixed4 = replicate 4 0;
-      children = children;
-      fixed16 = replicate 16 0;
-      parent = parent;
-      fixed1 = 0;
-      striping = striping;
-      tail = [];
-      state_short = active_short;
-      flagged = striping_flagged striping;
-      short = short;
-    }))
+    given_short (component_name id) (new_component_values id parent layout children striping) (λ named short. kinds.Component (component_with id parent layout children striping named short))
 
 -- a component of another number of partitions
 abbrev pub with_children : Component → ℕ → Option Component
@@ -135,35 +142,38 @@ abbrev pub new_volume_values : (id : ℕ) → List ℕ → (guid : ℕ) → Bool
 new_volume_values id name guid raid children size =
     volume_values id name (volume_kind raid) [] (volume_fixed21 raid) children (replicate 16 0) size (replicate 4 0) 0x07 (big_bytes 16 guid) None None None None
 
+abbrev pub volume_with : (id : ℕ) (name : List ℕ) (guid : ℕ) (raid : Bool) (children size : ℕ) → length name ≤ 255 → values_len (new_volume_values id name guid raid children size) + 0 < 2 ^ 32 → Volume
+volume_with id name guid raid children size named short = record {
+  head = record { mark = 0; flags = 0; id = id; name = name; name_short = named };
+  kind = volume_kind raid;
+  second = [];
+  fixed21 = volume_fixed21 raid;
+  children = children;
+  fixed16 = replicate 16 0;
+  size = size;
+  fixed4 = replicate 4 0;
+  part_type = 0x07;
+  guid = big_bytes 16 guid;
+  id1 = None;
+  id2 = None;
+  size2 = None;
+  hint = None;
+  tail = [];
+  kind_short = volume_kind_short raid;
+  second_short = leb-true 0 255 refl;
+  id1_short = leb-true 0 255 refl;
+  id2_short = leb-true 0 255 refl;
+  hint_short = leb-true 0 255 refl;
+  id1_flagged = refl;
+  id2_flagged = refl;
+  size2_flagged = refl;
+  hint_flagged = refl;
+  short = short;
+}
+
 abbrev pub new_volume : (id : ℕ) → List ℕ → (guid : ℕ) → Bool → (children size : ℕ) → Option Record
 new_volume id name guid raid children size =
-    given_short name (new_volume_values id name guid raid children size) (λ named short. kinds.Volume (record {
-      head = record { mark = 0; flags = 0; id = id; name = name; name_short = named };
-      kind = volume_kind raid;
-      second = [];
-      fixed21 = volume_fixed21 raid;
-      children = children;
-      fixed16 = replicate 16 0;
-      size = size;
-      fixed4 = replicate 4 0;
-      part_type = 0x07;
-      guid = big_bytes 16 guid;
-      id1 = None;
-      id2 = None;
-      size2 = None;
-      hint = None;
-      tail = [];
-      kind_short = volume_kind_short raid;
-      second_short = leb-true 0 255 refl;
-      id1_short = leb-true 0 255 refl;
-      id2_short = leb-true 0 255 refl;
-      hint_short = leb-true 0 255 refl;
-      id1_flagged = refl;
-      id2_flagged = refl;
-      size2_flagged = refl;
-      hint_flagged = refl;
-      short = short;
-    }))
+    given_short name (new_volume_values id name guid raid children size) (λ named short. kinds.Volume (volume_with id name guid raid children size named short))
 
 -- a volume of another size
 abbrev pub resized : Volume → ℕ → Option Volume

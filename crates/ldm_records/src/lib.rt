@@ -4,6 +4,7 @@
 //! stripe sizes are in sectors.
 #![tactic(auto)]
 
+mod changed;
 mod component;
 mod disk;
 mod fault;
@@ -11,6 +12,7 @@ mod field;
 mod fields;
 mod group;
 mod listing;
+mod made;
 mod partition;
 mod pieces;
 mod reading;
@@ -20,7 +22,9 @@ mod volume;
 mod volume_text;
 mod writing;
 
+pub use changed::{resized, with_children};
 pub use fault::{RecordError, RecordFault};
+pub use made::{new_component, new_partition, new_volume};
 pub use pieces::{DiskForm, GroupForm, Head, Striping, TwoIds};
 pub use reading::read_record;
 pub use types::{Component, Disk, GroupRec, Partition, Record, Volume};
