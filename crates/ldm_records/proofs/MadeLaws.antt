@@ -1,11 +1,10 @@
 -- New records are there where their numbers are those of the format and their names are short, and fit the 448 bytes of
 -- four blocks. Changed records are there where the old ones did, and are longer or shorter by the number that changed.
 use Rattle.std.proofs.Common.{◌≡◌, ◌∙◌, ap, sym, refl, ℕ, ◌+◌, ◌≤◌, ◌<◌, ◌^◌, [], length, arith, Some, None, List, Bool, true, false, Option}
-use Rattle.std.specs.Prelude.{option_and_then, replicate, nat_lt, nat_le, unwrap_or, is_some}
+use Rattle.std.specs.Prelude.{option_and_then, nat_lt, nat_le, unwrap_or, is_some}
 use mathlib.Core.Bool.{Bool-set}
 use Rattle.std.proofs.lemmas.Bool.{lt-ltb, le-leb, ltb-true, leb-true}
 use Rattle.std.proofs.lemmas.Fmt.{length-decimal-le}
-use Rattle.byteorder.specs.Endian.{big_bytes}
 use Rattle.byteorder.specs.Numbers.{length-bytes_high_first}
 use Rattle.ldm_bytes.specs.Numbers.{own_number}
 use Rattle.ldm_bytes.proofs.NumberLaws.{own_len, width_fits}
@@ -20,7 +19,7 @@ use Rattle.ldm_records.specs.Fields.{component_values, volume_values, number_opt
 use Rattle.ldm_records.specs.Forms.{chunk_value, columns_value}
 use Rattle.ldm_records.specs.Plain.{Plain, own_spelling}
 use Rattle.ldm_records.specs.Views.{plain_volume, plain_component, plain_of}
-use Rattle.ldm_records.specs.Made.{given, given_short, partition_with, component_with, volume_with, new_partition, new_partition_values, part_name, index_flags, index_flagged, IsStriping, new_component, new_component_values, component_name, striping_flags, striping_flagged, active, active_short, with_children, new_volume, new_volume_values, volume_kind, volume_kind_short, volume_fixed21, resized}
+use Rattle.ldm_records.specs.Made.{given, given_short, partition_with, component_with, volume_with, new_partition, new_partition_values, part_name, index_flags, IsStriping, new_component, new_component_values, component_name, striping_flags, with_children, new_volume, new_volume_values, volume_kind, volume_fixed21, resized}
 use Rattle.ldm_records.proofs.PlainLaws.{own-len}
 use Rattle.ldm_records.proofs.OneRecord.{one_volume, one_component, one_record}
 

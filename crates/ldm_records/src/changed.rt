@@ -16,7 +16,11 @@ pub fn resized(volume: &Volume, alloc: Global, size: u64) -> Result<Volume, NoMe
 }
 
 /// An equal component but for the number of its partitions.
-pub fn with_children(component: &Component, alloc: Global, children: u64) -> Result<Component, NoMemory>
+pub fn with_children(
+    component: &Component,
+    alloc: Global,
+    children: u64,
+) -> Result<Component, NoMemory>
     requires { is_some (with_children component.now children) ≡ true }
     ensures { IfOk result (λ c. with_children component.now children ≡ Some c) }
 {
