@@ -61,3 +61,7 @@ pub record ReadsBack (header : Header) (seq : ℕ) (sector : List ℕ) : Type 0 
   pub name_is : group_name sector ≡ header.name
   pub guid_is : group_guid sector ≡ Some header.guid
   pub raw_is : carried sector ≡ header.raw
+
+-- the same header with another committed sequence
+abbrev pub with_seq : Header → ℕ → Header
+with_seq header seq = record header { seq = seq }

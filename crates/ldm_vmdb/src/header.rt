@@ -1,6 +1,7 @@
 ghost use Rattle.ldm_vmdb.specs.Sectors.{IsKept};
 
 use ldm_bytes::{Bytes, NoMemory};
+use std::alloc::Global;
 
 /// The header of a database. It keeps the sector that it was read from, but for what changes with
 /// each commit.
@@ -17,6 +18,25 @@ pub struct Header {
     /// The carried header bytes: the sector with both sequences and all counts zero.
     pub raw: [u8; 512],
     pub ghost kept: { IsKept last name guid raw },
+}
+
+impl Header {
+    ghost use Rattle.std.specs.Prelude.{◌≡◌, IfOk};
+    ghost use Rattle.ldm_vmdb.specs.Headers.{with_seq};
+
+    /// An equal header but for its committed sequence, as the next database has it.
+    pub fn with_seq(&self, alloc: Global, seq: u64) -> Result<Header, NoMemory>
+        ensures { IfOk result (λ h. h ≡ with_seq self.now seq) }
+    {
+        let name = self.name.clone_in(alloc)?;
+        Ok(Header {
+            last: self.last,
+            seq,
+            name,
+            guid: self.guid,
+            raw: self.raw,
+        })
+    }
 }
 
 /// How many records of each kind a database has, as its header counts them.
