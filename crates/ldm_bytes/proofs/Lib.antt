@@ -3,3 +3,4 @@ pub mod NumberLaws
 pub mod BigLaws
 pub mod GuidLaws
 pub mod PlaceLaws
+pub mod ByteLaws

@@ -1,6 +1,7 @@
 -- Copies that hold the same groups give answers that tell the same.
 use Rattle.std.proofs.Common.{◌≡◌, ℕ, suc, Bool, true, false, List, [], ◌∷◌, Option, Some, None, zero, Result, Err, refl, sym, ap, subst, ◌∙◌}
 use Rattle.std.specs.Prelude.{map, nat_lt, if◌then◌else◌}
+use Rattle.ldm_bytes.specs.Tables.{first_of, unless}
 use Rattle.ldm_group.specs.Database.{Database, Core, IsSameCore}
 use Rattle.ldm_label.specs.declared.Label.{Label}
 use Rattle.ldm_copy.specs.declared.answer.CopyState.{CopyState}
@@ -11,8 +12,8 @@ use Rattle.ldm_found.specs.declared.notes.Note.{Note}
 use Rattle.ldm_found.specs.declared.found.Found.{Found}
 use Rattle.ldm_found.specs.Gathers.{IsFirst}
 use Rattle.ldm_found.specs.Copies.{newer, newest, Disagrees, note_of}
-use Rattle.ldm_found.specs.Editing.{reasons, first_of, blocked_in}
-use Rattle.ldm_found.specs.Opening.{group_faults, unless, found_with, group_at, IsNewestGroup}
+use Rattle.ldm_found.specs.Editing.{reasons, blocked_in}
+use Rattle.ldm_found.specs.Opening.{group_faults, found_with, group_at, IsNewestGroup}
 use Rattle.ldm_found.specs.Alike.{AreAlike, AllAlike, TellsSame, AnswerAlike}
 use Rattle.ldm_found.proofs.FirstLaws.{first_one}
 use Rattle.ldm_found.proofs.NewestLaws.{behind}

@@ -5,6 +5,7 @@ use Rattle.std.specs.Option.{option_map}
 use Rattle.std.proofs.lemmas.Bool.Decides.{nat_tests}
 use Rattle.std.proofs.lemmas.Bool.{cases_lt}
 use Rattle.std.proofs.lemmas.Option.{slice_get_within, get_or_from_slice_get}
+use Rattle.ldm_bytes.specs.Tables.{first_of}
 use Rattle.ldm_label.specs.declared.Label.{Label}
 use Rattle.ldm_label.specs.Laws.{IsClearOfLabel}
 use Rattle.ldm_label.proofs.OkLaws.{label_stays}
@@ -13,7 +14,7 @@ use Rattle.ldm_group.specs.Database.{Database}
 use Rattle.ldm_rules.specs.Present.{is_absent}
 use Rattle.ldm_found.specs.declared.fault.OpenFault.{OpenFault}
 use Rattle.ldm_found.specs.declared.fault.OpenFault.TheVariants as faults
-use Rattle.ldm_found.specs.Editing.{first_of, reasons, is_small, clashes, blocked_in}
+use Rattle.ldm_found.specs.Editing.{reasons, is_small, clashes, blocked_in}
 use Rattle.ldm_found.specs.Gathers.{Gathers}
 use Rattle.ldm_found.specs.Labels.{IsLabelOf, AreSameOutside}
 use Rattle.ldm_found.proofs.FirstLaws.{none_passes}

@@ -5,6 +5,7 @@ use Rattle.std.specs.Option.{option_map}
 use Rattle.std.proofs.lemmas.Bool.{cases_lt}
 use Rattle.std.proofs.lemmas.Bool.Decides.{nat_tests}
 use Rattle.std.proofs.lemmas.Option.{slice_get-map, slice_get_within}
+use Rattle.ldm_bytes.specs.Tables.{first_of, unless}
 use Rattle.ldm_label.specs.declared.Label.{Label}
 use Rattle.ldm_group.specs.Database.{Database}
 use Rattle.ldm_group.proofs.EqualLaws.{same_core}
@@ -17,8 +18,8 @@ use Rattle.ldm_found.specs.declared.notes.Note.{Note}
 use Rattle.ldm_found.specs.Gathers.{Gathers, IsFirst}
 use Rattle.ldm_found.specs.Labels.{IsLabelOf, AreApart, AreTwins}
 use Rattle.ldm_found.specs.Copies.{IsCopyIn, newer, newest, Disagrees, note_of, HasCopy, IsKnown}
-use Rattle.ldm_found.specs.Editing.{first_of, blocked_in}
-use Rattle.ldm_found.specs.Opening.{IsGroupIn, IsGroupOfDisks, IsGroupOfCopies, IsNewestGroup, group_faults, group_at, found_with, unless}
+use Rattle.ldm_found.specs.Editing.{blocked_in}
+use Rattle.ldm_found.specs.Opening.{IsGroupIn, IsGroupOfDisks, IsGroupOfCopies, IsNewestGroup, group_faults, group_at, found_with}
 use Rattle.ldm_found.proofs.GatherLaws.{gather_length}
 
 -- the parts of a found group

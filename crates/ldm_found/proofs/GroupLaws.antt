@@ -3,6 +3,7 @@ use Rattle.std.proofs.Common.{◌≡◌, ℕ, List, [], ◌∷◌, Option, Some,
 use Rattle.std.specs.Prelude.{zip, map, IfOk, IsErrAnd}
 use Rattle.std.specs.Option.{option_map}
 use Rattle.std.proofs.lemmas.Option.{none-some}
+use Rattle.ldm_bytes.specs.Tables.{first_of}
 use Rattle.ldm_group.specs.Database.{Database}
 use Rattle.ldm_label.specs.declared.Label.{Label}
 use Rattle.ldm_label.specs.declared.LabelFault.{LabelFault}
@@ -19,7 +20,6 @@ use Rattle.ldm_found.specs.declared.found.Found.{Found}
 use Rattle.ldm_found.specs.declared.copies.Newest.{Newest}
 use Rattle.ldm_found.specs.declared.copies.Copies.{Copies}
 use Rattle.ldm_rules.specs.Table.{first_broken_rule, IsSound}
-use Rattle.ldm_found.specs.Editing.{first_of}
 use Rattle.ldm_found.specs.Gathers.{Gathers}
 use Rattle.ldm_found.specs.Labels.{IsLabelOf, AreApart, stranger}
 use Rattle.ldm_found.specs.Copies.{IsCopyIn, newest, Disagrees, note_of}

@@ -1,18 +1,13 @@
 -- Whether a group that was found may be edited.
 use Rattle.std.specs.Prelude.{ℕ, ◌+◌, ◌*◌, ◌||◌, max, min, nat_lt, Bool, List, [], ◌∷◌, length, Option, Some, None, find, position, if◌then◌else◌}
 use Rattle.std.specs.Option.{option_map}
+use Rattle.ldm_bytes.specs.Tables.{first_of}
 use Rattle.ldm_group.specs.Order.{id_of}
 use Rattle.ldm_group.specs.Database.{Database}
 use Rattle.ldm_label.specs.declared.Label.{Label}
 use Rattle.ldm_rules.specs.Present.{is_absent}
 use Rattle.ldm_found.specs.declared.fault.OpenFault.{OpenFault}
 use Rattle.ldm_found.specs.declared.fault.OpenFault.TheVariants as faults
-
--- the first fault of a table
-abbrev pub first_of : List (Option OpenFault) → Option OpenFault
-first_of [] = None
-first_of (None ∷ rest) = first_of rest
-first_of (Some fault ∷ rest) = Some fault
 
 -- the area is too small for a database whose last VBLK sequence is this
 abbrev pub is_small : ℕ → Label → Bool

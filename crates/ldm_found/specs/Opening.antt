@@ -2,6 +2,7 @@
 -- are looked for in this order: each step comes only where the one before found none.
 use Rattle.std.specs.Prelude.{◌≡◌, ℕ, List, [], ◌∷◌, map, zip, Option, Some, None, Result, Ok, Err}
 use Rattle.std.specs.Option.{option_map}
+use Rattle.ldm_bytes.specs.Tables.{first_of, unless}
 use Rattle.ldm_group.specs.Database.{Database}
 use Rattle.ldm_label.specs.declared.Label.{Label}
 use Rattle.ldm_label.specs.declared.LabelFault.{LabelFault}
@@ -15,7 +16,7 @@ use Rattle.ldm_found.specs.declared.found.Found.{Found}
 use Rattle.ldm_found.specs.Gathers.{Gathers, IsFirst}
 use Rattle.ldm_found.specs.Labels.{IsLabelOf, AreTwins, stranger}
 use Rattle.ldm_found.specs.Copies.{IsCopyIn, newest, Disagrees, note_of}
-use Rattle.ldm_found.specs.Editing.{first_of, blocked_in}
+use Rattle.ldm_found.specs.Editing.{blocked_in}
 
 -- what the database says that is at fault with these labels: an image of a strange disk, and then a broken rule
 unfoldable pub group_faults : Database → List Label → List (Option OpenFault)
@@ -23,10 +24,6 @@ group_faults db labels =
     option_map faults.Stranger (stranger db.records labels)
     ∷ option_map (λ broken. faults.Rule (record { rule = broken.0; id = broken.1 })) (first_broken_rule db.records labels)
     ∷ []
-
-abbrev pub unless : Option OpenFault → Found → Result Found OpenFault
-unless (Some fault) found = Err fault
-unless None found = Ok found
 
 -- the group of this database, with the first reason that it may not be edited
 abbrev pub found_with : Database → List Label → List Note → Found

@@ -1,9 +1,9 @@
 ghost use Rattle.std.specs.Prelude.{◌≡◌, None, length, position, is_none, All, IfOk, IfSome, OnOk};
+ghost use Rattle.ldm_bytes.specs.Tables.{first_of};
 ghost use Rattle.ldm_group.specs.Partitions.{EndsInRange};
 ghost use Rattle.ldm_copy.specs.Answers.{FitsHeader};
 ghost use Rattle.ldm_rules.specs.Disjoint.{AllLaidOut};
 ghost use Rattle.ldm_found.specs.Labels.{AreApart, stranger};
-ghost use Rattle.ldm_found.specs.Editing.{first_of};
 ghost use Rattle.ldm_found.specs.Opening.{group_faults};
 ghost use Rattle.ldm_found.specs.Facts.{IsSoundGroup};
 ghost use Rattle.ldm_found.specs.Steps.{ChecksGroup, Gives, group_from};

@@ -3,6 +3,7 @@ use Rattle.std.proofs.Common.{◌≡◌, ◌≢◌, inl, inr, ⊎_elim, ℕ, zer
 use Rattle.std.proofs.lemmas.List.{length-set, length-map, get_or-set_same, get_or-set_other, set-get_or, ext_get_or}
 use Rattle.std.proofs.lemmas.Bool.{cases_eq}
 use Rattle.std.specs.declared.alloc.Global.{Global}
+use Rattle.ldm_bytes.proofs.PlaceLaws.{length-put}
 use Rattle.ldm_host.specs.Seen.{Seen, Leaves, image}
 use Rattle.ldm_host.specs.Ending.{TakesNothing}
 use Rattle.ldm_host.specs.Moves.{Begins, Torn, TornAt, Later, Still, Settled, Writes, Syncs}
@@ -14,7 +15,7 @@ use Rattle.ldm_host.specs.declared.call.Call.TheVariants.{Write, Sync, Hear, Say
 use Rattle.ldm_host.specs.Story.{Disk, State, Agrees, MayLeave, LeftSince, Counts, disk_at, no_disk, written_disk, synced_disk, sizes_of, contents, after, run, seen_from}
 use Rattle.ldm_host.specs.StoryLaws.{image_at, one_each, stays, begins_both, counts_now, only_now, begins_itself}
 use Rattle.ldm_host.proofs.Grows.{CountsRise, run_push, moments, later}
-use Rattle.ldm_host.proofs.Ranges.{unwritten, torn_agrees, length-put, torn_put}
+use Rattle.ldm_host.proofs.Ranges.{unwritten, torn_agrees, torn_put}
 
 -- a list of disks with one changed, of the same length
 pub sizes_set : (disks : List Disk) (disk : ℕ) (d : Disk) → length d.content ≡ length (disk_at disks disk).content → sizes_of (set disks disk d) ≡ sizes_of disks
@@ -116,7 +117,7 @@ module _ (first : State) (calls : List Call) (script : List ℕ) (old new : Coun
     disks_are = ap (λ (s : State). s.disks) pushed
 
     whole : length wrote_to.content ≡ length (disk_at now.disks disk).content
-    whole = length-put (disk_at now.disks disk).content bytes.items at (omega (arith, short, fits))
+    whole = length-put (disk_at now.disks disk).content at bytes.items (omega (arith, short, fits))
 
     pub put_content : (run first (calls ++ call ∷ [])).disks ≡ set now.disks disk wrote_to → contents (run first (calls ++ call ∷ [])).disks ≡ set (contents now.disks) disk (put (image (contents now.disks) disk) at bytes.items)
     put_content is = ap contents is ∙ contents_set now.disks disk wrote_to ∙ ap (λ (l : List ℕ). set (contents now.disks) disk (put l at bytes.items)) (sym (image_at now.disks disk))

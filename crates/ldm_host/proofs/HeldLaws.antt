@@ -3,13 +3,15 @@ use Rattle.std.proofs.Common.{inl, inr, ℕ, zero, suc, ◌+◌, ◌≤◌, List
 use Rattle.std.proofs.lemmas.Bool.{cases_lt}
 use Rattle.std.proofs.Math.Seq.{take-nil}
 use Rattle.ldm_bytes.specs.Numbers.{IsBytes}
+use Rattle.ldm_bytes.proofs.PlaceLaws.{length-put}
+use Rattle.ldm_bytes.proofs.ByteLaws.{bytes_put}
 use Rattle.ldm_host.specs.Seen.{image}
 use Rattle.ldm_host.specs.Kept.{IsHeld}
 use Rattle.ldm_host.specs.declared.call.Call.{Call}
 use Rattle.ldm_host.specs.Story.{Disk, State, disk_at, written_disk, synced_disk, after, run, state_at, fresh_state}
 use Rattle.ldm_host.proofs.Relations.{torn_itself}
 use Rattle.ldm_host.proofs.Grows.{sooner, last}
-use Rattle.ldm_host.proofs.Ranges.{length-put, bytes_put, torn_agrees}
+use Rattle.ldm_host.proofs.Ranges.{torn_agrees}
 
 -- a disk with nothing pending
 clean : (bytes : List ℕ) → IsBytes bytes → IsHeld (record { content = bytes; synced = bytes; pending = [] })
@@ -18,7 +20,7 @@ clean bytes are = record { bytes = are; within = omega arith; old = record { siz
 pub held_written : (d : Disk) (at asked : ℕ) (taken : List ℕ) → length taken ≤ asked → at + asked ≤ length d.content → IsBytes taken → IsHeld d → IsHeld (written_disk d at taken asked)
 held_written d at asked taken short fits are held = record {
   bytes = bytes_put d.content taken at (omega (arith, short, fits)) held.bytes are;
-  within = omega (arith, length-put d.content taken at (omega (arith, short, fits)), held.within, fits);
+  within = omega (arith, length-put d.content at taken (omega (arith, short, fits)), held.within, fits);
   old = torn_agrees d at asked taken d.synced d.synced short fits held.old (torn_itself at asked d.synced) held.old.bytes;
 }
 

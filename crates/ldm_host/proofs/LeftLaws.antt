@@ -7,6 +7,8 @@ use Rattle.std.proofs.lemmas.List.{length-map, length-set, length-append, length
 use Rattle.std.specs.declared.alloc.Global.{Global}
 use Rattle.ldm_bytes.specs.Numbers.{IsBytes}
 use Rattle.ldm_bytes.specs.Places.{put}
+use Rattle.ldm_bytes.proofs.PlaceLaws.{length-put}
+use Rattle.ldm_bytes.proofs.ByteLaws.{put_before, put_behind, bytes_put}
 use Rattle.ldm_host.specs.Seen.{Leaves, image}
 use Rattle.ldm_host.specs.Images.{items_of}
 use Rattle.ldm_host.specs.declared.memory.MemoryHost.{MemoryHost}
@@ -21,7 +23,6 @@ use Rattle.ldm_host.specs.Memory.{memory_seen, story_of}
 use Rattle.ldm_host.specs.Kept.{IsHeld, reach}
 use Rattle.ldm_host.specs.Left.{filled, left_on, left_of, IsLastSync, taken_on, filled_on}
 use Rattle.ldm_host.proofs.Grows.{run_push}
-use Rattle.ldm_host.proofs.Ranges.{length-put, put_before, put_behind, bytes_put}
 
 -- ---- ranges filled with one byte
 
@@ -29,7 +30,7 @@ pub length-filled : (byte : ℕ) (ranges : List (ℕ × ℕ)) (bytes : List ℕ)
 length-filled byte [] bytes within = refl
 length-filled byte (range ∷ ranges) bytes within =
     let whole = length-filled byte ranges bytes (omega (arith, within)) in
-    length-put (filled byte ranges bytes) (replicate range.1 byte) range.0 (omega (arith, within, whole, length-replicate range.1 byte)) ∙ whole
+    length-put (filled byte ranges bytes) range.0 (replicate range.1 byte) (omega (arith, within, whole, length-replicate range.1 byte)) ∙ whole
 
 filled_bytes : (byte : ℕ) (ranges : List (ℕ × ℕ)) (bytes : List ℕ) → byte < 256 → reach ranges ≤ length bytes → IsBytes bytes → IsBytes (filled byte ranges bytes)
 filled_bytes byte [] bytes small within are = are

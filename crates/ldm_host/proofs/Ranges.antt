@@ -4,33 +4,9 @@ use Rattle.std.proofs.lemmas.List.{places, get_or-take, get_or-drop}
 use Rattle.ldm_host.specs.Moves.{Torn}
 use Rattle.ldm_bytes.specs.Numbers.{IsBytes}
 use Rattle.ldm_bytes.specs.Places.{put}
+use Rattle.ldm_bytes.proofs.PlaceLaws.{length-put}
+use Rattle.ldm_bytes.proofs.ByteLaws.{put_before, put_in, put_behind, sides}
 use Rattle.ldm_host.specs.Story.{Disk, Agrees, Outside, written_disk}
-
-module _ (old bytes : List ℕ) (at : ℕ) (fits : at + length bytes ≤ length old) where
-  pub length-put : length (put old at bytes) ≡ length old
-  length-put = search (rules, places)
-
-  pub put_before : (k : ℕ) → k < at → slice_index (put old at bytes) k ≡ slice_index old k
-  put_before k lt = search (rules, places)
-
-  pub put_in : (k : ℕ) → at ≤ k → k < at + length bytes → slice_index (put old at bytes) k ≡ slice_index bytes (k - at)
-  put_in k ge lt = search (rules, places)
-
-  pub put_behind : (k : ℕ) → at + length bytes ≤ k → slice_index (put old at bytes) k ≡ slice_index old k
-  put_behind k ge = search (rules, places)
-
-pub sides : (k at n : ℕ) → (k < at) ⊎ ((at ≤ k) × (k < at + n)) ⊎ (at + n ≤ k)
-sides k at n = grind arith
-
-pub bytes_put : (old bytes : List ℕ) (at : ℕ) → at + length bytes ≤ length old → IsBytes old → IsBytes bytes → IsBytes (put old at bytes)
-bytes_put old bytes at fits was are k =
-    elim (sides k at (length bytes)) [
-      | inl lt ↦ omega (arith, put_before old bytes at fits k lt, was k)
-      | inr rest ↦ elim rest [
-        | inl both ↦ omega (arith, put_in old bytes at fits k both.0 both.1, are (k - at))
-        | inr ge ↦ omega (arith, put_behind old bytes at fits k ge, was k)
-      ]
-    ]
 
 -- What may be left after a write, from what could be left before it: the content stood in the range.
 pub unwritten : (disk : Disk) (at asked : ℕ) (bytes c : List ℕ) → length bytes ≤ asked → at + asked ≤ length disk.content → IsBytes disk.content → Agrees (written_disk disk at bytes asked) c
@@ -44,7 +20,7 @@ unwritten disk at asked bytes c short fits small agrees = (b, before, torn)
     middle_len = search (rules, places)
 
     whole : length (put disk.content at bytes) ≡ length disk.content
-    whole = length-put disk.content bytes at (omega (arith, short, fits))
+    whole = length-put disk.content at bytes (omega (arith, short, fits))
 
     size : length c ≡ length disk.content
     size = agrees.size ∙ whole
@@ -85,14 +61,14 @@ unwritten disk at asked bytes c short fits small agrees = (b, before, torn)
         ]
 
     before : Agrees disk b
-    before = record { size = length-put c middle at b_fits ∙ size; bytes = b_bytes; outside = at_k }
+    before = record { size = length-put c at middle b_fits ∙ size; bytes = b_bytes; outside = at_k }
 
     torn : Torn at asked b c
-    torn = record { size = sym (length-put c middle at b_fits); outside = λ k side. sym (same k side) }
+    torn = record { size = sym (length-put c at middle b_fits); outside = λ k side. sym (same k side) }
 
 pub torn_put : (old bytes : List ℕ) (at asked : ℕ) → length bytes ≤ asked → at + asked ≤ length old → Torn at asked old (put old at bytes)
 torn_put old bytes at asked short fits = record {
-  size = length-put old bytes at (omega (arith, short, fits));
+  size = length-put old at bytes (omega (arith, short, fits));
   outside = λ k side. ⊎_elim (λ lt. put_before old bytes at (omega (arith, short, fits)) k lt) (λ ge. put_behind old bytes at (omega (arith, short, fits)) k (omega (arith, ge, short))) side;
 }
 

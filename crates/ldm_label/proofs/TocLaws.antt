@@ -5,6 +5,7 @@ use Rattle.std.specs.List.{cons_option, filter_map, list_any}
 use Rattle.std.proofs.lemmas.Bool.{ne_eqb}
 use Rattle.std.proofs.lemmas.List.{drop_all}
 use Rattle.std.proofs.lemmas.Bool.Decides.{nat_tests}
+use Rattle.ldm_bytes.specs.Tables.{unless}
 use Rattle.ldm_label.specs.declared.LabelFault.{LabelFault}
 use Rattle.ldm_label.specs.declared.LabelFault.TheVariants.{TocsDiffer, TocRange}
 use Rattle.ldm_label.specs.declared.toc.Toc.{Toc}
@@ -100,12 +101,18 @@ joined_first read first (x ∷ xs) = step_first first (read x) (filter_map read 
 abbrev common_of : List Toc → Result (Option Toc) LabelFault
 common_of tocs = answer ((TocsDiffer, some_differ tocs) ∷ []) (slice_get tocs 0)
 
+one_row : (differ : Bool) (value : Option Toc) → unless (cond differ (Some TocsDiffer) None) value ≡ cond differ (Err TocsDiffer) (Ok value)
+one_row true value = refl
+one_row false value = refl
+
 step_none : (toc : Option Toc) (more : List Toc) (f : Option Toc → Result (Option Toc) LabelFault)
     → f None ≡ common_of more
     → ((first : Toc) → f (Some first) ≡ cond (differ_from first more) (Err TocsDiffer) (Ok (Some first)))
     → after (joined None toc) f ≡ common_of (cons_option toc more)
 step_none None more f none some = none
-step_none (Some first) more f none some = some first ∙ ap (λ (b : Bool). cond b (Err TocsDiffer) (Ok (Some first))) (sym (by_first (differ_from first more) first more refl))
+step_none (Some first) more f none some =
+    some first ∙ ap (λ (b : Bool). cond b (Err TocsDiffer) (Ok (Some first))) (sym (by_first (differ_from first more) first more refl))
+    ∙ sym (one_row (some_differ (first ∷ more)) (Some first))
 
 none_differ : some_differ [] ≡ false
 unfolding some_differ
@@ -147,11 +154,11 @@ module _ (image : List ℕ) (start : ℕ) (common : Option Toc) (i : ℕ)
 some_toc : (toc : Toc) (tocs : List Toc) → nat_eq (length (toc ∷ tocs)) 0 ≡ false
 some_toc toc tocs = ne_eqb (length (toc ∷ tocs)) 0 (omega arith)
 
-no_err : {A : Type 0} (differ : Bool) (fault : LabelFault) (none : A) → differ ≡ false → cond differ (Err TocsDiffer) (Ok none) ≡ Err fault → ⊥
+no_err : {A : Type 0} (differ : Bool) (fault : LabelFault) (none : A) → differ ≡ false → unless (cond differ (Some TocsDiffer) None) none ≡ Err fault → ⊥
 no_err true fault none e h = absurd cc
 no_err false fault none e h = absurd cc
 
-no_common : {A : Type 0} (differ : Bool) (none common : A) → cond differ (Err TocsDiffer) (Ok none) ≡ Ok common → none ≡ common
+no_common : {A : Type 0} (differ : Bool) (none common : A) → unless (cond differ (Some TocsDiffer) None) none ≡ Ok common → none ≡ common
 no_common true none common h = absurd cc
 no_common false none common h = cc
 
@@ -161,8 +168,8 @@ unfolding toc_faults
 tocs_err {A = A} [] fault value e = absurd (no_err (some_differ []) fault (slice_get {X = Toc} [] 0) none_differ e)
 tocs_err {A = A} (toc ∷ tocs) fault value e = rw (some_toc toc tocs) (there (some_differ (toc ∷ tocs)) e)
   where
-    there : (differ : Bool) → cond differ (Err TocsDiffer) (Ok (Some toc)) ≡ Err fault
-        → cond differ (Err TocsDiffer) (cond (is_out_of_database toc) (Err TocRange) (Ok value)) ≡ Err fault
+    there : (differ : Bool) → unless (cond differ (Some TocsDiffer) None) (Some toc) ≡ Err fault
+        → unless (cond differ (Some TocsDiffer) (cond (is_out_of_database toc) (Some TocRange) None)) value ≡ Err fault
     there true h = cc
     there false h = absurd cc
 
@@ -177,12 +184,12 @@ unfolding toc_faults
 tocs_ok {A = A} [] common value e = let is = no_common (some_differ []) (slice_get {X = Toc} [] 0) common e in rw (← is) refl
 tocs_ok {A = A} (toc ∷ tocs) common value e = rw (some_toc toc tocs) (there (some_differ (toc ∷ tocs)) e)
   where
-    range : (out : Bool) → cond out (Err TocRange) (Ok value) ≡ checked_of (cond out (Err TocRange) (Ok toc)) value
+    range : (out : Bool) → unless (cond out (Some TocRange) None) value ≡ checked_of (cond out (Err TocRange) (Ok toc)) value
     range true = refl
     range false = refl
 
-    there : (differ : Bool) → cond differ (Err TocsDiffer) (Ok (Some toc)) ≡ Ok common
-        → cond differ (Err TocsDiffer) (cond (is_out_of_database toc) (Err TocRange) (Ok value)) ≡ checked_of (in_database common) value
+    there : (differ : Bool) → unless (cond differ (Some TocsDiffer) None) (Some toc) ≡ Ok common
+        → unless (cond differ (Some TocsDiffer) (cond (is_out_of_database toc) (Some TocRange) None)) value ≡ checked_of (in_database common) value
     there true h = absurd cc
     there false h = let is : Some toc ≡ common = cc in rw (← is) (range (is_out_of_database toc))
 

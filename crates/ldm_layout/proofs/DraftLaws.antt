@@ -6,6 +6,7 @@ use Rattle.std.proofs.lemmas.List.{length-map}
 use Rattle.std.proofs.lemmas.List.Elements.{All-cons, All-tail, All-filter, filter_passes}
 use Rattle.std.proofs.lemmas.List.Folds.{list_any_at}
 use Rattle.std.proofs.lemmas.Bool.{eqb-true, eq-eqb}
+use Rattle.ldm_bytes.specs.Tables.{unless}
 use Rattle.ldm_records.specs.declared.types.Record.{Record}
 use Rattle.ldm_records.specs.declared.types.Record.TheVariants as kinds
 use Rattle.ldm_records.specs.declared.types.Volume.{Volume}
@@ -13,7 +14,7 @@ use Rattle.ldm_layout.specs.Answers.{PlansAs, AllEnd, IsPlan}
 use Rattle.ldm_layout.specs.Layouts.{Layout, is_tiled, first_fault, copies_by}
 use Rattle.ldm_group.specs.Partitions.{EndsInRange}
 use Rattle.ldm_layout.specs.Parts.{plexes_of, extent_in, extent_of, extents_of, insert_by, in_rising, by_offset, by_index, tile_key, is_partition_of}
-use Rattle.ldm_layout.specs.Volumes.{is_basic, shape_of, striping_of, laid_out, draft_of, unless_faulty, checked, layout_of}
+use Rattle.ldm_layout.specs.Volumes.{is_basic, shape_of, striping_of, laid_out, draft_of, checked, layout_of}
 use Rattle.ldm_layout.specs.declared.parts.Extent.{Extent}
 use Rattle.ldm_layout.specs.declared.parts.Plex.{Plex}
 use Rattle.ldm_layout.specs.declared.shape.LayoutError.{LayoutError}
@@ -144,7 +145,7 @@ checked_ok : (o : Option Layout) (l : Layout) → checked o ≡ Ok l → (o ≡ 
 checked_ok None l h = absurd cc
 checked_ok (Some d) l h = go (first_fault d) refl h
   where
-    go : (f : Option LayoutFault) → first_fault d ≡ f → unless_faulty d f ≡ Ok l → (Some d ≡ Some l) × (first_fault l ≡ None)
+    go : (f : Option LayoutFault) → first_fault d ≡ f → unless f d ≡ Ok l → (Some d ≡ Some l) × (first_fault l ≡ None)
     go (Some f) is e = absurd cc
     go None is e = (let same : d ≡ l = cc in (ap (λ (x : Layout). Some x) same, ap first_fault (sym same) ∙ is))
 

@@ -2,15 +2,16 @@
 use Rattle.std.proofs.Common.{◌≡◌, ℕ, zero, suc, ◌<◌, ◌≤◌, ◌==◌, ◌&&◌, not, Bool, true, false, List, [], ◌∷◌, length, get_or, refl, arith, nat_le, None}
 use Rattle.std.specs.List.{list_all}
 use Rattle.std.proofs.lemmas.Bool.{and_parts, leb-true, ltb-false, eqb-false}
+use Rattle.ldm_bytes.specs.Tables as tables
 use Rattle.ldm_layout.proofs.ColumnLaws.{least_at}
 use Rattle.ldm_layout.specs.Answers.{IsPlan, IsPlexOf}
-use Rattle.ldm_layout.specs.Layouts.{Layout, is_tiled, has_gap, lacks_chunk, lacks_columns, has_columns, is_short, fewest, plex_capacity, capacity_of, first_of, first_fault}
+use Rattle.ldm_layout.specs.Layouts.{Layout, is_tiled, has_gap, lacks_chunk, lacks_columns, has_columns, is_short, fewest, plex_capacity, capacity_of, first_fault}
 use Rattle.ldm_layout.specs.Parts.{tiles, rises_from}
 use Rattle.ldm_layout.specs.declared.parts.Extent.{Extent}
 use Rattle.ldm_layout.specs.declared.shape.LayoutFault.{LayoutFault}
 use Rattle.ldm_layout.specs.declared.shape.LayoutFault.TheVariants.{Gap, Chunk, Columns, Short}
 
-not_first : (f : LayoutFault) (b : Bool) (rest : List (LayoutFault × Bool)) → first_of ((f, b) ∷ rest) ≡ None → (b ≡ false) × (first_of rest ≡ None)
+not_first : (f : LayoutFault) (b : Bool) (rest : List (LayoutFault × Bool)) → tables.first_fault ((f, b) ∷ rest) ≡ None → (b ≡ false) × (tables.first_fault rest ≡ None)
 not_first f true rest h = absurd cc
 not_first f false rest h = (refl, h)
 

@@ -1,7 +1,8 @@
 -- A layout, its faults, and where its sectors lie.
-use Rattle.std.specs.Prelude.{ℕ, ◌+◌, ◌-◌, ◌==◌, ◌&&◌, not, Bool, true, false, List, [], ◌∷◌, length, map, sum_by, Option, Some, None, find, slice_get, nat_lt, nat_le, option_and_then}
+use Rattle.std.specs.Prelude.{ℕ, ◌+◌, ◌-◌, ◌==◌, ◌&&◌, not, Bool, true, false, List, [], ◌∷◌, length, map, sum_by, Option, None, find, slice_get, nat_lt, nat_le, option_and_then}
 use Rattle.std.specs.List.{list_all}
 use Rattle.std.specs.Option.{option_map}
+use Rattle.ldm_bytes.specs.Tables as tables
 use Rattle.ldm_layout.specs.Places.{stripe_capacity, stripe_column, stripe_offset, raid5_capacity, raid5_row, parity_column, raid5_column, raid5_offset}
 use Rattle.ldm_layout.specs.Parts.{tiles, rises_from, least}
 use Rattle.ldm_layout.specs.declared.parts.Extent.{Extent}
@@ -65,13 +66,8 @@ abbrev pub faults_of : Layout → List (LayoutFault × Bool)
 faults_of l = (Gap, has_gap l) ∷ (Chunk, lacks_chunk l) ∷ (Columns, lacks_columns l) ∷ (Short, is_short l) ∷ []
 
 -- the first that there is
-abbrev pub first_of : List (LayoutFault × Bool) → Option LayoutFault
-first_of [] = None
-first_of ((f, true) ∷ rest) = Some f
-first_of ((f, false) ∷ rest) = first_of rest
-
 abbrev pub first_fault : Layout → Option LayoutFault
-first_fault l = first_of (faults_of l)
+first_fault l = tables.first_fault (faults_of l)
 
 -- ---- places
 

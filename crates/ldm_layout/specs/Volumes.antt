@@ -3,6 +3,7 @@ use Rattle.std.specs.Prelude.{ℕ, ◌==◌, Bool, List, [], ◌∷◌, map, Opt
 use Rattle.std.specs.List.{list_all, filter_map}
 use Rattle.std.specs.Option.{option_map}
 use Rattle.std.specs.Result.{result_ok}
+use Rattle.ldm_bytes.specs.Tables.{unless}
 use Rattle.ldm_records.specs.declared.pieces.Striping.{Striping}
 use Rattle.ldm_records.specs.declared.types.Record.{Record}
 use Rattle.ldm_records.specs.declared.types.Record.TheVariants as kinds
@@ -52,13 +53,9 @@ draft_of size plexes extents = option_map (λ shape. record {
 }) (shape_of plexes)
 
 -- a layout, or its first fault
-abbrev pub unless_faulty : Layout → Option LayoutFault → Result Layout LayoutFault
-unless_faulty l None = Ok l
-unless_faulty l (Some f) = Err f
-
 abbrev pub checked : Option Layout → Result Layout LayoutFault
 checked None = Err Unknown
-checked (Some l) = unless_faulty l (first_fault l)
+checked (Some l) = unless (first_fault l) l
 
 -- the layout of a volume, or its first fault
 unfoldable pub layout_of : List Record → Volume → Result Layout LayoutFault

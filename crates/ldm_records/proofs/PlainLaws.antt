@@ -6,12 +6,13 @@ use Rattle.byteorder.specs.Endian.{big_number, big_bytes}
 use Rattle.byteorder.specs.Numbers.{big_from-lt, big_number-reads_back}
 use Rattle.ldm_bytes.proofs.NumberLaws.{guard_some, some_is}
 use Rattle.ldm_bytes.specs.Numbers.{IsBytes}
+use Rattle.ldm_bytes.proofs.ByteLaws.{IsBytes-take, IsBytes-drop}
 use Rattle.ldm_records.specs.Values.{own_values}
 use Rattle.ldm_records.specs.Table.{kinds_of}
 use Rattle.ldm_records.specs.Plain.{Plain, head_bytes, own_spelling, own_body, body_len, IsRecord, Spells}
 use Rattle.ldm_records.specs.Steps.{◌>>=◌, read_values, with_room, made, fields_at, typed_at, plain_at}
 use Rattle.ldm_bytes.proofs.BigLaws.{big_back}
-use Rattle.ldm_records.proofs.ValueLaws.{IsBytes-take, IsBytes-drop, bind_some, values_take, values_again, own_values-spell, own_values-len}
+use Rattle.ldm_records.proofs.ValueLaws.{bind_some, values_take, values_again, own_values-spell, own_values-len}
 
 pub own_body_len : (p : Plain) → length (own_body p) ≡ body_len p
 own_body_len p = omega (arith, length-append (own_values p.fields) p.tail, own_values-len p.fields)

@@ -1,7 +1,7 @@
 -- Fields that are read are spelled so, and fields that are spelled are read.
-use Rattle.std.proofs.Common.{◌≡◌, ℕ, suc, ◌+◌, ◌^◌, ◌<◌, ◌≤◌, true, false, ltb, List, [], ◌∷◌, ◌++◌, length, take, drop, Option, Some, None, refl, sym, ap, subst, ◌∙◌, append_assoc, arith, inl, inr}
-use Rattle.std.proofs.lemmas.Bool.{ltb-false, le-ltb, cases_lt}
-use Rattle.std.proofs.lemmas.List.{take_at, drop_at, take-append-drop, length-append, length-take, length-take-le, get_or-take, get_or_past, get_or-append-add, get_or_append_left}
+use Rattle.std.proofs.Common.{◌≡◌, ℕ, suc, ◌+◌, ◌^◌, ◌<◌, ◌≤◌, true, false, ltb, List, [], ◌∷◌, ◌++◌, length, take, drop, Option, Some, None, refl, sym, ap, subst, ◌∙◌, append_assoc, arith}
+use Rattle.std.proofs.lemmas.Bool.{ltb-false, le-ltb}
+use Rattle.std.proofs.lemmas.List.{take_at, drop_at, take-append-drop, length-append, length-take-le}
 use Rattle.std.proofs.Math.Nat.{pow-le-pow_right}
 use Rattle.byteorder.specs.Endian.{big_number, big_bytes}
 use Rattle.byteorder.specs.Numbers.{big_from-lt, big_number-reads_back, length-bytes_high_first}
@@ -10,28 +10,9 @@ use Rattle.ldm_bytes.specs.Guid.{guid_of, own_guid}
 use Rattle.ldm_bytes.proofs.GuidLaws.{guid_small, guid_again, own_guid-len}
 use Rattle.ldm_bytes.proofs.BigLaws.{big_back}
 use Rattle.ldm_bytes.proofs.NumberLaws.{guard_some, some_is, number_takes, number_again, text_takes, text_again, own_number-is_number}
+use Rattle.ldm_bytes.proofs.ByteLaws.{IsBytes-back, IsBytes-front}
 use Rattle.ldm_records.specs.Values.{Value, Fixed, Wide, GuidText, Number, Text, Absent, Kind, FixedKind, WideKind, GuidKind, NumberKind, TextKind, When, HasKind, HasKinds, SpellsValue, SpellsValues, own_value, own_values, value_len, values_len}
 use Rattle.ldm_records.specs.Steps.{◌>>=◌, read_value, read_values}
-
-pub IsBytes-take : (n : ℕ) (bytes : List ℕ) → IsBytes bytes → IsBytes (take n bytes)
-IsBytes-take n bytes h i =
-    elim (cases_lt i n) [
-      | inl lt ↦ rw (get_or-take n bytes i 0 lt) (h i)
-      | inr le ↦ rw (get_or_past (take n bytes) i 0 (omega (arith, length-take n bytes))) (omega arith)
-    ]
-
-pub IsBytes-back : (a b : List ℕ) → IsBytes (a ++ b) → IsBytes b
-IsBytes-back a b h i = rw (← get_or-append-add a b i 0) (h (length a + i))
-
-pub IsBytes-drop : (n : ℕ) (bytes : List ℕ) → IsBytes bytes → IsBytes (drop n bytes)
-IsBytes-drop n bytes h = IsBytes-back (take n bytes) (drop n bytes) (subst IsBytes (sym (take-append-drop n bytes)) h)
-
-IsBytes-front : (a b : List ℕ) → IsBytes (a ++ b) → IsBytes a
-IsBytes-front a b h i =
-    elim (cases_lt i (length a)) [
-      | inl lt ↦ rw (← get_or_append_left a b 0 i lt) (h i)
-      | inr le ↦ rw (get_or_past a i 0 le) (omega arith)
-    ]
 
 -- the value of a step that did not fail
 pub bind_some : {A B : Type 0} (r : Option A) (f : A → Option B) (y : B) → (r >>= f) ≡ Some y → (x : A) × (r ≡ Some x) × (f x ≡ Some y)

@@ -3,6 +3,7 @@
 use Rattle.std.proofs.Common.{◌≡◌, ℕ, ◌^◌, ◌<◌, not, Bool, true, false, List, [], ◌∷◌, refl, Option, Some, None, Result, Ok, Err, OnOk, Contains}
 use Rattle.std.specs.List.{All, filter_map}
 use Rattle.std.specs.Prelude.{count_by}
+use Rattle.ldm_bytes.specs.Tables.{first_of}
 use Rattle.ldm_records.specs.declared.types.Record.{Record}
 use Rattle.ldm_records.specs.declared.types.Record.TheVariants as kinds
 use Rattle.ldm_records.specs.declared.types.Volume.{Volume}
@@ -19,7 +20,7 @@ use Rattle.ldm_rules.proofs.DisjointLaws.{places_apart, places_beside, parities_
 use Rattle.ldm_rules.specs.Disjoint.{HasLayout, AllLaidOut, HasDisjointPlaces}
 use Rattle.ldm_rules.specs.Ends.{data_size}
 use Rattle.ldm_rules.specs.Rules.{first_broken, group_id, group_fault, has_twin_guid, has_namesake, lacks_volume, lacks_component, lacks_disk, miscounts_components, miscounts_partitions, fails, is_short, is_empty, passes_end, meets_another, has_layout_fault, passes_layout}
-use Rattle.ldm_rules.specs.Table.{first_fault, first_broken_rule, name_rules, tree_rules, sector_rules, ChecksAs, IsSound}
+use Rattle.ldm_rules.specs.Table.{broken_at, first_broken_rule, name_rules, tree_rules, sector_rules, ChecksAs, IsSound}
 use Rattle.ldm_rules.specs.declared.fault.RuleError.{RuleError}
 use Rattle.ldm_rules.specs.declared.fault.RuleError.TheVariants.{Fault, NoMemory}
 
@@ -40,11 +41,11 @@ pub record EachRule (records : List Record) (labels : List Label) : Type 0 where
   pub layouts : first_broken (has_layout_fault records) records ≡ None
   pub capacities : first_broken (passes_layout records) records ≡ None
 
-abbrev table : Option ℕ → Option ℕ → Option ℕ → Option ℕ → Option ℕ → Option ℕ → Option ℕ → Option ℕ → Option ℕ → Option ℕ → Option ℕ → Option ℕ → Option ℕ → List (ℕ × Option ℕ)
-table a b c d e f g h i j k l m = (1, a) ∷ ((2, b) ∷ ((3, c) ∷ ((4, d) ∷ ((5, e) ∷ ((6, f) ∷ ((7, g) ∷ ((8, h) ∷ ((9, i) ∷ ((10, j) ∷ ((11, k) ∷ ((12, l) ∷ ((13, m) ∷ []))))))))))))
+abbrev table : Option ℕ → Option ℕ → Option ℕ → Option ℕ → Option ℕ → Option ℕ → Option ℕ → Option ℕ → Option ℕ → Option ℕ → Option ℕ → Option ℕ → Option ℕ → List (Option (ℕ × ℕ))
+table a b c d e f g h i j k l m = broken_at 1 a ∷ (broken_at 2 b ∷ (broken_at 3 c ∷ (broken_at 4 d ∷ (broken_at 5 e ∷ (broken_at 6 f ∷ (broken_at 7 g ∷ (broken_at 8 h ∷ (broken_at 9 i ∷ (broken_at 10 j ∷ (broken_at 11 k ∷ (broken_at 12 l ∷ (broken_at 13 m ∷ []))))))))))))
 
 all_none : (a b c d e f g h i j k l m : Option ℕ) → a ≡ None → b ≡ None → c ≡ None → d ≡ None → e ≡ None → f ≡ None → g ≡ None → h ≡ None → i ≡ None → j ≡ None → k ≡ None → l ≡ None → m ≡ None
-    → first_fault (table a b c d e f g h i j k l m) ≡ None
+    → first_of (table a b c d e f g h i j k l m) ≡ None
 all_none a b c d e f g h i j k l m A B C D E F G H I J K L M = rw (A, B, C, D, E, F, G, H, I, J, K, L, M)
 
 -- no rule is broken where each is kept
@@ -53,7 +54,7 @@ unfolding first_broken_rule name_rules tree_rules sector_rules
 sound_from records labels each =
     all_none _ _ _ _ _ _ _ _ _ _ _ _ _ each.one_group each.guids each.names each.volumes each.components each.disks each.component_counts each.partition_counts each.sizes each.ends each.meetings each.layouts each.capacities
 
-next_none : (rule : ℕ) (o : Option ℕ) (rest : List (ℕ × Option ℕ)) → first_fault ((rule, o) ∷ rest) ≡ None → (o ≡ None) × (first_fault rest ≡ None)
+next_none : (rule : ℕ) (o : Option ℕ) (rest : List (Option (ℕ × ℕ))) → first_of (broken_at rule o ∷ rest) ≡ None → (o ≡ None) × (first_of rest ≡ None)
 next_none rule None rest h = (refl, h)
 next_none rule (Some id) rest h = absurd cc
 

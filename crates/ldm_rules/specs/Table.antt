@@ -1,6 +1,8 @@
 -- The rules of a sound group, in their order.
 use Rattle.std.specs.Prelude.{◌≡◌, ℕ, List, [], ◌∷◌, ◌++◌, Option, Some, None, Result, Ok, Err, count_by}
 use Rattle.std.specs.List.{filter_map}
+use Rattle.std.specs.Option.{option_map}
+use Rattle.ldm_bytes.specs.Tables.{first_of}
 use Rattle.ldm_records.specs.declared.types.Record.{Record}
 use Rattle.ldm_group.specs.Looks.{is_at, is_disk_with, is_volume_named, children_of}
 use Rattle.ldm_label.specs.declared.Label.{Label}
@@ -9,46 +11,44 @@ use Rattle.ldm_rules.specs.Ends.{data_size}
 use Rattle.ldm_rules.specs.declared.fault.RuleError.{RuleError}
 use Rattle.ldm_rules.specs.declared.fault.RuleError.TheVariants.{Fault, NoMemory}
 
--- each rule with the least id at which it is broken: those on the group record, GUIDs and names,
-unfoldable pub name_rules : List Record → List (ℕ × Option ℕ)
+-- the rule, with the least id at which it is broken
+abbrev pub broken_at : ℕ → Option ℕ → Option (ℕ × ℕ)
+broken_at rule id = option_map (λ id. (rule, id)) id
+
+-- each rule: those on the group record, GUIDs and names,
+unfoldable pub name_rules : List Record → List (Option (ℕ × ℕ))
 name_rules records =
-    (1, group_fault (filter_map group_id records))
-    ∷ (2, first_broken (has_twin_guid (λ guid. count_by (is_disk_with guid) records)) records)
-    ∷ (3, first_broken (has_namesake (λ name. count_by (is_volume_named name) records)) records)
+    broken_at 1 (group_fault (filter_map group_id records))
+    ∷ broken_at 2 (first_broken (has_twin_guid (λ guid. count_by (is_disk_with guid) records)) records)
+    ∷ broken_at 3 (first_broken (has_namesake (λ name. count_by (is_volume_named name) records)) records)
     ∷ []
 
 -- on parents and children,
-unfoldable pub tree_rules : List Record → List (ℕ × Option ℕ)
+unfoldable pub tree_rules : List Record → List (Option (ℕ × ℕ))
 tree_rules records =
-    (4, first_broken (lacks_volume (λ id. count_by (is_at 3 id) records)) records)
-    ∷ (5, first_broken (lacks_component (λ id. count_by (is_at 4 id) records)) records)
-    ∷ (6, first_broken (lacks_disk (λ id. count_by (is_at 2 id) records)) records)
-    ∷ (7, first_broken (miscounts_components (λ id. children_of 3 id records)) records)
-    ∷ (8, first_broken (miscounts_partitions (λ id. children_of 4 id records)) records)
+    broken_at 4 (first_broken (lacks_volume (λ id. count_by (is_at 3 id) records)) records)
+    ∷ broken_at 5 (first_broken (lacks_component (λ id. count_by (is_at 4 id) records)) records)
+    ∷ broken_at 6 (first_broken (lacks_disk (λ id. count_by (is_at 2 id) records)) records)
+    ∷ broken_at 7 (first_broken (miscounts_components (λ id. children_of 3 id records)) records)
+    ∷ broken_at 8 (first_broken (miscounts_partitions (λ id. children_of 4 id records)) records)
     ∷ []
 
 -- and on sectors
-unfoldable pub sector_rules : List Record → List Label → List (ℕ × Option ℕ)
+unfoldable pub sector_rules : List Record → List Label → List (Option (ℕ × ℕ))
 sector_rules records labels =
-    (9, first_broken is_empty records)
-    ∷ (10, first_broken (passes_end (data_size labels records)) records)
-    ∷ (11, first_broken (meets_another records) records)
-    ∷ (12, first_broken (has_layout_fault records) records)
-    ∷ (13, first_broken (passes_layout records) records)
+    broken_at 9 (first_broken is_empty records)
+    ∷ broken_at 10 (first_broken (passes_end (data_size labels records)) records)
+    ∷ broken_at 11 (first_broken (meets_another records) records)
+    ∷ broken_at 12 (first_broken (has_layout_fault records) records)
+    ∷ broken_at 13 (first_broken (passes_layout records) records)
     ∷ []
 
-abbrev pub rule_faults : List Record → List Label → List (ℕ × Option ℕ)
+abbrev pub rule_faults : List Record → List Label → List (Option (ℕ × ℕ))
 rule_faults records labels = name_rules records ++ (tree_rules records ++ sector_rules records labels)
-
--- the first that is broken
-abbrev pub first_fault : List (ℕ × Option ℕ) → Option (ℕ × ℕ)
-first_fault [] = None
-first_fault ((rule, None) ∷ rest) = first_fault rest
-first_fault ((rule, Some id) ∷ rest) = Some (rule, id)
 
 -- the first broken rule, and the least id at which it is broken
 unfoldable pub first_broken_rule : List Record → List Label → Option (ℕ × ℕ)
-first_broken_rule records labels = first_fault (rule_faults records labels)
+first_broken_rule records labels = first_of (rule_faults records labels)
 
 abbrev pub IsSound : List Record → List Label → Type 0
 IsSound records labels = first_broken_rule records labels ≡ None

@@ -1,7 +1,8 @@
 ghost use Rattle.std.specs.Prelude.{◌≡◌, All, OnOk};
+ghost use Rattle.ldm_bytes.specs.Tables.{first_of};
 ghost use Rattle.ldm_group.specs.Partitions.{EndsInRange};
 ghost use Rattle.ldm_rules.specs.Disjoint.{AllLaidOut};
-ghost use Rattle.ldm_rules.specs.Table.{ChecksAs, first_fault, first_broken_rule, name_rules, tree_rules, sector_rules};
+ghost use Rattle.ldm_rules.specs.Table.{ChecksAs, first_broken_rule, name_rules, tree_rules, sector_rules};
 ghost use Rattle.ldm_rules.specs.declared.fault.RuleError.TheVariants.{Fault};
 
 use crate::counted::{
@@ -27,7 +28,7 @@ fn broken(rule: u8, id: u64) -> RuleError
 
 #[tactic(auto, unfolding(crate::specs::Table::name_rules))]
 fn check_names(alloc: Global, db: &Db) -> Result<(), RuleError>
-    ensures { ChecksAs result (first_fault (name_rules db.now.records)) }
+    ensures { ChecksAs result (first_of (name_rules db.now.records)) }
 {
     if let Some(id) = not_one_group(alloc, db)? {
         return Err(broken(1, id));
@@ -43,7 +44,7 @@ fn check_names(alloc: Global, db: &Db) -> Result<(), RuleError>
 
 #[tactic(auto, unfolding(crate::specs::Table::tree_rules))]
 fn check_tree(alloc: Global, db: &Db) -> Result<(), RuleError>
-    ensures { ChecksAs result (first_fault (tree_rules db.now.records)) }
+    ensures { ChecksAs result (first_of (tree_rules db.now.records)) }
 {
     if let Some(id) = orphan_component(alloc, db)? {
         return Err(broken(4, id));
@@ -65,7 +66,7 @@ fn check_tree(alloc: Global, db: &Db) -> Result<(), RuleError>
 
 #[tactic(auto, unfolding(crate::specs::Table::sector_rules))]
 fn check_sectors(alloc: Global, db: &Db, labels: &Labels) -> Result<(), RuleError>
-    ensures is { ChecksAs result (first_fault (sector_rules db.now.records labels.now)) }
+    ensures is { ChecksAs result (first_of (sector_rules db.now.records labels.now)) }
     ensures ends { OnOk result (All EndsInRange db.now.records) }
 {
     if let Some(id) = empty(db) {

@@ -1,7 +1,8 @@
 -- What reading a header answers, and what is written for a header.
-use Rattle.std.specs.Prelude.{◌≡◌, ℕ, not, Bool, List, [], ◌∷◌, ◌++◌, if◌then◌else◌, Option, Some, None, Result, Ok, Err, is_some}
+use Rattle.std.specs.Prelude.{◌≡◌, ℕ, not, Bool, List, [], ◌∷◌, ◌++◌, Option, Some, None, Result, Ok, Err, is_some}
 use Rattle.byteorder.specs.Endian.{big_bytes}
 use Rattle.ldm_bytes.specs.Places.{put}
+use Rattle.ldm_bytes.specs.Tables.{first_fault}
 use Rattle.ldm_vmdb.specs.declared.header.Header.{Header}
 use Rattle.ldm_vmdb.specs.declared.header.Counts.{Counts}
 use Rattle.ldm_vmdb.specs.declared.header.VmdbFault.{VmdbFault}
@@ -22,13 +23,9 @@ vmdb_faults sector area_sectors =
     ∷ (Guid, not (is_some (group_guid sector)))
     ∷ []
 
-abbrev pub first_of : List (VmdbFault × Bool) → Option VmdbFault
-first_of [] = None
-first_of (fault ∷ faults) = if fault.1 then Some fault.0 else first_of faults
-
 -- the first fault of the sector in an area of so many sectors
 unfoldable pub vmdb_fault : List ℕ → ℕ → Option VmdbFault
-vmdb_fault sector area_sectors = first_of (vmdb_faults sector area_sectors)
+vmdb_fault sector area_sectors = first_fault (vmdb_faults sector area_sectors)
 
 -- the four counts of a kind, one after the other
 abbrev pub counts_bytes : Counts → List ℕ

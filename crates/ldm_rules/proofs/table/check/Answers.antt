@@ -1,5 +1,6 @@
 use Rattle.std.proofs.Common.{rules, ◌≡◌, ◌∙◌, ◌++◌, Err, sym, subst}
-use Rattle.ldm_rules.specs.Table.{ChecksAs, first_broken_rule, first_fault, name_rules, tree_rules, sector_rules}
+use Rattle.ldm_bytes.specs.Tables.{first_of}
+use Rattle.ldm_rules.specs.Table.{ChecksAs, first_broken_rule, name_rules, tree_rules, sector_rules}
 use Rattle.ldm_rules.proofs.SoundLaws.{checked_layouts}
 use Rattle.ldm_rules.proofs.TableLaws.{failed, in_rest}
 use Rattle.ldm_rules.proofs.table.check.Goals as goal
@@ -9,7 +10,7 @@ unfolding first_broken_rule
 returns-in_err-check_names-clause-is c =
     let rest = tree_rules c.args.db.now.records ++ sector_rules c.args.db.now.records c.args.labels.now in
     let same : c.from_residual.result ≡ Err c.in_err-check_names.field-0.0 = search rules in
-    subst (λ r. ChecksAs r (first_fault (name_rules c.args.db.now.records ++ rest))) (sym same)
+    subst (λ r. ChecksAs r (first_of (name_rules c.args.db.now.records ++ rest))) (sym same)
     (failed (name_rules c.args.db.now.records) rest c.in_err-check_names.field-0.0 c.in_err-check_names.ensures)
 
 pub returns-in_err-check_tree-clause-is : goal.returns-in_err-check_tree-clause-is
@@ -18,7 +19,7 @@ returns-in_err-check_tree-clause-is c =
     let rest = tree_rules c.args.db.now.records ++ sector_rules c.args.db.now.records c.args.labels.now in
     let same : c.from_residual-in_err-check_tree.result ≡ Err c.in_err-check_tree.field-0.0 = search rules in
     let skipped = in_rest (name_rules c.args.db.now.records) rest c.in_ok-check_names.ensures in
-    subst (λ r. ChecksAs r (first_fault (name_rules c.args.db.now.records ++ rest))) (sym same)
+    subst (λ r. ChecksAs r (first_of (name_rules c.args.db.now.records ++ rest))) (sym same)
     (subst (ChecksAs (Err c.in_err-check_tree.field-0.0)) (sym skipped)
     (failed (tree_rules c.args.db.now.records) (sector_rules c.args.db.now.records c.args.labels.now) c.in_err-check_tree.field-0.0 c.in_err-check_tree.ensures))
 
