@@ -3,11 +3,13 @@ use Rattle.std.proofs.Common.{◌≡◌, inl, inr, ℕ, zero, suc, ◌+◌, ◌<
 use Rattle.std.specs.List.{All, Contains}
 use Rattle.std.proofs.lemmas.List.Elements.{All-cons, All-tail, All-nil, Contains-get_or}
 use Rattle.std.proofs.lemmas.Bool.{ne_eqb, eq-eqb, cases_eq}
+use Rattle.ldm_records.specs.declared.types.Partition.{Partition}
+use Rattle.ldm_group.specs.Partitions.{meets}
 use Rattle.ldm_space.specs.declared.taken.Taken.{Taken}
-use Rattle.ldm_space.specs.Free.{takes_one, is_taken, first_free_start}
+use Rattle.ldm_space.specs.Free.{taken_of, clash, takes_one, is_taken, first_free_start}
 use Rattle.ldm_space.specs.declared.placed.Wanted.{Wanted}
 use Rattle.ldm_space.specs.Wanted.{placed, place_rest}
-use Rattle.ldm_space.specs.Placed.{taken_at, AreFirstFits, clash, AreApart, AllEndWithin, AllLimited}
+use Rattle.ldm_space.specs.Placed.{taken_at, AreFirstFits, AreApart, AllEndWithin, AllLimited}
 use Rattle.ldm_space.proofs.FreeLaws.{first_is, is_first, not_met, first_same}
 
 abbrev pub placing : Wanted → ℕ → Taken
@@ -68,6 +70,10 @@ fits_within sectors (w ∷ more) taken (start ∷ starts) limits h =
     (fits_within sectors more (placing w start ∷ taken) starts (All-tail (λ (v : Wanted). v.limit ≡ sectors v.disk) w more limits) h.1)
 
 -- ---- what lies apart
+
+-- partitions meet where what they take does
+pub meets_clash : (p q : Partition) → meets p q ≡ clash (taken_of p) (taken_of q)
+meets_clash p q = refl
 
 -- from what was taken before all of them,
 pub apart_old : (taken new : List Taken) (a b : Taken) → AreApart taken new → Contains new a → Contains taken b → clash a b ≡ false

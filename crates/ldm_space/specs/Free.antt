@@ -1,4 +1,4 @@
--- Free sectors of a disk.
+-- Free sectors of a disk: all numbers are of sectors of its data area, as the starts and sizes of partition records are.
 use Rattle.std.specs.Prelude.{◌≡◌, ℕ, zero, suc, ◌+◌, ◌-◌, ◌<◌, ◌≤◌, ◌==◌, ◌&&◌, max, min, not, Bool, true, false, List, Option, Some, None, nat_lt, if◌then◌else◌}
 use Rattle.std.specs.List.{list_any, filter_map}
 use Rattle.ldm_records.specs.declared.types.Record.{Record}
@@ -6,6 +6,7 @@ use Rattle.ldm_records.specs.declared.types.Record.TheVariants as kinds
 use Rattle.ldm_records.specs.declared.types.Partition.{Partition}
 pub use Rattle.ldm_space.specs.declared.taken.Taken.{Taken}
 
+-- the sectors of a partition
 abbrev pub taken_of : Partition → Taken
 taken_of p = record { disk = p.disk; start = p.start; size = p.size }
 
@@ -13,12 +14,17 @@ abbrev pub taken_by : Record → Option Taken
 taken_by (kinds.Partition p) = Some (taken_of p)
 taken_by _ = None
 
+-- what the partitions among the records take
 abbrev pub taken_in : List Record → List Taken
 taken_in records = filter_map taken_by records
 
+-- both have a sector of one disk
+abbrev pub clash : Taken → Taken → Bool
+clash a b = (a.disk == b.disk) && nat_lt (max a.start b.start) (min (a.start + a.size) (b.start + b.size))
+
 -- one of the len sectors of the disk from p on is taken
 abbrev pub takes_one : ℕ → ℕ → ℕ → Taken → Bool
-takes_one disk len p t = (disk == t.disk) && nat_lt (max p t.start) (min (p + len) (t.start + t.size))
+takes_one disk len p t = clash (record { disk = disk; start = p; size = len }) t
 
 unfoldable pub is_taken : List Taken → ℕ → ℕ → ℕ → Bool
 is_taken taken disk len p = list_any (takes_one disk len p) taken

@@ -1,8 +1,8 @@
 -- What the partitions of a command take, and that each is free of all that was taken before it.
-use Rattle.std.specs.Prelude.{◌≡◌, ℕ, ◌+◌, ◌≤◌, Bool, false, List, [], ◌∷◌, All, Result, Ok, Err}
+use Rattle.std.specs.Prelude.{◌≡◌, ℕ, ◌+◌, ◌≤◌, false, List, [], ◌∷◌, All, Result, Ok, Err}
 use Rattle.std.specs.Global.{Vec}
 use Rattle.ldm_space.specs.declared.taken.Taken.{Taken}
-use Rattle.ldm_space.specs.Free.{is_taken, takes_one, IsFirstFree}
+use Rattle.ldm_space.specs.Free.{is_taken, IsFirstFree}
 use Rattle.ldm_space.specs.declared.placed.Wanted.{Wanted}
 
 -- what is taken by partitions that start there
@@ -17,10 +17,6 @@ AreFirstFits taken [] [] = Unit {0}
 AreFirstFits taken (w ∷ more) (start ∷ starts) =
     IsFirstFree taken w.disk w.limit w.size start × AreFirstFits (record { disk = w.disk; start = start; size = w.size } ∷ taken) more starts
 AreFirstFits taken _ _ = ⊥
-
--- both have a sector in common
-abbrev pub clash : Taken → Taken → Bool
-clash a b = takes_one a.disk a.size a.start b
 
 -- each has no sector of those before it, and none that was taken before
 abbrev pub AreApart : List Taken → List Taken → Type 0
