@@ -1,0 +1,3 @@
+pub mod FreeLaws
+pub mod PlacedLaws
+pub mod PlacedWalk

@@ -1,0 +1,10 @@
+//! Free sectors of a disk's data area, and where new partitions start.
+#![tactic(auto)]
+
+mod free;
+mod placed;
+mod taken;
+
+pub use free::first_fit;
+pub use placed::{Wanted, place_all};
+pub use taken::Taken;
