@@ -11,3 +11,4 @@ pub mod WrittenLaws
 pub mod MadeLaws
 pub mod GateLaws
 pub mod LeftLaws
+pub mod RewriteLaws

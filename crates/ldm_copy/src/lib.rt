@@ -11,9 +11,11 @@ mod database;
 mod gate;
 mod laws;
 mod reading;
+mod rewriting;
 
 pub use answer::{CopyError, CopyFault, CopyState};
 pub use body::{Body, body_of};
 pub use gate::{close, fill, unseal};
 pub use laws::bodies_are_copies;
 pub use reading::read_copy;
+pub use rewriting::{refill, rewrite};

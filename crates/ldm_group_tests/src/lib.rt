@@ -6,6 +6,8 @@ mod copy;
 #[cfg(test)]
 mod found;
 #[cfg(test)]
+mod gate;
+#[cfg(test)]
 mod group;
 #[cfg(test)]
 mod layout;

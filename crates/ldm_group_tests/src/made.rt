@@ -108,7 +108,7 @@ pub(crate) fn database(alloc: Global, last: u32, text: &str) -> Result<Result<Db
 }
 
 // Where the config area begins, in bytes: at sector 17 of the database, which begins at sector 6144.
-const AREA: usize = 512 * (6144 + 17);
+pub(crate) const AREA: usize = 512 * (6144 + 17);
 
 // A host that has the first images of the sample group, with these bytes at these places of the config
 // areas of images. The calls with these numbers fail.
