@@ -29,7 +29,7 @@ real_path() {
 # The kit's line, or nothing where there is no kit. (KIT-ID has what `rt version` prints.)
 kit_line() {
     kit=$(command -v rt) && kit=$(real_path "$kit") || return 0
-    cat "$(dirname "$kit")/../KIT-ID" 2>/dev/null || rt version 2>/dev/null
+    { cat "$(dirname "$kit")/../KIT-ID" 2>/dev/null || rt version 2>/dev/null; } | head -n 1
 }
 
 # The crates that $crate stands on and itself, by crates.txt below $1. For each a line: the lines of text from this crate on to
@@ -247,14 +247,21 @@ leave_rooms() {
     # shellcheck disable=SC2086
     [ -z "$pids" ] || kill $pids 2>/dev/null
     wait
+    keep_proved
+    rm -rf "$rooms"
+}
+
+# Moves what was proved back to the crates.
+keep_proved() {
     while read -r _ name _; do
         move_kept "$name" "$rooms/$name/crates/$name/out" "$here/crates/$name/out"
     done <"$rooms/plan"
-    rm -rf "$rooms"
 }
 
 # (A redirection that fails ends some shells, but for one that is in a shell of its own.)
 copy_sources() {
+    # (there is a plan where a build was killed)
+    [ ! -f "$rooms/plan" ] || keep_proved
     rm -rf "$rooms"
     mkdir -p "$rooms/source/crates" && (: >"$here/build.log") && cp "$here/crates.txt" "$here/HANDLES" "$rooms/source/" || return 1
     for it in $(folders_of "$here"); do
@@ -281,6 +288,7 @@ build() {
     pids=''
     trap 'leave_rooms; let_go; exit 130' INT
     trap 'leave_rooms; let_go; exit 143' TERM HUP
+    trap '' PIPE
     prove_all && {
         rm -f "$program.sum"
         cp "$rooms/$crate/crates/$crate/out/$crate" "$program.new" && mv "$program.new" "$program"
@@ -291,11 +299,11 @@ build() {
     } >"$program.sum.new" && mv "$program.sum.new" "$program.sum"
     built=$?
     leave_rooms
-    trap - INT TERM HUP
+    trap - INT TERM HUP PIPE
     return $built
 }
 
-# Waits until no other call builds, and holds others off until let_go. (A build that was killed may leave build.turn.)
+# Waits until no other call builds, and holds others off until let_go.
 take_turn() {
     if command -v flock >/dev/null 2>&1; then
         exec 9>"$here/build.lock"
@@ -306,14 +314,20 @@ take_turn() {
     else
         mkdir "$here/build.turn" 2>/dev/null || {
             say "another call is building: waiting until it removes $here/build.turn"
-            until mkdir "$here/build.turn" 2>/dev/null; do sleep 1; done
+            until mkdir "$here/build.turn" 2>/dev/null; do
+                # (a build that was killed left it)
+                other=$(cat "$here/build.turn/call" 2>/dev/null)
+                [ -z "$other" ] || kill -0 "$other" 2>/dev/null || rm -rf "$here/build.turn"
+                sleep 1
+            done
         }
+        echo $$ >"$here/build.turn/call"
     fi
 }
 
 let_go() {
     exec 9>&-
-    [ ! -d "$here/build.turn" ] || rmdir "$here/build.turn"
+    rm -rf "$here/build.turn"
 }
 
 # Runs the program with these words, once it is that of the sources.
@@ -328,11 +342,19 @@ run_program() {
             exit $NOT_BUILT
         fi
         take_turn
+        tries=0
         until is_current; do
+            # (sources that change while they are built are built again)
+            [ "$tries" -lt 2 ] || {
+                say "what was built is not the program of the sources"
+                let_go
+                exit $NOT_BUILT
+            }
             build || {
                 let_go
                 exit $NOT_BUILT
             }
+            tries=$((tries + 1))
         done
         let_go
     fi
