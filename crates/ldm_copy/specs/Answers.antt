@@ -1,7 +1,7 @@
 -- What reading a copy answers.
 use Rattle.std.specs.Prelude.{◌≡◌, ℕ, ◌*◌, ◌≤◌, List, Result, Ok, Err}
 use Rattle.ldm_group.specs.Database.{Database}
-use Rattle.ldm_group.specs.Room.{room_of, HasRoom}
+pub use Rattle.ldm_group.specs.Room.{FitsHeader}
 use Rattle.ldm_copy.specs.declared.answer.CopyState.{CopyState}
 use Rattle.ldm_copy.specs.declared.answer.CopyState.TheVariants.{Closed, Valid}
 use Rattle.ldm_copy.specs.declared.answer.CopyFault.{CopyFault}
@@ -22,10 +22,6 @@ Answers (Ok state) copy = copy ≡ Ok state
 Answers (Err (Fault fault)) copy = copy ≡ Err fault
 Answers (Err Disk) copy = Unit {0}
 Answers (Err NoMemory) copy = Unit {0}
-
--- the records have room in the blocks that the header leaves them
-abbrev pub FitsHeader : Database → Type 0
-FitsHeader db = HasRoom (room_of db.header.last) db.records
 
 -- the last VBLK sequence lies in an area of so many sectors, and the records fit the header
 pub record FitsArea (db : Database) (sectors : ℕ) : Type 0 where

@@ -1,12 +1,13 @@
 -- What the labels of all images say together.
-use Rattle.std.specs.Prelude.{◌≡◌, ◌⊎◌, ℕ, ◌<◌, ◌≤◌, List, Option, Some, None, Result, position, option_and_then, is_none, slice_get}
+use Rattle.std.specs.Prelude.{◌≡◌, ◌⊎◌, ℕ, ◌<◌, ◌≤◌, List, Option, Some, None, Result, option_and_then, slice_get}
 use Rattle.ldm_host.specs.Seen.{image}
 use Rattle.ldm_records.specs.declared.types.Record.{Record}
-use Rattle.ldm_group.specs.Looks.{by_id, disk_in, disk_with}
+use Rattle.ldm_group.specs.Looks.{by_id, disk_in}
 use Rattle.ldm_label.specs.declared.Label.{Label}
 use Rattle.ldm_label.specs.declared.LabelFault.{LabelFault}
 use Rattle.ldm_label.specs.LabelOf.{label_of, SameOutsideArea}
 use Rattle.ldm_rules.specs.Present.{image_with}
+pub use Rattle.ldm_rules.specs.Facts.{AreOneDisk, AreApart, stranger}
 
 -- the label of an image, or its first fault
 abbrev pub IsLabelOf : List ℕ → Result Label LabelFault → Type 0
@@ -16,19 +17,6 @@ IsLabelOf image label = label_of image ≡ label
 abbrev pub image_of : ℕ → List Record → List Label → Option ℕ
 image_of disk records labels = option_and_then (λ d. image_with d.guid labels) (disk_in (by_id 2 disk records))
 
--- the images of these numbers, the first of which is the less, are of one disk
-pub record AreOneDisk (labels : List Label) (i j : ℕ) : Type 0 where
-  pub order : i < j
-  pub first : Label
-  pub first_is : slice_get labels i ≡ Some first
-  pub second : Label
-  pub second_is : slice_get labels j ≡ Some second
-  pub same : first.disk_guid ≡ second.disk_guid
-
--- no two images are of one disk
-abbrev pub AreApart : List Label → Type 0
-AreApart labels = (i j : ℕ) → AreOneDisk labels i j → ⊥
-
 -- no two images are of one disk, or these are the first two: the first has the least number of all that a later image is
 -- of one disk with, and the second the least of these
 abbrev pub AreTwins : List Label → Option (ℕ × ℕ) → Type 0
@@ -36,10 +24,6 @@ AreTwins labels None = AreApart labels
 AreTwins labels (Some pair) =
     AreOneDisk labels pair.0 pair.1
     × ((i j : ℕ) → AreOneDisk labels i j → (pair.0 < i) ⊎ ((pair.0 ≡ i) × (pair.1 ≤ j)))
-
--- the first image of a disk that the records don't have
-abbrev pub stranger : List Record → List Label → Option ℕ
-stranger records labels = position (λ label. is_none (disk_with label.disk_guid records)) labels
 
 -- no byte outside the config areas differs
 abbrev pub AreSameOutside : List Label → List (List ℕ) → List (List ℕ) → Type 0

@@ -6,3 +6,4 @@ pub mod OneOrder
 pub mod KinLaws
 pub mod KindLaws
 pub mod EqualLaws
+pub mod InOrder

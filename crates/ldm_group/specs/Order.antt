@@ -1,5 +1,5 @@
 -- The order of the records in a group of the Windows Logical Disk Manager: by kind, then by object id.
-use Rattle.std.specs.Prelude.{◌≡◌, ◌≢◌, ℕ, ◌+◌, ◌*◌, ◌-◌, ◌^◌, ◌<◌, ◌≤◌, ◌==◌, List, AllPairs, count_by, length, slice_index_or}
+use Rattle.std.specs.Prelude.{◌≡◌, ◌≢◌, ℕ, ◌+◌, ◌*◌, ◌-◌, ◌^◌, ◌<◌, ◌≤◌, ◌==◌, List, [], ◌∷◌, AllPairs, count_by, length, slice_index_or, nat_le, if◌then◌else◌}
 use Rattle.std.specs.List.{AllAdjacentBelow}
 use Rattle.ldm_records.specs.declared.types.Record.{Record}
 use Rattle.ldm_records.specs.declared.types.Record.TheVariants as kinds
@@ -52,3 +52,13 @@ pub record IsFirstTwice (records : List Record) (at : ℕ) : Type 0 where
   pub within : at < length records
   pub same : (d : Record) → place_of (slice_index_or records (at - 1) d) ≡ place_of (slice_index_or records at d)
   pub before : AllAdjacentBelow Differ records at
+
+-- into a list of records in rising order: in front of the first that stands at no lower place
+abbrev pub insert : Record → List Record → List Record
+insert r [] = r ∷ []
+insert r (s ∷ rest) = if nat_le (place_of r) (place_of s) then r ∷ (s ∷ rest) else s ∷ insert r rest
+
+-- the records in rising order of kind and id
+unfoldable pub in_order : List Record → List Record
+in_order [] = []
+in_order (r ∷ records) = insert r (in_order records)

@@ -4,6 +4,7 @@ use Rattle.ldm_records.specs.declared.types.Record.{Record}
 use Rattle.ldm_records.specs.Plain.{own_spelling}
 use Rattle.ldm_records.specs.Views.{plain_of}
 use Rattle.ldm_frags.specs.Written.{parts_of}
+use Rattle.ldm_group.specs.Database.{Database}
 
 -- the length of the record's own spelling
 unfoldable pub own_len : Record → ℕ
@@ -26,3 +27,7 @@ room_of last = 4 * (last / 4) - 4
 pub record HasRoom (blocks : ℕ) (records : List Record) : Type 0 where
   pub need : need_of records ≤ blocks
   pub each : All IsFitting records
+
+-- the records have room in the blocks that the header leaves them
+abbrev pub FitsHeader : Database → Type 0
+FitsHeader db = HasRoom (room_of db.header.last) db.records

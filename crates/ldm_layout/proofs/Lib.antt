@@ -10,3 +10,4 @@ pub mod DraftLaws
 pub mod SpotLaws
 pub mod VolumeLaws
 pub mod ChildLaws
+pub mod LongerSpan

@@ -120,7 +120,8 @@ impl Draft {
             .fold(sectors, |least, p| least.min(self.plex_capacity(p)))
     }
 
-    fn capacity(&self) -> u128
+    /// The sectors that all components hold.
+    pub fn capacity(&self) -> u128
         ensures { result ≡ capacity_of self.now }
     {
         match self.plexes.as_slice() {

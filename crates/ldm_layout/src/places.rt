@@ -1,5 +1,5 @@
 ghost use Rattle.std.specs.Prelude.{◌≡◌, ◌<◌, ◌↔◌, IsSome, Some, slice_get};
-ghost use Rattle.ldm_layout.specs.Layouts.{copies_of, place_in, parity_in};
+ghost use Rattle.ldm_layout.specs.Layouts.{capacity_of, copies_of, place_in, parity_in};
 ghost use Rattle.ldm_layout.specs.Answers.{IsPlan, IsPlexOf};
 ghost use Rattle.ldm_layout.specs.declared.shape.Shape.TheVariants.{Raid5};
 
@@ -47,6 +47,13 @@ impl Plan {
         ensures { result ≡ self.now.size }
     {
         self.draft.size
+    }
+
+    /// The sectors that the volume's components hold, at least its own.
+    pub fn capacity(&self) -> u128
+        ensures { result ≡ capacity_of self.now }
+    {
+        self.draft.capacity()
     }
 
     /// How many places each sector has: as many as a mirror has components, and one in other shapes.

@@ -11,3 +11,4 @@ pub mod PresentLaws
 pub mod EndLaws
 pub mod SoundLaws
 pub mod HeadLaws
+pub mod DisksAlone

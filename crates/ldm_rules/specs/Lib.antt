@@ -6,3 +6,4 @@ pub mod Counts
 pub mod Spans
 pub mod Sizes
 pub mod Disjoint
+pub mod Facts

@@ -16,8 +16,8 @@ use ldm_records::Record;
 use std::alloc::Global;
 use std::collections::HashMap;
 
-// The sectors of the disk of this GUID.
-fn sectors_of(labels: &[Label], guid: u128) -> u64
+/// The sectors of the disk of this GUID, as its label says; of an absent disk, the most that a number of the format says.
+pub fn sectors_of(labels: &[Label], guid: u128) -> u64
     ensures { result ≡ sectors_by (label_with guid labels.now) }
 {
     match label_with(labels, guid) {

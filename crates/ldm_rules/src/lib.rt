@@ -17,6 +17,7 @@ mod present;
 mod single;
 mod table;
 
+pub use ends::sectors_of;
 pub use fault::{RuleError, RuleFault};
 pub use laws::places_are_disjoint;
 pub use present::{image_with, label_with};

@@ -1,4 +1,5 @@
-use Rattle.ldm_found.proofs.SameDisks.{same_reasons, same_stranger}
+use Rattle.ldm_rules.proofs.DisksAlone.{same_stranger}
+use Rattle.ldm_found.proofs.SameDisks.{same_reasons}
 use Rattle.ldm_found.proofs.laws.disks_alone.Goals as goal
 
 pub returns-clause-blocked : goal.returns-clause-blocked
