@@ -1,0 +1,61 @@
+-- A walk over the words of a command, one disk after the other.
+use Rattle.std.proofs.Common.{◌≡◌, ℕ, suc, ◌+◌, ◌<◌, ◌≤◌, List, [], ◌∷◌, ◌++◌, length, get_or, map, drop, refl, sym, ap, ◌∙◌, append_assoc, arith, Option, Some, None, Result, Ok, Err, drop-cons}
+use Rattle.std.specs.Option.{option_map}
+use Rattle.std.proofs.Math.ListN.{get_or-map}
+use Rattle.std.proofs.lemmas.List.{drop_all, append-nil}
+use Rattle.ldm_records.specs.declared.types.Disk.{Disk}
+use Rattle.ldm_records.specs.declared.types.Record.{Record}
+use Rattle.ldm_group.specs.Looks.{disk_named}
+use Rattle.ldm_space.specs.declared.placed.Wanted.{Wanted}
+use Rattle.ldm_edits.specs.Asked.{in_front, ask, asked_for}
+
+-- what is asked for before the rest
+abbrev pub ahead : List Wanted → Result (List Wanted) ℕ → Result (List Wanted) ℕ
+ahead done (Ok more) = Ok (done ++ more)
+ahead done (Err place) = Err place
+
+ahead_front : (done : List Wanted) (w : Wanted) (rest : Result (List Wanted) ℕ) → ahead done (in_front w rest) ≡ ahead (done ++ w ∷ []) rest
+ahead_front done w (Ok more) = ap (λ (l : List Wanted). Ok l) (sym (append_assoc done (w ∷ []) more))
+ahead_front done w (Err place) = refl
+
+abbrev pub asked_of : (ℕ → ℕ) → ℕ → Option Disk → Option Wanted
+asked_of sectors size disk = option_map (λ d. record { disk = d.head.id; limit = sectors d.head.id; size = size }) disk
+
+ask_some : (sectors : ℕ → ℕ) (at size : ℕ) (disk : Option Disk) (rest : Result (List Wanted) ℕ) (w : Wanted) → Some w ≡ asked_of sectors size disk → ask sectors at size disk rest ≡ in_front w rest
+ask_some sectors at size None rest w h = absurd cc
+ask_some sectors at size (Some d) rest w h = (let same : record { disk = d.head.id; limit = sectors d.head.id; size = size } ≡ w = cc in ap (λ (v : Wanted). in_front v rest) same)
+
+ask_none : (sectors : ℕ → ℕ) (at size : ℕ) (disk : Option Disk) (rest : Result (List Wanted) ℕ) → None ≡ asked_of sectors size disk → ask sectors at size disk rest ≡ Err at
+ask_none sectors at size None rest h = refl
+ask_none sectors at size (Some d) rest h = absurd cc
+
+-- so much of the words is done
+abbrev pub IsAskedTo : (ℕ → ℕ) → List Record → List (List ℕ × ℕ) → ℕ → List Wanted → Type 0
+IsAskedTo sectors records words at done = asked_for sectors records 0 words ≡ ahead done (asked_for sectors records at (drop at words))
+
+next_word : (sectors : ℕ → ℕ) (records : List Record) (words : List (List ℕ × ℕ)) (at : ℕ) (word : List ℕ × ℕ) → at < length words → get_or words at word ≡ word
+    → asked_for sectors records at (drop at words) ≡ ask sectors at word.1 (disk_named word.0 records) (asked_for sectors records (at + 1) (drop (at + 1) words))
+next_word sectors records words at word lt is =
+    let one : suc at ≡ at + 1 = omega arith in
+    ap (asked_for sectors records at) (drop-cons words at word lt ∙ (λ i. is i ∷ drop (one i) words))
+
+pub asked_more : (sectors : ℕ → ℕ) (records : List Record) (words : List (List ℕ × ℕ)) (at : ℕ) (done items : List Wanted) (word : List ℕ × ℕ) (w : Wanted) → at < length words → get_or words at word ≡ word
+    → Some w ≡ asked_of sectors word.1 (disk_named word.0 records) → items ≡ done ++ w ∷ [] → IsAskedTo sectors records words at done → IsAskedTo sectors records words (at + 1) items
+asked_more sectors records words at done items word w lt is found pushed so_far =
+    let rest : Result (List Wanted) ℕ = asked_for sectors records (at + 1) (drop (at + 1) words) in
+    so_far ∙ ap (ahead done) (next_word sectors records words at word lt is ∙ ask_some sectors at word.1 (disk_named word.0 records) rest w found) ∙ ahead_front done w rest ∙ ap (λ (l : List Wanted). ahead l rest) (sym pushed)
+
+pub asked_none : (sectors : ℕ → ℕ) (records : List Record) (words : List (List ℕ × ℕ)) (at : ℕ) (done : List Wanted) (word : List ℕ × ℕ) → at < length words → get_or words at word ≡ word
+    → None ≡ asked_of sectors word.1 (disk_named word.0 records) → IsAskedTo sectors records words at done → asked_for sectors records 0 words ≡ Err at
+asked_none sectors records words at done word lt is missing so_far =
+    let rest : Result (List Wanted) ℕ = asked_for sectors records (at + 1) (drop (at + 1) words) in
+    so_far ∙ ap (ahead done) (next_word sectors records words at word lt is ∙ ask_none sectors at word.1 (disk_named word.0 records) rest missing)
+
+-- all of them
+pub asked_all : (sectors : ℕ → ℕ) (records : List Record) (words : List (List ℕ × ℕ)) (at : ℕ) (done : List Wanted) → length words ≤ at → IsAskedTo sectors records words at done → asked_for sectors records 0 words ≡ Ok done
+asked_all sectors records words at done past so_far =
+    so_far ∙ ap (λ (l : List (List ℕ × ℕ)). ahead done (asked_for sectors records at l)) (drop_all at words past) ∙ ap (λ (l : List Wanted). Ok l) (append-nil done)
+
+-- a word of a list that is made of another
+pub word_at : {X : Type 0} (f : X → List ℕ × ℕ) (xs : List X) (at : ℕ) (x : X) → get_or xs at x ≡ x → get_or (map f xs) at (f x) ≡ f x
+word_at f xs at x is = get_or-map f xs at x ∙ ap f is

@@ -1,0 +1,175 @@
+-- Extend: what it keeps of a group.
+use Rattle.std.proofs.Common.{◌≡◌, ℕ, ◌+◌, ◌^◌, ◌<◌, not, List, [], ◌∷◌, length, map, get_or, refl, sym, ap, subst, ◌∙◌, inl, inr, arith, Bool, true, false, Option, Some, None, Result, Ok, Err, Contains, sum_by, find}
+use Rattle.std.specs.Prelude.{is_some}
+use Rattle.std.specs.List.{All}
+use Rattle.std.proofs.lemmas.Bool.{not-true, not-false}
+use Rattle.std.proofs.lemmas.List.{length-map}
+use Rattle.std.proofs.lemmas.List.Elements.{All-contains, Contains-get_or}
+use Rattle.ldm_bytes.specs.Tables.{first_of}
+use Rattle.ldm_records.specs.declared.types.Record.{Record}
+use Rattle.ldm_records.specs.declared.types.Record.TheVariants as kinds
+use Rattle.ldm_records.specs.declared.types.Volume.{Volume}
+use Rattle.ldm_records.specs.declared.types.Component.{Component}
+use Rattle.ldm_group.specs.Order.{Rising}
+use Rattle.ldm_group.specs.Looks.{is_volume_named, volume_in, volume_named, max_id}
+use Rattle.ldm_group.specs.Database.{Database}
+use Rattle.ldm_group.specs.Room.{IsFitting}
+use Rattle.ldm_group.proofs.InOrder.{member_next, stays_next, made_next}
+use Rattle.ldm_group.proofs.KinLaws.{filter_has, filter_keeps}
+use Rattle.ldm_group.proofs.LookLaws.{find_there}
+use Rattle.ldm_label.specs.declared.Label.{Label}
+use Rattle.ldm_layout.specs.declared.parts.Extent.{Extent}
+use Rattle.ldm_layout.specs.declared.shape.Shape.{Shape}
+use Rattle.ldm_layout.specs.declared.shape.Shape.TheVariants as shapes
+use Rattle.ldm_layout.specs.Parts.{plexes_of, extent_of, tiles_from}
+use Rattle.ldm_layout.specs.Volumes.{layout_of, shape_of}
+use Rattle.ldm_rules.proofs.SoundLaws.{sound_from, sound_parts, ends_in_range}
+use Rattle.ldm_rules.specs.Ends.{data_size}
+use Rattle.ldm_rules.specs.Facts.{IsSoundOn}
+use Rattle.ldm_space.specs.declared.taken.Taken.{Taken}
+use Rattle.ldm_space.specs.Free.{taken_of, taken_in}
+use Rattle.ldm_space.specs.declared.placed.Wanted.{Wanted}
+use Rattle.ldm_space.specs.Wanted.{placed}
+use Rattle.ldm_space.specs.Placed.{taken_at, AllEndWithin, AreApart}
+use Rattle.ldm_space.proofs.PlacedLaws.{fits_apart, fits_within}
+use Rattle.ldm_words.specs.declared.command.Piece.{Piece}
+use Rattle.ldm_edits.specs.declared.reply.Refusal.{Refusal}
+use Rattle.ldm_edits.specs.declared.reply.Refusal.TheVariants as refusals
+use Rattle.ldm_edits.specs.Asked.{asked_for}
+use Rattle.ldm_edits.specs.Changes.{Change, when, limits, changed}
+use Rattle.ldm_edits.specs.Extending.{changes, lengthened, held, component_of, is_span, unlengthened, is_bad_length, lengthen, with_wanted, refused_or, extended}
+use Rattle.ldm_edits.specs.Steps.{Keeps}
+use Rattle.ldm_edits.proofs.ExtendedFrom.{IsLonger, heads}
+use Rattle.ldm_edits.proofs.ExtendedMade.{new_part}
+use Rattle.ldm_edits.proofs.ExtendedParts.{MayExtend, MakesLonger, fits, on_disks, some_wanted, own, capacity_is, makes_longer, made_are, extended_rises, plex_is}
+use Rattle.ldm_edits.proofs.ExtendedRules.{longer_each}
+use Rattle.ldm_edits.proofs.KeepLaws.{next_keeps}
+use Rattle.ldm_edits.proofs.LimitLaws.{first_parts, within_limits, not_when, when_ok}
+use Rattle.ldm_edits.proofs.MadeParts.{parts_rise}
+use Rattle.ldm_edits.proofs.SingleLists.{single_records}
+use Rattle.ldm_edits.proofs.TakenExtents.{tile_extents, tiles_on, tiles_sum, tiles_of, parts_taken}
+
+-- ---- the next group
+
+module _ {db : Database} {labels : List Label} {v : Volume} {c : Component} {wanted : List Wanted} {starts : List ℕ} (up : Rising db.records) (old : IsSoundOn db labels) (may : MayExtend db labels v c wanted starts) where
+  abbrev change : Change
+  change = lengthened db.records v c (held (layout_of db.records v)) (taken_at wanted starts)
+
+  abbrev taken : List Taken
+  taken = taken_at wanted starts
+
+  abbrev makes : MakesLonger db v c (held (layout_of db.records v)) (taken_at wanted starts)
+  makes = makes_longer up old may
+
+  taken_is : map taken_of makes.parts.parts ≡ taken
+  taken_is = parts_taken c.head.id (tile_extents c.head.id (held (layout_of db.records v)) taken) taken makes.parts.parts (tiles_of c.head.id (held (layout_of db.records v)) taken) makes.parts.extents_are
+
+  is_longer : IsLonger labels db.records (changed db change).records v makes.volume.volume c makes.component.component makes.parts.parts
+  is_longer = record {
+    up = up;
+    vp = extended_rises up old may;
+    back = λ r at. elim (member_next change.stay change.made r at) [
+      | inl stays ↦ (let has = filter_has (λ r. not (changes v c r)) db.records r stays in inl (has.0, not-true (changes v c r) has.1))
+      | inr new ↦ inr (subst (λ (l : List Record). Contains l r) {y = single_records makes.volume.volume makes.component.component makes.parts.parts} (made_are up old may) new)
+    ];
+    there = λ r at stays. stays_next change.stay change.made r (filter_keeps (λ r. not (changes v c r)) db.records r at (ap not stays));
+    made = λ r at. made_next change.stay change.made r (subst (λ (l : List Record). Contains l r) {x = single_records makes.volume.volume makes.component.component makes.parts.parts} (sym (made_are up old may)) at);
+    volume = may.there;
+    shape = may.span;
+    component = (own up old may).0;
+    parent = (own up old may).1;
+    same_head = makes.volume.head_is;
+    same_children = makes.volume.children_is;
+    size = (let whole = makes.volume.size_is in
+        let held_is = capacity_is up old may in
+        let ext = ap (sum_by (λ (e : Extent). e.size)) makes.parts.extents_are ∙ tiles_sum c.head.id (held (layout_of db.records v)) taken in omega arith);
+    same_plex = plex_is makes.component;
+    children = (let grown = makes.component.children_is in let long = length-map makes.parts.parts taken_of in let same = ap (λ (l : List Taken). length l) taken_is in omega arith);
+    each = new_part labels db.records c (held (layout_of db.records v)) wanted starts makes.parts.parts (on_disks up old may) (some_wanted up old may) makes.parts.ids makes.parts.extents_are taken_is;
+    rise = parts_rise (max_id db.records + 1) makes.parts.parts makes.parts.ids;
+    within = subst (λ (l : List Taken). AllEndWithin (data_size labels db.records) l) {x = taken} (sym taken_is)
+        (fits_within (data_size labels db.records) wanted (taken_in db.records) starts (λ k e lt. (on_disks up old may (get_or wanted k e) (Contains-get_or wanted k e lt)).limit) (fits up old may));
+    free = subst (λ (l : List Taken). AreApart (taken_in db.records) l) {x = taken} (sym taken_is) (fits_apart wanted (taken_in db.records) starts (fits up old may));
+    tiled = subst (λ (n : ℕ). tiles_from n (map extent_of makes.parts.parts) ≡ true) (capacity_is up old may)
+        (subst (λ (es : List Extent). tiles_from (held (layout_of db.records v)) es ≡ true) {y = map extent_of makes.parts.parts} (sym makes.parts.extents_are) (tiles_on c.head.id (held (layout_of db.records v)) taken));
+  }
+
+  -- a group whose span gets more partitions is as sound
+  pub lengthened_keeps : All (λ l. l.data_size < 2 ^ 64) labels → first_of (limits db (length wanted) change) ≡ None → Rising (changed db change).records × Keeps labels db (changed db change)
+  lengthened_keeps low within =
+      let sound = sound_from (changed db change).records labels (longer_each is_longer old.laid_out (sound_parts db.records labels old.sound)) in (
+        extended_rises up old may,
+        next_keeps db labels (length wanted) change old
+            (λ k e lt. All-contains IsFitting db.records (get_or change.stay k e) old.room.each (filter_has (λ r. not (changes v c r)) db.records (get_or change.stay k e) (Contains-get_or change.stay k e lt)).0)
+            (within_limits db (length wanted) change within) (heads is_longer) sound (ends_in_range (changed db change).records labels low sound),
+      )
+
+-- ---- the command
+
+not_refused : (o : Option Refusal) (made : Result Database Refusal) (next : Database) → refused_or o made ≡ Ok next → (o ≡ None) × (made ≡ Ok next)
+not_refused None made next h = (refl, h)
+not_refused (Some r) made next h = absurd cc
+
+span_is : (o : Option Shape) → is_span o ≡ true → o ≡ Some shapes.Span
+span_is (Some shapes.Span) h = refl
+span_is (Some shapes.Stripe) h = absurd cc
+span_is (Some shapes.Mirror) h = absurd cc
+span_is (Some shapes.Raid5) h = absurd cc
+span_is None h = absurd cc
+
+pub not_unlengthened : (records : List Record) (v : Volume) → unlengthened records v ≡ None → shape_of (plexes_of v.head.id records) ≡ Some shapes.Span
+not_unlengthened records v h =
+    let span : Bool = is_span (shape_of (plexes_of v.head.id records)) in
+    span_is (shape_of (plexes_of v.head.id records)) (not-false span (not_when (not span) refusals.NotSpan (first_parts (when (not span) refusals.NotSpan) (when (is_some v.size2) refusals.ExtraSize ∷ []) h).0))
+
+extended_from : (db : Database) (labels : List Label) (pieces : List Piece) (o : Option Volume) (next : Database) → Rising db.records → All (λ l. l.data_size < 2 ^ 64) labels → IsSoundOn db labels
+    → ((v : Volume) → o ≡ Some v → Contains db.records (kinds.Volume v)) → extended db labels pieces o ≡ Ok next → Rising next.records × Keeps labels db next
+extended_from db labels pieces None next up low ed at h = absurd cc
+extended_from db labels pieces (Some v) next up low ed at h =
+    let words : List (List ℕ × ℕ) = map (λ (p : Piece). (p.disk, p.len)) pieces in
+    let asked = asked_for (data_size labels db.records) db.records 0 words in
+    let open' = not_refused (unlengthened db.records v) (with_wanted db v asked) next h in
+    ask words asked refl open'.1 (not_unlengthened db.records v open'.0)
+  where
+    lay : (words : List (List ℕ × ℕ)) (wanted : List Wanted) → asked_for (data_size labels db.records) db.records 0 words ≡ Ok wanted → is_bad_length (held (layout_of db.records v)) wanted ≡ false → (c : Option Component) → component_of v db.records ≡ c
+        → (r : Result (List ℕ) ℕ) → placed (taken_in db.records) 0 wanted ≡ r → lengthen db v c wanted r ≡ Ok next → shape_of (plexes_of v.head.id db.records) ≡ Some shapes.Span → Rising next.records × Keeps labels db next
+    lay words wanted asked good None found r places e shape = absurd cc
+    lay words wanted asked good (Some c) found (Err piece) places e shape = absurd cc
+    lay words wanted asked good (Some c) found (Ok starts) places e shape =
+        let change : Change = lengthened db.records v c (held (layout_of db.records v)) (taken_at wanted starts) in
+        let made = when_ok (first_of (limits db (length wanted) change)) (changed db change) next e in
+        let may : MayExtend db labels v c wanted starts = record {
+          there = at v refl;
+          span = shape;
+          component = found;
+          words = words;
+          asked = asked;
+          sizes = good;
+          places = places;
+          ids = (within_limits db (length wanted) change made.0).ids;
+        } in
+        subst (λ (x : Database). Rising x.records × Keeps labels db x) made.1 (lengthened_keeps up ed may low made.0)
+
+    ask : (words : List (List ℕ × ℕ)) (r : Result (List Wanted) ℕ) → asked_for (data_size labels db.records) db.records 0 words ≡ r → with_wanted db v r ≡ Ok next → shape_of (plexes_of v.head.id db.records) ≡ Some shapes.Span
+        → Rising next.records × Keeps labels db next
+    ask words (Err piece) e h shape = absurd cc
+    ask words (Ok wanted) e h shape =
+        let bad : Bool = is_bad_length (held (layout_of db.records v)) wanted in
+        let open' = not_refused (when bad refusals.BadSize) (lengthen db v (component_of v db.records) wanted (placed (taken_in db.records) 0 wanted)) next h in
+        lay words wanted e (not_when bad refusals.BadSize open'.0)
+        (component_of v db.records) refl (placed (taken_in db.records) 0 wanted) refl open'.1 shape
+
+volume_is : (o : Option Record) (v : Volume) → volume_in o ≡ Some v → o ≡ Some (kinds.Volume v)
+volume_is (Some (kinds.Volume x)) v e = (let same : x ≡ v = cc in ap (λ (y : Volume). Some (kinds.Volume y)) same)
+volume_is (Some (kinds.Group x)) v e = absurd cc
+volume_is (Some (kinds.Disk x)) v e = absurd cc
+volume_is (Some (kinds.Component x)) v e = absurd cc
+volume_is (Some (kinds.Partition x)) v e = absurd cc
+volume_is None v e = absurd cc
+
+-- what extend makes of a sound group is as sound
+pub extended_keeps : (db : Database) (labels : List Label) (name : List ℕ) (pieces : List Piece) (next : Database) → Rising db.records → All (λ l. l.data_size < 2 ^ 64) labels → IsSoundOn db labels
+    → extended db labels pieces (volume_named name db.records) ≡ Ok next → Rising next.records × Keeps labels db next
+extended_keeps db labels name pieces next up low ed h =
+    extended_from db labels pieces (volume_named name db.records) next up low ed
+    (λ v e. (find_there (is_volume_named name) db.records (kinds.Volume v) (volume_is (find (is_volume_named name) db.records) v e)).0) h

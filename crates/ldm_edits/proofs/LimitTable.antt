@@ -1,0 +1,67 @@
+-- The table of the limits, row by row.
+use Rattle.std.proofs.Common.{◌≡◌, ℕ, ◌+◌, ◌-◌, ◌^◌, ◌<◌, ◌≤◌, ◌==◌, ◌++◌, List, [], ◌∷◌, sym, ap, ◌∙◌, arith, Bool, true, false, Option, Some, None}
+use Rattle.std.specs.Prelude.{nat_lt}
+use Rattle.std.specs.Option.{option_map}
+use Rattle.std.proofs.lemmas.Bool.{lt-ltb, le-ltb, eq-eqb, ne_eqb}
+use Rattle.std.proofs.lemmas.List.Sums.{sum_by-append}
+use Rattle.ldm_bytes.specs.Tables.{first_of}
+use Rattle.ldm_records.specs.declared.types.Record.{Record}
+use Rattle.ldm_frags.specs.Written.{parts_of}
+use Rattle.ldm_group.specs.Database.{Database}
+use Rattle.ldm_group.specs.Looks.{max_id}
+use Rattle.ldm_group.specs.Room.{own_len, need_of, room_of}
+use Rattle.ldm_edits.specs.declared.reply.Refusal.TheVariants as refusals
+use Rattle.ldm_edits.specs.Changes.{Change, when, long_id, limits, later_limits}
+
+-- a record is too long
+pub too_long : (db : Database) (change : Change) (id : ℕ) → Some id ≡ long_id change.made → Some (refusals.TooLong id) ≡ first_of (later_limits db change)
+too_long db change id h =
+    let need : ℕ = need_of (change.stay ++ change.made) in
+    ap (λ (o : Option ℕ). first_of (option_map refusals.TooLong o ∷ (when (nat_lt (room_of db.header.last) need) (refusals.NoRoom need (room_of db.header.last)) ∷ (when (db.header.seq == 2 ^ 64 - 1) refusals.SequenceSpent ∷ [])))) h
+
+none_long : (db : Database) (change : Change) → None ≡ long_id change.made
+    → first_of (when (nat_lt (room_of db.header.last) (need_of (change.stay ++ change.made))) (refusals.NoRoom (need_of (change.stay ++ change.made)) (room_of db.header.last)) ∷ (when (db.header.seq == 2 ^ 64 - 1) refusals.SequenceSpent ∷ []))
+    ≡ first_of (later_limits db change)
+none_long db change h =
+    let need : ℕ = need_of (change.stay ++ change.made) in
+    ap (λ (o : Option ℕ). first_of (option_map refusals.TooLong o ∷ (when (nat_lt (room_of db.header.last) need) (refusals.NoRoom need (room_of db.header.last)) ∷ (when (db.header.seq == 2 ^ 64 - 1) refusals.SequenceSpent ∷ [])))) h
+
+pub need_both : (stay made : List Record) (a b : ℕ) → a ≡ need_of stay → b ≡ need_of made → a + b ≡ need_of (stay ++ made)
+need_both stay made a b one two = (let both = sum_by-append (λ (r : Record). parts_of (own_len r)) stay made in omega arith)
+
+-- they take more blocks than there are
+pub no_room : (db : Database) (change : Change) (need have : ℕ) → None ≡ long_id change.made → need ≡ need_of (change.stay ++ change.made) → have ≡ room_of db.header.last → have < need
+    → Some (refusals.NoRoom need have) ≡ first_of (later_limits db change)
+no_room db change need have short needs has more =
+    let less : nat_lt (room_of db.header.last) (need_of (change.stay ++ change.made)) ≡ true = (λ i. nat_lt (sym has i) (sym needs i)) ∙ lt-ltb have need more in
+    (λ i. Some (refusals.NoRoom (needs i) (has i)))
+    ∙ ap (λ (b : Bool). first_of (when b (refusals.NoRoom (need_of (change.stay ++ change.made)) (room_of db.header.last)) ∷ (when (db.header.seq == 2 ^ 64 - 1) refusals.SequenceSpent ∷ []))) (sym less)
+    ∙ none_long db change short
+
+enough : (db : Database) (change : Change) (need have : ℕ) → None ≡ long_id change.made → need ≡ need_of (change.stay ++ change.made) → have ≡ room_of db.header.last → need ≤ have
+    → first_of (when (db.header.seq == 2 ^ 64 - 1) refusals.SequenceSpent ∷ []) ≡ first_of (later_limits db change)
+enough db change need have short needs has few =
+    let less : nat_lt (room_of db.header.last) (need_of (change.stay ++ change.made)) ≡ false = (λ i. nat_lt (sym has i) (sym needs i)) ∙ le-ltb have need few in
+    ap (λ (b : Bool). first_of (when b (refusals.NoRoom (need_of (change.stay ++ change.made)) (room_of db.header.last)) ∷ (when (db.header.seq == 2 ^ 64 - 1) refusals.SequenceSpent ∷ []))) (sym less)
+    ∙ none_long db change short
+
+-- the sequence is the last
+pub spent : (db : Database) (change : Change) (need have : ℕ) → None ≡ long_id change.made → need ≡ need_of (change.stay ++ change.made) → have ≡ room_of db.header.last → need ≤ have
+    → db.header.seq ≡ 2 ^ 64 - 1 → Some refusals.SequenceSpent ≡ first_of (later_limits db change)
+spent db change need have short needs has few last =
+    ap (λ (b : Bool). first_of (when b refusals.SequenceSpent ∷ [])) (sym (eq-eqb db.header.seq (2 ^ 64 - 1) last)) ∙ enough db change need have short needs has few
+
+-- no limit is passed
+pub within : (db : Database) (change : Change) (need have : ℕ) → None ≡ long_id change.made → need ≡ need_of (change.stay ++ change.made) → have ≡ room_of db.header.last → need ≤ have
+    → (db.header.seq ≡ 2 ^ 64 - 1 → ⊥) → None ≡ first_of (later_limits db change)
+within db change need have short needs has few more =
+    ap (λ (b : Bool). first_of (when b refusals.SequenceSpent ∷ [])) (sym (ne_eqb db.header.seq (2 ^ 64 - 1) more)) ∙ enough db change need have short needs has few
+
+-- the ids are spent, or not
+pub ids_spent : (db : Database) (fresh : ℕ) (change : Change) → 2 ^ 64 - 1 < max_id db.records + fresh → Some refusals.IdsSpent ≡ first_of (limits db fresh change)
+unfolding limits
+ids_spent db fresh change more = ap (λ (b : Bool). first_of (when b refusals.IdsSpent ∷ later_limits db change)) (sym (lt-ltb (2 ^ 64 - 1) (max_id db.records + fresh) more))
+
+pub ids_left : (db : Database) (fresh : ℕ) (change : Change) → max_id db.records + fresh ≤ 2 ^ 64 - 1 → first_of (later_limits db change) ≡ first_of (limits db fresh change)
+unfolding limits
+ids_left db fresh change few = ap (λ (b : Bool). first_of (when b refusals.IdsSpent ∷ later_limits db change)) (sym (le-ltb (2 ^ 64 - 1) (max_id db.records + fresh) few))

@@ -1,0 +1,117 @@
+-- New partitions at their first fits end within their disks, and meet none of the group.
+use Rattle.std.proofs.Common.{◌≡◌, ◌⊎◌, inl, inr, ℕ, ◌+◌, ◌<◌, ◌≤◌, ◌==◌, ◌&&◌, not, List, length, get_or, map, refl, sym, ap, subst, ◌∙◌, arith, false, None}
+use Rattle.std.specs.List.{All, Contains, list_any}
+use Rattle.std.proofs.lemmas.List.{length-map, get_or-map, get_or_default}
+use Rattle.std.proofs.lemmas.List.Elements.{Contains-get_or}
+use Rattle.std.proofs.lemmas.List.Folds.{list_any_at, list_any_none}
+use Rattle.std.proofs.lemmas.Bool.{and_cases, and_left, and_right, eqb-true, eq-eqb, not-false, le-ltb, ltb-false, cases_order, false_from_ne_true, false≢true}
+use Rattle.ldm_records.specs.declared.types.Record.{Record}
+use Rattle.ldm_records.specs.declared.types.Record.TheVariants as kinds
+use Rattle.ldm_records.specs.declared.types.Partition.{Partition}
+use Rattle.ldm_group.specs.Partitions.{meets}
+use Rattle.ldm_group.proofs.KinLaws.{named_there}
+use Rattle.ldm_rules.specs.Rules.{first_broken, passes_end, is_other_meeting, meets_another}
+use Rattle.ldm_rules.proofs.GroupLaws.{not_broken}
+use Rattle.ldm_rules.proofs.HeadLaws.{none_by}
+use Rattle.ldm_space.specs.declared.taken.Taken.{Taken}
+use Rattle.ldm_space.specs.Free.{taken_of, taken_by, taken_in, clash}
+use Rattle.ldm_space.specs.Placed.{AreApart, AllEndWithin}
+use Rattle.ldm_space.proofs.PlacedLaws.{apart_old, apart_new, clash_back}
+
+map_at : {X Y : Type 0} (f : X → Y) (xs : List X) (k : ℕ) (x : X) (y : Y) → k < length xs → get_or xs k x ≡ x → get_or (map f xs) k y ≡ f x
+map_at f xs k x y lt is = get_or-map f xs k x y lt ∙ ap f is
+
+-- what is in a list, in the list of what a function makes of it
+pub map_there : {X Y : Type 0} (f : X → Y) (xs : List X) (x : X) → Contains xs x → Contains (map f xs) (f x)
+map_there f xs x (k, lt, is) = (k, omega (arith, length-map xs f), map_at f xs k x (f x) lt is)
+
+-- what holds of a function's values
+pub all_from_map : {X Y : Type 0} (f : X → Y) (P : Y → Type 0) (xs : List X) → All P (map f xs) → All (λ x. P (f x)) xs
+all_from_map f P xs h k d lt = subst P (get_or-map f xs k d (f d) lt) (h k (f d) (omega (arith, length-map xs f)))
+
+-- a partition of the next group is one of the old group, or new
+abbrev pub IsOldOrNew : List Record → List Record → List Partition → Type 0
+IsOldOrNew old next new = (p : Partition) → Contains next (kinds.Partition p) → Contains old (kinds.Partition p) ⊎ Contains new p
+
+-- ---- ends
+
+pub ends_next : (sectors later : ℕ → ℕ) (old next : List Record) (new : List Partition) → first_broken (passes_end sectors) old ≡ None → ((disk : ℕ) → later disk ≡ sectors disk)
+    → IsOldOrNew old next new → AllEndWithin sectors (map taken_of new) → first_broken (passes_end later) next ≡ None
+ends_next sectors later old next new sound same members within = none_by (passes_end later) next (λ g. refl) (λ d. refl) (λ v there. refl) (λ c there. refl) one
+  where
+    old_one : (p : Partition) → Contains old (kinds.Partition p) → p.start + p.size ≤ sectors p.disk
+    old_one p there = ltb-false (sectors p.disk) (p.start + p.size) (not_broken (passes_end sectors) old (kinds.Partition p) sound there)
+
+    new_one : (p : Partition) → Contains new p → p.start + p.size ≤ sectors p.disk
+    new_one p (k, lt, is) =
+        subst (λ (t : Taken). t.start + t.size ≤ sectors t.disk) (map_at taken_of new k p (taken_of p) lt is) (within k (taken_of p) (omega (arith, length-map new taken_of)))
+
+    one : (p : Partition) → Contains next (kinds.Partition p) → passes_end later (kinds.Partition p) ≡ false
+    one p there =
+        let ends : p.start + p.size ≤ sectors p.disk = elim (members p there) [ inl o ↦ old_one p o | inr n ↦ new_one p n ] in
+        le-ltb (later p.disk) (p.start + p.size) (let e = same p.disk in omega arith)
+
+-- ---- meeting
+
+-- two partitions of one id, or without a sector in common
+abbrev pub NoneMeet : List Record → Type 0
+NoneMeet records = (p q : Partition) → Contains records (kinds.Partition p) → Contains records (kinds.Partition q) → (q.head.id ≡ p.head.id) ⊎ (meets p q ≡ false)
+
+pub none_meet : (records : List Record) → first_broken (meets_another records) records ≡ None → NoneMeet records
+none_meet records sound p q at_p at_q =
+    let pass : list_any (is_other_meeting p) records ≡ false = not_broken (meets_another records) records (kinds.Partition p) sound at_p in
+    let one : (not (q.head.id == p.head.id) && meets p q) ≡ false = false_from_ne_true _
+    (λ met. false≢true (sym pass ∙ list_any_at (is_other_meeting p) records at_q.0 (kinds.Partition q) at_q.1 (ap (is_other_meeting p) at_q.2 ∙ met))) in
+    elim (and_cases (not (q.head.id == p.head.id)) (meets p q) one) [
+      | inl same ↦ inl (eqb-true q.head.id p.head.id (not-false (q.head.id == p.head.id) same))
+      | inr apart ↦ inr apart
+    ]
+
+pub meet_none : (records : List Record) → NoneMeet records → first_broken (meets_another records) records ≡ None
+meet_none records apart = none_by (meets_another records) records (λ g. refl) (λ d. refl) (λ v there. refl) (λ c there. refl) one
+  where
+    other : (p : Partition) → Contains records (kinds.Partition p) → (r : Record) → Contains records r → is_other_meeting p r ≡ false
+    other p at (kinds.Partition q) there = elim (apart p q at there) [
+      | inl same ↦ and_left (not (q.head.id == p.head.id)) (meets p q) (ap not (eq-eqb q.head.id p.head.id same))
+      | inr none ↦ and_right (not (q.head.id == p.head.id)) (meets p q) none
+    ]
+    other p at (kinds.Group g) there = refl
+    other p at (kinds.Disk g) there = refl
+    other p at (kinds.Volume g) there = refl
+    other p at (kinds.Component g) there = refl
+
+    one : (p : Partition) → Contains records (kinds.Partition p) → meets_another records (kinds.Partition p) ≡ false
+    one p at = list_any_none (is_other_meeting p) records (λ k d lt. other p at (get_or records k d) (Contains-get_or records k d lt))
+
+-- what a partition takes is taken
+pub taken_there : (records : List Record) (p : Partition) → Contains records (kinds.Partition p) → Contains (taken_in records) (taken_of p)
+taken_there records p (k, lt, is) = named_there taken_by records (kinds.Partition p) k (taken_of p) lt (ap taken_by is)
+
+-- the next group meets nowhere, where the old one doesn't and the new partitions lie apart
+pub meetings_next : (old next : List Record) (new : List Partition) → NoneMeet old → IsOldOrNew old next new → AreApart (taken_in old) (map taken_of new) → NoneMeet next
+meetings_next old next new apart members free p q at_p at_q =
+    elim (members p at_p) [
+      | inl old_p ↦ elim (members q at_q) [
+        | inl old_q ↦ apart p q old_p old_q
+        | inr new_q ↦ inr (clash_back (taken_of p) (taken_of q) ∙ apart_old (taken_in old) (map taken_of new) (taken_of q) (taken_of p) free (map_there taken_of new q new_q) (taken_there old p old_p))
+      ]
+      | inr new_p ↦ elim (members q at_q) [
+        | inl old_q ↦ inr (apart_old (taken_in old) (map taken_of new) (taken_of p) (taken_of q) free (map_there taken_of new p new_p) (taken_there old q old_q))
+        | inr new_q ↦ both new_p new_q
+      ]
+    ]
+  where
+    both : Contains new p → Contains new q → (q.head.id ≡ p.head.id) ⊎ (meets p q ≡ false)
+    both (i, lt_i, is_p) (j, lt_j, is_q) =
+        let t_p : get_or (map taken_of new) i (taken_of p) ≡ taken_of p = map_at taken_of new i p (taken_of p) lt_i is_p in
+        let t_q : get_or (map taken_of new) j (taken_of p) ≡ taken_of q = map_at taken_of new j q (taken_of p) lt_j is_q in
+        let long : length (map taken_of new) ≡ length new = length-map new taken_of in
+        elim (cases_order i j) [
+          | inl same ↦ inl (ap (λ (x : Partition). x.head.id) (sym is_q ∙ (ap (λ (k : ℕ). get_or new k q) (sym same) ∙ (get_or_default new i q p lt_i ∙ is_p))))
+          | inr off ↦ elim off [
+            | inl low ↦ (let none = apart_new (taken_in old) (map taken_of new) i j (taken_of p) free low (omega arith) in
+                inr (clash_back (taken_of p) (taken_of q) ∙ ((λ k. clash (sym t_q k) (sym t_p k)) ∙ none)))
+            | inr high ↦ (let none = apart_new (taken_in old) (map taken_of new) j i (taken_of p) free high (omega arith) in
+                inr ((λ k. clash (sym t_p k) (sym t_q k)) ∙ none))
+          ]
+        ]

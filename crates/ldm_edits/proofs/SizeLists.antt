@@ -1,0 +1,36 @@
+-- The sizes of what is asked for or taken, as the words say them.
+use Rattle.std.proofs.Common.{◌≡◌, ℕ, ◌+◌, ◌==◌, ◌||◌, Bool, List, [], ◌∷◌, length, map, refl, sym, ap, ◌∙◌, arith, sum}
+use Rattle.std.specs.Prelude.{sum_by}
+use Rattle.std.specs.List.{list_any}
+use Rattle.std.proofs.lemmas.List.{length-map}
+use Rattle.std.proofs.lemmas.List.Sums.{sum-map}
+use Rattle.ldm_space.specs.declared.placed.Wanted.{Wanted}
+use Rattle.ldm_words.specs.declared.command.Piece.{Piece}
+use Rattle.ldm_words.specs.declared.command.NewLayout.TheVariants as layouts
+use Rattle.ldm_edits.specs.Asked.{is_much}
+use Rattle.ldm_edits.specs.Creating.{words_of, is_bad_size}
+use Rattle.ldm_edits.specs.Extending.{is_bad_length}
+
+any_empty : {X : Type 0} (f : X → ℕ) (xs : List X) → list_any (λ x. f x == 0) xs ≡ list_any (λ n. n == 0) (map f xs)
+any_empty f [] = refl
+any_empty f (x ∷ xs) = ap (λ (b : Bool). (f x == 0) || b) (any_empty f xs)
+
+piece_sizes : (pieces : List Piece) → map (λ (word : List ℕ × ℕ). word.1) (map (λ p. (p.disk, p.len)) pieces) ≡ map (λ p. p.len) pieces
+piece_sizes [] = refl
+piece_sizes (p ∷ pieces) = ap (λ (l : List ℕ). p.len ∷ l) (piece_sizes pieces)
+
+-- as many of a size as words
+pub sizes_many : {X : Type 0} (f : X → ℕ) (xs : List X) (words : List (List ℕ × ℕ)) → map f xs ≡ map (λ (word : List ℕ × ℕ). word.1) words → length xs ≡ length words
+sizes_many f xs words same = sym (length-map xs f) ∙ ap (λ (l : List ℕ). length l) same ∙ length-map words (λ (word : List ℕ × ℕ). word.1)
+
+-- together as much as the pieces say
+pub sizes_sum : {X : Type 0} (f : X → ℕ) (xs : List X) (pieces : List Piece) → map f xs ≡ map (λ (word : List ℕ × ℕ). word.1) (words_of (layouts.Span pieces)) → sum_by f xs ≡ sum_by (λ p. p.len) pieces
+sizes_sum f xs pieces same = sym (sum-map f xs) ∙ ap sum (same ∙ piece_sizes pieces) ∙ sum-map (λ (p : Piece). p.len) pieces
+
+-- the lengths of what is asked for by pieces are bad where those of the pieces are
+pub bad_pieces : (pieces : List Piece) (wanted : List Wanted) → map (λ w. w.size) wanted ≡ map (λ (word : List ℕ × ℕ). word.1) (words_of (layouts.Span pieces)) → is_bad_length 0 wanted ≡ is_bad_size (layouts.Span pieces)
+bad_pieces pieces wanted same =
+    let empty : list_any (λ w. w.size == 0) wanted ≡ list_any (λ p. p.len == 0) pieces =
+    any_empty (λ (w : Wanted). w.size) wanted ∙ ap (list_any (λ (n : ℕ). n == 0)) (same ∙ piece_sizes pieces) ∙ sym (any_empty (λ (p : Piece). p.len) pieces) in
+    let whole : 0 + sum_by (λ w. w.size) wanted ≡ sum_by (λ p. p.len) pieces = (let e = sizes_sum (λ (w : Wanted). w.size) wanted pieces same in omega arith) in
+    λ i. empty i || is_much (whole i)

@@ -1,0 +1,20 @@
+use Rattle.std.proofs.Common.{◌∙◌, ◌+◌, ◌++◌, ap, sym, subst, List}
+use Rattle.ldm_records.specs.declared.types.Record.{Record}
+use Rattle.ldm_vmdb.specs.Headers.{with_seq}
+use Rattle.ldm_group.specs.Order.{Rising, in_order}
+use Rattle.ldm_group.proofs.InOrder.{never_twice}
+use Rattle.ldm_edits.specs.Staying.{change_of}
+use Rattle.ldm_edits.proofs.NextDb.{next_is}
+use Rattle.ldm_edits.proofs.changing.changed.Goals as goal
+
+pub unreachable-requires : goal.unreachable-requires
+unreachable-requires c =
+    let all = c.in_ok-append.ensures.items ∙ ap (λ (l : List Record). l ++ c.args.made.items) c.in_ok-records.ensures.is in
+    let twice = rw c.in-Err-SameId.field-0-is at c.in-Err-SameId.ensures in
+    never_twice c.append.new.self.items c.in-Err-SameId.field-0-0 c.in-Err-SameId.field-0-1 (subst (λ (l : List Record). Rising (in_order l)) (sym all) (c.requires.rising c.stay.ensures.rising)) twice
+
+pub returns-in-Ok : goal.returns-in-Ok
+returns-in-Ok c =
+    let all = c.in_ok-append.ensures.items ∙ ap (λ (l : List Record). l ++ c.args.made.items) c.in_ok-records.ensures.is in
+    let seq = c.in_ok-header.ensures ∙ (λ i. with_seq (c.header.ensures i) ((c.header-2.ensures i).seq + 1)) in
+    next_is c.args.db.now c.in-Ok.next (change_of c.args.leaving c.args.db.now.records c.args.made.items) c.append.new.self.items c.in_ok-header.header (c.requires.rising c.stay.ensures.rising) all seq c.in-Ok.ensures

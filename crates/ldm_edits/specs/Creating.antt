@@ -1,0 +1,79 @@
+-- create: the group with a new volume, or the first reason that it is refused.
+use Rattle.std.specs.Prelude.{ℕ, ◌+◌, ◌-◌, ◌*◌, ◌%◌, ◌==◌, ◌||◌, not, Bool, false, List, length, map, sum_by, Result, Ok, Err, is_some, if◌then◌else◌}
+use Rattle.std.specs.List.{list_any}
+use Rattle.ldm_bytes.specs.Tables.{first_of, unless}
+use Rattle.ldm_records.specs.declared.types.Record.{Record}
+use Rattle.ldm_label.specs.declared.Label.{Label}
+use Rattle.ldm_group.specs.Database.{Database}
+use Rattle.ldm_group.specs.Looks.{volume_named, max_id}
+use Rattle.ldm_rules.specs.Ends.{data_size}
+use Rattle.ldm_space.specs.declared.taken.Taken.{Taken}
+use Rattle.ldm_space.specs.Free.{taken_in}
+use Rattle.ldm_space.specs.declared.placed.Wanted.{Wanted}
+use Rattle.ldm_space.specs.Wanted.{placed}
+use Rattle.ldm_space.specs.Placed.{taken_at}
+use Rattle.ldm_words.specs.declared.command.NewLayout.{NewLayout}
+use Rattle.ldm_words.specs.declared.command.NewLayout.TheVariants as layouts
+use Rattle.ldm_edits.specs.declared.reply.Refusal.{Refusal}
+use Rattle.ldm_edits.specs.declared.reply.Refusal.TheVariants as refusals
+use Rattle.ldm_edits.specs.Asked.{asked_for, has_twins, is_much}
+use Rattle.ldm_edits.specs.Changes.{Change, limits, changed}
+use Rattle.ldm_edits.specs.Made.{span_made, stripe_made, raid5_made, mirror_made}
+
+-- the disk words in their order, each with the sectors that it is asked for
+abbrev pub words_of : NewLayout → List (List ℕ × ℕ)
+words_of (layouts.Span pieces) = map (λ p. (p.disk, p.len)) pieces
+words_of (layouts.Stripe chunk len disks) = map (λ name. (name, len)) disks
+words_of (layouts.Mirror len disks) = map (λ name. (name, len)) disks
+words_of (layouts.Raid5 chunk len disks) = map (λ name. (name, len)) disks
+
+-- a span may have several pieces on one disk
+abbrev pub is_same_disk : NewLayout → List Wanted → Bool
+is_same_disk (layouts.Span pieces) wanted = false
+is_same_disk _ wanted = has_twins wanted
+
+-- a length or chunk of 0, columns that chunks don't fill, or too much in so many of them
+abbrev pub is_bad_column : ℕ → ℕ → ℕ → Bool
+is_bad_column chunk len columns = (len == 0) || ((chunk == 0) || (not (len % chunk == 0) || is_much (columns * len)))
+
+-- too large a volume, or one of a bad length or chunk
+abbrev pub is_bad_size : NewLayout → Bool
+is_bad_size (layouts.Span pieces) = list_any (λ p. p.len == 0) pieces || is_much (sum_by (λ p. p.len) pieces)
+is_bad_size (layouts.Stripe chunk len disks) = is_bad_column chunk len (length disks)
+is_bad_size (layouts.Mirror len disks) = len == 0
+is_bad_size (layouts.Raid5 chunk len disks) = is_bad_column chunk len (length disks - 1)
+
+-- the new records, from an id on, where the partitions take these sectors
+abbrev pub made_for : NewLayout → ℕ → List ℕ → ℕ → List Taken → List Record
+made_for (layouts.Span pieces) id name guid taken = span_made id name guid taken
+made_for (layouts.Stripe chunk len disks) id name guid taken = stripe_made id name guid chunk len taken
+made_for (layouts.Mirror len disks) id name guid taken = mirror_made id name guid len taken
+made_for (layouts.Raid5 chunk len disks) id name guid taken = raid5_made id name guid chunk len taken
+
+-- and how many they are
+abbrev pub fresh_for : NewLayout → ℕ
+fresh_for (layouts.Span pieces) = 2 + length pieces
+fresh_for (layouts.Stripe chunk len disks) = 2 + length disks
+fresh_for (layouts.Mirror len disks) = 1 + 2 * length disks
+fresh_for (layouts.Raid5 chunk len disks) = 2 + length disks
+
+abbrev pub change_for : Database → List ℕ → ℕ → NewLayout → List Wanted → List ℕ → Change
+change_for db name guid layout wanted starts =
+    record { stay = db.records; made = made_for layout (max_id db.records + 1) name guid (taken_at wanted starts) }
+
+abbrev pub at_places : Database → List ℕ → ℕ → NewLayout → List Wanted → Result (List ℕ) ℕ → Result Database Refusal
+at_places db name guid layout wanted (Err place) = Err (refusals.NoSpace place)
+at_places db name guid layout wanted (Ok starts) =
+    unless (first_of (limits db (fresh_for layout) (change_for db name guid layout wanted starts))) (changed db (change_for db name guid layout wanted starts))
+
+abbrev pub on_disks : Database → List ℕ → ℕ → NewLayout → Result (List Wanted) ℕ → Result Database Refusal
+on_disks db name guid layout (Err place) = Err (refusals.NoDisk place)
+on_disks db name guid layout (Ok wanted) =
+    if is_same_disk layout wanted then Err refusals.SameDisk
+    else if is_bad_size layout then Err refusals.BadSize
+    else at_places db name guid layout wanted (placed (taken_in db.records) 0 wanted)
+
+unfoldable pub created : Database → List Label → List ℕ → ℕ → NewLayout → Result Database Refusal
+created db labels name guid layout =
+    if is_some (volume_named name db.records) then Err refusals.NameTaken
+    else on_disks db name guid layout (asked_for (data_size labels db.records) db.records 0 (words_of layout))

@@ -1,0 +1,101 @@
+-- extend: the group with a longer span, or the first reason that it is refused.
+use Rattle.std.specs.Prelude.{ℕ, ◌+◌, ◌==◌, ◌||◌, not, Bool, true, false, List, [], ◌∷◌, length, map, sum_by, filter, find, Option, Some, None, is_some, Result, Ok, Err}
+use Rattle.std.specs.List.{list_any}
+use Rattle.std.specs.Option.{option_map}
+use Rattle.ldm_bytes.specs.Tables.{first_of, unless}
+use Rattle.ldm_records.specs.declared.types.Record.{Record}
+use Rattle.ldm_records.specs.declared.types.Record.TheVariants as kinds
+use Rattle.ldm_records.specs.declared.types.Volume.{Volume}
+use Rattle.ldm_records.specs.declared.types.Component.{Component}
+use Rattle.ldm_records.specs.Made.{resized, with_children}
+use Rattle.ldm_label.specs.declared.Label.{Label}
+use Rattle.ldm_group.specs.Database.{Database}
+use Rattle.ldm_group.specs.Looks.{is_at, is_child, max_id}
+use Rattle.ldm_layout.specs.declared.shape.Shape.{Shape}
+use Rattle.ldm_layout.specs.declared.shape.Shape.TheVariants.{Span}
+use Rattle.ldm_layout.specs.declared.shape.LayoutFault.{LayoutFault}
+use Rattle.ldm_layout.specs.Parts.{plexes_of}
+use Rattle.ldm_layout.specs.Layouts.{Layout, capacity_of}
+use Rattle.ldm_layout.specs.Volumes.{layout_of, shape_of}
+use Rattle.ldm_rules.specs.Ends.{data_size}
+use Rattle.ldm_space.specs.declared.taken.Taken.{Taken}
+use Rattle.ldm_space.specs.Free.{taken_in}
+use Rattle.ldm_space.specs.declared.placed.Wanted.{Wanted}
+use Rattle.ldm_space.specs.Wanted.{placed}
+use Rattle.ldm_space.specs.Placed.{taken_at}
+use Rattle.ldm_words.specs.declared.command.Piece.{Piece}
+use Rattle.ldm_edits.specs.declared.reply.Refusal.{Refusal}
+use Rattle.ldm_edits.specs.declared.reply.Refusal.TheVariants as refusals
+use Rattle.ldm_edits.specs.Asked.{asked_for, is_much}
+use Rattle.ldm_edits.specs.Changes.{Change, when, limits, changed}
+use Rattle.ldm_edits.specs.Made.{span_parts, there}
+
+-- ---- the records
+
+-- the volume, and its component
+abbrev pub changes : Volume → Component → Record → Bool
+changes v c r = is_at 3 v.head.id r || is_at 4 c.head.id r
+
+-- The longer volume and its component, and the new partitions from an id on. These begin behind the capacity of the component,
+-- which has so many partitions more. The volume's size is the new capacity.
+abbrev pub longer_parts : Volume → Component → ℕ → ℕ → List Taken → List Record
+longer_parts v c capacity id taken =
+    there (
+    option_map kinds.Volume (resized v (capacity + sum_by (λ t. t.size) taken))
+    ∷ option_map kinds.Component (with_children c (c.children + length taken))
+    ∷ span_parts id c.head.id capacity taken)
+
+abbrev pub lengthened : List Record → Volume → Component → ℕ → List Taken → Change
+lengthened records v c capacity taken = record {
+  stay = filter (λ r. not (changes v c r)) records;
+  made = longer_parts v c capacity (max_id records + 1) taken;
+}
+
+-- ---- the command
+
+-- the sectors that the components of a volume hold
+abbrev pub held : Result Layout LayoutFault → ℕ
+held (Ok l) = capacity_of l
+held (Err fault) = 0
+
+abbrev pub component_in : Option Record → Option Component
+component_in (Some (kinds.Component c)) = Some c
+component_in _ = None
+
+-- the component of a span
+abbrev pub component_of : Volume → List Record → Option Component
+component_of v records = component_in (find (is_child 3 v.head.id) records)
+
+abbrev pub is_span : Option Shape → Bool
+is_span (Some Span) = true
+is_span _ = false
+
+abbrev pub refused_or : Option Refusal → Result Database Refusal → Result Database Refusal
+refused_or (Some refusal) next = Err refusal
+refused_or None next = next
+
+-- why the volume can't be extended
+abbrev pub unlengthened : List Record → Volume → Option Refusal
+unlengthened records v = first_of (when (not (is_span (shape_of (plexes_of v.head.id records)))) refusals.NotSpan ∷ (when (is_some v.size2) refusals.ExtraSize ∷ []))
+
+-- a length of 0, or too large a volume
+abbrev pub is_bad_length : ℕ → List Wanted → Bool
+is_bad_length capacity wanted = list_any (λ w. w.size == 0) wanted || is_much (capacity + sum_by (λ w. w.size) wanted)
+
+abbrev pub lengthen : Database → Volume → Option Component → List Wanted → Result (List ℕ) ℕ → Result Database Refusal
+lengthen db v (Some c) wanted (Ok starts) =
+    let change = lengthened db.records v c (held (layout_of db.records v)) (taken_at wanted starts) in
+    unless (first_of (limits db (length wanted) change)) (changed db change)
+lengthen db v (Some c) wanted (Err piece) = Err (refusals.NoSpace piece)
+lengthen db v None wanted starts = Err refusals.NotSpan
+
+abbrev pub with_wanted : Database → Volume → Result (List Wanted) ℕ → Result Database Refusal
+with_wanted db v (Err piece) = Err (refusals.NoDisk piece)
+with_wanted db v (Ok wanted) =
+    refused_or (when (is_bad_length (held (layout_of db.records v)) wanted) refusals.BadSize)
+    (lengthen db v (component_of v db.records) wanted (placed (taken_in db.records) 0 wanted))
+
+abbrev pub extended : Database → List Label → List Piece → Option Volume → Result Database Refusal
+extended db labels pieces None = Err refusals.NoVolume
+extended db labels pieces (Some v) =
+    refused_or (unlengthened db.records v) (with_wanted db v (asked_for (data_size labels db.records) db.records 0 (map (λ p. (p.disk, p.len)) pieces)))

@@ -1,0 +1,9 @@
+pub mod Changes
+pub mod Asked
+pub mod Made
+pub mod Creating
+pub mod Extending
+pub mod Deleting
+pub mod Staying
+pub mod Answers
+pub mod Steps

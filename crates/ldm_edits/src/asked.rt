@@ -1,0 +1,107 @@
+ghost use Rattle.std.specs.Prelude.{◌≡◌, ◌==◌, ◌<◌, ◌≤◌, ◌^◌, length, IfOk, IfSome, map};
+ghost use Rattle.std.specs.List.{list_any};
+ghost use Rattle.std.specs.Option.{option_map};
+ghost use Rattle.ldm_group.specs.Looks.{disk_named};
+ghost use Rattle.ldm_rules.specs.Ends.{data_size};
+ghost use Rattle.ldm_words.specs.declared.command.Piece.{Piece};
+ghost use Rattle.ldm_edits.specs.Asked.{asked_for, has_twins};
+ghost use Rattle.ldm_edits.specs.Extending.{is_bad_length};
+ghost use Rattle.ldm_edits.specs.Answers.{AsksAs, AreLow};
+
+use ldm_bytes::{Bytes, NoMemory};
+use ldm_group::Db;
+use ldm_label::Labels;
+use ldm_rules::sectors_of;
+use ldm_space::Wanted;
+use ldm_words::Piece;
+use std::alloc::Global;
+
+// So many sectors of the disk of this name.
+fn wanted_of(db: &Db, labels: &Labels, name: &[u8], size: u64) -> Option<Wanted>
+    ensures is { result ≡ option_map (λ d. record { disk = d.head.id; limit = data_size labels.now db.now.records d.head.id; size = size }) (disk_named name.now db.now.records) }
+    ensures low { IfSome result (λ w. w.limit < 2 ^ 64) }
+{
+    let disk = db.disk_named(name)?;
+    Some(Wanted {
+        disk: disk.head.id,
+        limit: sectors_of(labels.as_slice(), disk.guid),
+        size,
+    })
+}
+
+/// What the pieces of a command ask of their disks, or the place of the first whose disk isn't there.
+pub fn asked_pieces(
+    alloc: Global,
+    db: &Db,
+    labels: &Labels,
+    pieces: &[Piece],
+) -> Result<Result<Vec<Wanted>, usize>, NoMemory>
+    ensures is { IfOk result (AsksAs (asked_for (data_size labels.now db.now.records) db.now.records 0 (map (λ p. (p.disk, p.len)) pieces.now))) }
+    ensures low { IfOk result AreLow }
+{
+    let mut wanted = Vec::new(alloc);
+    for at in 0..pieces.len() {
+        let piece = &pieces[at];
+        match wanted_of(db, labels, piece.disk.as_slice(), piece.len) {
+            Some(one) => wanted.push(one)?,
+            None => return Ok(Err(at)),
+        }
+    }
+    Ok(Ok(wanted))
+}
+
+/// So many sectors of each of these disks, or the place of the first that isn't there.
+pub fn asked_disks(
+    alloc: Global,
+    db: &Db,
+    labels: &Labels,
+    disks: &[Bytes],
+    size: u64,
+) -> Result<Result<Vec<Wanted>, usize>, NoMemory>
+    ensures is { IfOk result (AsksAs (asked_for (data_size labels.now db.now.records) db.now.records 0 (map (λ name. (name, size)) disks.now))) }
+    ensures low { IfOk result AreLow }
+{
+    let mut wanted = Vec::new(alloc);
+    for at in 0..disks.len() {
+        match wanted_of(db, labels, disks[at].as_slice(), size) {
+            Some(one) => wanted.push(one)?,
+            None => return Ok(Err(at)),
+        }
+    }
+    Ok(Ok(wanted))
+}
+
+// Whether one is asked of this disk.
+fn asks_of(wanted: &[Wanted], disk: u64) -> bool
+    ensures { result ≡ list_any (λ w. w.disk == disk) wanted.now }
+{
+    wanted.iter().any(|w| w.disk == disk)
+}
+
+/// Whether two are asked of one disk. There are few of them.
+pub fn has_twins(wanted: &[Wanted]) -> bool
+    ensures { result ≡ has_twins wanted.now }
+{
+    for at in 0..wanted.len() {
+        let disk = wanted[at].disk;
+        if asks_of(&wanted[at + 1..], disk) {
+            return true;
+        }
+    }
+    false
+}
+
+/// Whether one has length 0, or all of them together with a capacity are more than a number of the format says.
+pub fn is_bad_length(capacity: u64, wanted: &[Wanted]) -> bool
+    requires { length wanted.now ≤ 64 }
+    ensures { result ≡ is_bad_length capacity wanted.now }
+{
+    let mut sectors = u128::from(capacity);
+    for w in wanted {
+        if w.size == 0 {
+            return true;
+        }
+        sectors += u128::from(w.size);
+    }
+    sectors > u128::from(u64::MAX)
+}

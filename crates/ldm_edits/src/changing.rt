@@ -1,0 +1,50 @@
+ghost use Rattle.std.specs.Prelude.{◌≡◌, ◌≢◌, ◌++◌, ◌-◌, ◌^◌, All, IfOk};
+ghost use Rattle.ldm_group.specs.Order.{Rising, in_order};
+ghost use Rattle.ldm_group.specs.Room.{IsFitting};
+ghost use Rattle.ldm_edits.specs.Answers.{StepsTo};
+ghost use Rattle.ldm_edits.specs.Changes.{changed, change_to};
+ghost use Rattle.ldm_edits.specs.Staying.{staying, change_of};
+
+use crate::error::StepError;
+use crate::leaving::{Leaving, stay};
+use crate::limits::first_limit;
+use ldm_bytes::NoMemory;
+use ldm_group::{Db, DbError};
+use ldm_records::Record;
+use std::alloc::Global;
+
+// The group with these records in the places of those that leave it.
+fn changed(alloc: Global, db: &Db, leaving: Leaving, made: Vec<Record>) -> Result<Db, NoMemory>
+    requires rising { Rising db.now.records → Rising (in_order (staying leaving db.now.records ++ made.items)) }
+    requires seq { db.now.header.seq ≢ 2 ^ 64 - 1 }
+    ensures { IfOk result (λ next. next ≡ changed db.now (change_of leaving db.now.records made.items)) }
+{
+    let header = db.header().with_seq(alloc, db.header().seq + 1)?;
+    let mut records = stay(alloc, db, leaving)?;
+    let mut made = made;
+    records.append(&mut made)?;
+    match Db::new(alloc, header, records) {
+        Ok(next) => Ok(next),
+        Err(DbError::NoMemory) => Err(NoMemory),
+        Err(DbError::SameId { .. }) => unreachable!(),
+    }
+}
+
+/// The group with these records, of which so many are new, in the places of those that leave it, where no limit is passed. No
+/// record is copied before.
+pub fn change(
+    alloc: Global,
+    db: &Db,
+    fresh: u64,
+    leaving: Leaving,
+    made: Vec<Record>,
+) -> Result<Db, StepError>
+    requires fits { All IsFitting db.now.records }
+    requires rising { Rising db.now.records → Rising (in_order (staying leaving db.now.records ++ made.items)) }
+    ensures { StepsTo result (change_to db.now fresh (change_of leaving db.now.records made.items)) }
+{
+    if let Some(refusal) = first_limit(db, fresh, leaving, made.as_slice()) {
+        return Err(StepError::Refused(refusal));
+    }
+    Ok(changed(alloc, db, leaving, made)?)
+}

@@ -1,0 +1,167 @@
+ghost use Rattle.std.specs.Prelude.{◌≡◌, ◌+◌, ◌^◌, ◌≤◌, false, length, map, IfOk};
+ghost use Rattle.ldm_rules.specs.Ends.{data_size};
+ghost use Rattle.ldm_rules.specs.Facts.{IsSoundOn};
+ghost use Rattle.ldm_words.specs.Limits.{IsNewLayout, IsCreate};
+ghost use Rattle.ldm_edits.specs.Asked.{asked_for};
+ghost use Rattle.ldm_edits.specs.Answers.{AsksAs, AreLow, StepsTo};
+ghost use Rattle.ldm_edits.specs.Creating.{words_of, is_same_disk, is_bad_column, is_bad_size, made_for, fresh_for, created};
+
+use crate::asked::{asked_disks, asked_pieces, has_twins, is_bad_length};
+use crate::changing::change;
+use crate::error::StepError;
+use crate::leaving::Leaving;
+use crate::limits::first_new_id;
+use crate::made::{mirror, raid5, span, stripe};
+use crate::reply::Refusal;
+use ldm_bytes::NoMemory;
+use ldm_group::Db;
+use ldm_label::Labels;
+use ldm_records::Record;
+use ldm_space::{Taken, Wanted, place_all};
+use ldm_words::NewLayout;
+use std::alloc::Global;
+
+// What the layout asks of its disks, or the place of the first word whose disk isn't there.
+fn asked(
+    alloc: Global,
+    db: &Db,
+    labels: &Labels,
+    layout: &NewLayout,
+) -> Result<Result<Vec<Wanted>, usize>, NoMemory>
+    ensures is { IfOk result (AsksAs (asked_for (data_size labels.now db.now.records) db.now.records 0 (words_of layout.now))) }
+    ensures low { IfOk result AreLow }
+{
+    match layout {
+        NewLayout::Span { pieces } => asked_pieces(alloc, db, labels, pieces.as_slice()),
+        NewLayout::Stripe { len, disks, .. } => asked_disks(
+            alloc,
+            db,
+            labels,
+            disks.as_slice(),
+            *len,
+        ),
+        NewLayout::Mirror { len, disks } => asked_disks(alloc, db, labels, disks.as_slice(), *len),
+        NewLayout::Raid5 { len, disks, .. } => asked_disks(
+            alloc,
+            db,
+            labels,
+            disks.as_slice(),
+            *len,
+        ),
+    }
+}
+
+fn is_same_disk(layout: &NewLayout, wanted: &[Wanted]) -> bool
+    ensures { result ≡ is_same_disk layout.now wanted.now }
+{
+    match layout {
+        NewLayout::Span { .. } => false,
+        _ => has_twins(wanted),
+    }
+}
+
+// Whether so many columns are empty, not filled by chunks, or too much together.
+fn is_bad_column(chunk: u64, len: u64, columns: u64) -> bool
+    ensures { result ≡ is_bad_column chunk len columns }
+{
+    len == 0
+        || chunk == 0
+        || len % chunk != 0
+        || u128::from(columns) * u128::from(len) > u128::from(u64::MAX)
+}
+
+fn is_bad_size(layout: &NewLayout, wanted: &[Wanted]) -> bool
+    requires limits { IsNewLayout layout.now }
+    requires sizes { map (λ w. w.size) wanted.now ≡ map (λ word. word.1) (words_of layout.now) }
+    ensures { result ≡ is_bad_size layout.now }
+{
+    match layout {
+        NewLayout::Span { .. } => is_bad_length(0, wanted),
+        NewLayout::Stripe { chunk, len, disks } => is_bad_column(
+            *chunk,
+            *len,
+            disks.as_slice().len() as u64,
+        ),
+        NewLayout::Mirror { len, .. } => *len == 0,
+        NewLayout::Raid5 { chunk, len, disks } => is_bad_column(
+            *chunk,
+            *len,
+            disks.as_slice().len() as u64 - 1,
+        ),
+    }
+}
+
+// How many records are new.
+fn fresh_for(layout: &NewLayout) -> u64
+    requires { IsNewLayout layout.now }
+    ensures { result ≡ fresh_for layout.now }
+{
+    match layout {
+        NewLayout::Span { pieces } => 2 + pieces.as_slice().len() as u64,
+        NewLayout::Stripe { disks, .. } => 2 + disks.as_slice().len() as u64,
+        NewLayout::Mirror { disks, .. } => 1 + 2 * disks.as_slice().len() as u64,
+        NewLayout::Raid5 { disks, .. } => 2 + disks.as_slice().len() as u64,
+    }
+}
+
+// The new records, from an id on, where the partitions take these sectors.
+fn made_for(
+    alloc: Global,
+    layout: &NewLayout,
+    id: u64,
+    name: &[u8],
+    guid: u128,
+    spots: &[Taken],
+) -> Result<Vec<Record>, NoMemory>
+    requires short { length name.now ≤ 255 }
+    requires layout_is { IsNewLayout layout.now }
+    requires size { is_bad_size layout.now ≡ false }
+    requires ids { id + fresh_for layout.now ≤ 2 ^ 64 }
+    requires sizes { map (λ t. t.size) spots.now ≡ map (λ word. word.1) (words_of layout.now) }
+    ensures { IfOk result (λ v. v.items ≡ made_for layout.now id name.now guid spots.now) }
+{
+    match layout {
+        NewLayout::Span { .. } => span(alloc, id, name, guid, spots),
+        NewLayout::Stripe { chunk, len, .. } => stripe(alloc, id, name, guid, *chunk, *len, spots),
+        NewLayout::Mirror { len, .. } => mirror(alloc, id, name, guid, *len, spots),
+        NewLayout::Raid5 { chunk, len, .. } => raid5(alloc, id, name, guid, *chunk, *len, spots),
+    }
+}
+
+/// The group with a new volume.
+pub fn create(
+    alloc: Global,
+    db: &Db,
+    labels: &Labels,
+    name: &[u8],
+    guid: u128,
+    layout: &NewLayout,
+) -> Result<Db, StepError>
+    requires sound { IsSoundOn db.now labels.now }
+    requires limits { IsCreate name.now layout.now }
+    ensures { StepsTo result (created db.now labels.now name.now guid layout.now) }
+{
+    if db.volume_named(name).is_some() {
+        return Err(StepError::Refused(Refusal::NameTaken));
+    }
+    let wanted = match asked(alloc, db, labels, layout)? {
+        Ok(wanted) => wanted,
+        Err(word) => return Err(StepError::Refused(Refusal::NoDisk(word))),
+    };
+    if is_same_disk(layout, wanted.as_slice()) {
+        return Err(StepError::Refused(Refusal::SameDisk));
+    }
+    if is_bad_size(layout, wanted.as_slice()) {
+        return Err(StepError::Refused(Refusal::BadSize));
+    }
+    let spots = match place_all(alloc, db.as_slice(), wanted.as_slice())? {
+        Ok(spots) => spots,
+        Err(word) => return Err(StepError::Refused(Refusal::NoSpace(word))),
+    };
+    let fresh = fresh_for(layout);
+    let Some(id) = first_new_id(db, fresh) else {
+        return Err(StepError::Refused(Refusal::IdsSpent));
+    };
+    let made = made_for(alloc, layout, id, name, guid, spots.as_slice())?;
+    change(alloc, db, fresh, Leaving::Nothing, made)
+}

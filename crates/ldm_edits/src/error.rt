@@ -1,0 +1,20 @@
+ghost use Rattle.std.specs.Prelude.{◌≡◌};
+ghost use Rattle.ldm_edits.specs.declared.error.StepError.TheVariants as errors;
+
+use crate::reply::Refusal;
+use ldm_bytes::NoMemory;
+
+/// Why a command isn't done.
+#[derive(Clone, Copy)]
+pub enum StepError {
+    Refused(Refusal),
+    NoMemory,
+}
+
+impl From<NoMemory> for StepError {
+    ghost from_gives = { λ _ error. error ≡ errors.NoMemory };
+
+    fn from(_error: NoMemory) -> StepError {
+        StepError::NoMemory
+    }
+}

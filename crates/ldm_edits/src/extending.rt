@@ -1,0 +1,147 @@
+ghost use Rattle.std.specs.Prelude.{◌≡◌, ◌+◌, ◌^◌, ◌<◌, ◌≤◌, Contains, Some, None, Ok, find, length, option_copied, sum_by, true, is_some, IfOk};
+ghost use Rattle.ldm_records.specs.declared.types.Record.TheVariants as kinds;
+ghost use Rattle.ldm_records.specs.Made.{resized, with_children};
+ghost use Rattle.ldm_group.specs.Looks.{is_child, volume_named};
+ghost use Rattle.ldm_layout.specs.Volumes.{layout_of, volume_with};
+ghost use Rattle.ldm_rules.specs.Facts.{IsSoundOn};
+ghost use Rattle.ldm_words.specs.Limits.{ArePieces};
+ghost use Rattle.ldm_edits.specs.Answers.{StepsTo};
+ghost use Rattle.ldm_edits.specs.Extending.{component_in, held, unlengthened, longer_parts, extended};
+
+use crate::asked::{asked_pieces, is_bad_length};
+use crate::changing::change;
+use crate::error::StepError;
+use crate::leaving::Leaving;
+use crate::limits::first_new_id;
+use crate::made::{sectors_with, with_tiles};
+use crate::reply::Refusal;
+use ldm_bytes::NoMemory;
+use ldm_group::Db;
+use ldm_label::Labels;
+use ldm_layout::{LayoutError, Plan, Shape, plan};
+use ldm_records::{Component, Record, Volume, resized, with_children};
+use ldm_space::{Taken, place_all};
+use ldm_words::Piece;
+use std::alloc::Global;
+
+// The layout of a volume of the group, which is there since the group is sound.
+fn plan_of(alloc: Global, db: &Db, labels: &Labels, volume: &Volume) -> Result<Plan, NoMemory>
+    requires sound { IsSoundOn db.now labels.now }
+    requires there { Contains db.now.records (kinds.Volume volume.now) }
+    requires again { volume_with volume.now.head.id db.now.records ≡ Some volume.now }
+    ensures { IfOk result (λ plan. layout_of db.now.records volume.now ≡ Ok plan) }
+{
+    match plan(alloc, db, volume.head.id) {
+        Ok(plan) => Ok(plan),
+        Err(LayoutError::NoMemory) => Err(NoMemory),
+        Err(LayoutError::Fault(_)) => unreachable!(),
+    }
+}
+
+// The first component of the volume of this id.
+fn component_record(records: &[Record], volume: u64) -> Option<&Record>
+    ensures { option_copied result ≡ find (is_child 3 volume) records.now }
+{
+    records.iter().find(|r| matches!(r, Record::Component(c) if c.parent == volume))
+}
+
+fn component_of(db: &Db, volume: u64) -> Option<&Component>
+    ensures { option_copied result ≡ component_in (find (is_child 3 volume) db.now.records) }
+{
+    match component_record(db.as_slice(), volume) {
+        Some(Record::Component(c)) => Some(c),
+        _ => None,
+    }
+}
+
+// The longer volume and its component, and the new partitions behind its capacity.
+fn lengthened(
+    alloc: Global,
+    volume: &Volume,
+    component: &Component,
+    capacity: u64,
+    id: u64,
+    spots: &[Taken],
+) -> Result<Vec<Record>, NoMemory>
+    requires size { capacity + sum_by (λ t. t.size) spots.now < 2 ^ 64 }
+    requires children { component.now.children + length spots.now < 2 ^ 64 }
+    requires volume_there { is_some (resized volume.now (capacity + sum_by (λ t. t.size) spots.now)) ≡ true }
+    requires component_there { is_some (with_children component.now (component.now.children + length spots.now)) ≡ true }
+    requires ids { id + length spots.now ≤ 2 ^ 64 }
+    ensures { IfOk result (λ v. v.items ≡ longer_parts volume.now component.now capacity id spots.now) }
+{
+    let size = sectors_with(capacity, spots);
+    let children = component.children + spots.len() as u64;
+    let mut records = Vec::new(alloc);
+    records.push(Record::Volume(resized(volume, alloc, size)?))?;
+    records.push(Record::Component(with_children(component, alloc, children)?))?;
+    with_tiles(alloc, records, id, component.head.id, capacity, spots)
+}
+
+/// The group with more pieces behind those of the volume of this name.
+pub fn extend(
+    alloc: Global,
+    db: &Db,
+    labels: &Labels,
+    name: &[u8],
+    pieces: &[Piece],
+) -> Result<Db, StepError>
+    requires sound { IsSoundOn db.now labels.now }
+    requires limits { ArePieces pieces.now }
+    ensures { StepsTo result (extended db.now labels.now pieces.now (volume_named name.now db.now.records)) }
+{
+    let Some(volume) = db.volume_named(name) else {
+        return Err(StepError::Refused(Refusal::NoVolume));
+    };
+    let plan = plan_of(alloc, db, labels, volume)?;
+    let Shape::Span = plan.shape() else {
+        return Err(StepError::Refused(Refusal::NotSpan));
+    };
+    if volume.size2.is_some() {
+        return Err(StepError::Refused(Refusal::ExtraSize));
+    }
+    lengthen(alloc, db, labels, volume, plan.capacity(), pieces)
+}
+
+// The group with a longer span of this capacity.
+fn lengthen(
+    alloc: Global,
+    db: &Db,
+    labels: &Labels,
+    volume: &Volume,
+    capacity: u128,
+    pieces: &[Piece],
+) -> Result<Db, StepError>
+    requires sound { IsSoundOn db.now labels.now }
+    requires there { Contains db.now.records (kinds.Volume volume.now) }
+    requires limits { ArePieces pieces.now }
+    requires span { unlengthened db.now.records volume.now ≡ None }
+    requires held { capacity ≡ held (layout_of db.now.records volume.now) }
+    ensures { StepsTo result (extended db.now labels.now pieces.now (Some volume.now)) }
+{
+    let wanted = match asked_pieces(alloc, db, labels, pieces)? {
+        Ok(wanted) => wanted,
+        Err(piece) => return Err(StepError::Refused(Refusal::NoDisk(piece))),
+    };
+    if capacity > u128::from(u64::MAX) || is_bad_length(capacity as u64, wanted.as_slice()) {
+        return Err(StepError::Refused(Refusal::BadSize));
+    }
+    let Some(component) = component_of(db, volume.head.id) else {
+        return Err(StepError::Refused(Refusal::NotSpan));
+    };
+    let placed = match place_all(alloc, db.as_slice(), wanted.as_slice())? {
+        Ok(spots) => spots,
+        Err(piece) => return Err(StepError::Refused(Refusal::NoSpace(piece))),
+    };
+    let spots = placed.as_slice();
+    let fresh = spots.len() as u64;
+    let Some(id) = first_new_id(db, fresh) else {
+        return Err(StepError::Refused(Refusal::IdsSpent));
+    };
+    let made = lengthened(alloc, volume, component, capacity as u64, id, spots)?;
+    let leaving = Leaving::Changed {
+        volume: volume.head.id,
+        component: component.head.id,
+    };
+    change(alloc, db, fresh, leaving, made)
+}

@@ -1,0 +1,17 @@
+//! What a command makes of a group: the next database, or the first reason that the command is refused.
+#![tactic(auto)]
+
+mod asked;
+mod changing;
+mod creating;
+mod deleting;
+mod error;
+mod extending;
+mod leaving;
+mod limits;
+mod made;
+mod reply;
+mod stepping;
+
+pub use reply::{Refusal, Reply};
+pub use stepping::{Outcome, step};

@@ -1,0 +1,114 @@
+ghost use Rattle.std.specs.Prelude.{◌≡◌, min, unwrap_or, ◌+◌, ◌-◌, ◌^◌, ◌≤◌, ◌<◌, ◌++◌, All, MatchOption, nat_le};
+ghost use Rattle.std.specs.Option.{option_map};
+ghost use Rattle.ldm_bytes.specs.Tables.{first_of};
+ghost use Rattle.ldm_group.specs.Looks.{max_id};
+ghost use Rattle.ldm_group.specs.Room.{IsFitting, need_of};
+ghost use Rattle.ldm_edits.specs.Changes.{long_id, later_limits, limits};
+ghost use Rattle.ldm_edits.specs.Staying.{staying, change_of};
+
+use crate::leaving::Leaving;
+use crate::reply::Refusal;
+use ldm_frags::parts_of;
+use ldm_group::{Db, id_of, own_len};
+use ldm_records::Record;
+
+// Whether so many new records find ids behind the greatest.
+fn has_ids(db: &Db, fresh: u64) -> bool
+    ensures { result ≡ nat_le (max_id db.now.records + fresh) (2 ^ 64 - 1) }
+{
+    fresh <= u64::MAX - db.max_id()
+}
+
+/// The first id of so many new records; none where there are fewer left.
+pub fn first_new_id(db: &Db, fresh: u64) -> Option<u64>
+    requires { 1 ≤ fresh }
+    ensures { MatchOption result (2 ^ 64 - 1 < max_id db.now.records + fresh) (λ id. (id ≡ max_id db.now.records + 1) × (max_id db.now.records + fresh ≤ 2 ^ 64 - 1)) }
+{
+    if has_ids(db, fresh) {
+        Some(db.max_id() + 1)
+    } else {
+        None
+    }
+}
+
+// The less of an id and the least of those before it.
+fn lesser(least: Option<u64>, id: u64) -> u64
+    ensures { result ≡ unwrap_or (option_map (λ other. min id other) least) id }
+{
+    match least {
+        Some(other) => id.min(other),
+        None => id,
+    }
+}
+
+// The least id of the records whose own spelling takes more than four blocks.
+fn long_id(records: &[Record]) -> Option<u64>
+    ensures { result ≡ long_id records.now }
+{
+    let mut least = None;
+    for r in records {
+        if own_len(r) > 448 {
+            least = Some(lesser(least, id_of(r)));
+        }
+    }
+    least
+}
+
+// How many blocks the records take that stay.
+fn need_staying(db: &Db, leaving: Leaving) -> u64
+    requires { All IsFitting db.now.records }
+    ensures is { result ≡ need_of (staying leaving db.now.records) }
+    ensures few { result < 2 ^ 63 }
+{
+    let mut need = 0;
+    for r in db.as_slice() {
+        if !leaving.takes(db, r) {
+            need += u64::from(parts_of(own_len(r)));
+        }
+    }
+    need
+}
+
+// And those that are made.
+fn need_made(made: &[Record]) -> u64
+    requires { All IsFitting made.now }
+    ensures is { result ≡ need_of made.now }
+    ensures few { result < 2 ^ 63 }
+{
+    let mut need = 0;
+    for r in made {
+        need += u64::from(parts_of(own_len(r)));
+    }
+    need
+}
+
+// The first of the limits but for the ids.
+fn later_limit(db: &Db, leaving: Leaving, made: &[Record]) -> Option<Refusal>
+    requires { All IsFitting db.now.records }
+    ensures { result ≡ first_of (later_limits db.now (change_of leaving db.now.records made.now)) }
+{
+    if let Some(id) = long_id(made) {
+        return Some(Refusal::TooLong(id));
+    }
+    let need = need_staying(db, leaving) + need_made(made);
+    let have = db.room();
+    if have < need {
+        return Some(Refusal::NoRoom { need, have });
+    }
+    if db.header().seq == u64::MAX {
+        return Some(Refusal::SequenceSpent);
+    }
+    None
+}
+
+/// The first reason why these records, of which so many are new, can't take the places of those that leave the group.
+pub fn first_limit(db: &Db, fresh: u64, leaving: Leaving, made: &[Record]) -> Option<Refusal>
+    requires { All IsFitting db.now.records }
+    ensures { result ≡ first_of (limits db.now fresh (change_of leaving db.now.records made.now)) }
+{
+    if has_ids(db, fresh) {
+        later_limit(db, leaving, made)
+    } else {
+        Some(Refusal::IdsSpent)
+    }
+}

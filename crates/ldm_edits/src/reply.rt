@@ -1,0 +1,38 @@
+/// Why a command is refused, in the order in which the reasons are looked for.
+#[derive(Clone, Copy, Debug, PartialEq, Eq)]
+pub enum Refusal {
+    /// The line has no reading.
+    BadLine,
+    /// A volume has the name.
+    NameTaken,
+    /// No volume has the name.
+    NoVolume,
+    /// The volume that is to be extended is no span.
+    NotSpan,
+    /// It has a second size.
+    ExtraSize,
+    /// The disk word of this number, from 0 on, names no disk.
+    NoDisk(usize),
+    /// Two disk words of a stripe, mirror or RAID-5 name one disk.
+    SameDisk,
+    /// A length or chunk is 0, the sectors of a column are no whole number of chunks, or the volume's size is 2^64 or more.
+    BadSize,
+    /// The piece or disk word of this number, from 0 on, finds no free sectors.
+    NoSpace(usize),
+    /// There are fewer ids left than new records.
+    IdsSpent,
+    /// The record of this id, the least of those, would take more than four blocks.
+    TooLong(u64),
+    /// The records would take more blocks than the header leaves them.
+    NoRoom { need: u64, have: u64 },
+    /// The committed sequence is the last that a number says.
+    SequenceSpent,
+}
+
+/// The reply to a line of a script.
+#[derive(Clone, Copy, Debug, PartialEq, Eq)]
+pub enum Reply {
+    /// It was done, and the committed sequence is this.
+    Done(u64),
+    Refused(Refusal),
+}
