@@ -1,0 +1,10 @@
+pub mod EditLaws
+pub mod Recover
+pub mod OpensLaws
+pub mod HasLaws
+pub mod Stepping
+pub mod CallSteps
+pub mod TurnLaws
+pub mod HealLaws
+pub mod ApplyLaws
+pub mod SettleLaws

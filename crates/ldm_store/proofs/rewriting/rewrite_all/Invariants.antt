@@ -1,0 +1,19 @@
+use Rattle.std.proofs.Common.{◌≡◌, ◌<◌, ◌≤◌, ◌+◌, ℕ, length, slice_index}
+use Rattle.ldm_host.specs.Moves.{Later, Quiet}
+use Rattle.ldm_group.specs.Database.{Database}
+use Rattle.ldm_store.specs.Kept.{IsCurrent}
+use Rattle.ldm_store.specs.Turning.{IsBodyOnEach, AllSettled, AllHave, IsTurned}
+use Rattle.ldm_store.proofs.rewriting.rewrite_all.Given as goal
+
+abbrev pub invariant-loop-disk : goal.invariant-loop-disk
+invariant-loop-disk g l =
+    let start = g.H.Host.seen l.fn.host in
+    let now = g.H.Host.seen l.host in
+    record {
+      later : Later start now;
+      quiet : Quiet start now;
+      wrote_below : (k : ℕ) → k < l.disk → slice_index now.wrote k ≤ slice_index start.wrote k + (length l.body + 1);
+      wrote_above : (k : ℕ) → l.disk ≤ k → slice_index now.wrote k ≡ slice_index start.wrote k;
+      settled : AllSettled l.labels now;
+      turned : g.H.Host.tells_disks → (o n : Database) → AllHave l.labels start.content (IsCurrent o) → IsBodyOnEach n l.labels l.body → IsTurned l.labels o n start now l.disk;
+    }

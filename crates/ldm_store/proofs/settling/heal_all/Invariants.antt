@@ -1,0 +1,19 @@
+use Rattle.std.proofs.Common.{◌≡◌, ℕ, ◌<◌, ◌≤◌, ◌+◌, length, slice_index}
+use Rattle.ldm_host.specs.Moves.{Later, Quiet}
+use Rattle.ldm_store.specs.Turning.{AllSettled}
+use Rattle.ldm_store.specs.Healing.{IsHealed, AreSpared}
+use Rattle.ldm_store.proofs.settling.heal_all.Given as goal
+
+abbrev pub invariant-loop-disk : goal.invariant-loop-disk
+invariant-loop-disk g l =
+    let start = g.H.Host.seen l.fn.host in
+    let now = g.H.Host.seen l.host in
+    record {
+      later : Later start now;
+      quiet : Quiet start now;
+      settled : AllSettled l.found.labels now;
+      wrote_below : (k : ℕ) → k < l.disk → slice_index now.wrote k ≤ slice_index start.wrote k + (length l.body + 1);
+      wrote_above : (k : ℕ) → l.disk ≤ k → slice_index now.wrote k ≡ slice_index start.wrote k;
+      spared : AreSpared l.found.db.header.seq l.found.notes start now;
+      healed : g.H.Host.tells_disks → IsHealed l.found.labels l.found.db start now l.disk;
+    }

@@ -1,0 +1,4 @@
+pub mod Kept
+pub mod Turning
+pub mod Healing
+pub mod Sessions

@@ -1,0 +1,12 @@
+//! The group of a host's disks while it is edited: copies that a stop left behind are healed, and a command is done on all
+//! disks, one after the other.
+#![tactic(auto)]
+
+mod laws;
+mod rewriting;
+mod session;
+mod settling;
+
+pub use laws::kept_images_open;
+pub use session::{ApplyError, Session};
+pub use settling::settle;
