@@ -1,11 +1,14 @@
 -- What a command line says: JOB on IMAGE.., where the first word `on` separates. A word is one token.
 use Rattle.std.specs.Prelude.{◌≡◌, ◌≤◌, ℕ, ◌==◌, ◌&&◌, nat_le, Bool, false, List, [], ◌∷◌, length, map, position, codes, bytes_eq, if◌then◌else◌, Option, Some, None, is_some, String, string_bytes}
 use Rattle.std.specs.List.{before_first, after_first}
+use Rattle.std.specs.Option.{option_map}
 use Rattle.std.specs.declared.alloc.Global.{Global}
 use Rattle.ldm_words.specs.declared.job.Job.{Job}
-use Rattle.ldm_words.specs.declared.job.Job.TheVariants.{Disk, Records, Show, Check, Map}
+use Rattle.ldm_words.specs.declared.job.Job.TheVariants.{Disk, Records, Show, Check, Map, Try, Edit, One}
 use Rattle.ldm_words.specs.Numbers.{number_of}
 use Rattle.ldm_words.specs.Names.{name_of}
+use Rattle.ldm_words.specs.Commands.{command_of}
+use Rattle.ldm_words.specs.Limits.{IsCommand}
 
 -- the words, as lists of bytes
 abbrev pub texts : List (String Global) → List (List ℕ)
@@ -47,6 +50,10 @@ abbrev pub map_form : List (List ℕ) → Option ℕ → Option Job
 map_form (name ∷ first ∷ count ∷ []) images = if is_group images then map_with (name_of name) (number_of first) (number_of count) else None
 map_form rest images = None
 
+-- a command, each word of which is one token, and the images of a group
+abbrev pub command_form : List (List ℕ) → Option ℕ → Option Job
+command_form words images = if is_group images then option_map One (command_of words) else None
+
 -- the form of each job: its first word, and then the words behind that and the images
 abbrev pub form_of : List ℕ → List (List ℕ) → Option ℕ → Option Job
 form_of word rest images =
@@ -55,7 +62,9 @@ form_of word rest images =
     else if bytes_eq word (codes "show") then on_group Show rest images
     else if bytes_eq word (codes "check") then on_group Check rest images
     else if bytes_eq word (codes "map") then map_form rest images
-    else None
+    else if bytes_eq word (codes "try") then on_group Try rest images
+    else if bytes_eq word (codes "edit") then on_group Edit rest images
+    else command_form (word ∷ rest) images
 
 -- the job that stands before `on`, with so many images behind it if there is an `on`
 abbrev pub job_form : List (List ℕ) → Option ℕ → Option Job
@@ -77,3 +86,11 @@ HasCount Records images = images ≡ 1
 HasCount Show images = (1 ≤ images) × (images ≤ 64)
 HasCount Check images = (1 ≤ images) × (images ≤ 64)
 HasCount (Map name first count) images = (1 ≤ images) × (images ≤ 64)
+HasCount Try images = (1 ≤ images) × (images ≤ 64)
+HasCount Edit images = (1 ≤ images) × (images ≤ 64)
+HasCount (One command) images = (1 ≤ images) × (images ≤ 64)
+
+-- a command of a job keeps the grammar's limits
+abbrev pub KeepsLimits : Job → Type 0
+KeepsLimits (One command) = IsCommand command
+KeepsLimits job = Unit {0}

@@ -1,10 +1,13 @@
 ghost use Rattle.std.specs.Prelude.{◌≡◌, ◌≤◌, ℕ, IfOk, IfSome, length, unwrap_or};
 ghost use Rattle.std.specs.List.{position_or_len};
-ghost use Rattle.ldm_words.specs.Jobs.{texts, is_on, images_of, images_behind, on_one, is_group, on_group, map_form, job_form, job_of, HasCount};
+ghost use Rattle.ldm_words.specs.Jobs.{texts, is_on, images_of, images_behind, on_one, is_group, on_group, map_form, command_form, job_form, job_of, HasCount, KeepsLimits};
+ghost use Rattle.ldm_words.specs.Commands.{bytes_of};
 ghost use Rattle.ldm_words.specs.Readings.{Reads};
 
+use crate::command::Command;
 use crate::name::read_name;
 use crate::number::read_number;
+use crate::reading::read_command;
 use ldm_bytes::{Bytes, NoMemory};
 use std::alloc::Global;
 use thiserror::Error;
@@ -22,6 +25,12 @@ pub enum Job {
     Check,
     /// Where `count` sectors of a volume lie, from the sector `first` on.
     Map { name: Bytes, first: u64, count: u64 },
+    /// What the lines of a script would make of a group.
+    Try,
+    /// The lines of a script, done to a group.
+    Edit,
+    /// One command, done to a group.
+    One(Command),
 }
 
 /// Why words give no job.
@@ -84,9 +93,11 @@ fn images_behind(words: &[String]) -> Option<usize>
 
 // A job that takes no words of its own, and one image.
 fn on_one(job: Job, rest: &[String], images: Option<usize>) -> Option<Job>
-    requires { HasCount job 1 }
+    requires count { HasCount job 1 }
+    requires limits { KeepsLimits job }
     ensures is { result ≡ on_one job (texts rest.now) images }
     ensures count { IfSome result (λ found. HasCount found (unwrap_or images 0)) }
+    ensures limits { IfSome result KeepsLimits }
 {
     if rest.is_empty() && images == Some(1) {
         Some(job)
@@ -104,9 +115,11 @@ fn is_group(images: Option<usize>) -> bool
 
 // A job that takes no words of its own, and the images of a group.
 fn on_group(job: Job, rest: &[String], images: Option<usize>) -> Option<Job>
-    requires { (n : ℕ) → 1 ≤ n → n ≤ 64 → HasCount job n }
+    requires count { (n : ℕ) → 1 ≤ n → n ≤ 64 → HasCount job n }
+    requires limits { KeepsLimits job }
     ensures is { result ≡ on_group job (texts rest.now) images }
     ensures count { IfSome result (λ found. HasCount found (unwrap_or images 0)) }
+    ensures limits { IfSome result KeepsLimits }
 {
     if rest.is_empty() && is_group(images) {
         Some(job)
@@ -119,6 +132,7 @@ fn on_group(job: Job, rest: &[String], images: Option<usize>) -> Option<Job>
 fn read_map(alloc: Global, rest: &[String], images: Option<usize>) -> Result<Option<Job>, NoMemory>
     ensures is { IfOk result (λ found. found ≡ map_form (texts rest.now) images) }
     ensures count { IfOk result (λ found. IfSome found (λ job. HasCount job (unwrap_or images 0))) }
+    ensures limits { IfOk result (λ found. IfSome found KeepsLimits) }
 {
     let [name, first, count] = rest else {
         return Ok(None);
@@ -138,10 +152,38 @@ fn read_map(alloc: Global, rest: &[String], images: Option<usize>) -> Result<Opt
     Ok(Some(Job::Map { name, first, count }))
 }
 
+// The words as tokens, each of them one.
+fn tokens_of(alloc: Global, words: &[String]) -> Result<Vec<&[u8]>, NoMemory>
+    ensures { IfOk result (λ tokens. bytes_of tokens.items ≡ texts words.now) }
+{
+    let mut tokens = Vec::new(alloc);
+    for word in words {
+        tokens.push(word.as_bytes())?;
+    }
+    Ok(tokens)
+}
+
+// A command, and the images of a group.
+fn read_one(alloc: Global, words: &[String], images: Option<usize>) -> Result<Option<Job>, NoMemory>
+    ensures is { IfOk result (λ found. found ≡ command_form (texts words.now) images) }
+    ensures count { IfOk result (λ found. IfSome found (λ job. HasCount job (unwrap_or images 0))) }
+    ensures limits { IfOk result (λ found. IfSome found KeepsLimits) }
+{
+    if !is_group(images) {
+        return Ok(None);
+    }
+    let tokens = tokens_of(alloc, words)?;
+    match read_command(alloc, &tokens)? {
+        Some(command) => Ok(Some(Job::One(command))),
+        None => Ok(None),
+    }
+}
+
 // The job that stands before `on`.
 fn read_job(alloc: Global, words: &[String], images: Option<usize>) -> Result<Option<Job>, NoMemory>
     ensures is { IfOk result (λ found. found ≡ job_form (texts words.now) images) }
     ensures count { IfOk result (λ found. IfSome found (λ job. HasCount job (unwrap_or images 0))) }
+    ensures limits { IfOk result (λ found. IfSome found KeepsLimits) }
 {
     let [word, rest @ ..] = words else {
         return Ok(None);
@@ -152,7 +194,9 @@ fn read_job(alloc: Global, words: &[String], images: Option<usize>) -> Result<Op
         "show" => Ok(on_group(Job::Show, rest, images)),
         "check" => Ok(on_group(Job::Check, rest, images)),
         "map" => read_map(alloc, rest, images),
-        _ => Ok(None),
+        "try" => Ok(on_group(Job::Try, rest, images)),
+        "edit" => Ok(on_group(Job::Edit, rest, images)),
+        _ => read_one(alloc, words, images),
     }
 }
 
@@ -162,6 +206,7 @@ fn read_job(alloc: Global, words: &[String], images: Option<usize>) -> Result<Op
 pub fn read_words(alloc: Global, words: &[String]) -> Result<(Job, usize), WordsError>
     ensures reads { Reads result (job_of (texts words.now)) }
     ensures count { IfOk result (λ reading. HasCount reading.0 reading.1) }
+    ensures limits { IfOk result (λ reading. KeepsLimits reading.0) }
     ensures images { IfOk result (λ reading. reading.1 ≡ images_of (texts words.now)) }
     ensures within { IfOk result (λ reading. reading.1 ≤ length words.now) }
 {
