@@ -5,3 +5,4 @@ pub mod Check
 pub mod Volumes
 pub mod Show
 pub mod Map
+pub mod Reply

@@ -12,6 +12,7 @@ mod naming;
 mod opening;
 mod records;
 mod refusal;
+mod reply;
 mod show;
 mod volumes;
 
@@ -22,4 +23,5 @@ pub use map::map_text;
 pub use opening::fault_text;
 pub use records::records_text;
 pub use refusal::{image_fault_text, refusal_text};
+pub use reply::reply_text;
 pub use show::show_text;
