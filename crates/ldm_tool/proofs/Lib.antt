@@ -2,3 +2,14 @@ pub mod Saying
 pub mod OneAnswer
 pub mod Files
 pub mod PlanLaws
+pub mod HeardLaws
+pub mod TurnLaws
+pub mod ReplyLaws
+pub mod ScriptLaws
+pub mod LineCounts
+pub mod TurnLists
+pub mod OpenLaws
+pub mod DoingLaws
+pub mod EditState
+pub mod GroupEnds
+pub mod HearsEdits

@@ -1,5 +1,5 @@
 -- What the program is to answer to a command line: a text and a status.
-use Rattle.std.specs.Prelude.{◌≡◌, ℕ, List, [], Option, Some, None, Result, Ok, Err}
+use Rattle.std.specs.Prelude.{◌≡◌, ℕ, Bool, true, false, List, [], ◌∷◌, codes, Option, Some, None, Result, Ok, Err}
 use Rattle.ldm_host.specs.Seen.{image}
 use Rattle.ldm_label.specs.declared.Label.{Label}
 use Rattle.ldm_label.specs.declared.LabelFault.{LabelFault}
@@ -8,7 +8,7 @@ use Rattle.ldm_copy.specs.declared.answer.CopyState.{CopyState}
 use Rattle.ldm_copy.specs.declared.answer.CopyFault.{CopyFault}
 use Rattle.ldm_copy.specs.Copy.{IsCopyOf, config_area}
 use Rattle.ldm_words.specs.declared.job.Job.{Job}
-use Rattle.ldm_words.specs.declared.job.Job.TheVariants.{Disk, Records, Show, Check, Map}
+use Rattle.ldm_words.specs.declared.job.Job.TheVariants.{Disk, Records, Show, Check, Map, Try, Edit, One}
 use Rattle.ldm_words.specs.Jobs.{job_of}
 use Rattle.ldm_found.specs.declared.fault.OpenFault.{OpenFault}
 use Rattle.ldm_found.specs.declared.found.Found.{Found}
@@ -19,7 +19,8 @@ use Rattle.ldm_text.specs.Opening.{text_of_open_fault}
 use Rattle.ldm_text.specs.Show.{text_of_show}
 use Rattle.ldm_text.specs.Check.{text_of_check}
 use Rattle.ldm_tool.specs.Mapping.{map_answer}
-use Rattle.ldm_tool.specs.Said.{Answer}
+use Rattle.ldm_tool.specs.Scripts.{is_long, commands_in, try_answer}
+use Rattle.ldm_tool.specs.Said.{Answer, refused}
 use Rattle.ldm_tool.specs.declared.run.Status.TheVariants.{Done, Refused, Usage}
 
 -- the refusal of an image for this fault
@@ -60,6 +61,11 @@ show_answer found = (text_of_show found, Done)
 abbrev pub check_answer : Found → Answer
 check_answer found = (text_of_check found, Done)
 
+-- What is answered to a script: a script that is too long is refused, whatever the images hold.
+abbrev pub IsAnswerToScript : Bool → List ℕ → List (List ℕ) → Answer → Type 0
+IsAnswerToScript true script images answer = answer ≡ refused (codes "script too long")
+IsAnswerToScript false script images answer = IsGroupAnswer (try_answer (commands_in script)) images answer
+
 -- what a job answers, with this content of the disks and this input
 abbrev pub IsJobAnswer : Job → List (List ℕ) → List ℕ → Answer → Type 0
 IsJobAnswer Disk images input answer = answer ≡ disk_answer (label_of (image images 0))
@@ -67,6 +73,9 @@ IsJobAnswer Records images input answer = IsRecordsAnswer (label_of (image image
 IsJobAnswer Show images input answer = IsGroupAnswer show_answer images answer
 IsJobAnswer Check images input answer = IsGroupAnswer check_answer images answer
 IsJobAnswer (Map name first count) images input answer = IsGroupAnswer (map_answer name first count) images answer
+IsJobAnswer Try images input answer = IsAnswerToScript (is_long input) input images answer
+IsJobAnswer Edit images input answer = IsAnswerToScript (is_long input) input images answer
+IsJobAnswer (One command) images input answer = IsGroupAnswer (try_answer (Some command ∷ [])) images answer
 
 abbrev pub IsReadingAnswer : Option (Job × ℕ) → List (List ℕ) → List ℕ → Answer → Type 0
 IsReadingAnswer None images input answer = answer ≡ ([], Usage)

@@ -1,6 +1,11 @@
 pub mod FileSeen
 pub mod Said
 pub mod Mapping
+pub mod Scripts
+pub mod Heard
 pub mod Answer
 pub mod Kinds
+pub mod Stops
+pub mod Written
+pub mod Editing
 pub mod Runs

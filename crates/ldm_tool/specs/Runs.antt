@@ -4,7 +4,10 @@ use Rattle.ldm_host.specs.Seen.{Seen}
 use Rattle.ldm_host.specs.Moves.{Rose, Begins, Still}
 use Rattle.ldm_words.specs.declared.job.Job.{Job}
 use Rattle.ldm_tool.specs.Said.{Answer, HasAnswer, SaysNothing}
-use Rattle.ldm_tool.specs.Kinds.{kind_of, JobPremise, JobDisks, SameInput, JobInput, JobSays}
+use Rattle.ldm_tool.specs.Heard.{HearsScript}
+use Rattle.ldm_tool.specs.Kinds.{kind_of, JobPremise, SameInput, JobInput, JobSays}
+use Rattle.ldm_tool.specs.Stops.{JobStops}
+use Rattle.ldm_tool.specs.Written.{JobDisks}
 use Rattle.ldm_tool.specs.declared.run.Status.{Status}
 use Rattle.ldm_tool.specs.declared.run.Status.TheVariants.{Usage, DiskFault, TalkFault}
 
@@ -44,7 +47,12 @@ Premise (Some reading) host = JobPremise (kind_of reading.0) host
 
 abbrev pub DisksAfter : Type 0 → Option (Job × ℕ) → Seen → Seen → Status → Type 0
 DisksAfter tells None old new status = Still old new
-DisksAfter tells (Some reading) old new status = JobDisks tells (kind_of reading.0) old new status
+DisksAfter tells (Some reading) old new status = JobDisks tells reading.0 old new status
+
+-- what a stop leaves at any moment
+abbrev pub StopsAfter : Type 0 → Option (Job × ℕ) → Seen → Seen → Type 0
+StopsAfter tells None old new = Unit {0}
+StopsAfter tells (Some reading) old new = JobStops tells reading.0 old new
 
 abbrev pub InputAfter : Type 0 → Option (Job × ℕ) → Seen → Seen → Status → Type 0
 InputAfter tells None old new status = SameInput old new
@@ -63,3 +71,22 @@ pub record OnlyReads (tells : Type 0) (old new : Seen) (IsOne : Answer → Type 
   pub silent : SaysNothing status → new.said ≡ old.said
   pub still : Still old new
   pub input : SameInput old new
+
+-- What a job does that reads the disks and then says its answer piece by piece: it changes nothing else. Where memory or the
+-- talk fails in the middle, what was said stays said.
+pub record Replies (tells : Type 0) (old new : Seen) (IsOne : Answer → Type 0) (status : Status) : Type 0 where
+  pub answers : tells → Answers old new IsOne status
+  pub no_usage : status ≢ Usage
+  pub causes : Causes old new status
+  pub silent : status ≡ DiskFault → new.said ≡ old.said
+  pub still : Still old new
+  pub input : SameInput old new
+
+-- What such a job does that hears a script first.
+pub record HearsAndReplies (tells talks : Type 0) (old new : Seen) (IsOne : Answer → Type 0) (status : Status) : Type 0 where
+  pub answers : tells → Answers old new IsOne status
+  pub no_usage : status ≢ Usage
+  pub causes : Causes old new status
+  pub silent : status ≡ DiskFault → new.said ≡ old.said
+  pub still : Still old new
+  pub input : talks → HearsScript old new status

@@ -7,15 +7,30 @@ use crate::streams::STREAMS;
 use ldm_bytes::NoMemory;
 use ldm_host::{Failed, Host};
 use std::alloc::Global;
-use std::fs::{File, Metadata};
+use std::fs::{File, Metadata, TryLockError};
 use std::io::{self, ErrorKind, Read, Seek, SeekFrom, Write};
 use std::os::fd::AsRawFd;
-use std::os::unix::fs::{FileExt, FileTypeExt};
+use std::os::unix::fs::{FileExt, FileTypeExt, MetadataExt};
+
+/// What a job does with its images.
+#[derive(Clone, Copy, Debug, PartialEq, Eq)]
+pub(crate) enum Access {
+    Read,
+    Edit,
+}
+
+/// A file by the device that it is on, and its number there.
+#[derive(Clone, Copy, Debug, PartialEq, Eq)]
+struct FileId {
+    device: u64,
+    number: u64,
+}
 
 /// An image that is open for its disk, and how long it is. It is on no standard stream.
 #[derive(Drop)]
 pub struct ImageFile {
     file: File,
+    id: FileId,
     sectors: u64,
     ghost small: { sectors < 2 ^ 55 },
     ghost apart: { STREAMS ≤ℤ file_raw_fd file },
@@ -31,13 +46,31 @@ fn require_disk(metadata: &Metadata) -> io::Result<()> {
 }
 
 impl ImageFile {
-    /// Opens an image for reading. What holds no disk isn't even opened, since a named pipe would wait
-    /// for a writer; what was opened is looked at again, since the name may stand for another file by then.
-    pub(crate) fn open(rt: &HostRuntime, path: &str) -> io::Result<ImageFile> {
+    /// Opens an image for reading, and for writing too where the job edits. What holds no disk isn't even
+    /// opened, since a named pipe would wait for a writer; what was opened is looked at again, since the name
+    /// may stand for another file by then.
+    pub(crate) fn open(rt: &HostRuntime, path: &str, access: Access) -> io::Result<ImageFile> {
         require_disk(&std::fs::metadata(rt, path)?)?;
-        let file = File::open(rt, path)?;
+        let file = File::options()
+            .read(true)
+            .write(access == Access::Edit)
+            .open(rt, path)?;
         require_disk(&file.metadata()?)?;
         ImageFile::of(file)
+    }
+
+    /// Locks the image against other programs that edit, for as long as it is open, and fails where one of
+    /// them holds it. An image that is among those already open is left to the lock of the first, so that it
+    /// is found to be named twice.
+    pub(crate) fn lock_beside(&self, others: &[ImageFile]) -> io::Result<()> {
+        if others.iter().any(|other| other.id == self.id) {
+            return Ok(());
+        }
+        match self.file.try_lock() {
+            Ok(()) => Ok(()),
+            Err(TryLockError::Error(error)) => Err(error),
+            Err(TryLockError::WouldBlock) => Err(io::Error::from(ErrorKind::WouldBlock)),
+        }
     }
 
     /// Takes an open file for an image, but none that is on a standard stream. Its length is where it
@@ -46,8 +79,13 @@ impl ImageFile {
         if file.as_raw_fd() < STREAMS {
             return Err(io::Error::from(ErrorKind::InvalidInput));
         }
+        let metadata = file.metadata()?;
+        let id = FileId {
+            device: metadata.dev(),
+            number: metadata.ino(),
+        };
         let sectors = (&file).seek(SeekFrom::End(0))? / 512;
-        Ok(ImageFile { file, sectors })
+        Ok(ImageFile { file, id, sectors })
     }
 }
 

@@ -1,4 +1,4 @@
-//! Looks at the disks of a Windows dynamic disk group: `ldm JOB on IMAGE...`.
+//! Looks at the disks of a Windows dynamic disk group, and edits its volumes: `ldm JOB on IMAGE...`.
 //!
 //! The top call is `run`. Its contract is the theorem of the program; `FileHost` and `main` are the
 //! trusted edge.
@@ -6,14 +6,17 @@
 
 ghost use Rattle.std.specs.Prelude.{◌≡◌, ◌≢◌, ◌⊎◌, IfOk, IfErr, length, vec_len};
 
+mod editing;
 mod file_host;
 mod mapping;
+mod replying;
 mod run;
+mod script;
 mod streams;
 
-use file_host::{FileHost, ImageFile};
+use file_host::{Access, FileHost, ImageFile};
 use ldm_bytes::NoMemory;
-use ldm_words::{WordsError, read_words};
+use ldm_words::{Job, WordsError, read_words};
 use run::{Status, run};
 use std::alloc::Global;
 use std::io::{ErrorKind, Read, Write};
@@ -55,14 +58,41 @@ fn words_of(alloc: Global, rt: &HostRuntime) -> Result<Vec<String>, Stop> {
     Ok(words)
 }
 
-// Opens the images that the words name, in their order, for reading.
-fn open_images(alloc: Global, rt: &HostRuntime, names: &[String]) -> Result<Vec<ImageFile>, Stop>
+// What the job does with its images.
+fn access_of(job: &Job) -> Access {
+    match job {
+        Job::Edit | Job::One(_) => Access::Edit,
+        _ => Access::Read,
+    }
+}
+
+// Opens an image. One that is to be edited is locked, but where it is among those that are already open.
+fn open_image(
+    rt: &HostRuntime,
+    name: &str,
+    access: Access,
+    others: &[ImageFile],
+) -> io::Result<ImageFile> {
+    let image = ImageFile::open(rt, name, access)?;
+    if access == Access::Edit {
+        image.lock_beside(others)?;
+    }
+    Ok(image)
+}
+
+// Opens the images that the words name, in their order.
+fn open_images(
+    alloc: Global,
+    rt: &HostRuntime,
+    names: &[String],
+    access: Access,
+) -> Result<Vec<ImageFile>, Stop>
     ensures all { IfOk result (λ images. vec_len images ≡ length names.now) }
     ensures no_usage { IfErr result (λ stop. stop ≢ Stop.Usage) }
 {
     let mut images = Vec::new(alloc);
     for name in names {
-        let image = match ImageFile::open(rt, name.as_str()) {
+        let image = match open_image(rt, name.as_str(), access, images.as_slice()) {
             Ok(image) => image,
             Err(error) => return Err(stop_for(&error, Stop::CannotOpen)),
         };
@@ -80,12 +110,12 @@ where
     O: Write + Drop,
 {
     let alloc = rt.alloc();
-    let count = match read_words(alloc, words) {
+    let (access, count) = match read_words(alloc, words) {
         Err(WordsError::Usage) => return Err(Stop::Usage),
         Err(WordsError::NoMemory) => return Err(Stop::NoMemory),
-        Ok((_, count)) => count,
+        Ok((job, count)) => (access_of(&job), count),
     };
-    let images = open_images(alloc, rt, &words[words.len() - count..])?;
+    let images = open_images(alloc, rt, &words[words.len() - count..], access)?;
     match FileHost::new(alloc, images, input, output) {
         Ok(mut host) => Ok(run(alloc, words, &mut host)),
         Err(NoMemory) => Err(Stop::NoMemory),
@@ -131,3 +161,5 @@ mod file_tests;
 mod group_tests;
 #[cfg(test)]
 mod tests;
+#[cfg(test)]
+mod try_tests;

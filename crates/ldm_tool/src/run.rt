@@ -1,8 +1,8 @@
-ghost use Rattle.std.specs.Prelude.{◌≡◌, ◌≢◌, ◌↔◌, ◌<◌, List, ℕ, length, slice_index, IfOk, IfErr, OnOk, None, Ok};
+ghost use Rattle.std.specs.Prelude.{◌≡◌, ◌≢◌, ◌↔◌, ◌<◌, ◌≤◌, List, ℕ, length, slice_index, IfOk, IfErr, OnOk, None, Ok};
 ghost use Rattle.ldm_host.specs.Seen.{image};
 ghost use Rattle.ldm_label.specs.LabelOf.{label_of, Fits};
 ghost use Rattle.ldm_host.specs.Moves.{Still, Quiet};
-ghost use Rattle.ldm_words.specs.Jobs.{texts, job_of, HasCount};
+ghost use Rattle.ldm_words.specs.Jobs.{texts, job_of, HasCount, KeepsLimits};
 ghost use Rattle.ldm_words.specs.declared.job.Job.TheVariants as jobs;
 ghost use Rattle.ldm_text.specs.Texts.{text_of_label_fault, text_of_image_fault, text_of_refusal};
 ghost use Rattle.ldm_text.specs.Records.{text_of_copy_fault};
@@ -12,10 +12,17 @@ ghost use Rattle.ldm_found.specs.Opening.{IsGroupIn};
 ghost use Rattle.ldm_found.specs.Facts.{IsSoundGroup};
 ghost use Rattle.ldm_tool.specs.Said.{Answer, HasAnswer};
 ghost use Rattle.ldm_tool.specs.Answer.{IsAnswerTo, IsJobAnswer, IsCopyAnswer, IsGroupAnswer, refusal};
-ghost use Rattle.ldm_tool.specs.Kinds.{kind_of, JobPremise, JobDisks, JobInput, JobSays};
-ghost use Rattle.ldm_tool.specs.Runs.{Answers, Completes, Causes, NoFault, HasImages, Premise, DisksAfter, InputAfter, SaysBefore, OnlyReads};
+ghost use Rattle.ldm_tool.specs.Scripts.{commands_in, try_answer};
+ghost use Rattle.ldm_tool.specs.Kinds.{kind_of, JobPremise, JobInput, JobSays};
+ghost use Rattle.ldm_tool.specs.Stops.{JobStops};
+ghost use Rattle.ldm_tool.specs.Written.{JobDisks};
+ghost use Rattle.ldm_tool.specs.Editing.{HearsAndEdits};
+ghost use Rattle.ldm_tool.specs.Runs.{Answers, Completes, Causes, NoFault, HasImages, Premise, DisksAfter, InputAfter, SaysBefore, StopsAfter, OnlyReads, Replies, HearsAndReplies};
 
+use crate::editing::{edit_one, edit_script};
 use crate::mapping::mapped;
+use crate::replying::reply_each;
+use crate::script::hear_script;
 use ldm_bytes::{Bytes, NoMemory};
 use ldm_copy::{CopyError, CopyFault, read_copy};
 use ldm_found::{Found, OpenError, OpenFault, find_group};
@@ -59,8 +66,9 @@ const _: () = prove!(Status::TalkFault as i32 == 5);
 // Says a text that was made, whole.
 fn say_made<H: Host>(host: &mut H, made: Result<Bytes, NoMemory>, status: Status) -> Status
     requires { HasAnswer status }
-    ensures { (text : List ℕ) → IfOk made (λ m. m ≡ text)
+    ensures says { (text : List ℕ) → IfOk made (λ m. m ≡ text)
         → OnlyReads H.tells_talk (H.seen host.old) (H.seen host.new) (λ answer. answer ≡ (text, status)) result }
+    ensures no_disk { result ≢ Status.DiskFault }
 {
     match made {
         Err(NoMemory) => Status::NoMemory,
@@ -148,7 +156,7 @@ fn opening_refusal(alloc: Global, fault: &OpenFault) -> Result<Bytes, NoMemory>
 }
 
 // Refuses the images for a fault of opening.
-fn refuse_opening<H: Host>(alloc: Global, host: &mut H, fault: &OpenFault) -> Status
+pub(crate) fn refuse_opening<H: Host>(alloc: Global, host: &mut H, fault: &OpenFault) -> Status
     ensures { OnlyReads H.tells_talk (H.seen host.old) (H.seen host.new)
         (λ answer. answer ≡ (text_of_refusal (text_of_open_fault fault.now), Status.Refused)) result }
 {
@@ -215,16 +223,67 @@ fn map<H: Host>(alloc: Global, host: &mut H, name: &Bytes, first: u64, count: u6
     }
 }
 
+// Says what the lines of a script would make of the group that the images hold.
+fn try_lines<H: Host>(alloc: Global, host: &mut H, script: &[u8]) -> Status
+    requires images { 0 < length (H.seen host.old).sizes }
+    requires short { length script.now ≤ 1048576 }
+    ensures { Replies H.tells_disks (H.seen host.old) (H.seen host.new)
+        (IsGroupAnswer (try_answer (commands_in script.now)) (H.seen host.old).content) result }
+{
+    let found = match open_group(alloc, host) {
+        Err(status) => return status,
+        Ok(found) => found,
+    };
+    if let Some(fault) = &found.blocked {
+        return refuse_opening(alloc, host, fault);
+    }
+    let Found { db, labels, .. } = found;
+    reply_each(alloc, host, db, &labels, script)
+}
+
+// try on IMAGE...
+fn try_script<H: Host>(alloc: Global, host: &mut H) -> Status
+    requires { 0 < length (H.seen host.old).sizes }
+    ensures { HearsAndReplies H.tells_disks H.tells_talk (H.seen host.old) (H.seen host.new)
+        (IsJobAnswer jobs.Try (H.seen host.old).content (H.seen host.old).input) result }
+{
+    match hear_script(alloc, host) {
+        Err(status) => status,
+        Ok(None) => {
+            let line = refusal_text(alloc, b"script too long");
+            say_made(host, line, Status::Refused)
+        }
+        Ok(Some(script)) => try_lines(alloc, host, script.as_slice()),
+    }
+}
+
+// edit on IMAGE...
+fn edit<H: Host>(alloc: Global, host: &mut H) -> Status
+    requires { 0 < length (H.seen host.old).sizes }
+    ensures { HearsAndEdits H.tells_disks H.tells_talk (H.seen host.old) (H.seen host.new) result }
+{
+    match hear_script(alloc, host) {
+        Err(status) => status,
+        Ok(None) => {
+            let line = refusal_text(alloc, b"script too long");
+            say_made(host, line, Status::Refused)
+        }
+        Ok(Some(script)) => edit_script(alloc, host, script.as_slice()),
+    }
+}
+
 // Does a job.
 fn do_job<H: Host>(alloc: Global, job: Job, host: &mut H) -> Status
-    requires { HasCount job (length (H.seen host.old).sizes) }
+    requires count { HasCount job (length (H.seen host.old).sizes) }
+    requires limits { KeepsLimits job }
     ensures answers { H.tells_disks → JobPremise (kind_of job) (H.seen host.old)
         → Answers (H.seen host.old) (H.seen host.new) (IsJobAnswer job (H.seen host.old).content (H.seen host.old).input) result }
     ensures no_usage { result ≢ Status.Usage }
     ensures causes { Causes (H.seen host.old) (H.seen host.new) result }
-    ensures disks { JobDisks H.tells_disks (kind_of job) (H.seen host.old) (H.seen host.new) result }
+    ensures disks { JobDisks H.tells_disks job (H.seen host.old) (H.seen host.new) result }
     ensures input { JobInput H.tells_talk (kind_of job) (H.seen host.old) (H.seen host.new) result }
     ensures silent { JobSays H.tells_disks (kind_of job) (H.seen host.old) (H.seen host.new) result }
+    ensures stops { JobStops H.tells_disks job (H.seen host.old) (H.seen host.new) }
 {
     match job {
         Job::Disk => disk(alloc, host),
@@ -232,6 +291,9 @@ fn do_job<H: Host>(alloc: Global, job: Job, host: &mut H) -> Status
         Job::Show => show(alloc, host),
         Job::Check => check(alloc, host),
         Job::Map { name, first, count } => map(alloc, host, &name, first, count),
+        Job::Try => try_script(alloc, host),
+        Job::Edit => edit(alloc, host),
+        Job::One(command) => edit_one(alloc, host, command),
     }
 }
 
@@ -257,6 +319,9 @@ pub fn run<H: Host>(alloc: Global, words: &[String], host: &mut H) -> Status
     ensures input { InputAfter H.tells_talk (job_of (texts words.now)) (H.seen host.old) (H.seen host.new) result }
     // After a fault nothing more is said.
     ensures silent { SaysBefore H.tells_disks (job_of (texts words.now)) (H.seen host.old) (H.seen host.new) result }
+    // Whatever a stop leaves at any moment of a job that writes, and after it, opens as the group after some first lines,
+    // among them each that was answered.
+    ensures stops { StopsAfter H.tells_disks (job_of (texts words.now)) (H.seen host.old) (H.seen host.new) }
 {
     match read_words(alloc, words) {
         Err(WordsError::Usage) => Status::Usage,

@@ -10,5 +10,5 @@ returns-in-Err-Fault g c =
 
 pub returns-in-Ok : goal.returns-in-Ok
 returns-in-Ok g c =
-    reads_first (c.say_made.ensures (text_of_copy c.in-Ok.state) c.records_text.ensures) c.read_copy.ensures.quiet c.read_copy.ensures.still g.met.H.Host.tells_both
+    reads_first (c.say_made.ensures.says (text_of_copy c.in-Ok.state) c.records_text.ensures) c.read_copy.ensures.quiet c.read_copy.ensures.still g.met.H.Host.tells_both
     (λ tells answer e. (Ok c.in-Ok.state, c.in-Ok.ensures.found tells, e))

@@ -11,5 +11,5 @@ returns-in-Err-Fault g c =
 
 pub returns-in-Ok : goal.returns-in-Ok
 returns-in-Ok g c =
-    reads_first (c.say_made.ensures (text_of_label c.in-Ok.label) c.label_text.ensures) c.read_label.ensures.quiet c.read_label.ensures.still g.met.H.Host.tells_both
+    reads_first (c.say_made.ensures.says (text_of_label c.in-Ok.label) c.label_text.ensures) c.read_label.ensures.quiet c.read_label.ensures.still g.met.H.Host.tells_both
     (λ tells answer e. e ∙ ap disk_answer (sym (c.in-Ok.ensures.is tells)))

@@ -10,5 +10,5 @@ pub returns : goal.returns
 returns g c =
     let found = c.in-Ok.found in
     let is = c.in-Ok-mapped.ensures.is ∙ ap (λ (name : List ℕ). map_answer name c.args.first c.args.count found) c.as_slice.ensures in
-    reads_first (c.say_made.ensures c.in-Ok-mapped.text refl) c.in-Ok.ensures.quiet c.in-Ok.ensures.still g.met.H.Host.tells_both
+    reads_first (c.say_made.ensures.says c.in-Ok-mapped.text refl) c.in-Ok.ensures.quiet c.in-Ok.ensures.still g.met.H.Host.tells_both
     (λ tells answer e. (Ok found, c.in-Ok.ensures.found tells, e ∙ is))

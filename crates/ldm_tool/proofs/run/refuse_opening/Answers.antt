@@ -3,4 +3,4 @@ use Rattle.ldm_text.specs.Opening.{text_of_open_fault}
 use Rattle.ldm_tool.proofs.run.refuse_opening.Goals as goal
 
 pub returns : goal.returns
-returns g c = c.say_made.ensures (text_of_refusal (text_of_open_fault c.args.fault.now)) c.opening_refusal-line.ensures
+returns g c = c.say_made.ensures.says (text_of_refusal (text_of_open_fault c.args.fault.now)) c.opening_refusal-line.ensures

@@ -4,6 +4,8 @@ use Rattle.ldm_words.specs.declared.job.Job.{Job}
 use Rattle.ldm_words.specs.Jobs.{texts, job_of}
 use Rattle.ldm_tool.specs.declared.run.Status.TheVariants.{Usage}
 use Rattle.ldm_tool.specs.Answer.{IsReadingAnswer}
+use Rattle.ldm_host.proofs.Relations.{still_itself}
+use Rattle.ldm_tool.proofs.HearsEdits.{stops_unchanged}
 use Rattle.ldm_tool.proofs.run.run.Goals as goal
 
 pub returns-in-Err-Usage-clause-complete : goal.returns-in-Err-Usage-clause-complete
@@ -14,3 +16,8 @@ returns-in-Err-Usage-clause-complete g c tells premise none memory =
       subst (λ (reading : Option (Job × ℕ)). IsReadingAnswer reading host.content host.input ([], Usage)) (sym unread) refl,
       record { status_is = refl; said = sym (append-nil host.said) },
     )
+
+pub returns-in-Err-NoMemory-clause-stops : goal.returns-in-Err-NoMemory-clause-stops
+returns-in-Err-NoMemory-clause-stops g c =
+    let host = c.args.host.now in
+    stops_unchanged (still_itself (g.H.Host.seen host) (g.met.H.Host.counts_now host) (g.met.H.Host.only_now host)) (λ tells. g.met.H.Host.one_each tells host) (job_of (texts c.args.words.now))

@@ -1,0 +1,33 @@
+use Rattle.std.proofs.Common.{rules, Option, Some, sym, subst}
+use Rattle.ldm_words.specs.declared.command.Command.{Command}
+use Rattle.ldm_tool.specs.Editing.{IsDoing}
+use Rattle.ldm_store.specs.Sessions.{IsEditable}
+use Rattle.ldm_tool.proofs.DoingLaws.{doing_kept, doing_still, doing_now}
+use Rattle.ldm_tool.proofs.editing.apply_line.Goals as goal
+
+pub returns-in_default-clause-any_moment : goal.returns-in_default-clause-any_moment
+returns-in_default-clause-any_moment g c tells =
+    let editable : IsEditable c.args.session.db c.args.session.labels = search rules in
+    doing_now c.args.session (g.H.Host.seen c.args.host.now) editable c.requires.rests (c.requires.holds tells) (g.met.H.Host.counts_now c.args.host.now) (g.met.H.Host.only_now c.args.host.now) c.args.line
+
+pub returns-in-Ok-clause-any_moment : goal.returns-in-Ok-clause-any_moment
+returns-in-Ok-clause-any_moment g c tells images said left =
+    let a = g.H.Host.seen c.args.host.now in
+    let s = c.args.session in
+    let editable : IsEditable s.db s.labels = search rules in
+    subst (λ (line : Option Command). IsDoing s line a images said) (sym c.in-Some.is)
+    (doing_kept s (Some c.in-Some.command) a editable (c.requires.holds tells) c.in-Ok.ensures.next (g.H.Host.seen c.apply.new.host) (c.apply.ensures.any_moment tells) images said left)
+
+pub returns-in-Err-Disk-clause-any_moment : goal.returns-in-Err-Disk-clause-any_moment
+returns-in-Err-Disk-clause-any_moment g c tells images said left =
+    let a = g.H.Host.seen c.args.host.now in
+    let s = c.args.session in
+    let editable : IsEditable s.db s.labels = search rules in
+    subst (λ (line : Option Command). IsDoing s line a images said) (sym c.in-Some.is)
+    (doing_kept s (Some c.in-Some.command) a editable (c.requires.holds tells) (c.apply.ensures.torn (search rules)) (g.H.Host.seen c.apply.new.host) (c.apply.ensures.any_moment tells) images said left)
+
+pub returns-clause-any_moment : goal.returns-clause-any_moment
+returns-clause-any_moment g c tells =
+    let editable : IsEditable c.args.session.db c.args.session.labels = search rules in
+    doing_still c.args.session (g.H.Host.seen c.args.host.now) editable c.requires.rests (c.requires.holds tells) (g.met.H.Host.counts_now c.args.host.now) (g.met.H.Host.only_now c.args.host.now) c.args.line
+    (g.H.Host.seen c.apply.new.host) (c.apply.ensures.nothing c.in-Err-NoMemory.field-0-0 (search rules)) c.apply.ensures.quiet
