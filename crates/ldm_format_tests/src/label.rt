@@ -41,7 +41,9 @@ fn change(alloc: Global, image: &mut [u8], text: &str) -> Result<(), Fail> {
     let Some((sector, offset)) = place.split_once('+') else {
         return Err(Fail::from("no place"));
     };
-    let offset = usize::from_str_radix(offset, 16).map_err(|_| Fail::from("no offset"))?;
+    let Ok(offset) = usize::from_str_radix(offset, 16) else {
+        return Err(Fail::from("no offset"));
+    };
     let start = offset.saturating_add(sector_of(sector).saturating_mul(512));
     let bytes = bytes_of(alloc, digits)?;
     let end = start.saturating_add(bytes.len());
@@ -159,13 +161,15 @@ fn first_faults(rt: HostRuntime) -> Result<(), Fail> {
 // A label takes eight reads, and nothing is read behind the first fault.
 #[test]
 fn failing_disks(rt: HostRuntime) -> Result<(), Fail> {
-    for call in [1, 8] {
-        let mut host = host_with(rt.alloc(), "", 8192, &[call])?;
-        assert_eq!(rt; label_on(&mut host)?, Err(LabelError::Disk), "call {call}");
+    let rows = [
+        (1, "", Err(LabelError::Disk)),
+        (8, "", Err(LabelError::Disk)),
+        (9, "", Ok(USUAL)),
+        (2, "M+1fe=00", Err(LabelError::Fault(NoSignature))),
+    ];
+    for (call, changes, want) in rows {
+        let mut host = host_with(rt.alloc(), changes, 8192, &[call])?;
+        assert_eq!(rt; label_on(&mut host)?, want, "call {call}");
     }
-    let mut host = host_with(rt.alloc(), "", 8192, &[9])?;
-    assert_eq!(rt; label_on(&mut host)?, Ok(USUAL));
-    let mut host = host_with(rt.alloc(), "M+1fe=00", 8192, &[2])?;
-    assert_eq!(rt; label_on(&mut host)?, Err(LabelError::Fault(NoSignature)));
     Ok(())
 }

@@ -1,12 +1,17 @@
 use crate::made::bytes_of;
-use ldm_bytes::Bytes;
-use ldm_records::{Record, RecordError, RecordFault, read_record, spelled_len, spelling};
+use ldm_bytes::{Bytes, NoMemory};
+use ldm_records::{
+    Record, RecordError, RecordFault, Striping, new_component, new_partition, new_volume,
+    read_record, spelled_len, spelling,
+};
 use std::alloc::Global;
 use std::test::Fail;
 
 const DISK: &str = "00000034 l58 0102 05 'Disk1 24 '11111111-1111-1111-1111-111111111111 00 z12";
 
-const GUID: u128 = 0x1111_1111_1111_1111_1111_1111_1111_1111;
+const VOLUME_GUID: u128 = 0xBBBB_BBBB_BBBB_BBBB_BBBB_BBBB_BBBB_BBBB;
+
+const COMPONENT: &str = "00001032 l42 0106 02 'c6 06 'ACTIVE 01 z4 0102 z16 0105 00 0104 0102";
 
 const PARTITION: &str = "00000033 l40 0107 02 'p7 z28 020800 0106 0102";
 
@@ -16,11 +21,15 @@ const LONGER: &str = "00000033 l43 0107 02 'p7 z28 0400000800 020006 0102 0909";
 const VOLUME: &str =
     "00000051 l75 0105 04 'Data 03 'gen 00 'ACTIVE z8 03 z6 0101 z16 02080a z4 07 bbbbbbbbbbbbbbbbbbbbbbbbbbbbbbbb";
 
+// The own spelling of a copy.
+fn copied(alloc: Global, record: &Record) -> Result<Bytes, NoMemory> {
+    spelling(alloc, &record.clone_in(alloc)?)
+}
+
 // The own spelling of a copy of what the payload spells.
 fn respelled(alloc: Global, payload: &[u8]) -> Result<Bytes, Fail> {
     let record = read_record(alloc, payload)?;
-    let copy = record.clone_in(alloc)?;
-    Ok(spelling(alloc, &copy)?)
+    Ok(copied(alloc, &record)?)
 }
 
 // The length of the own spelling of what the payload spells, if it spells a record.
@@ -41,25 +50,66 @@ fn is_spelled(alloc: Global, payload: &str, own: &str) -> Result<bool, Fail> {
     Ok(len == Some(own.len()) && again.as_slice() == own.as_slice())
 }
 
-// Numbers of what the payload spells: the id, and a few of its type; of a disk whether it has that GUID.
-fn numbers_of(alloc: Global, payload: &str) -> Result<[u64; 4], Fail> {
-    let record = read_record(alloc, &bytes_of(alloc, payload)?)?;
-    Ok(match &record {
+// Numbers of a record: the id, and a few of its type; of a disk the last four bytes of the GUID.
+fn numbers(record: &Record) -> [u64; 4] {
+    match record {
         Record::Volume(v) => [v.head.id, v.children, v.size, u64::from(v.part_type)],
         Record::Partition(p) => [p.head.id, p.size, p.parent, p.disk],
-        Record::Disk(d) => [d.head.id, u64::from(d.guid == GUID), 0, 0],
+        Record::Disk(d) => [d.head.id, (d.guid % 0x1_0000_0000) as u64, 0, 0],
         _ => [0; 4],
-    })
+    }
+}
+
+// Those of what the payload spells.
+fn numbers_of(alloc: Global, payload: &str) -> Result<[u64; 4], Fail> {
+    let record = read_record(alloc, &bytes_of(alloc, payload)?)?;
+    Ok(numbers(&record))
 }
 
 #[test]
 fn values(rt: HostRuntime) -> Result<(), Fail> {
     let alloc = rt.alloc();
-    assert_eq!(rt; numbers_of(alloc, PARTITION)?, [7, 2048, 6, 2]);
-    assert_eq!(rt; numbers_of(alloc, LONGER)?, [7, 2048, 6, 2]);
-    assert_eq!(rt; numbers_of(alloc, VOLUME)?, [5, 1, 2058, 7]);
-    assert_eq!(rt; numbers_of(alloc, DISK)?, [2, 1, 0, 0]);
+    let rows = [
+        (PARTITION, [7, 2048, 6, 2]),
+        (LONGER, [7, 2048, 6, 2]),
+        (VOLUME, [5, 1, 2058, 7]),
+        (DISK, [2, 0x1111_1111, 0, 0]),
+    ];
+    for (payload, want) in rows {
+        assert_eq!(rt; numbers_of(alloc, payload)?, want, "{payload}");
+    }
     assert!(rt; is_spelled(alloc, LONGER, PARTITION)?);
+    Ok(())
+}
+
+// Whether the own spelling of a record is this one.
+fn spells(alloc: Global, record: &Record, own: &str) -> Result<bool, Fail> {
+    let own = bytes_of(alloc, own)?;
+    Ok(spelling(alloc, record)?.as_slice() == own.as_slice())
+}
+
+#[test]
+fn new_volumes(rt: HostRuntime) -> Result<(), Fail> {
+    let volume = new_volume(rt.alloc(), 5, b"Data", VOLUME_GUID, false, 1, 2058)?;
+    assert!(rt; spells(rt.alloc(), &volume, VOLUME)?);
+    Ok(())
+}
+
+#[test]
+fn new_components(rt: HostRuntime) -> Result<(), Fail> {
+    let striping = Some(Striping {
+        chunk: 4,
+        columns: 2,
+    });
+    let component = new_component(rt.alloc(), 6, 5, 1, 2, striping)?;
+    assert!(rt; spells(rt.alloc(), &component, COMPONENT)?);
+    Ok(())
+}
+
+#[test]
+fn new_partitions(rt: HostRuntime) -> Result<(), Fail> {
+    let partition = new_partition(rt.alloc(), 7, 0, 0, 2048, 6, 2, None)?;
+    assert!(rt; spells(rt.alloc(), &partition, PARTITION)?);
     Ok(())
 }
 

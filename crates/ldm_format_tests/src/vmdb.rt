@@ -29,23 +29,29 @@ const COUNTS: Counts = Counts {
     disks: 3,
 };
 
+// The places where two sectors differ, and what the second has there.
+fn changes(alloc: Global, old: &[u8; 512], new: &[u8; 512]) -> Result<Vec<(usize, u8)>, Fail> {
+    let mut changes = Vec::new(alloc);
+    for (place, (was, is)) in old.iter().zip(new.iter()).enumerate() {
+        if *was != *is {
+            changes.push((place, *is))?;
+        }
+    }
+    Ok(changes)
+}
+
 #[test]
 fn a_new_sequence_changes_two_bytes(rt: HostRuntime) -> Result<(), Fail> {
     let old = sector();
-    let header = match read_header(rt.alloc(), &old, 1481) {
-        Ok(header) => header,
-        Err(_) => return Err(Fail::from("no header")),
+    let Ok(header) = read_header(rt.alloc(), &old, 1481) else {
+        return Err(Fail::from("no header"));
     };
-    assert_eq!(rt; header.last, 64);
-    assert_eq!(rt; header.seq, 7);
+    assert_eq!(rt; (header.last, header.seq), (64, 7));
     assert_eq!(rt; header.name.as_slice(), b"Dg0".as_slice());
-    assert_eq!(rt; header.guid, 0xAAAA_AAAA_AAAA_AAAA_AAAA_AAAA_AAAA_AAAA);
     let mut new = [0xEEu8; 512];
     write_header(&header, 8, COUNTS, &mut new);
-    for (place, (was, is)) in old.iter().zip(new.iter()).enumerate() {
-        let sequence = place == 0x7C || place == 0x84;
-        assert_eq!(rt; *is, if sequence { 8 } else { *was }, "at {place}");
-    }
+    let changes = changes(rt.alloc(), &old, &new)?;
+    assert_eq!(rt; changes.as_slice(), [(0x7C, 8), (0x84, 8)].as_slice());
     Ok(())
 }
 
@@ -57,31 +63,38 @@ fn fault(alloc: Global, sector: &[u8; 512]) -> Option<VmdbFault> {
     }
 }
 
+const BREAKS: [(usize, u8, VmdbFault); 8] = [
+    (0x03, b'b', VmdbFault::Magic),
+    (0x13, 3, VmdbFault::Version),
+    (0x15, 11, VmdbFault::Version),
+    (0x0B, 64, VmdbFault::BlockSize),
+    (0x0E, 4, VmdbFault::Offset),
+    (0x11, 2, VmdbFault::Unsettled),
+    (0x07, 65, VmdbFault::Last),
+    (0x58, b'-', VmdbFault::Guid),
+];
+
+fn set(sector: &mut [u8; 512], place: usize, value: u8) {
+    if place < 512 {
+        sector[place] = value;
+    }
+}
+
 #[test]
-fn the_first_fault_comes(rt: HostRuntime) {
-    let breaks: [(usize, u8, VmdbFault); 8] = [
-        (0x03, b'b', VmdbFault::Magic),
-        (0x13, 3, VmdbFault::Version),
-        (0x15, 11, VmdbFault::Version),
-        (0x0B, 64, VmdbFault::BlockSize),
-        (0x0E, 4, VmdbFault::Offset),
-        (0x11, 2, VmdbFault::Unsettled),
-        (0x07, 65, VmdbFault::Last),
-        (0x58, b'-', VmdbFault::Guid),
-    ];
+fn each_fault_comes(rt: HostRuntime) {
     assert_eq!(rt; fault(rt.alloc(), &sector()), None);
-    for (place, value, expected) in breaks {
+    for (place, value, expected) in BREAKS {
         let mut broken = sector();
-        if place < 512 {
-            broken[place] = value;
-        }
+        set(&mut broken, place, value);
         assert_eq!(rt; fault(rt.alloc(), &broken), Some(expected), "at {place}");
     }
+}
+
+#[test]
+fn the_first_fault_comes(rt: HostRuntime) {
     let mut all = sector();
-    for (place, value, expected) in breaks.iter().rev().copied() {
-        if place < 512 {
-            all[place] = value;
-        }
+    for (place, value, expected) in BREAKS.iter().rev().copied() {
+        set(&mut all, place, value);
         assert_eq!(rt;
             fault(rt.alloc(), &all),
             Some(expected),

@@ -71,19 +71,24 @@ fn refuses_other_words(rt: HostRuntime) -> Result<(), Fail> {
     Ok(())
 }
 
+// The words of a job on so many images.
+fn words_on(alloc: Global, job: &str, images: u8) -> Result<Vec<String>, Fail> {
+    let mut words = words_of(alloc, job)?;
+    words.push(String::from_str(alloc, "on")?)?;
+    for _ in 0..images {
+        words.push(String::from_str(alloc, "A")?)?;
+    }
+    Ok(words)
+}
+
 #[test]
 fn takes_64_images(rt: HostRuntime) -> Result<(), Fail> {
     let alloc = rt.alloc();
     for job in ["show", "check", "map Data 0 1"] {
-        let mut words = words_of(alloc, job)?;
-        words.push(String::from_str(alloc, "on")?)?;
-        for _ in 0..64 {
-            words.push(String::from_str(alloc, "A")?)?;
-        }
-        let (_, images) = read_words(alloc, &words)?;
+        let (_, images) = read_words(alloc, &words_on(alloc, job, 64)?)?;
         assert_eq!(rt; images, 64);
-        words.push(String::from_str(alloc, "A")?)?;
-        assert_eq!(rt; read_words(alloc, &words).err(), Some(WordsError::Usage));
+        let error = read_words(alloc, &words_on(alloc, job, 65)?).err();
+        assert_eq!(rt; error, Some(WordsError::Usage));
     }
     Ok(())
 }

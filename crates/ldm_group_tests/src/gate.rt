@@ -78,15 +78,24 @@ fn images_at(alloc: Global, sequence: u8) -> Result<Vec<Vec<u8>>, Fail> {
     Ok(images)
 }
 
-// A host whose second copy, of sequence 7, is rewritten at sequence 8, stopped after so many of the calls.
-fn stopped(alloc: Global, calls: u8) -> Result<MemoryHost, Fail> {
-    let mut newer = host_of(alloc, images_at(alloc, 8)?)?;
-    let (_, db) = opened(alloc, &mut newer)?;
+// The database of the second copy, of sequence 8.
+fn newer(alloc: Global) -> Result<Db, Fail>
+    ensures { IfOk result FitsHeader }
+{
+    let mut host = host_of(alloc, images_at(alloc, 8)?)?;
+    let (_, db) = opened(alloc, &mut host)?;
+    Ok(db)
+}
+
+// A host whose second copy, of sequence 7, is rewritten with this database, stopped after so many of the calls.
+fn stopped(alloc: Global, db: &Db, calls: u8) -> Result<MemoryHost, Fail>
+    requires { FitsHeader db.now }
+{
     let mut host = host_of(alloc, images_at(alloc, 7)?)?;
     let (label, _) = opened(alloc, &mut host)?;
     // A label takes eight reads, and a copy two.
     let mut host = host.stop_after(10 + u64::from(calls));
-    rewrites(alloc, &mut host, &label, &db)?;
+    rewrites(alloc, &mut host, &label, db)?;
     Ok(host)
 }
 
@@ -97,7 +106,10 @@ fn copy_on(alloc: Global, host: &mut MemoryHost) -> Result<CopyState, Fail>
     let Ok(label) = read_label(host, 1) else {
         return Err(Fail::from("no label"));
     };
-    read_copy(alloc, host, 1, &label).map_err(|_| Fail::from("no copy"))
+    match read_copy(alloc, host, 1, &label) {
+        Ok(copy) => Ok(copy),
+        Err(_) => Err(Fail::from("no copy")),
+    }
 }
 
 // What reads on the second of these images: the digit of the sequence, or a minus of a closed copy.
@@ -115,20 +127,28 @@ fn reading(alloc: Global, images: Vec<Vec<u8>>) -> Result<char, Fail> {
 // and all 0x00. The calls are the write of the gate and its sync, of the body, and of the gate.
 const READINGS: [&str; 7] = ["7777", "7-7-", "----", "----", "----", "-88-", "8888"];
 
+const FILLINGS: [Filling; 4] = [
+    Filling::Old,
+    Filling::New,
+    Filling::Fill(0x56),
+    Filling::Fill(0x00),
+];
+
+// What reads of the second image, with each filling.
+fn readings(alloc: Global, host: &MemoryHost) -> Result<String, Fail> {
+    let mut read = String::new(alloc);
+    for filling in FILLINGS {
+        read.push(reading(alloc, host.left(alloc, filling)?)?)?;
+    }
+    Ok(read)
+}
+
 #[test]
 fn what_a_stop_leaves(rt: HostRuntime) -> Result<(), Fail> {
     let alloc = rt.alloc();
+    let db = newer(alloc)?;
     for (calls, want) in (0u8..7).zip(READINGS) {
-        let host = stopped(alloc, calls)?;
-        let mut read = String::new(alloc);
-        for filling in [
-            Filling::Old,
-            Filling::New,
-            Filling::Fill(0x56),
-            Filling::Fill(0x00),
-        ] {
-            read.push(reading(alloc, host.left(alloc, filling)?)?)?;
-        }
+        let read = readings(alloc, &stopped(alloc, &db, calls)?)?;
         assert_eq!(rt; read.as_str(), want, "{calls}");
     }
     Ok(())

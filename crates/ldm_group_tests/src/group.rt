@@ -1,5 +1,5 @@
-use crate::made::database;
-use ldm_group::{DbError, id_of, kind_of};
+use crate::made::{database, kinds_of};
+use ldm_group::{Db, DbError};
 use std::test::Fail;
 
 // Records in no order. Names are the bytes 65 to 71; the volume of components is 6, and partitions lie in
@@ -9,25 +9,50 @@ const MIXED: &str =
 
 #[test]
 fn records_stand_in_order(rt: HostRuntime) -> Result<(), Fail> {
-    let alloc = rt.alloc();
-    let db = database(alloc, 64, MIXED)??;
-    let mut order = String::new(alloc);
-    for r in db.as_slice() {
-        order.push_str(format!(in alloc; " {}.{}", kind_of(r), id_of(r))?.as_str())?;
+    let db = database(rt.alloc(), 64, MIXED)??;
+    let order = kinds_of(rt.alloc(), &db)?;
+    let want = [
+        (1, 9),
+        (2, 2),
+        (2, 3),
+        (3, 4),
+        (3, 6),
+        (4, 1),
+        (4, 7),
+        (5, 1),
+        (5, 8),
+    ];
+    assert_eq!(rt; order.as_slice(), want.as_slice());
+    Ok(())
+}
+
+// The ids of what is looked up by a name of this byte, as a volume and as a disk, and by this GUID.
+fn looked_up(db: &Db, name: u8) -> [u64; 3] {
+    [
+        db.volume_named(&[name]).map_or(0, |v| v.head.id),
+        db.disk_named(&[name]).map_or(0, |d| d.head.id),
+        db.disk_with(u128::from(name)).map_or(0, |d| d.head.id),
+    ]
+}
+
+// Of two with one name or GUID, the one of the least id.
+#[test]
+fn objects_are_looked_up(rt: HostRuntime) -> Result<(), Fail> {
+    let db = database(rt.alloc(), 64, MIXED)??;
+    for (name, ids) in [(b'D', [4, 0, 0]), (b'A', [0, 2, 2]), (b'B', [0, 0, 0])] {
+        assert_eq!(rt; looked_up(&db, name), ids, "{name}");
     }
-    assert_eq!(rt; order.as_str(), " 1.9 2.2 2.3 3.4 3.6 4.1 4.7 5.1 5.8");
-    assert_eq!(rt; db.header().last, 64);
-    assert_eq!(rt; db.by_id(4, 7).map(|r| kind_of(r)), Some(4));
-    assert_eq!(rt; db.by_id(3, 7).map(|r| kind_of(r)), None);
-    assert_eq!(rt; db.volume_named(b"D").map(|v| v.head.id), Some(4));
-    assert_eq!(rt; db.volume_named(b"A").map(|v| v.head.id), None);
-    assert_eq!(rt; db.disk_named(b"A").map(|d| d.head.id), Some(2));
-    assert_eq!(rt; db.disk_named(b"D").map(|d| d.head.id), None);
-    assert_eq!(rt; db.disk_with(0x41).map(|d| d.head.id), Some(2));
-    assert_eq!(rt; db.disk_with(0x42).map(|d| d.head.id), None);
+    Ok(())
+}
+
+#[test]
+fn children_are_counted(rt: HostRuntime) -> Result<(), Fail> {
+    let db = database(rt.alloc(), 64, MIXED)??;
     for (kind, id, children) in [(3, 6, 2), (4, 7, 2), (2, 2, 2), (2, 3, 0), (5, 7, 0)] {
         assert_eq!(rt; db.children_of(kind, id), children, "kind {kind} id {id}");
     }
+    assert!(rt; db.by_id(4, 7).is_some());
+    assert!(rt; db.by_id(3, 7).is_none());
     assert_eq!(rt; db.max_id(), 9);
     Ok(())
 }

@@ -16,4 +16,8 @@ mod made;
 #[cfg(test)]
 mod rules;
 #[cfg(test)]
+mod space;
+#[cfg(test)]
+mod steps;
+#[cfg(test)]
 mod text;

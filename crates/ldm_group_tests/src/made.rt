@@ -1,7 +1,7 @@
 use ldm_bytes::{put_bytes, put_u16, put_u32, put_u64};
-use ldm_group::{Db, DbError};
+use ldm_group::{Db, DbError, id_of, kind_of};
 use ldm_host::MemoryHost;
-use ldm_records::{Record, RecordError, read_record};
+use ldm_records::{Record, read_record};
 use ldm_vectors::sample_images;
 use ldm_vmdb::{Header, VmdbError, read_header};
 use std::alloc::Global;
@@ -34,7 +34,7 @@ fn start_of(start: u8) -> u64 {
 // A kind, an id and a name of one byte. Then, of a disk: its GUID; of a volume: its children number and
 // size; of a component: its children number, volume and layout, and its chunk and columns if the latter
 // isn't 0; of a partition: its start, size, component, disk and offset, and its index plus 1 if it has one.
-type Row = [u8; 9];
+pub(crate) type Row = [u8; 9];
 
 // Puts the body of a component, and answers its flags and length.
 fn put_component(payload: &mut [u8; 76], row: &Row) -> (u8, u8) {
@@ -60,7 +60,8 @@ fn put_partition(payload: &mut [u8; 76], row: &Row) -> (u8, u8) {
     (0x08, 40)
 }
 
-fn record_of(alloc: Global, row: &Row) -> Result<Record, RecordError> {
+// The payload of a record, with filling.
+pub(crate) fn payload_of(row: &Row) -> [u8; 76] {
     let mut payload = [0u8; 76];
     put_bytes(&mut payload, 8, &[1, row[1], 1, row[2]]);
     let (code, (flags, len)) = match row[0] {
@@ -80,14 +81,16 @@ fn record_of(alloc: Global, row: &Row) -> Result<Record, RecordError> {
     payload[2] = flags;
     payload[3] = code;
     payload[7] = len;
-    read_record(alloc, &payload)
+    payload
 }
 
 // The row of a word: its numbers, with points between them, and zeros behind them.
-fn row_of(word: &str) -> Row {
+pub(crate) fn row_of(word: &str) -> Row {
     let mut row = [0u8; 9];
-    for (place, digits) in row.iter_mut().zip(word.split('.')) {
-        *place = digits.parse().unwrap_or(0);
+    for (place, digits) in word.split('.').enumerate() {
+        if place < row.len() {
+            row[place] = digits.parse().unwrap_or(0);
+        }
     }
     row
 }
@@ -96,7 +99,7 @@ fn row_of(word: &str) -> Row {
 fn records_of(alloc: Global, text: &str) -> Result<Vec<Record>, Fail> {
     let mut records = Vec::new(alloc);
     for word in text.split_whitespace() {
-        records.push(record_of(alloc, &row_of(word))?)?;
+        records.push(read_record(alloc, &payload_of(&row_of(word)))?)?;
     }
     Ok(records)
 }
@@ -107,8 +110,26 @@ pub(crate) fn database(alloc: Global, last: u32, text: &str) -> Result<Result<Db
     Ok(Db::new(alloc, header(alloc, last)?, records))
 }
 
+// The kinds and ids of the records.
+pub(crate) fn kinds_of(alloc: Global, db: &Db) -> Result<Vec<(u8, u64)>, Fail> {
+    let mut kinds = Vec::new(alloc);
+    for r in db.as_slice() {
+        kinds.push((kind_of(r), id_of(r)))?;
+    }
+    Ok(kinds)
+}
+
 // Where the config area begins, in bytes: at sector 17 of the database, which begins at sector 6144.
 pub(crate) const AREA: usize = 512 * (6144 + 17);
+
+// Puts bytes at a place of the config area, if they lie in the image.
+pub(crate) fn put(image: &mut [u8], place: usize, bytes: &[u8]) {
+    let start = place.saturating_add(AREA);
+    let end = start.saturating_add(bytes.len());
+    if end <= image.len() && start <= end && end - start == bytes.len() {
+        image[start..end].copy_from_slice(bytes);
+    }
+}
 
 // A host that has the first images of the sample group, with these bytes at these places of the config
 // areas of images. The calls with these numbers fail.
@@ -122,11 +143,7 @@ pub(crate) fn host_with(
     images.truncate(count);
     for (disk, place, bytes) in changes {
         if let Some(image) = images.get_mut(*disk) {
-            let start = place.saturating_add(AREA);
-            let end = start.saturating_add(bytes.len());
-            if end <= image.len() && start <= end && end - start == bytes.len() {
-                image[start..end].copy_from_slice(bytes);
-            }
+            put(image, *place, bytes);
         }
     }
     let host = MemoryHost::new(alloc, images, Vec::new(alloc))?;

@@ -19,7 +19,7 @@ fn label(disk_guid: u128, data_size: u64) -> Label {
 }
 
 // The disk of GUID 1 has 200 sectors; a second image of it says 250.
-fn labels(alloc: Global) -> Result<Labels, Fail> {
+pub(crate) fn labels(alloc: Global) -> Result<Labels, Fail> {
     Ok(Labels::from_vec(Vec::from_slice(alloc, &[label(1, 200), label(1, 250)])?))
 }
 

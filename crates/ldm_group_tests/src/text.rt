@@ -2,23 +2,24 @@ use ldm_label::LabelFault;
 use ldm_text::label_fault_text;
 use std::test::Fail;
 
+const TEXTS: [(LabelFault, &str); 12] = [
+    (LabelFault::Short, "too short"),
+    (LabelFault::NoSignature, "no signature"),
+    (LabelFault::NoLdmEntry, "no 0x42 entry"),
+    (LabelFault::NoPrivhead, "no PRIVHEAD"),
+    (LabelFault::Version, "PRIVHEAD version"),
+    (LabelFault::DatabaseSize, "database size"),
+    (LabelFault::Range, "range"),
+    (LabelFault::Guid, "disk GUID"),
+    (LabelFault::PrivheadsDiffer(3), "PRIVHEAD 3 differs"),
+    (LabelFault::NoToc, "no TOCBLOCK"),
+    (LabelFault::TocsDiffer, "TOCBLOCKs differ"),
+    (LabelFault::TocRange, "TOCBLOCK range"),
+];
+
 #[test]
 fn says_each_fault_of_a_label(rt: HostRuntime) -> Result<(), Fail> {
-    let texts = [
-        (LabelFault::Short, "too short"),
-        (LabelFault::NoSignature, "no signature"),
-        (LabelFault::NoLdmEntry, "no 0x42 entry"),
-        (LabelFault::NoPrivhead, "no PRIVHEAD"),
-        (LabelFault::Version, "PRIVHEAD version"),
-        (LabelFault::DatabaseSize, "database size"),
-        (LabelFault::Range, "range"),
-        (LabelFault::Guid, "disk GUID"),
-        (LabelFault::PrivheadsDiffer(3), "PRIVHEAD 3 differs"),
-        (LabelFault::NoToc, "no TOCBLOCK"),
-        (LabelFault::TocsDiffer, "TOCBLOCKs differ"),
-        (LabelFault::TocRange, "TOCBLOCK range"),
-    ];
-    for (fault, want) in texts {
+    for (fault, want) in TEXTS {
         let text = label_fault_text(rt.alloc(), fault)?;
         assert_eq!(rt; text.as_slice(), want.as_bytes());
     }
