@@ -23,9 +23,10 @@ written_mbr = sector_with (
     ∷ (0x1FE, 0x55 ∷ 0xAA ∷ [])
     ∷ [])
 
--- the private header: version 2.11 or 2.12, the GUID's text in lower case, the data, and the database with its 2048 sectors
-unfoldable pub written_header : Label → List ℕ
-written_header label = sector_with (
+-- the fields of the private header: version 2.11 or 2.12, the GUID's text in lower case, the data, and the database with its
+-- 2048 sectors
+abbrev pub header_fields : Label → List (ℕ × List ℕ)
+header_fields label =
     (0x00, codes "PRIVHEAD")
     ∷ (0x0C, big_bytes 2 2)
     ∷ (0x0E, big_bytes 2 label.minor)
@@ -34,11 +35,14 @@ written_header label = sector_with (
     ∷ (0x123, big_bytes 8 label.data_size)
     ∷ (0x12B, big_bytes 8 label.config_start)
     ∷ (0x133, big_bytes 8 2048)
-    ∷ [])
+    ∷ []
 
--- the table of contents: the config area and the log area, each with a zero byte behind its name
-unfoldable pub written_toc : Label → List ℕ
-written_toc label = sector_with (
+unfoldable pub written_header : Label → List ℕ
+written_header label = sector_with (header_fields label)
+
+-- the fields of the table of contents: the config area and the log area, each with a zero byte behind its name
+abbrev pub toc_fields : Label → List (ℕ × List ℕ)
+toc_fields label =
     (0x00, codes "TOCBLOCK")
     ∷ (0x24, codes "config\0")
     ∷ (0x2E, big_bytes 8 label.area_start)
@@ -46,7 +50,10 @@ written_toc label = sector_with (
     ∷ (0x46, codes "log\0")
     ∷ (0x50, big_bytes 8 label.log_start)
     ∷ (0x58, big_bytes 8 label.log_sectors)
-    ∷ [])
+    ∷ []
+
+unfoldable pub written_toc : Label → List ℕ
+written_toc label = sector_with (toc_fields label)
 
 -- one sector of each kind
 abbrev pub written_sectors : Label → LabelSectors
