@@ -81,11 +81,11 @@ number_there list at n v small there =
     ∙ ap (big_number n) (sym (append-nil (big_bytes n v)))
     ∙ big_number-reads_back n v [] small
 
--- one more field
-pub put_then : (old next new : List ℕ) (at : ℕ) (bytes : List ℕ) (rest : List (ℕ × List ℕ)) → next ≡ put old at bytes → new ≡ put_each next rest
-    → new ≡ put_each old ((at, bytes) ∷ rest)
+-- a list in which the fields were put one after the other
+pub put_then : (old next new : List ℕ) (field : ℕ × List ℕ) (rest : List (ℕ × List ℕ)) → next ≡ put old field.0 field.1 → new ≡ put_each next rest
+    → new ≡ put_each old (field ∷ rest)
 unfolding put_each
-put_then old next new at bytes rest one more = more ∙ ap (λ (l : List ℕ). put_each l rest) one
+put_then old next new field rest one more = more ∙ ap (λ (l : List ℕ). put_each l rest) one
 
 pub put_none : (old : List ℕ) → old ≡ put_each old []
 unfolding put_each

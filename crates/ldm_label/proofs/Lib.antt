@@ -7,3 +7,4 @@ pub mod GivesLaws
 pub mod OkLaws
 pub mod FieldLaws
 pub mod WrittenLaws
+pub mod PlacedLaws

@@ -16,7 +16,7 @@ use Rattle.ldm_label.specs.LabelOf.{label_of, label_with, mbr_faults, header_fau
 use Rattle.ldm_label.specs.Laws.{IsWritable}
 use Rattle.ldm_label.specs.Written.{put_each, header_fields, toc_fields, written_mbr, written_header, written_toc, HasLabel, IsKnownMinor}
 use Rattle.ldm_label.proofs.AnswerLaws.{front_ok}
-use Rattle.ldm_label.proofs.FieldLaws.{InOrder, field_there, number_there}
+use Rattle.ldm_label.proofs.FieldLaws.{InOrder, length-put_each, field_there, number_there}
 use Rattle.ldm_label.proofs.LabelLaws.{label_is}
 use Rattle.ldm_label.proofs.TocLaws.{same_itself}
 
@@ -50,12 +50,29 @@ mbr_good : answer {A = Unit {0}} (mbr_faults written_mbr) tt ≡ Ok tt
 unfolding mbr_faults has_signature has_ldm_entry written_mbr put_each
 mbr_good = refl
 
--- ---- the private header
+-- ---- the sectors are whole
 
 header_in_order : (label : Label) → InOrder 0 512 (header_fields label)
 header_in_order label =
     let guid = own_guid-len label.disk_guid in
     (omega arith, (omega arith, (omega arith, (omega arith, (omega arith, (omega arith, (omega arith, (omega arith, omega arith))))))))
+
+toc_in_order : (label : Label) → InOrder 0 512 (toc_fields label)
+toc_in_order label = (omega arith, (omega arith, (omega arith, (omega arith, (omega arith, (omega arith, (omega arith, omega arith)))))))
+
+pub length-mbr : length written_mbr ≡ 512
+unfolding written_mbr put_each
+length-mbr = refl
+
+pub length-header : (label : Label) → length (written_header label) ≡ 512
+unfolding written_header
+length-header label = length-put_each zeros 0 (header_fields label) (header_in_order label)
+
+pub length-toc : (label : Label) → length (written_toc label) ≡ 512
+unfolding written_toc
+length-toc label = length-put_each zeros 0 (toc_fields label) (toc_in_order label)
+
+-- ---- the private header
 
 header_field : (label : Label) (i : ℕ) → i < 8
     → let field = get_or (header_fields label) i none in slice_range (written_header label) field.0 (field.0 + length field.1) ≡ field.1
@@ -120,13 +137,10 @@ module _ (label : Label) (n : ℕ) (fits : Fits label n) (writable : IsWritable 
 
   -- ---- the table of contents
 
-  toc_in_order : InOrder 0 512 (toc_fields label)
-  toc_in_order = (omega arith, (omega arith, (omega arith, (omega arith, (omega arith, (omega arith, (omega arith, omega arith)))))))
-
   toc_field : (i : ℕ) → i < 7
       → let field = get_or (toc_fields label) i none in slice_range (written_toc label) field.0 (field.0 + length field.1) ≡ field.1
   unfolding written_toc
-  toc_field i lt = field_there zeros 0 (toc_fields label) i none lt toc_in_order
+  toc_field i lt = field_there zeros 0 (toc_fields label) i none lt (toc_in_order label)
 
   toc_parses : parses (written_toc label) ≡ true
   unfolding parses

@@ -5,4 +5,4 @@ use Rattle.ldm_label.proofs.writing.mbr_sector.Goals as goal
 pub returns : goal.returns
 unfolding written_mbr
 returns c =
-    put_then _ _ _ _ _ _ c.put_bytes.ensures (put_then _ _ _ _ _ _ c.put_bytes-2.ensures (put_none _))
+    put_then _ _ _ _ _ c.put_bytes.ensures (put_then _ _ _ _ _ c.put_bytes-2.ensures (put_none _))

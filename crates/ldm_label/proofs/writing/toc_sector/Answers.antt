@@ -5,5 +5,5 @@ use Rattle.ldm_label.proofs.writing.toc_sector.Goals as goal
 pub returns : goal.returns
 unfolding written_toc
 returns c =
-    put_then _ _ _ _ _ _ c.put_bytes.ensures (put_then _ _ _ _ _ _ c.put_bytes-2.ensures (put_then _ _ _ _ _ _ c.put_u64.ensures (put_then _ _ _ _ _ _ c.put_u64-2.ensures
-    (put_then _ _ _ _ _ _ c.put_bytes-3.ensures (put_then _ _ _ _ _ _ c.put_u64-3.ensures (put_then _ _ _ _ _ _ c.put_u64-4.ensures (put_none _)))))))
+    put_then _ _ _ _ _ c.put_bytes.ensures (put_then _ _ _ _ _ c.put_bytes-2.ensures (put_then _ _ _ _ _ c.put_u64.ensures (put_then _ _ _ _ _ c.put_u64-2.ensures
+    (put_then _ _ _ _ _ c.put_bytes-3.ensures (put_then _ _ _ _ _ c.put_u64-3.ensures (put_then _ _ _ _ _ c.put_u64-4.ensures (put_none _)))))))

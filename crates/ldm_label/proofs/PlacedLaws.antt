@@ -1,0 +1,106 @@
+-- An image to which the eight sectors of a label were written.
+use Rattle.std.proofs.Common.{◌≡◌, ◌≢◌, ◌⊎◌, inl, inr, ℕ, ◌+◌, ◌*◌, ◌/◌, ◌<◌, ◌≤◌, List, [], ◌∷◌, length, get_or, slice_range, refl, sym, ◌∙◌, ap, subst, arith}
+use Rattle.std.proofs.lemmas.Bool.{cases_lt}
+use Rattle.ldm_label.specs.declared.Label.{Label}
+use Rattle.ldm_label.specs.declared.writing.LabelSectors.{LabelSectors}
+use Rattle.ldm_label.specs.Fields.{sectors_of, sector}
+use Rattle.ldm_label.specs.LabelOf.{Fits}
+use Rattle.ldm_label.specs.Written.{put_each, written_mbr, written_header, written_toc, written_sectors, HasLabel, IsOutsideLabel, SameOutsideLabel}
+use Rattle.ldm_label.proofs.FieldLaws.{InOrder, AllMiss, length-put_each, outside_each, field_there}
+use Rattle.ldm_label.proofs.WrittenLaws.{length-mbr, length-header, length-toc}
+
+-- the sectors with their places, in bytes
+abbrev pub parts : LabelSectors → ℕ → List (ℕ × List ℕ)
+parts sectors start =
+    (512 * 0, sectors.mbr)
+    ∷ (512 * 6, sectors.header)
+    ∷ (512 * (start + 1), sectors.toc)
+    ∷ (512 * (start + 2), sectors.toc)
+    ∷ (512 * (start + 1856), sectors.header)
+    ∷ (512 * (start + 2045), sectors.toc)
+    ∷ (512 * (start + 2046), sectors.toc)
+    ∷ (512 * (start + 2047), sectors.header)
+    ∷ []
+
+misses : (k a n : ℕ) → k / 512 ≢ a → n ≡ 512 → (k < 512 * a) ⊎ (512 * a + n ≤ k)
+misses k a n other size =
+    elim (cases_lt k (512 * a)) [
+      | inl lt ↦ inl lt
+      | inr ge ↦ elim (cases_lt k (512 * a + n)) [
+        | inl lt ↦ absurd (other (omega arith))
+        | inr behind ↦ inr behind
+      ]
+    ]
+
+module _ (label : Label) (old new : List ℕ) (fits : Fits label (sectors_of old))
+    (is : new ≡ put_each old (parts (written_sectors label) label.config_start)) where
+  abbrev all : List (ℕ × List ℕ)
+  all = parts (written_sectors label) label.config_start
+
+  in_order : InOrder 0 (length old) all
+  in_order =
+      let mbr = length-mbr in
+      let header = length-header label in
+      let toc = length-toc label in
+      let room = fits.room in
+      let inside = fits.inside in
+      (omega arith, (omega arith, (omega arith, (omega arith, (omega arith, (omega arith, (omega arith, (omega arith, omega arith))))))))
+
+  part_there : (a : ℕ) (bytes : List ℕ) → length bytes ≡ 512
+      → slice_range (put_each old all) (512 * a) (512 * a + length bytes) ≡ bytes → sector new a ≡ bytes
+  part_there a bytes size there =
+      ap (λ (l : List ℕ). sector l a) is ∙ ap (λ (n : ℕ). slice_range (put_each old all) (512 * a) (512 * a + n)) (sym size) ∙ there
+
+  there : (i : ℕ) → i < 8 → let part = get_or all i (0, []) in slice_range (put_each old all) part.0 (part.0 + length part.1) ≡ part.1
+  there i lt = field_there old 0 all i (0, []) lt in_order
+
+  pub has_label : HasLabel label new
+  has_label = record {
+    mbr = part_there 0 written_mbr length-mbr (there 0 (omega arith));
+    header = part_there 6 (written_header label) (length-header label) (there 1 (omega arith));
+    toc_1 = part_there (label.config_start + 1) (written_toc label) (length-toc label) (there 2 (omega arith));
+    toc_2 = part_there (label.config_start + 2) (written_toc label) (length-toc label) (there 3 (omega arith));
+    header_2 = part_there (label.config_start + 1856) (written_header label) (length-header label) (there 4 (omega arith));
+    toc_3 = part_there (label.config_start + 2045) (written_toc label) (length-toc label) (there 5 (omega arith));
+    toc_4 = part_there (label.config_start + 2046) (written_toc label) (length-toc label) (there 6 (omega arith));
+    header_3 = part_there (label.config_start + 2047) (written_header label) (length-header label) (there 7 (omega arith));
+  }
+
+  all_miss : (k : ℕ) → IsOutsideLabel label k → AllMiss k all
+  all_miss k outside =
+      let mbr = length-mbr in
+      let header = length-header label in
+      let toc = length-toc label in (
+        misses k 0 _ (outside 0 0 (omega arith)) mbr,
+        (
+          misses k 6 _ (outside 1 0 (omega arith)) header,
+          (
+            misses k (label.config_start + 1) _ (outside 2 0 (omega arith)) toc,
+            (
+              misses k (label.config_start + 2) _ (outside 3 0 (omega arith)) toc,
+              (
+                misses k (label.config_start + 1856) _ (outside 4 0 (omega arith)) header,
+                (
+                  misses k (label.config_start + 2045) _ (outside 5 0 (omega arith)) toc,
+                  (
+                    misses k (label.config_start + 2046) _ (outside 6 0 (omega arith)) toc,
+                    (misses k (label.config_start + 2047) _ (outside 7 0 (omega arith)) header, tt),
+                  ),
+                ),
+              ),
+            ),
+          ),
+        ),
+      )
+
+  size_stays : length new ≡ length old
+  size_stays = ap (λ (l : List ℕ). length l) is ∙ length-put_each old 0 all in_order
+
+  pub same_outside : SameOutsideLabel label old new
+  same_outside = record {
+    size = size_stays;
+    outside = λ k outside. ap (λ (l : List ℕ). get_or l k 0) is ∙ outside_each old 0 all k in_order (all_miss k outside);
+  }
+
+  pub fits_new : Fits label (sectors_of new)
+  fits_new = subst (λ (n : ℕ). Fits label (n / 512)) (sym size_stays) fits
