@@ -1,12 +1,15 @@
 -- An image to which the eight sectors of a label were written.
-use Rattle.std.proofs.Common.{◌≡◌, ◌≢◌, ◌⊎◌, inl, inr, ℕ, ◌+◌, ◌*◌, ◌/◌, ◌<◌, ◌≤◌, List, [], ◌∷◌, length, get_or, slice_range, refl, sym, ◌∙◌, ap, subst, arith}
+use Rattle.std.proofs.Common.{◌≡◌, ◌≢◌, ◌⊎◌, inl, inr, ℕ, ◌+◌, ◌*◌, ◌/◌, ◌<◌, ◌≤◌, List, [], ◌∷◌, length, get_or, slice_range, sym, ◌∙◌, ap, subst, arith}
 use Rattle.std.proofs.lemmas.Bool.{cases_lt}
+use Rattle.std.proofs.lemmas.List.Elements.{All-from_recursion}
 use Rattle.ldm_label.specs.declared.Label.{Label}
 use Rattle.ldm_label.specs.declared.writing.LabelSectors.{LabelSectors}
 use Rattle.ldm_label.specs.Fields.{sectors_of, sector}
-use Rattle.ldm_label.specs.LabelOf.{Fits}
-use Rattle.ldm_label.specs.Written.{put_each, written_mbr, written_header, written_toc, written_sectors, HasLabel, IsOutsideLabel, SameOutsideLabel}
+use Rattle.ldm_label.specs.Laws.{IsClearOfLabel}
+use Rattle.ldm_label.specs.LabelOf.{Fits, SameOutsideArea}
+use Rattle.ldm_label.specs.Written.{put_each, written_mbr, written_header, written_toc, written_sectors, label_places, HasLabel, IsOutsideLabel, SameOutsideLabel}
 use Rattle.ldm_label.proofs.FieldLaws.{InOrder, AllMiss, length-put_each, outside_each, field_there}
+use Rattle.ldm_label.proofs.OkLaws.{same_sector}
 use Rattle.ldm_label.proofs.WrittenLaws.{length-mbr, length-header, length-toc}
 
 -- the sectors with their places, in bytes
@@ -104,3 +107,34 @@ module _ (label : Label) (old new : List ℕ) (fits : Fits label (sectors_of old
 
   pub fits_new : Fits label (sectors_of new)
   fits_new = subst (λ (n : ℕ). Fits label (n / 512)) (sym size_stays) fits
+
+-- No byte of the config area is in a sector of the label.
+pub area_is_outside : (label : Label) (k : ℕ) → 7 ≤ label.config_start → IsClearOfLabel label → 512 * (label.config_start + label.area_start) ≤ k
+    → k < 512 * (label.config_start + label.area_start + label.area_sectors) → IsOutsideLabel label k
+area_is_outside label k room clear low high =
+    let behind = clear.behind in
+    let before = clear.before in
+    All-from_recursion (λ place. k / 512 ≢ place) (label_places label)
+    (λ is. omega arith, (λ is. omega arith, (λ is. omega arith, (λ is. omega arith, (λ is. omega arith, (λ is. omega arith, (λ is. omega arith, (λ is. omega arith, tt))))))))
+
+-- An image that differs in the config area alone has the same sectors of the label.
+pub label_sectors_stay : (label : Label) (old new : List ℕ) → HasLabel label old → 7 ≤ label.config_start → IsClearOfLabel label → SameOutsideArea label old new → HasLabel label new
+label_sectors_stay label old new has room clear same =
+    record {
+      mbr = same_at 0 (inl (omega arith)) ∙ has.mbr;
+      header = same_at 6 (inl (omega arith)) ∙ has.header;
+      toc_1 = same_at (label.config_start + 1) (inl (omega (arith, clear.behind))) ∙ has.toc_1;
+      toc_2 = same_at (label.config_start + 2) (inl (omega (arith, clear.behind))) ∙ has.toc_2;
+      header_2 = same_at (label.config_start + 1856) (inr (omega (arith, clear.before))) ∙ has.header_2;
+      toc_3 = same_at (label.config_start + 2045) (inr (omega (arith, clear.before))) ∙ has.toc_3;
+      toc_4 = same_at (label.config_start + 2046) (inr (omega (arith, clear.before))) ∙ has.toc_4;
+      header_3 = same_at (label.config_start + 2047) (inr (omega (arith, clear.before))) ∙ has.header_3;
+    }
+  where
+    outside_area : (a k : ℕ) → (a < label.config_start + label.area_start) ⊎ (label.config_start + label.area_start + label.area_sectors ≤ a)
+        → 512 * a ≤ k → k < 512 * a + 512 → (k < 512 * (label.config_start + label.area_start)) ⊎ (512 * (label.config_start + label.area_start + label.area_sectors) ≤ k)
+    outside_area a k (inl lt) from to = inl (omega arith)
+    outside_area a k (inr ge) from to = inr (omega arith)
+
+    same_at : (a : ℕ) → (a < label.config_start + label.area_start) ⊎ (label.config_start + label.area_start + label.area_sectors ≤ a) → sector new a ≡ sector old a
+    same_at a place = same_sector old new a same.size (λ k from to. same.outside k (outside_area a k place from to))

@@ -1,20 +1,17 @@
 -- What the written sectors of a label say, and that an image that has them reads as the label.
-use Rattle.std.proofs.Common.{◌≡◌, ◌⊎◌, inl, inr, ℕ, ◌+◌, ◌^◌, ◌<◌, ◌≤◌, Bool, true, false, ◌&&◌, List, [], ◌∷◌, ◌++◌, length, get_or, ◌||◌, drop, replicate, slice_range, codes, Option, Some, Result, Ok, refl, sym, ◌∙◌, ap, subst, arith}
-use Rattle.std.specs.Prelude.{not, nat_eq, nat_lt, is_ok}
+use Rattle.std.proofs.Common.{◌≡◌, inl, inr, ℕ, ◌+◌, ◌^◌, ◌<◌, ◌≤◌, true, false, List, [], ◌∷◌, ◌++◌, length, get_or, ◌||◌, replicate, slice_range, Some, Ok, refl, sym, ◌∙◌, ap, arith}
+use Rattle.std.specs.Prelude.{nat_eq}
 use Rattle.std.proofs.lemmas.Bool.Decides.{nat_tests}
-use Rattle.byteorder.specs.Endian.{big_number, big_bytes}
 use Rattle.ldm_bytes.specs.Guid.{guid_of, own_guid}
 use Rattle.ldm_bytes.specs.Places.{u16_at, u64_at}
 use Rattle.ldm_bytes.proofs.GuidLaws.{own_guid-len, guid_again}
-use Rattle.ldm_label.specs.declared.LabelFault.{LabelFault}
 use Rattle.ldm_label.specs.declared.header.PrivateHeader.{PrivateHeader}
 use Rattle.ldm_label.specs.declared.toc.Toc.{Toc}
 use Rattle.ldm_label.specs.declared.Label.{Label}
 use Rattle.ldm_label.specs.Answer.{answer}
-use Rattle.ldm_label.specs.Fields.{sectors_of, sector, has_signature, has_ldm_entry, is_privhead, has_version, config_size, disk_guid, header_of, is_out_of_range, same_header, parses, toc_of, is_out_of_database, same_toc}
-use Rattle.ldm_label.specs.LabelOf.{label_of, label_with, mbr_faults, header_faults, differs, copy_faults, tocs_in, some_differ, first_toc, toc_faults, Fits}
-use Rattle.ldm_label.specs.Laws.{IsWritable}
-use Rattle.ldm_label.specs.Written.{put_each, header_fields, toc_fields, written_mbr, written_header, written_toc, HasLabel, IsKnownMinor}
+use Rattle.ldm_label.specs.Fields.{sectors_of, sector, has_signature, has_ldm_entry, is_privhead, has_version, config_size, disk_guid, header_of, is_out_of_range, same_header, parses, toc_of, is_out_of_database}
+use Rattle.ldm_label.specs.LabelOf.{label_of, mbr_faults, header_faults, differs, copy_faults, tocs_in, some_differ, first_toc, toc_faults, Fits}
+use Rattle.ldm_label.specs.Written.{put_each, header_fields, toc_fields, written_mbr, written_header, written_toc, HasLabel, IsKnownMinor, IsWritable}
 use Rattle.ldm_label.proofs.AnswerLaws.{front_ok}
 use Rattle.ldm_label.proofs.FieldLaws.{InOrder, length-put_each, field_there, number_there}
 use Rattle.ldm_label.proofs.LabelLaws.{label_is}

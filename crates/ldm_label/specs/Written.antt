@@ -1,5 +1,5 @@
 -- The sectors of a label as they are written, and the images that have them. Offsets are those of the format.
-use Rattle.std.specs.Prelude.{◌≡◌, ◌≢◌, ◌⊎◌, ℕ, ◌+◌, ◌/◌, ◌^◌, ◌<◌, List, [], ◌∷◌, ◌++◌, length, slice_index, replicate, codes, All}
+use Rattle.std.specs.Prelude.{◌≡◌, ◌≢◌, ◌⊎◌, ℕ, ◌+◌, ◌/◌, ◌^◌, ◌<◌, List, [], ◌∷◌, length, slice_index, replicate, codes, All}
 use Rattle.byteorder.specs.Endian.{big_bytes}
 use Rattle.ldm_bytes.specs.Guid.{own_guid}
 use Rattle.ldm_bytes.specs.Places.{put}
@@ -92,3 +92,10 @@ pub record SameOutsideLabel (label : Label) (old new : List ℕ) : Type 0 where
 -- the version is 2.11 or 2.12
 abbrev pub IsKnownMinor : ℕ → Type 0
 IsKnownMinor minor = (minor ≡ 11) ⊎ (minor ≡ 12)
+
+-- The fields of the sectors have room for the label's numbers. Those that aren't named here are below the start of the
+-- database, or of its 2048 sectors, where the label fits its disk.
+pub record IsWritable (label : Label) : Type 0 where
+  pub minor : IsKnownMinor label.minor
+  pub guid : label.disk_guid < 2 ^ 128
+  pub start : label.config_start < 2 ^ 64
