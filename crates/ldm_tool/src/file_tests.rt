@@ -4,7 +4,7 @@ ghost use Rattle.std.specs.Prelude.{◌<◌, ◌≤◌, ◌+◌, ◌*◌, length
 use super::tests::words_in;
 use super::*;
 use ldm_host::{Failed, Host};
-use ldm_vectors::usual_images;
+use ldm_vectors::{sample_images, usual_images};
 use std::fs;
 use std::fs::File;
 use std::path::PathBuf;
@@ -43,16 +43,21 @@ fn words_on(
 
 const NAMES: [&str; 3] = ["a.img", "b.img", "c.img"];
 
-// A folder with the images of the usual group.
-fn usual_folder(rt: &HostRuntime, name: &str) -> Result<PathBuf, Fail> {
+// A folder with these images.
+fn folder_with(rt: &HostRuntime, name: &str, images: &[Vec<u8>]) -> Result<PathBuf, Fail> {
     let folder = folder_for(rt, name)?;
-    let Ok(images) = usual_images(rt.alloc()) else {
-        return Err(Fail::from("no memory"));
-    };
     for (name, image) in NAMES.iter().zip(images.iter()) {
         fs::write(rt, path_in(rt, &folder, name)?.as_str(), image)?;
     }
     Ok(folder)
+}
+
+// A folder with the images of the usual group.
+fn usual_folder(rt: &HostRuntime, name: &str) -> Result<PathBuf, Fail> {
+    let Ok(images) = usual_images(rt.alloc()) else {
+        return Err(Fail::from("no memory"));
+    };
+    folder_with(rt, name, &images)
 }
 
 #[test]
@@ -72,6 +77,58 @@ fn takes_the_images_in_the_order_of_the_words(rt: HostRuntime) -> Result<(), Fai
         "disk 1027 Disk3 33333333-3333-3333-3333-333333333333 image 0 free 4869",
     ] {
         assert_eq!(rt; lines.next(), Some(line));
+    }
+    fs::remove_dir_all(&rt, &folder)?;
+    Ok(())
+}
+
+// A script, the replies to it, and the group that it leaves.
+const SCRIPT: &[u8] = b"\
+create Data bbbbbbbb-bbbb-bbbb-bbbb-bbbbbbbbbbbb span Disk1=2048
+delete Nope
+extend Data Disk2=100
+";
+
+const REPLIES: &[u8] = b"1 ok 8\n2 refused: no volume\n3 ok 9\n";
+
+const EDITED: &[u8] = b"\
+group Dg0 aaaaaaaa-aaaa-aaaa-aaaa-aaaaaaaaaaaa sequence 9 blocks 8 of 60
+disk 2 Disk1 11111111-1111-1111-1111-111111111111 image 0 free 4033
+disk 3 Disk2 22222222-2222-2222-2222-222222222222 image 1 free 5981
+disk 4 Disk3 33333333-3333-3333-3333-333333333333 image 2 free 6081
+volume 5 Data span 2148 bbbbbbbb-bbbb-bbbb-bbbb-bbbbbbbbbbbb
+  component 6 c6 basic
+    partition 7 p7 disk 2 start 0 size 2048 offset 0
+    partition 8 p8 disk 3 start 0 size 100 offset 2048
+";
+
+const EQUAL: &[u8] = b"\
+image 0 sequence 9
+image 1 sequence 9
+image 2 sequence 9
+ok: editable
+";
+
+#[test]
+fn edits_files(rt: HostRuntime) -> Result<(), Fail> {
+    let Ok(images) = sample_images(rt.alloc(), 3, 64) else {
+        return Err(Fail::from("no memory"));
+    };
+    let folder = folder_with(&rt, "edit", &images)?;
+    for (job, input, text, status) in [
+        ("try", SCRIPT, REPLIES, Status::Refused),
+        ("edit", SCRIPT, REPLIES, Status::Refused),
+        ("show", b"".as_slice(), EDITED, Status::Done),
+        ("check", b"".as_slice(), EQUAL, Status::Done),
+    ] {
+        let words = words_on(&rt, job, &folder, &NAMES)?;
+        let mut said = Vec::new(rt.alloc());
+        assert_eq!(rt;
+            run_words(&rt, &words, input, &mut said),
+            Ok(status),
+            "{job}"
+        );
+        assert_eq!(rt; said.as_slice(), text, "{job}");
     }
     fs::remove_dir_all(&rt, &folder)?;
     Ok(())

@@ -55,7 +55,7 @@ fn change(image: &mut [u8], place: &str, bytes: &[u8]) -> Result<(), Fail> {
 }
 
 // Does a change IMAGE.SECTORS+OFFSET=BYTES, or one of all images where IMAGE is a star.
-fn change_images(alloc: Global, images: &mut [Vec<u8>], text: &str) -> Result<(), Fail> {
+pub(crate) fn change_images(alloc: Global, images: &mut [Vec<u8>], text: &str) -> Result<(), Fail> {
     let Some((which, rest)) = text.split_once('.') else {
         return Err(Fail::from("no image"));
     };

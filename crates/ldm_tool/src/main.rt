@@ -156,9 +156,13 @@ fn main(rt: HostRuntime) -> ExitCode {
 }
 
 #[cfg(test)]
+mod edit_tests;
+#[cfg(test)]
 mod file_tests;
 #[cfg(test)]
 mod group_tests;
+#[cfg(test)]
+mod stop_tests;
 #[cfg(test)]
 mod tests;
 #[cfg(test)]

@@ -15,6 +15,56 @@ fn host_with(alloc: Global, disks: u8, last: u32, script: Vec<u8>) -> Result<Mem
     MemoryHost::new(alloc, images, script).map_err(|_| Fail::from("no memory"))
 }
 
+// COUNT|HEAD|PART|REPLY: a line of the head and so many of the part behind it, and the reply to it. The last line
+// has no newline.
+const ODD_LINES: &str = "\
+3|| |refused: bad line
+255|delete |x|refused: no volume
+256|delete |x|refused: bad line
+300|delete |x|refused: bad line
+1|delete |\\x41|refused: no volume
+1|delete |\\x4|refused: bad line
+1|delete |\\|refused: bad line
+1|delete |\\x4A|refused: bad line
+1|delete |\u{e9}|refused: bad line
+1|delete Nope|\r|refused: bad line
+20|extend Nope Disk1=|0|refused: no volume
+21|extend Nope Disk1=|0|refused: bad line
+1|extend Nope Disk1=|18446744073709551615|refused: no volume
+1|extend Nope Disk1=|18446744073709551616|refused: bad line
+64|extend Nope| Disk1=1|refused: no volume
+65|extend Nope| Disk1=1|refused: bad line
+1|create a=b=c bbbbbbbb-bbbb-bbbb-bbbb-bbbbbbbbbbbb span| Disk1=1|ok 8
+1|extend a=b=c| Disk1=5=1|refused: no disk 0
+1|  delete   a=b=c| |ok 9
+1|delete |a=b=c|refused: no volume";
+
+// The script of such lines, and the replies to it.
+fn script_of(alloc: Global, rows: &str) -> Result<(String, String), Fail> {
+    let mut script = String::new(alloc);
+    let mut said = String::new(alloc);
+    for (row, number) in rows.lines().zip(1u32..) {
+        let mut parts = row.split('|');
+        let (Some(count), Some(head), Some(part), Some(reply)) = (
+            parts.next(),
+            parts.next(),
+            parts.next(),
+            parts.next(),
+        ) else {
+            return Err(Fail::from("no row"));
+        };
+        if number > 1 {
+            script.push('\n')?;
+        }
+        script.push_str(head)?;
+        for _ in 0..usize::from_str_radix(count, 10).map_err(|_| Fail::from("no count"))? {
+            script.push_str(part)?;
+        }
+        said.push_str(format!(in alloc; "{number} {reply}\n")?.as_str())?;
+    }
+    Ok((script, said))
+}
+
 // Tries a script on a group of three disks, and compares all that is said.
 fn expect(
     alloc: Global,
@@ -44,12 +94,26 @@ fn replies_to_lines_without_a_reading(rt: HostRuntime) -> Result<(), Fail> {
 }
 
 #[test]
+fn replies_to_odd_lines(rt: HostRuntime) -> Result<(), Fail> {
+    let alloc = rt.alloc();
+    let (script, said) = script_of(alloc, ODD_LINES)?;
+    expect(alloc, &rt, script.as_str(), said.as_str(), Status::Refused)
+}
+
+#[test]
 fn refuses_a_script_that_is_too_long(rt: HostRuntime) -> Result<(), Fail> {
     let alloc = rt.alloc();
-    let words = words_in(alloc, "try on A B C")?;
-    let mut host = host_with(alloc, 3, 64, vec![in alloc; b'\n'; 1_048_577]?)?;
-    assert_eq!(rt; run_over(alloc, &words, &mut host), Some(Status::Refused));
-    assert_eq!(rt; host.said(), b"refused: script too long\n".as_slice());
+    let longest = [
+        ("try on A B C", 1_048_576, "1 refused: bad line\n"),
+        ("try on A B C", 1_048_577, "refused: script too long\n"),
+        ("edit on A B C", 1_048_577, "refused: script too long\n"),
+    ];
+    for (job, size, said) in longest {
+        let mut host = host_with(alloc, 3, 64, vec![in alloc; b'x'; size]?)?;
+        let status = run_over(alloc, &words_in(alloc, job)?, &mut host);
+        assert_eq!(rt; status, Some(Status::Refused), "{size}");
+        assert_eq!(rt; host.said(), said.as_bytes(), "{size}");
+    }
     Ok(())
 }
 
@@ -73,11 +137,13 @@ fn tries_no_group_that_may_not_be_edited(rt: HostRuntime) -> Result<(), Fail> {
 #[test]
 fn ends_where_hearing_fails(rt: HostRuntime) -> Result<(), Fail> {
     let alloc = rt.alloc();
-    let words = words_in(alloc, "try on A B C")?;
-    let first = vec![in alloc; 1u64]?;
-    let mut host = host_with(alloc, 3, 64, Vec::new(alloc))?.with_failures(first);
-    assert_eq!(rt; run_over(alloc, &words, &mut host), Some(Status::TalkFault));
-    assert!(rt; host.said().is_empty());
+    for job in ["try on A B C", "edit on A B C"] {
+        let first = vec![in alloc; 1u64]?;
+        let mut host = host_with(alloc, 3, 64, Vec::new(alloc))?.with_failures(first);
+        let status = run_over(alloc, &words_in(alloc, job)?, &mut host);
+        assert_eq!(rt; status, Some(Status::TalkFault), "{job}");
+        assert!(rt; host.said().is_empty(), "{job}");
+    }
     Ok(())
 }
 
