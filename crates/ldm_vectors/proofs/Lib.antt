@@ -1,1 +1,2 @@
 mod DrawLaws
+mod SizeLaws

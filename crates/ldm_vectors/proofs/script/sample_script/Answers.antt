@@ -1,6 +1,7 @@
-use Rattle.std.proofs.Common.{◌≡◌, refl, sym, ap, ◌∙◌, arith}
-use Rattle.ldm_vectors.specs.Script.{advanced}
+use Rattle.std.proofs.Common.{◌≡◌, ℕ, List, refl, sym, ap, ◌∙◌, arith}
+use Rattle.ldm_vectors.specs.Script.{advanced, lines_of_seed, script_of}
 use Rattle.ldm_vectors.proofs.DrawLaws.{drawn, line_more, no_line}
+use Rattle.ldm_vectors.proofs.SizeLaws.{script_short}
 use Rattle.ldm_vectors.proofs.script.sample_script.Goals as goal
 
 pub loop-line-init : goal.loop-line-init
@@ -15,7 +16,11 @@ loop-line-preserved c =
           ∙ line_more c.args.seed c.loop-line.line _ _ first second _ _ _ _ c.next-kind.ensures.is c.next-value.ensures.is (c.as_bytes.ensures.value ∙ c.in_ok-text.ensures) c.loop-line.invariant.1,
     )
 
-pub returns : goal.returns
-returns c =
-    let done : c.loop-line.line ≡ 200 = omega arith in
-    rw (← done) c.loop-line.invariant.1
+all_lines : (seed lines : ℕ) (script : List ℕ) → lines ≡ 200 → script ≡ lines_of_seed seed lines → script ≡ script_of seed
+all_lines seed lines script done is = is ∙ ap (lines_of_seed seed) done
+
+pub returns-clause-is : goal.returns-clause-is
+returns-clause-is c = all_lines c.args.seed c.loop-line.line c.loop-line.script.items (omega arith) c.loop-line.invariant.1
+
+pub returns-clause-short : goal.returns-clause-short
+returns-clause-short c = rw (all_lines c.args.seed c.loop-line.line c.loop-line.script.items (omega arith) c.loop-line.invariant.1) (script_short c.args.seed)
