@@ -1,5 +1,5 @@
 -- The sequence counts the lines that are done.
-use Rattle.std.proofs.Common.{◌≡◌, ℕ, ◌+◌, Bool, true, false, List, [], ◌∷◌, count_by, refl, sym, ◌∙◌, arith, Option, Some, None, is_some, Result, Ok, Err, if◌then◌else◌}
+use Rattle.std.proofs.Common.{◌≡◌, ℕ, ◌+◌, Bool, true, false, List, [], ◌∷◌, count_by, refl, sym, ap, ◌∙◌, arith, Option, Some, None, is_some, Result, Ok, Err, if◌then◌else◌}
 use Rattle.std.specs.Prelude.{map, length}
 use Rattle.ldm_bytes.specs.Tables.{first_of, unless}
 use Rattle.ldm_label.specs.declared.Label.{Label}
@@ -7,6 +7,7 @@ use Rattle.ldm_records.specs.declared.types.Component.{Component}
 use Rattle.ldm_records.specs.declared.types.Volume.{Volume}
 use Rattle.ldm_group.specs.Database.{Database}
 use Rattle.ldm_group.specs.Looks.{volume_named}
+use Rattle.ldm_group.proofs.Rise.{count_yes, count_no}
 use Rattle.ldm_layout.specs.Volumes.{layout_of}
 use Rattle.ldm_rules.specs.Ends.{data_size}
 use Rattle.ldm_space.specs.Free.{taken_in}
@@ -19,6 +20,8 @@ use Rattle.ldm_words.specs.declared.command.NewLayout.{NewLayout}
 use Rattle.ldm_words.specs.declared.command.Piece.{Piece}
 use Rattle.ldm_edits.specs.declared.reply.Refusal.{Refusal}
 use Rattle.ldm_edits.specs.declared.reply.Refusal.TheVariants as refusals
+use Rattle.ldm_edits.specs.declared.reply.Reply.{Reply}
+use Rattle.ldm_edits.specs.declared.reply.Reply.TheVariants as replies
 use Rattle.ldm_edits.specs.Asked.{asked_for}
 use Rattle.ldm_edits.specs.Changes.{Change, when, limits, changed}
 use Rattle.ldm_edits.specs.Counting.{is_done, SequenceCounts}
@@ -102,14 +105,27 @@ next_up db labels (Create name guid layout) = created_up db labels name guid lay
 next_up db labels (Extend name pieces) = extended_up db labels pieces (volume_named name db.records)
 next_up db labels (Delete name) = deleted_up db (volume_named name db.records)
 
+not_done : (refusal : Refusal) (rest : List Reply) → count_by is_done rest ≡ count_by is_done (replies.Refused refusal ∷ rest)
+not_done refusal rest = let none = count_no is_done (replies.Refused refusal) rest refl in omega (arith, none)
+
 pub sequence_counts : SequenceCounts
 unfolding turns_of
-sequence_counts labels db [] = omega arith
-sequence_counts labels db (None ∷ lines) = sequence_counts labels db lines
-sequence_counts labels db (Some command ∷ lines) = go (next_of db labels command) (next_up db labels command)
+sequence_counts labels db [] = let same : db.header.seq ≡ db.header.seq + 0 = omega arith in same
+sequence_counts labels db (None ∷ lines) =
+    let after = turns_of labels (record { db = db }) lines in
+    sequence_counts labels db lines ∙ ap (λ (n : ℕ). db.header.seq + n) (not_done refusals.BadLine after.replies)
+sequence_counts labels db (Some command ∷ lines) = go (next_of db labels command) (next_up db labels command) (λ next. sequence_counts labels next lines)
   where
     go : (next : Result Database Refusal) → IsUp db next
+        → ((d : Database) → (turns_of labels (record { db = d }) lines).state.db.header.seq ≡ d.header.seq + count_by is_done (turns_of labels (record { db = d }) lines).replies)
         → (turns_of labels (turn_by (record { db = db }) next).state lines).state.db.header.seq
         ≡ db.header.seq + count_by is_done ((turn_by (record { db = db }) next).reply ∷ (turns_of labels (turn_by (record { db = db }) next).state lines).replies)
-    go (Ok next) up = let rest = sequence_counts labels next lines in omega (arith, rest, up)
-    go (Err refusal) up = sequence_counts labels db lines
+    go (Ok next) up rest =
+        let after = turns_of labels (record { db = next }) lines in
+        let more = rest next in
+        let one = count_yes is_done (replies.Done next.header.seq) after.replies refl in
+        let all : after.state.db.header.seq ≡ db.header.seq + (1 + count_by is_done after.replies) = omega (arith, more, up) in
+        all ∙ ap (λ (n : ℕ). db.header.seq + n) (sym one)
+    go (Err refusal) up rest =
+        let after = turns_of labels (record { db = db }) lines in
+        rest db ∙ ap (λ (n : ℕ). db.header.seq + n) (not_done refusal after.replies)
