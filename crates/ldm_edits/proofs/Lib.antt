@@ -34,3 +34,4 @@ pub mod CommandLaws
 pub mod NextDb
 pub mod SizeLists
 pub mod WalkAnswers
+mod CountLaws

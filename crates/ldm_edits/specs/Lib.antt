@@ -7,3 +7,4 @@ pub mod Deleting
 pub mod Staying
 pub mod Answers
 pub mod Steps
+pub mod Counting

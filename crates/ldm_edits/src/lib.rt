@@ -7,11 +7,13 @@ mod creating;
 mod deleting;
 mod error;
 mod extending;
+mod laws;
 mod leaving;
 mod limits;
 mod made;
 mod reply;
 mod stepping;
 
+pub use laws::sequence_counts_lines;
 pub use reply::{Refusal, Reply};
 pub use stepping::{Outcome, step};

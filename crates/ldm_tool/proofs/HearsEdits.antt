@@ -7,7 +7,7 @@ use Rattle.ldm_host.specs.StoryLaws.{begins_both}
 use Rattle.ldm_host.proofs.Relations.{later_trans, moments_trans, still_trans}
 use Rattle.ldm_words.specs.declared.command.Command.{Command}
 use Rattle.ldm_words.specs.declared.job.Job.{Job}
-use Rattle.ldm_words.specs.declared.job.Job.TheVariants.{Disk, Records, Show, Check, Map, Try, Edit, One}
+use Rattle.ldm_words.specs.declared.job.Job.TheVariants.{Disk, Records, Show, Check, Map, Try, Edit, One, Sample}
 use Rattle.ldm_found.specs.declared.found.Found.{Found}
 use Rattle.ldm_found.specs.Opening.{IsGroupIn}
 use Rattle.ldm_found.proofs.FoundLaws.{holds_group, one_image}
@@ -63,6 +63,7 @@ module _ {tells : Type 0} {host : Seen} (still : Still host host) (one_each : te
   job_stops Try = tt
   job_stops Edit = λ told nothing. silent_reopens still (one_each told) refl _ nothing
   job_stops (One command) = λ told nothing. silent_reopens still (one_each told) refl _ nothing
+  job_stops (Sample seed) = tt
 
   pub stops_unchanged : (reading : Option (Job × ℕ)) → StopsAfter tells reading host host
   stops_unchanged None = tt

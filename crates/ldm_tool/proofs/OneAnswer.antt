@@ -7,7 +7,7 @@ use Rattle.ldm_label.specs.LabelOf.{label_of}
 use Rattle.ldm_copy.specs.Copy.{config_area}
 use Rattle.ldm_copy.proofs.OneCopy.{one_copy}
 use Rattle.ldm_words.specs.declared.job.Job.{Job}
-use Rattle.ldm_words.specs.declared.job.Job.TheVariants.{Disk, Records, Show, Check, Map, Try, Edit, One}
+use Rattle.ldm_words.specs.declared.job.Job.TheVariants.{Disk, Records, Show, Check, Map, Try, Edit, One, Sample}
 use Rattle.ldm_words.specs.Jobs.{job_of}
 use Rattle.ldm_found.specs.declared.found.Found.{Found}
 use Rattle.ldm_found.proofs.GroupLaws.{one_group}
@@ -36,6 +36,7 @@ one_job (Map name first count) images input a b x y = one_of_group (map_answer n
 one_job Try images input a b x y = one_of_script (is_long input) input images a b x y
 one_job Edit images input a b x y = one_of_script (is_long input) input images a b x y
 one_job (One command) images input a b x y = one_of_group (try_answer (Some command ∷ [])) images a b x y
+one_job (Sample seed) images input a b x y = one_sample seed a b x y
 
 one_reading : (reading : Option (Job × ℕ)) (images : List (List ℕ)) (input : List ℕ) (a b : Answer) → IsReadingAnswer reading images input a → IsReadingAnswer reading images input b → a ≡ b
 one_reading None images input a b x y = x ∙ sym y

@@ -8,7 +8,7 @@ use Rattle.ldm_copy.specs.declared.answer.CopyState.{CopyState}
 use Rattle.ldm_copy.specs.declared.answer.CopyFault.{CopyFault}
 use Rattle.ldm_copy.specs.Copy.{IsCopyOf, config_area}
 use Rattle.ldm_words.specs.declared.job.Job.{Job}
-use Rattle.ldm_words.specs.declared.job.Job.TheVariants.{Disk, Records, Show, Check, Map, Try, Edit, One}
+use Rattle.ldm_words.specs.declared.job.Job.TheVariants.{Disk, Records, Show, Check, Map, Try, Edit, One, Sample}
 use Rattle.ldm_words.specs.Jobs.{job_of}
 use Rattle.ldm_found.specs.declared.fault.OpenFault.{OpenFault}
 use Rattle.ldm_found.specs.declared.found.Found.{Found}
@@ -19,6 +19,7 @@ use Rattle.ldm_text.specs.Opening.{text_of_open_fault}
 use Rattle.ldm_text.specs.Show.{text_of_show}
 use Rattle.ldm_text.specs.Check.{text_of_check}
 use Rattle.ldm_tool.specs.Mapping.{map_answer}
+use Rattle.ldm_tool.specs.Sample.{IsSampleAnswer}
 use Rattle.ldm_tool.specs.Scripts.{is_long, commands_in, try_answer}
 use Rattle.ldm_tool.specs.Said.{Answer, refused}
 use Rattle.ldm_tool.specs.declared.run.Status.TheVariants.{Done, Refused, Usage}
@@ -76,6 +77,7 @@ IsJobAnswer (Map name first count) images input answer = IsGroupAnswer (map_answ
 IsJobAnswer Try images input answer = IsAnswerToScript (is_long input) input images answer
 IsJobAnswer Edit images input answer = IsAnswerToScript (is_long input) input images answer
 IsJobAnswer (One command) images input answer = IsGroupAnswer (try_answer (Some command ∷ [])) images answer
+IsJobAnswer (Sample seed) images input answer = IsSampleAnswer seed answer
 
 abbrev pub IsReadingAnswer : Option (Job × ℕ) → List (List ℕ) → List ℕ → Answer → Type 0
 IsReadingAnswer None images input answer = answer ≡ ([], Usage)

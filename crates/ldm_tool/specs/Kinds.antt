@@ -3,7 +3,7 @@ use Rattle.std.specs.Prelude.{◌≡◌, ◌⊎◌, ℕ, ◌<◌, List, [], ◌�
 use Rattle.ldm_host.specs.Seen.{Seen}
 use Rattle.ldm_host.specs.Moves.{Settled}
 use Rattle.ldm_words.specs.declared.job.Job.{Job}
-use Rattle.ldm_words.specs.declared.job.Job.TheVariants.{Disk, Records, Show, Check, Map, Try, Edit, One}
+use Rattle.ldm_words.specs.declared.job.Job.TheVariants.{Disk, Records, Show, Check, Map, Try, Edit, One, Sample}
 use Rattle.ldm_tool.specs.declared.run.Status.{Status}
 use Rattle.ldm_tool.specs.declared.run.Status.TheVariants.{DiskFault}
 use Rattle.ldm_tool.specs.Said.{SaysNothing}
@@ -11,7 +11,7 @@ use Rattle.ldm_tool.specs.Heard.{HearsScript}
 
 -- the kinds of jobs, by what they do with the disks and the talk
 pub data Kind : Type 0 where
-  -- it reads the disks, and then says its answer
+  -- it reads the disks, if it needs any, and then says its answer
   Reads : Kind
   -- it hears a script, reads the disks, and then says a reply to each line
   Hears : Kind
@@ -29,6 +29,7 @@ kind_of (Map name first count) = Reads
 kind_of Try = Hears
 kind_of Edit = Edits
 kind_of (One command) = Does
+kind_of (Sample seed) = Reads
 
 -- the input is left as it was
 pub record SameInput (old new : Seen) : Type 0 where

@@ -7,5 +7,6 @@ pub mod Answer
 pub mod Kinds
 pub mod Stops
 pub mod Written
+pub mod Sample
 pub mod Editing
 pub mod Runs

@@ -11,6 +11,7 @@ mod file_host;
 mod mapping;
 mod replying;
 mod run;
+mod sample;
 mod script;
 mod streams;
 

@@ -22,6 +22,7 @@ ghost use Rattle.ldm_tool.specs.Runs.{Answers, Completes, Causes, NoFault, HasIm
 use crate::editing::{edit_one, edit_script};
 use crate::mapping::mapped;
 use crate::replying::reply_each;
+use crate::sample::sample;
 use crate::script::hear_script;
 use ldm_bytes::{Bytes, NoMemory};
 use ldm_copy::{CopyError, CopyFault, read_copy};
@@ -63,8 +64,8 @@ const _: () = prove!(Status::NoMemory as i32 == 4);
 
 const _: () = prove!(Status::TalkFault as i32 == 5);
 
-// Says a text that was made, whole.
-fn say_made<H: Host>(host: &mut H, made: Result<Bytes, NoMemory>, status: Status) -> Status
+/// Says a text that was made, whole.
+pub(crate) fn say_made<H: Host>(host: &mut H, made: Result<Bytes, NoMemory>, status: Status) -> Status
     requires { HasAnswer status }
     ensures says { (text : List ℕ) → IfOk made (λ m. m ≡ text)
         → OnlyReads H.tells_talk (H.seen host.old) (H.seen host.new) (λ answer. answer ≡ (text, status)) result }
@@ -257,8 +258,8 @@ fn try_script<H: Host>(alloc: Global, host: &mut H) -> Status
     }
 }
 
-// edit on IMAGE...
-fn edit<H: Host>(alloc: Global, host: &mut H) -> Status
+/// edit on IMAGE...
+pub(crate) fn edit<H: Host>(alloc: Global, host: &mut H) -> Status
     requires { 0 < length (H.seen host.old).sizes }
     ensures { HearsAndEdits H.tells_disks H.tells_talk (H.seen host.old) (H.seen host.new) result }
 {
@@ -294,6 +295,7 @@ fn do_job<H: Host>(alloc: Global, job: Job, host: &mut H) -> Status
         Job::Try => try_script(alloc, host),
         Job::Edit => edit(alloc, host),
         Job::One(command) => edit_one(alloc, host, command),
+        Job::Sample(seed) => sample(alloc, host, seed),
     }
 }
 

@@ -1,0 +1,2 @@
+mod DrawLaws
+mod SizeLaws

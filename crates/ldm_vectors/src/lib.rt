@@ -3,7 +3,9 @@
 #![tactic(auto)]
 
 mod images;
+mod script;
 mod usual;
 
 pub use images::sample_images;
+pub use script::sample_script;
 pub use usual::usual_images;

@@ -25,6 +25,6 @@ other_word word name ne = go (bytes_eq word name) refl
 
 -- where the first word is none of the jobs' own, the words are a command
 pub no_other : (words rest : List (List ℕ)) (word : List ℕ) (images : Option ℕ) → words ≡ word ∷ rest → (word ≡ codes "disk" → ⊥) → (word ≡ codes "records" → ⊥) → (word ≡ codes "show" → ⊥)
-    → (word ≡ codes "check" → ⊥) → (word ≡ codes "map" → ⊥) → (word ≡ codes "try" → ⊥) → (word ≡ codes "edit" → ⊥) → command_form words images ≡ job_form words images
-no_other words rest word images is disk records show check map try edit =
-    rw (is, other_word word (codes "disk") disk, other_word word (codes "records") records, other_word word (codes "show") show, other_word word (codes "check") check, other_word word (codes "map") map, other_word word (codes "try") try, other_word word (codes "edit") edit) refl
+    → (word ≡ codes "check" → ⊥) → (word ≡ codes "map" → ⊥) → (word ≡ codes "try" → ⊥) → (word ≡ codes "edit" → ⊥) → (word ≡ codes "sample" → ⊥) → command_form words images ≡ job_form words images
+no_other words rest word images is disk records show check map try edit sample =
+    rw (is, other_word word (codes "disk") disk, other_word word (codes "records") records, other_word word (codes "show") show, other_word word (codes "check") check, other_word word (codes "map") map, other_word word (codes "try") try, other_word word (codes "edit") edit, other_word word (codes "sample") sample) refl

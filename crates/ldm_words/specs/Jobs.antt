@@ -1,10 +1,11 @@
--- What a command line says: JOB on IMAGE.., where the first word `on` separates. A word is one token.
+-- What a command line says: JOB on IMAGE.., where the first word `on` separates, or a job without images. A word is one
+-- token.
 use Rattle.std.specs.Prelude.{◌≡◌, ◌≤◌, ℕ, ◌==◌, ◌&&◌, nat_le, Bool, false, List, [], ◌∷◌, length, map, position, codes, bytes_eq, if◌then◌else◌, Option, Some, None, is_some, String, string_bytes}
 use Rattle.std.specs.List.{before_first, after_first}
 use Rattle.std.specs.Option.{option_map}
 use Rattle.std.specs.declared.alloc.Global.{Global}
 use Rattle.ldm_words.specs.declared.job.Job.{Job}
-use Rattle.ldm_words.specs.declared.job.Job.TheVariants.{Disk, Records, Show, Check, Map, Try, Edit, One}
+use Rattle.ldm_words.specs.declared.job.Job.TheVariants.{Disk, Records, Show, Check, Map, Try, Edit, One, Sample}
 use Rattle.ldm_words.specs.Numbers.{number_of}
 use Rattle.ldm_words.specs.Names.{name_of}
 use Rattle.ldm_words.specs.Commands.{command_of}
@@ -50,6 +51,11 @@ abbrev pub map_form : List (List ℕ) → Option ℕ → Option Job
 map_form (name ∷ first ∷ count ∷ []) images = if is_group images then map_with (name_of name) (number_of first) (number_of count) else None
 map_form rest images = None
 
+-- SEED, and no `on`
+abbrev pub sample_form : List (List ℕ) → Option ℕ → Option Job
+sample_form (seed ∷ []) None = option_map Sample (number_of seed)
+sample_form rest images = None
+
 -- a command, each word of which is one token, and the images of a group
 abbrev pub command_form : List (List ℕ) → Option ℕ → Option Job
 command_form words images = if is_group images then option_map One (command_of words) else None
@@ -64,6 +70,7 @@ form_of word rest images =
     else if bytes_eq word (codes "map") then map_form rest images
     else if bytes_eq word (codes "try") then on_group Try rest images
     else if bytes_eq word (codes "edit") then on_group Edit rest images
+    else if bytes_eq word (codes "sample") then sample_form rest images
     else command_form (word ∷ rest) images
 
 -- the job that stands before `on`, with so many images behind it if there is an `on`
@@ -89,6 +96,7 @@ HasCount (Map name first count) images = (1 ≤ images) × (images ≤ 64)
 HasCount Try images = (1 ≤ images) × (images ≤ 64)
 HasCount Edit images = (1 ≤ images) × (images ≤ 64)
 HasCount (One command) images = (1 ≤ images) × (images ≤ 64)
+HasCount (Sample seed) images = images ≡ 0
 
 -- a command of a job keeps the grammar's limits
 abbrev pub KeepsLimits : Job → Type 0

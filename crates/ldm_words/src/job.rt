@@ -1,6 +1,6 @@
 ghost use Rattle.std.specs.Prelude.{◌≡◌, ◌≤◌, ℕ, IfOk, IfSome, length, unwrap_or};
 ghost use Rattle.std.specs.List.{position_or_len};
-ghost use Rattle.ldm_words.specs.Jobs.{texts, is_on, images_of, images_behind, on_one, is_group, on_group, map_form, command_form, job_form, job_of, HasCount, KeepsLimits};
+ghost use Rattle.ldm_words.specs.Jobs.{texts, is_on, images_of, images_behind, on_one, is_group, on_group, map_form, sample_form, command_form, job_form, job_of, HasCount, KeepsLimits};
 ghost use Rattle.ldm_words.specs.Commands.{bytes_of};
 ghost use Rattle.ldm_words.specs.Readings.{Reads};
 
@@ -31,6 +31,8 @@ pub enum Job {
     Edit,
     /// One command, done to a group.
     One(Command),
+    /// The sample script of this seed, done to a group in memory.
+    Sample(u64),
 }
 
 /// Why words give no job.
@@ -152,6 +154,18 @@ fn read_map(alloc: Global, rest: &[String], images: Option<usize>) -> Result<Opt
     Ok(Some(Job::Map { name, first, count }))
 }
 
+// sample SEED, without images
+fn read_sample(rest: &[String], images: Option<usize>) -> Option<Job>
+    ensures is { result ≡ sample_form (texts rest.now) images }
+    ensures count { IfSome result (λ job. HasCount job (unwrap_or images 0)) }
+    ensures limits { IfSome result KeepsLimits }
+{
+    match (rest, images) {
+        ([seed], None) => Some(Job::Sample(read_number(seed.as_bytes())?)),
+        _ => None,
+    }
+}
+
 // The words as tokens, each of them one.
 fn tokens_of(alloc: Global, words: &[String]) -> Result<Vec<&[u8]>, NoMemory>
     ensures { IfOk result (λ tokens. bytes_of tokens.items ≡ texts words.now) }
@@ -196,6 +210,7 @@ fn read_job(alloc: Global, words: &[String], images: Option<usize>) -> Result<Op
         "map" => read_map(alloc, rest, images),
         "try" => Ok(on_group(Job::Try, rest, images)),
         "edit" => Ok(on_group(Job::Edit, rest, images)),
+        "sample" => Ok(read_sample(rest, images)),
         _ => read_one(alloc, words, images),
     }
 }

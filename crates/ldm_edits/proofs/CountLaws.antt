@@ -1,0 +1,131 @@
+-- The sequence counts the lines that are done.
+use Rattle.std.proofs.Common.{◌≡◌, ℕ, ◌+◌, Bool, true, false, List, [], ◌∷◌, count_by, refl, sym, ap, ◌∙◌, arith, Option, Some, None, is_some, Result, Ok, Err, if◌then◌else◌}
+use Rattle.std.specs.Prelude.{map, length}
+use Rattle.ldm_bytes.specs.Tables.{first_of, unless}
+use Rattle.ldm_label.specs.declared.Label.{Label}
+use Rattle.ldm_records.specs.declared.types.Component.{Component}
+use Rattle.ldm_records.specs.declared.types.Volume.{Volume}
+use Rattle.ldm_group.specs.Database.{Database}
+use Rattle.ldm_group.specs.Looks.{volume_named}
+use Rattle.ldm_group.proofs.Rise.{count_yes, count_no}
+use Rattle.ldm_layout.specs.Volumes.{layout_of}
+use Rattle.ldm_rules.specs.Ends.{data_size}
+use Rattle.ldm_space.specs.Free.{taken_in}
+use Rattle.ldm_space.specs.Placed.{taken_at}
+use Rattle.ldm_space.specs.Wanted.{placed}
+use Rattle.ldm_space.specs.declared.placed.Wanted.{Wanted}
+use Rattle.ldm_words.specs.declared.command.Command.{Command}
+use Rattle.ldm_words.specs.declared.command.Command.TheVariants.{Create, Extend, Delete}
+use Rattle.ldm_words.specs.declared.command.NewLayout.{NewLayout}
+use Rattle.ldm_words.specs.declared.command.Piece.{Piece}
+use Rattle.ldm_edits.specs.declared.reply.Refusal.{Refusal}
+use Rattle.ldm_edits.specs.declared.reply.Refusal.TheVariants as refusals
+use Rattle.ldm_edits.specs.declared.reply.Reply.{Reply}
+use Rattle.ldm_edits.specs.declared.reply.Reply.TheVariants as replies
+use Rattle.ldm_edits.specs.Asked.{asked_for}
+use Rattle.ldm_edits.specs.Changes.{Change, when, limits, changed}
+use Rattle.ldm_edits.specs.Counting.{is_done, SequenceCounts}
+use Rattle.ldm_edits.specs.Creating.{words_of, is_same_disk, is_bad_size, fresh_for, change_for, at_places, on_disks, created}
+use Rattle.ldm_edits.specs.Deleting.{without, deleted}
+use Rattle.ldm_edits.specs.Extending.{lengthened, held, component_of, refused_or, unlengthened, is_bad_length, lengthen, with_wanted, extended}
+use Rattle.ldm_edits.specs.Steps.{next_of, turn_by, turn_of, turns_of}
+
+-- where there is a next group, its sequence is one more
+abbrev IsUp : Database → Result Database Refusal → Type 0
+IsUp db (Ok next) = next.header.seq ≡ db.header.seq + 1
+IsUp db (Err refusal) = Unit {0}
+
+unless_up : (db : Database) (refusal : Option Refusal) (change : Change) → IsUp db (unless refusal (changed db change))
+unless_up db None change = refl
+unless_up db (Some refusal) change = tt
+
+if_up : (db : Database) (test : Bool) (x y : Result Database Refusal) → IsUp db x → IsUp db y → IsUp db (if test then x else y)
+if_up db true x y first second = first
+if_up db false x y first second = second
+
+refused_up : (db : Database) (refusal : Option Refusal) (next : Result Database Refusal) → IsUp db next → IsUp db (refused_or refusal next)
+refused_up db None next up = up
+refused_up db (Some refusal) next up = tt
+
+-- ---- create
+
+places_up : (db : Database) (name : List ℕ) (guid : ℕ) (layout : NewLayout) (wanted : List Wanted) (places : Result (List ℕ) ℕ) → IsUp db (at_places db name guid layout wanted places)
+places_up db name guid layout wanted (Err place) = tt
+places_up db name guid layout wanted (Ok starts) =
+    let change = change_for db name guid layout wanted starts in
+    unless_up db (first_of (limits db (fresh_for layout) change)) change
+
+disks_up : (db : Database) (name : List ℕ) (guid : ℕ) (layout : NewLayout) (asked : Result (List Wanted) ℕ) → IsUp db (on_disks db name guid layout asked)
+disks_up db name guid layout (Err place) = tt
+disks_up db name guid layout (Ok wanted) =
+    let places = placed (taken_in db.records) 0 wanted in
+    let next = at_places db name guid layout wanted places in
+    if_up db (is_same_disk layout wanted) (Err refusals.SameDisk) (if is_bad_size layout then Err refusals.BadSize else next) tt
+    (if_up db (is_bad_size layout) (Err refusals.BadSize) next tt (places_up db name guid layout wanted places))
+
+created_up : (db : Database) (labels : List Label) (name : List ℕ) (guid : ℕ) (layout : NewLayout) → IsUp db (created db labels name guid layout)
+unfolding created
+created_up db labels name guid layout =
+    let asked = asked_for (data_size labels db.records) db.records 0 (words_of layout) in
+    if_up db (is_some (volume_named name db.records)) (Err refusals.NameTaken) (on_disks db name guid layout asked) tt (disks_up db name guid layout asked)
+
+-- ---- extend
+
+lengthen_up : (db : Database) (v : Volume) (component : Option Component) (wanted : List Wanted) (places : Result (List ℕ) ℕ) → IsUp db (lengthen db v component wanted places)
+lengthen_up db v None wanted places = tt
+lengthen_up db v (Some c) wanted (Err piece) = tt
+lengthen_up db v (Some c) wanted (Ok starts) =
+    let change = lengthened db.records v c (held (layout_of db.records v)) (taken_at wanted starts) in
+    unless_up db (first_of (limits db (length wanted) change)) change
+
+wanted_up : (db : Database) (v : Volume) (asked : Result (List Wanted) ℕ) → IsUp db (with_wanted db v asked)
+wanted_up db v (Err piece) = tt
+wanted_up db v (Ok wanted) =
+    let places = placed (taken_in db.records) 0 wanted in
+    refused_up db (when (is_bad_length (held (layout_of db.records v)) wanted) refusals.BadSize) (lengthen db v (component_of v db.records) wanted places)
+    (lengthen_up db v (component_of v db.records) wanted places)
+
+extended_up : (db : Database) (labels : List Label) (pieces : List Piece) (volume : Option Volume) → IsUp db (extended db labels pieces volume)
+extended_up db labels pieces None = tt
+extended_up db labels pieces (Some v) =
+    let asked = asked_for (data_size labels db.records) db.records 0 (map (λ (p : Piece). (p.disk, p.len)) pieces) in
+    refused_up db (unlengthened db.records v) (with_wanted db v asked) (wanted_up db v asked)
+
+-- ---- delete
+
+deleted_up : (db : Database) (volume : Option Volume) → IsUp db (deleted db volume)
+deleted_up db None = tt
+deleted_up db (Some v) = unless_up db (first_of (limits db 0 (without v db.records))) (without v db.records)
+
+-- ---- lines
+
+next_up : (db : Database) (labels : List Label) (command : Command) → IsUp db (next_of db labels command)
+unfolding next_of
+next_up db labels (Create name guid layout) = created_up db labels name guid layout
+next_up db labels (Extend name pieces) = extended_up db labels pieces (volume_named name db.records)
+next_up db labels (Delete name) = deleted_up db (volume_named name db.records)
+
+not_done : (refusal : Refusal) (rest : List Reply) → count_by is_done rest ≡ count_by is_done (replies.Refused refusal ∷ rest)
+not_done refusal rest = let none = count_no is_done (replies.Refused refusal) rest refl in omega (arith, none)
+
+pub sequence_counts : SequenceCounts
+unfolding turns_of
+sequence_counts labels db [] = let same : db.header.seq ≡ db.header.seq + 0 = omega arith in same
+sequence_counts labels db (None ∷ lines) =
+    let after = turns_of labels (record { db = db }) lines in
+    sequence_counts labels db lines ∙ ap (λ (n : ℕ). db.header.seq + n) (not_done refusals.BadLine after.replies)
+sequence_counts labels db (Some command ∷ lines) = go (next_of db labels command) (next_up db labels command) (λ next. sequence_counts labels next lines)
+  where
+    go : (next : Result Database Refusal) → IsUp db next
+        → ((d : Database) → (turns_of labels (record { db = d }) lines).state.db.header.seq ≡ d.header.seq + count_by is_done (turns_of labels (record { db = d }) lines).replies)
+        → (turns_of labels (turn_by (record { db = db }) next).state lines).state.db.header.seq
+        ≡ db.header.seq + count_by is_done ((turn_by (record { db = db }) next).reply ∷ (turns_of labels (turn_by (record { db = db }) next).state lines).replies)
+    go (Ok next) up rest =
+        let after = turns_of labels (record { db = next }) lines in
+        let more = rest next in
+        let one = count_yes is_done (replies.Done next.header.seq) after.replies refl in
+        let all : after.state.db.header.seq ≡ db.header.seq + (1 + count_by is_done after.replies) = omega (arith, more, up) in
+        all ∙ ap (λ (n : ℕ). db.header.seq + n) (sym one)
+    go (Err refusal) up rest =
+        let after = turns_of labels (record { db = db }) lines in
+        rest db ∙ ap (λ (n : ℕ). db.header.seq + n) (not_done refusal after.replies)

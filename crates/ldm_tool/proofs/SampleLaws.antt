@@ -1,0 +1,163 @@
+-- What a host in memory has been through that did the sample script, and its summary.
+use Rattle.std.proofs.Common.{◌≡◌, ◌⊎◌, inl, inr, ⊎_elim, ℕ, suc, ◌+◌, ◌-◌, ◌≤◌, ◌<◌, Bool, true, false, List, [], ◌∷◌, ◌++◌, length, take, refl, sym, ap, subst, ◌∙◌, arith, ⊤, Option, None, Ok, Result}
+use Rattle.std.specs.Prelude.{count_by, min}
+use Rattle.std.proofs.lemmas.Bool.{le-ltb}
+use Rattle.std.proofs.lemmas.List.{append-nil}
+use Rattle.std.proofs.Math.Seq.{take-length}
+use Rattle.ldm_host.specs.Seen.{Leaves}
+use Rattle.ldm_host.specs.declared.memory.MemoryHost.{MemoryHost}
+use Rattle.ldm_host.specs.Memory.{memory_seen, counts_of}
+use Rattle.ldm_group.specs.Database.{Database, Core, core_of, IsSameCore}
+use Rattle.ldm_group.proofs.Rise.{count_yes, count_no}
+use Rattle.ldm_group.specs.Room.{need_of, room_of}
+use Rattle.ldm_words.specs.declared.command.Command.{Command}
+use Rattle.ldm_words.specs.declared.job.Job.TheVariants.{Edit}
+use Rattle.ldm_edits.specs.declared.reply.Reply.{Reply}
+use Rattle.ldm_edits.specs.declared.reply.Reply.TheVariants as replies
+use Rattle.ldm_edits.specs.Counting.{is_done, SequenceCounts}
+use Rattle.ldm_edits.specs.Steps.{group_after, replies_to}
+use Rattle.ldm_found.specs.declared.fault.OpenFault.{OpenFault}
+use Rattle.ldm_found.specs.declared.found.Found.{Found}
+use Rattle.ldm_found.specs.Opening.{IsGroupIn}
+use Rattle.ldm_found.proofs.GroupLaws.{one_group}
+use Rattle.ldm_store.proofs.SettleLaws.{same_found}
+use Rattle.ldm_text.specs.Reply.{text_of_replies}
+use Rattle.ldm_vectors.specs.Sample.{IsSampleGroup}
+use Rattle.ldm_vectors.specs.Script.{script_of}
+use Rattle.ldm_tool.specs.declared.run.Status.{Status}
+use Rattle.ldm_tool.specs.declared.run.Status.TheVariants.{Done}
+use Rattle.ldm_tool.specs.Said.{Answer, HasAnswer}
+use Rattle.ldm_tool.specs.Scripts.{is_long, commands_in, is_refused, replies_from, unless_blocked, try_answer}
+use Rattle.ldm_tool.specs.Answer.{group_answer, IsGroupAnswer, IsAnswerToScript}
+use Rattle.ldm_tool.specs.Stops.{lines_unless, commands_of, answered, Reopens}
+use Rattle.ldm_tool.specs.Written.{HoldsAfter}
+use Rattle.ldm_tool.specs.Editing.{HearsAndEdits}
+use Rattle.ldm_tool.specs.Sample.{text_of_summary, summary_of, sample_lines, sample_answer, IsSampleAnswer, IsSampleStart, IsSampleHost}
+use Rattle.ldm_tool.proofs.LineCounts.{line_count, reply_lines}
+use Rattle.ldm_tool.proofs.TurnLists.{replies_length}
+
+-- ---- the host
+
+module _ {seed : ℕ} {start host : MemoryHost} {status : Status} {found : Found} (starts : IsSampleStart seed found start) (short : length (script_of seed) ≤ 20000)
+    (does : HearsAndEdits ⊤ ⊤ (memory_seen start) (memory_seen host) status) (has : HasAnswer status) (dry : (counts_of host).dry ≡ 0) (first : (memory_seen start).left_since 0 (memory_seen start).content (memory_seen start).said) where
+  not_long : is_long (memory_seen start).input ≡ false
+  not_long = le-ltb 1048576 (length (memory_seen start).input) (rw starts.input (omega (arith, short)))
+
+  lines_are : commands_of Edit (memory_seen start).input ≡ sample_lines seed
+  lines_are = ap (λ (b : Bool). lines_unless b (memory_seen start).input) not_long ∙ ap commands_in starts.input
+
+  heard_all : (memory_seen host).input ≡ []
+  heard_all = ⊎_elim (λ none. none) (λ long. absurd (let few = starts.input in omega (arith, long, short, ap length starts.input))) ((does.input tt).whole has)
+
+  heard_is : (memory_seen host).heard ≡ script_of seed
+  heard_is =
+      let takes = (does.input tt).takes in
+      let taken = (does.input tt).taken in
+      takes.heard ∙ ap (λ (l : List ℕ). l ++ taken) starts.heard ∙ sym (append-nil taken) ∙ ap (λ (l : List ℕ). taken ++ l) (sym heard_all) ∙ sym takes.input ∙ starts.input
+
+  text_is : (answer : Answer) → IsAnswerToScript (is_long (memory_seen start).input) (memory_seen start).input (memory_seen start).content answer
+      → answer.0 ≡ text_of_replies 1 (replies_to found.labels found.db (sample_lines seed))
+  text_is answer is =
+      let of_group = subst (λ (b : Bool). IsAnswerToScript b (memory_seen start).input (memory_seen start).content answer) not_long is in
+      let same : of_group.0 ≡ Ok found = one_group (memory_seen start).content of_group.0 (Ok found) of_group.1 starts.holds in
+      ap (λ (a : Answer). a.0) (
+        of_group.2
+        ∙ ap (group_answer (try_answer (commands_in (memory_seen start).input))) same
+        ∙ ap (λ (script : List ℕ). try_answer (commands_in script) found) starts.input
+        ∙ ap (λ (blocked : Option OpenFault). unless_blocked blocked (replies_from 1 (replies_to found.labels found.db (sample_lines seed)))) starts.editable)
+
+  said_is : (memory_seen host).said ≡ text_of_replies 1 (replies_to found.labels found.db (sample_lines seed))
+  said_is =
+      let whole = (does.answers tt).whole has in
+      whole.2.said ∙ ap (λ (l : List ℕ). l ++ whole.0.0) starts.said ∙ text_is whole.0 whole.1
+
+  pub sampled : IsSampleHost seed host
+  sampled = record {
+    start = start;
+    found = found;
+    starts = starts;
+    sizes = does.disks.later.sizes;
+    heard = heard_is;
+    input = heard_all;
+    said = said_is;
+    dry = dry;
+    disks = subst (λ (l : List (Option Command)). HoldsAfter found l (memory_seen host)) lines_are (does.disks.done tt has not_long found starts.holds starts.editable);
+    first = does.disks.later.keeps 0 (memory_seen start).content [] (omega arith) (subst (λ (l : List ℕ). (memory_seen start).left_since 0 (memory_seen start).content l) starts.said first);
+    stops = λ images said left.
+        subst (λ (l : List (Option Command)). Reopens found.labels found.db l (memory_seen start) images said) lines_are
+        (does.stops tt starts.settled found starts.holds starts.editable images said (subst (λ (t : ℕ). (memory_seen host).left_since t images said) (sym starts.clock) left));
+  }
+
+-- ---- the summary
+
+done_or_refused : (all : List Reply) → count_by is_done all + count_by is_refused all ≡ length all
+done_or_refused [] = refl
+done_or_refused (replies.Done seq ∷ all) =
+    let rest = done_or_refused all in
+    let one = count_yes is_done (replies.Done seq) all refl in
+    let none = count_no is_refused (replies.Done seq) all refl in
+    omega (arith, rest, one, none)
+done_or_refused (replies.Refused refusal ∷ all) =
+    let rest = done_or_refused all in
+    let one = count_yes is_refused (replies.Refused refusal) all refl in
+    let none = count_no is_done (replies.Refused refusal) all refl in
+    omega (arith, rest, one, none)
+
+module _ {seed : ℕ} {host : MemoryHost} {other : Found} (is : IsSampleHost seed host) (holds : IsGroupIn (memory_seen host).content (Ok other))
+    (now : (memory_seen host).left_since 0 (memory_seen host).content (memory_seen host).said) (counts : SequenceCounts) where
+  lines : List (Option Command)
+  lines = sample_lines seed
+
+  all_replies : List Reply
+  all_replies = replies_to is.found.labels is.found.db (sample_lines seed)
+
+  last_group : Database
+  last_group = group_after is.found.labels is.found.db (sample_lines seed)
+
+  pub lines_said : line_count (memory_seen host).said ≡ length (replies_to is.found.labels is.found.db (sample_lines seed))
+  lines_said = ap line_count is.said ∙ reply_lines 1 (replies_to is.found.labels is.found.db (sample_lines seed))
+
+  all_answered : answered (sample_lines seed) (memory_seen is.start) (memory_seen host).said ≡ length (sample_lines seed)
+  all_answered =
+      let count = lines_said ∙ replies_length is.found.labels is.found.db (sample_lines seed) in
+      rw is.starts.said (let c = count in omega (arith, c))
+
+  reopens : Reopens is.found.labels is.found.db (sample_lines seed) (memory_seen is.start) (memory_seen host).content (memory_seen host).said
+  reopens = is.stops (memory_seen host).content (memory_seen host).said now
+
+  all_lines : take reopens.prefix (sample_lines seed) ≡ sample_lines seed
+  all_lines =
+      let few = reopens.few in
+      let all = all_answered in
+      let enough : reopens.prefix ≡ length (sample_lines seed) = ⊎_elim (λ e. omega (arith, e, all)) (λ e. omega (arith, e, all, few)) reopens.each_answered in
+      ap (λ (n : ℕ). take n (sample_lines seed)) enough ∙ take-length (sample_lines seed)
+
+  pub same_group : IsSameCore other.db (group_after is.found.labels is.found.db (sample_lines seed))
+  same_group =
+      let same = same_found (memory_seen host).content other reopens.opens.found holds reopens.opens.is in
+      ap (λ (f : Found). core_of f.db) same ∙ reopens.opens.same ∙ ap (λ (l : List (Option Command)). core_of (group_after is.found.labels is.found.db l)) all_lines
+
+  -- each line that was done took the sequence one further
+  pub sequence_is : other.db.header.seq ≡ 7 + count_by is_done (replies_to is.found.labels is.found.db (sample_lines seed))
+  sequence_is = ap (λ (c : Core). c.seq) same_group ∙ counts is.found.labels is.found.db (sample_lines seed) ∙ ap (λ (n : ℕ). n + count_by is_done (replies_to is.found.labels is.found.db (sample_lines seed))) is.starts.group.seq
+
+  pub lines_are_enough : other.db.header.seq ≤ 7 + line_count (memory_seen host).said
+  lines_are_enough =
+      let all = done_or_refused (replies_to is.found.labels is.found.db (sample_lines seed)) in
+      let up = sequence_is in
+      let said = lines_said in
+      omega (arith, all, up, said)
+
+  pub summarized : (text : List ℕ) (done refused : ℕ) → done ≡ other.db.header.seq - 7 → refused ≡ line_count (memory_seen host).said - done
+      → text ≡ text_of_summary seed done refused other.db.header.seq (need_of other.db.records) (room_of other.db.header.last) → IsSampleAnswer seed (text, Done)
+  summarized text done refused done_is refused_is text_is =
+      let all = done_or_refused (replies_to is.found.labels is.found.db (sample_lines seed)) in
+      let up = sequence_is in
+      let said = lines_said in
+      let one : done ≡ count_by is_done (replies_to is.found.labels is.found.db (sample_lines seed)) = omega (arith, up, done_is) in
+      let two : refused ≡ count_by is_refused (replies_to is.found.labels is.found.db (sample_lines seed)) = omega (arith, all, one, said, refused_is) in
+      (is.found, is.starts.group, ap (λ (t : List ℕ). (t, Done)) (
+        text_is
+        ∙ ap (λ (n : ℕ). text_of_summary seed n refused other.db.header.seq (need_of other.db.records) (room_of other.db.header.last)) one
+        ∙ ap (λ (n : ℕ). text_of_summary seed (count_by is_done (replies_to is.found.labels is.found.db (sample_lines seed))) n other.db.header.seq (need_of other.db.records) (room_of other.db.header.last)) two
+        ∙ ap (λ (c : Core). text_of_summary seed (count_by is_done (replies_to is.found.labels is.found.db (sample_lines seed))) (count_by is_refused (replies_to is.found.labels is.found.db (sample_lines seed))) c.seq (need_of c.records) (room_of c.last)) same_group))
