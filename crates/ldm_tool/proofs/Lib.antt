@@ -13,3 +13,4 @@ pub mod DoingLaws
 pub mod EditState
 pub mod GroupEnds
 pub mod HearsEdits
+pub mod SampleLaws

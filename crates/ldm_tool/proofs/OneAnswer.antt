@@ -14,6 +14,7 @@ use Rattle.ldm_found.proofs.GroupLaws.{one_group}
 use Rattle.ldm_tool.specs.Said.{Answer}
 use Rattle.ldm_tool.specs.Mapping.{map_answer}
 use Rattle.ldm_tool.specs.Scripts.{is_long, commands_in, try_answer}
+use Rattle.ldm_tool.proofs.SampleLaws.{one_sample}
 use Rattle.ldm_tool.specs.Answer.{copy_answer, group_answer, show_answer, check_answer, IsRecordsAnswer, IsGroupAnswer, IsAnswerToScript, IsJobAnswer, IsReadingAnswer, IsAnswerTo}
 
 one_records : (label : Result Label LabelFault) (bytes : List ℕ) (a b : Answer) → IsRecordsAnswer label bytes a → IsRecordsAnswer label bytes b → a ≡ b

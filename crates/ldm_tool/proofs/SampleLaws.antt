@@ -7,6 +7,8 @@ use Rattle.std.proofs.Math.Seq.{take-length}
 use Rattle.ldm_host.specs.Seen.{Leaves}
 use Rattle.ldm_host.specs.declared.memory.MemoryHost.{MemoryHost}
 use Rattle.ldm_host.specs.Memory.{memory_seen, counts_of}
+use Rattle.ldm_host.specs.Laws.{law_counts_now, law_one_each, law_may_stay}
+use Rattle.ldm_label.specs.declared.Label.{Label}
 use Rattle.ldm_group.specs.Database.{Database, Core, core_of, IsSameCore}
 use Rattle.ldm_group.proofs.Rise.{count_yes, count_no}
 use Rattle.ldm_group.specs.Room.{need_of, room_of}
@@ -22,7 +24,8 @@ use Rattle.ldm_found.specs.Opening.{IsGroupIn}
 use Rattle.ldm_found.proofs.GroupLaws.{one_group}
 use Rattle.ldm_store.proofs.SettleLaws.{same_found}
 use Rattle.ldm_text.specs.Reply.{text_of_replies}
-use Rattle.ldm_vectors.specs.Sample.{IsSampleGroup}
+use Rattle.ldm_copy.proofs.OneCopy.{same_header, same_database}
+use Rattle.ldm_vectors.specs.Sample.{IsSampleGroup, IsSampleDatabase}
 use Rattle.ldm_vectors.specs.Script.{script_of}
 use Rattle.ldm_tool.specs.declared.run.Status.{Status}
 use Rattle.ldm_tool.specs.declared.run.Status.TheVariants.{Done}
@@ -36,7 +39,27 @@ use Rattle.ldm_tool.specs.Sample.{text_of_summary, summary_of, sample_lines, sam
 use Rattle.ldm_tool.proofs.LineCounts.{line_count, reply_lines}
 use Rattle.ldm_tool.proofs.TurnLists.{replies_length}
 
+-- ---- one answer
+
+one_database : (disks last : ℕ) (a b : Database) → IsSampleDatabase disks last a → IsSampleDatabase disks last b → a ≡ b
+one_database disks last a b x y =
+    let p = x.header_is in
+    let q = y.header_is in
+    let header = same_header a.header b.header (p.last_is ∙ sym q.last_is) (p.seq_is ∙ sym q.seq_is) (p.name_is ∙ sym q.name_is) (p.guid_is ∙ sym q.guid_is) (p.raw_is ∙ sym q.raw_is) in
+    same_database a b header (x.records_are ∙ sym y.records_are)
+
+pub one_sample : (seed : ℕ) (a b : Answer) → IsSampleAnswer seed a → IsSampleAnswer seed b → a ≡ b
+one_sample seed a b x y =
+    let databases = one_database 3 512 x.0.db y.0.db x.1.database y.1.database in
+    let labels = x.1.labels_are ∙ sym y.1.labels_are in
+    let of : List Label → Database → Answer = λ labels db. (summary_of seed (replies_to labels db (sample_lines seed)) (group_after labels db (sample_lines seed)), Done) in
+    x.2 ∙ ap (λ (l : List Label). of l x.0.db) labels ∙ ap (λ (d : Database). of y.0.labels d) databases ∙ sym y.2
+
 -- ---- the host
+
+-- a host in memory at this moment, which is one since its start
+pub holds_now : (m : MemoryHost) → (memory_seen m).left_since 0 (memory_seen m).content (memory_seen m).said
+holds_now m = law_counts_now m 0 (memory_seen m).content (omega arith) (record { one_each = law_one_each m; each = λ disk lt. law_may_stay m disk })
 
 module _ {seed : ℕ} {start host : MemoryHost} {status : Status} {found : Found} (starts : IsSampleStart seed found start) (short : length (script_of seed) ≤ 20000)
     (does : HearsAndEdits ⊤ ⊤ (memory_seen start) (memory_seen host) status) (has : HasAnswer status) (dry : (counts_of host).dry ≡ 0) (first : (memory_seen start).left_since 0 (memory_seen start).content (memory_seen start).said) where
@@ -64,7 +87,7 @@ module _ {seed : ℕ} {start host : MemoryHost} {status : Status} {found : Found
         of_group.2
         ∙ ap (group_answer (try_answer (commands_in (memory_seen start).input))) same
         ∙ ap (λ (script : List ℕ). try_answer (commands_in script) found) starts.input
-        ∙ ap (λ (blocked : Option OpenFault). unless_blocked blocked (replies_from 1 (replies_to found.labels found.db (sample_lines seed)))) starts.editable)
+        ∙ ap (λ (blocked : Option OpenFault). unless_blocked blocked (replies_from 1 (replies_to found.labels found.db (sample_lines seed)))) starts.group.blocked_is)
 
   said_is : (memory_seen host).said ≡ text_of_replies 1 (replies_to found.labels found.db (sample_lines seed))
   said_is =
@@ -81,11 +104,11 @@ module _ {seed : ℕ} {start host : MemoryHost} {status : Status} {found : Found
     input = heard_all;
     said = said_is;
     dry = dry;
-    disks = subst (λ (l : List (Option Command)). HoldsAfter found l (memory_seen host)) lines_are (does.disks.done tt has not_long found starts.holds starts.editable);
+    disks = subst (λ (l : List (Option Command)). HoldsAfter found l (memory_seen host)) lines_are (does.disks.done tt has not_long found starts.holds starts.group.blocked_is);
     first = does.disks.later.keeps 0 (memory_seen start).content [] (omega arith) (subst (λ (l : List ℕ). (memory_seen start).left_since 0 (memory_seen start).content l) starts.said first);
     stops = λ images said left.
         subst (λ (l : List (Option Command)). Reopens found.labels found.db l (memory_seen start) images said) lines_are
-        (does.stops tt starts.settled found starts.holds starts.editable images said (subst (λ (t : ℕ). (memory_seen host).left_since t images said) (sym starts.clock) left));
+        (does.stops tt starts.settled found starts.holds starts.group.blocked_is images said (subst (λ (t : ℕ). (memory_seen host).left_since t images said) (sym starts.clock) left));
   }
 
 -- ---- the summary
@@ -139,7 +162,7 @@ module _ {seed : ℕ} {host : MemoryHost} {other : Found} (is : IsSampleHost see
 
   -- each line that was done took the sequence one further
   pub sequence_is : other.db.header.seq ≡ 7 + count_by is_done (replies_to is.found.labels is.found.db (sample_lines seed))
-  sequence_is = ap (λ (c : Core). c.seq) same_group ∙ counts is.found.labels is.found.db (sample_lines seed) ∙ ap (λ (n : ℕ). n + count_by is_done (replies_to is.found.labels is.found.db (sample_lines seed))) is.starts.group.seq
+  sequence_is = ap (λ (c : Core). c.seq) same_group ∙ counts is.found.labels is.found.db (sample_lines seed) ∙ ap (λ (n : ℕ). n + count_by is_done (replies_to is.found.labels is.found.db (sample_lines seed))) is.starts.group.database.header_is.seq_is
 
   pub lines_are_enough : other.db.header.seq ≤ 7 + line_count (memory_seen host).said
   lines_are_enough =

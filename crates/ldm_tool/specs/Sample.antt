@@ -1,5 +1,5 @@
 -- The sample: the sample script of a seed, done as an edit to the group of three sample images, in memory.
-use Rattle.std.specs.Prelude.{◌≡◌, ℕ, List, [], ◌++◌, codes, decimal, count_by, Option, None, Ok}
+use Rattle.std.specs.Prelude.{◌≡◌, ℕ, List, [], ◌++◌, codes, decimal, count_by, Option, Ok}
 use Rattle.ldm_host.specs.declared.memory.MemoryHost.{MemoryHost}
 use Rattle.ldm_host.specs.Memory.{memory_seen, counts_of}
 use Rattle.ldm_group.specs.Database.{Database}
@@ -52,7 +52,6 @@ pub record IsSampleStart (seed : ℕ) (found : Found) (host : MemoryHost) : Type
   pub images : AreSampleImages 3 512 (memory_seen host).content
   pub holds : IsGroupIn (memory_seen host).content (Ok found)
   pub group : IsSampleGroup 3 512 found
-  pub editable : found.blocked ≡ None
   pub settled : NothingPending (memory_seen host)
   pub clock : (memory_seen host).clock ≡ 0
   pub said : (memory_seen host).said ≡ []

@@ -85,6 +85,8 @@ fn sample_text(alloc: Global, seed: u64) -> Result<Bytes, NoMemory>
 pub(crate) fn sample<H: Host>(alloc: Global, host: &mut H, seed: u64) -> Status
     ensures { OnlyReads H.tells_disks (H.seen host.old) (H.seen host.new) (IsSampleAnswer seed) result }
 {
-    let made = sample_text(alloc, seed);
-    say_made(host, made, Status::Done)
+    match sample_text(alloc, seed) {
+        Err(NoMemory) => Status::NoMemory,
+        Ok(text) => say_made(host, Ok(text), Status::Done),
+    }
 }
