@@ -4,3 +4,4 @@ pub mod BigLaws
 pub mod GuidLaws
 pub mod PlaceLaws
 pub mod ByteLaws
+pub mod PutLaws

@@ -7,8 +7,9 @@ use Rattle.ldm_label.specs.declared.writing.LabelSectors.{LabelSectors}
 use Rattle.ldm_label.specs.Fields.{sectors_of, sector}
 use Rattle.ldm_label.specs.Laws.{IsClearOfLabel}
 use Rattle.ldm_label.specs.LabelOf.{Fits, SameOutsideArea}
-use Rattle.ldm_label.specs.Written.{put_each, written_mbr, written_header, written_toc, written_sectors, label_places, HasLabel, IsOutsideLabel, SameOutsideLabel}
-use Rattle.ldm_label.proofs.FieldLaws.{InOrder, AllMiss, length-put_each, outside_each, field_there}
+use Rattle.ldm_bytes.specs.Places.{put_each}
+use Rattle.ldm_label.specs.Written.{written_mbr, written_header, written_toc, written_sectors, label_places, HasLabel, IsOutsideLabel, SameOutsideLabel}
+use Rattle.ldm_bytes.proofs.PutLaws.{InOrder, AllMiss, length-put_each, outside_each, field_there}
 use Rattle.ldm_label.proofs.OkLaws.{same_sector}
 use Rattle.ldm_label.proofs.WrittenLaws.{length-mbr, length-header, length-toc}
 

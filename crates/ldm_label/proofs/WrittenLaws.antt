@@ -11,9 +11,10 @@ use Rattle.ldm_label.specs.declared.Label.{Label}
 use Rattle.ldm_label.specs.Answer.{answer}
 use Rattle.ldm_label.specs.Fields.{sectors_of, sector, has_signature, has_ldm_entry, is_privhead, has_version, config_size, disk_guid, header_of, is_out_of_range, same_header, parses, toc_of, is_out_of_database}
 use Rattle.ldm_label.specs.LabelOf.{label_of, mbr_faults, header_faults, differs, copy_faults, tocs_in, some_differ, first_toc, toc_faults, Fits}
-use Rattle.ldm_label.specs.Written.{put_each, header_fields, toc_fields, written_mbr, written_header, written_toc, HasLabel, IsKnownMinor, IsWritable}
+use Rattle.ldm_bytes.specs.Places.{put_each}
+use Rattle.ldm_label.specs.Written.{header_fields, toc_fields, written_mbr, written_header, written_toc, HasLabel, IsKnownMinor, IsWritable}
 use Rattle.ldm_label.proofs.AnswerLaws.{front_ok}
-use Rattle.ldm_label.proofs.FieldLaws.{InOrder, length-put_each, field_there, number_there}
+use Rattle.ldm_bytes.proofs.PutLaws.{InOrder, length-put_each, field_there, number_there}
 use Rattle.ldm_label.proofs.LabelLaws.{label_is}
 use Rattle.ldm_label.proofs.TocLaws.{same_itself}
 

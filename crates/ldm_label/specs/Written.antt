@@ -2,15 +2,10 @@
 use Rattle.std.specs.Prelude.{◌≡◌, ◌≢◌, ◌⊎◌, ℕ, ◌+◌, ◌/◌, ◌^◌, ◌<◌, List, [], ◌∷◌, length, slice_index, replicate, codes, All}
 use Rattle.byteorder.specs.Endian.{big_bytes}
 use Rattle.ldm_bytes.specs.Guid.{own_guid}
-use Rattle.ldm_bytes.specs.Places.{put}
+use Rattle.ldm_bytes.specs.Places.{put_each}
 use Rattle.ldm_label.specs.declared.Label.{Label}
 use Rattle.ldm_label.specs.declared.writing.LabelSectors.{LabelSectors}
 use Rattle.ldm_label.specs.Fields.{sector}
-
--- the old bytes, with each of these put at its offset
-unfoldable pub put_each : List ℕ → List (ℕ × List ℕ) → List ℕ
-put_each old [] = old
-put_each old (field ∷ fields) = put_each (put old field.0 field.1) fields
 
 -- a sector of zeros, but for these bytes at their offsets
 abbrev pub sector_with : List (ℕ × List ℕ) → List ℕ

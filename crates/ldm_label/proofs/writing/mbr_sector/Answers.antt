@@ -1,5 +1,5 @@
 use Rattle.ldm_label.specs.Written.{written_mbr}
-use Rattle.ldm_label.proofs.FieldLaws.{put_then, put_none}
+use Rattle.ldm_bytes.proofs.PutLaws.{put_then, put_none}
 use Rattle.ldm_label.proofs.writing.mbr_sector.Goals as goal
 
 pub returns : goal.returns

@@ -3,9 +3,8 @@ use Rattle.std.proofs.Common.{◌≡◌, ◌⊎◌, inl, ℕ, zero, suc, ◌+◌
 use Rattle.std.proofs.lemmas.List.{append-nil, take_at}
 use Rattle.byteorder.specs.Endian.{big_number, big_bytes}
 use Rattle.byteorder.specs.Numbers.{big_from-take, big_number-reads_back, length-bytes_high_first}
-use Rattle.ldm_bytes.specs.Places.{put}
+use Rattle.ldm_bytes.specs.Places.{put, put_each}
 use Rattle.ldm_bytes.proofs.PlaceLaws.{length-put, get_or-put_outside, drop-put, same_range}
-use Rattle.ldm_label.specs.Written.{put_each}
 
 -- The fields begin at that place or behind it, each behind the one before it, and end in a list of so many bytes.
 abbrev pub InOrder : ℕ → ℕ → List (ℕ × List ℕ) → Type 0
