@@ -5,3 +5,6 @@ pub mod TocLaws
 pub mod LabelLaws
 pub mod GivesLaws
 pub mod OkLaws
+pub mod FieldLaws
+pub mod WrittenLaws
+pub mod PlacedLaws

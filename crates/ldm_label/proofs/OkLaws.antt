@@ -14,7 +14,7 @@ use Rattle.ldm_label.specs.LabelOf.{label_of, label_with, mbr_faults, header_fau
 use Rattle.ldm_label.proofs.AnswerLaws.{ok_value, both_ok, last_absent}
 use Rattle.ldm_label.proofs.FitLaws.{header_fits, toc_fits}
 
-same_sector : (old new : List ℕ) (a : ℕ) → length new ≡ length old → ((k : ℕ) → 512 * a ≤ k → k < 512 * a + 512 → slice_index new k ≡ slice_index old k) → sector new a ≡ sector old a
+pub same_sector : (old new : List ℕ) (a : ℕ) → length new ≡ length old → ((k : ℕ) → 512 * a ≤ k → k < 512 * a + 512 → slice_index new k ≡ slice_index old k) → sector new a ≡ sector old a
 same_sector old new a size same = same_range new old (512 * a) (512 * a + 512) size same
 
 -- where some sectors are the same, so are what copies 2 and 3 and the tables of contents say

@@ -40,7 +40,7 @@ step_err read common xs i fault lt e = rw (drop-cons xs i 0 lt, ← e) refl
 
 -- ---- any two agree where all agree with the first
 
-same_itself : (a : Toc) → same_toc a a ≡ true
+pub same_itself : (a : Toc) → same_toc a a ≡ true
 unfolding same_toc
 same_itself a = grind (arith, nat_tests)
 

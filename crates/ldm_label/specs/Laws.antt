@@ -4,6 +4,7 @@ use Rattle.std.specs.Prelude.{◌≡◌, ℕ, ◌+◌, ◌≤◌, List, Ok}
 use Rattle.ldm_label.specs.declared.Label.{Label}
 use Rattle.ldm_label.specs.Fields.{sectors_of}
 use Rattle.ldm_label.specs.LabelOf.{label_of, Fits, SameOutsideArea}
+use Rattle.ldm_label.specs.Written.{HasLabel, IsWritable}
 
 -- No sector of the label lies in the config area: the area is behind the tables of contents in sectors 1 and 2 of the
 -- database, and in front of copy 2 of the private header in sector 1856.
@@ -20,3 +21,15 @@ abbrev pub LabelsStay : Type 0
 LabelsStay =
     (label : Label) (old new : List ℕ) → label_of old ≡ Ok label → IsClearOfLabel label
     → SameOutsideArea label old new → label_of new ≡ Ok label
+
+-- an image that has the sectors of a label, which fits it, reads as that label
+abbrev pub WrittenLabelsRead : Type 0
+WrittenLabelsRead =
+    (label : Label) (image : List ℕ) → HasLabel label image → Fits label (sectors_of image) → IsWritable label
+    → label_of image ≡ Ok label
+
+-- an image that differs in such a config area alone has the same sectors of the label
+abbrev pub WrittenLabelsStay : Type 0
+WrittenLabelsStay =
+    (label : Label) (old new : List ℕ) → HasLabel label old → 7 ≤ label.config_start → IsClearOfLabel label
+    → SameOutsideArea label old new → HasLabel label new

@@ -3,3 +3,4 @@ pub mod Fields
 pub mod LabelOf
 pub mod Parts
 pub mod Laws
+pub mod Written

@@ -15,12 +15,14 @@ mod mbr;
 mod reading;
 mod sectors;
 mod toc;
+mod writing;
 
 pub use labels::Labels;
-pub use laws::label_is_outside_its_area;
+pub use laws::{label_is_outside_its_area, written_label_reads_back};
 use ldm_host::Failed;
 pub use reading::read_label;
 pub use sectors::read_sector;
+pub use writing::{LabelSectors, label_sectors, write_label};
 
 /// What the label of a disk says. `minor` is the version's: 11 or 12. Data and database are in sectors
 /// of the disk, the areas in sectors of the database.

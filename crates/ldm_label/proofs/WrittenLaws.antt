@@ -1,0 +1,192 @@
+-- What the written sectors of a label say, and that an image that has them reads as the label.
+use Rattle.std.proofs.Common.{◌≡◌, inl, inr, ℕ, ◌+◌, ◌^◌, ◌<◌, ◌≤◌, true, false, List, [], ◌∷◌, ◌++◌, length, get_or, ◌||◌, replicate, slice_range, Some, Ok, refl, sym, ◌∙◌, ap, arith}
+use Rattle.std.specs.Prelude.{nat_eq}
+use Rattle.std.proofs.lemmas.Bool.Decides.{nat_tests}
+use Rattle.ldm_bytes.specs.Guid.{guid_of, own_guid}
+use Rattle.ldm_bytes.specs.Places.{u16_at, u64_at}
+use Rattle.ldm_bytes.proofs.GuidLaws.{own_guid-len, guid_again}
+use Rattle.ldm_label.specs.declared.header.PrivateHeader.{PrivateHeader}
+use Rattle.ldm_label.specs.declared.toc.Toc.{Toc}
+use Rattle.ldm_label.specs.declared.Label.{Label}
+use Rattle.ldm_label.specs.Answer.{answer}
+use Rattle.ldm_label.specs.Fields.{sectors_of, sector, has_signature, has_ldm_entry, is_privhead, has_version, config_size, disk_guid, header_of, is_out_of_range, same_header, parses, toc_of, is_out_of_database}
+use Rattle.ldm_label.specs.LabelOf.{label_of, mbr_faults, header_faults, differs, copy_faults, tocs_in, some_differ, first_toc, toc_faults, Fits}
+use Rattle.ldm_label.specs.Written.{put_each, header_fields, toc_fields, written_mbr, written_header, written_toc, HasLabel, IsKnownMinor, IsWritable}
+use Rattle.ldm_label.proofs.AnswerLaws.{front_ok}
+use Rattle.ldm_label.proofs.FieldLaws.{InOrder, length-put_each, field_there, number_there}
+use Rattle.ldm_label.proofs.LabelLaws.{label_is}
+use Rattle.ldm_label.proofs.TocLaws.{same_itself}
+
+-- the values of the sectors of a label
+abbrev pub header_values : Label → PrivateHeader
+header_values label = record {
+  disk_guid = label.disk_guid;
+  minor = label.minor;
+  data_start = label.data_start;
+  data_size = label.data_size;
+  config_start = label.config_start;
+}
+
+abbrev pub toc_values : Label → Toc
+toc_values label = record {
+  area_start = label.area_start;
+  area_sectors = label.area_sectors;
+  log_start = label.log_start;
+  log_sectors = label.log_sectors;
+}
+
+abbrev none : ℕ × List ℕ
+none = (0, [])
+
+abbrev zeros : List ℕ
+zeros = replicate 512 0
+
+-- ---- the MBR
+
+mbr_good : answer {A = Unit {0}} (mbr_faults written_mbr) tt ≡ Ok tt
+unfolding mbr_faults has_signature has_ldm_entry written_mbr put_each
+mbr_good = refl
+
+-- ---- the sectors are whole
+
+header_in_order : (label : Label) → InOrder 0 512 (header_fields label)
+header_in_order label =
+    let guid = own_guid-len label.disk_guid in
+    (omega arith, (omega arith, (omega arith, (omega arith, (omega arith, (omega arith, (omega arith, (omega arith, omega arith))))))))
+
+toc_in_order : (label : Label) → InOrder 0 512 (toc_fields label)
+toc_in_order label = (omega arith, (omega arith, (omega arith, (omega arith, (omega arith, (omega arith, (omega arith, omega arith)))))))
+
+pub length-mbr : length written_mbr ≡ 512
+unfolding written_mbr put_each
+length-mbr = refl
+
+pub length-header : (label : Label) → length (written_header label) ≡ 512
+unfolding written_header
+length-header label = length-put_each zeros 0 (header_fields label) (header_in_order label)
+
+pub length-toc : (label : Label) → length (written_toc label) ≡ 512
+unfolding written_toc
+length-toc label = length-put_each zeros 0 (toc_fields label) (toc_in_order label)
+
+-- ---- the private header
+
+header_field : (label : Label) (i : ℕ) → i < 8
+    → let field = get_or (header_fields label) i none in slice_range (written_header label) field.0 (field.0 + length field.1) ≡ field.1
+unfolding written_header
+header_field label i lt = field_there zeros 0 (header_fields label) i none lt (header_in_order label)
+
+header_magic : (label : Label) → is_privhead (written_header label) ≡ true
+unfolding is_privhead
+header_magic label = rw (header_field label 0 (omega arith)) refl
+
+header_major : (label : Label) → u16_at (written_header label) 0x0C ≡ 2
+header_major label = number_there (written_header label) 0x0C 2 2 (omega arith) (header_field label 1 (omega arith))
+
+header_size : (label : Label) → config_size (written_header label) ≡ 2048
+header_size label = number_there (written_header label) 0x133 8 2048 (omega arith) (header_field label 7 (omega arith))
+
+header_guid : (label : Label) → label.disk_guid < 2 ^ 128 → disk_guid (written_header label) ≡ Some label.disk_guid
+header_guid label small =
+    let there = header_field label 3 (omega arith) in
+    let whole : slice_range (written_header label) 0x30 0x54 ≡ own_guid label.disk_guid = ap (λ (n : ℕ). slice_range (written_header label) 0x30 (0x30 + n)) (sym (own_guid-len label.disk_guid)) ∙ there in
+    ap guid_of whole ∙ guid_again label.disk_guid small
+
+module _ (label : Label) (n : ℕ) (fits : Fits label n) (writable : IsWritable label) where
+  small_minor : label.minor < 256 ^ 2
+  small_minor = elim writable.minor [ inl is ↦ omega arith | inr is ↦ omega arith ]
+
+  header_minor : u16_at (written_header label) 0x0E ≡ label.minor
+  header_minor = number_there (written_header label) 0x0E 2 label.minor small_minor (header_field label 2 (omega arith))
+
+  header_is : header_of (written_header label) ≡ header_values label
+  header_is =
+      let guid = header_guid label writable.guid in
+      let start : u64_at (written_header label) 0x11B ≡ label.data_start = number_there (written_header label) 0x11B 8 label.data_start (omega arith) (header_field label 4 (omega arith)) in
+      let size : u64_at (written_header label) 0x123 ≡ label.data_size = number_there (written_header label) 0x123 8 label.data_size (omega arith) (header_field label 5 (omega arith)) in
+      let config : u64_at (written_header label) 0x12B ≡ label.config_start = number_there (written_header label) 0x12B 8 label.config_start (omega arith) (header_field label 6 (omega arith)) in
+      rw (guid, header_minor, start, size, config) refl
+
+  known : (minor : ℕ) → IsKnownMinor minor → (nat_eq minor 11 || nat_eq minor 12) ≡ true
+  known minor is = grind (arith, nat_tests)
+
+  header_version : has_version (written_header label) ≡ true
+  unfolding has_version
+  header_version = rw (header_major label, header_minor) (known label.minor writable.minor)
+
+  in_range : is_out_of_range (header_values label) n ≡ false
+  unfolding is_out_of_range
+  in_range = grind (arith, nat_tests)
+
+  header_good : answer (header_faults (written_header label) n) (header_of (written_header label)) ≡ Ok (header_values label)
+  unfolding header_faults
+  header_good = rw (header_magic label, header_version, header_size label, header_is, in_range, header_guid label writable.guid) refl
+
+  -- ---- its copies
+
+  same_values : same_header (header_values label) (header_values label) ≡ true
+  unfolding same_header
+  same_values = grind (arith, nat_tests)
+
+  copy_agrees : differs (header_values label) (written_header label) n ≡ false
+  unfolding differs
+  copy_agrees = rw (header_good, header_is, same_values) refl
+
+  -- ---- the table of contents
+
+  toc_field : (i : ℕ) → i < 7
+      → let field = get_or (toc_fields label) i none in slice_range (written_toc label) field.0 (field.0 + length field.1) ≡ field.1
+  unfolding written_toc
+  toc_field i lt = field_there zeros 0 (toc_fields label) i none lt (toc_in_order label)
+
+  toc_parses : parses (written_toc label) ≡ true
+  unfolding parses
+  toc_parses = rw (toc_field 0 (omega arith), toc_field 1 (omega arith), toc_field 4 (omega arith)) refl
+
+  toc_is : toc_of (written_toc label) ≡ Some (toc_values label)
+  toc_is =
+      let start : u64_at (written_toc label) 0x2E ≡ label.area_start = number_there (written_toc label) 0x2E 8 label.area_start (omega arith) (toc_field 2 (omega arith)) in
+      let size : u64_at (written_toc label) 0x36 ≡ label.area_sectors = number_there (written_toc label) 0x36 8 label.area_sectors (omega arith) (toc_field 3 (omega arith)) in
+      let log : u64_at (written_toc label) 0x50 ≡ label.log_start = number_there (written_toc label) 0x50 8 label.log_start (omega arith) (toc_field 5 (omega arith)) in
+      let sectors : u64_at (written_toc label) 0x58 ≡ label.log_sectors = number_there (written_toc label) 0x58 8 label.log_sectors (omega arith) (toc_field 6 (omega arith)) in
+      rw (toc_parses, start, size, log, sectors) refl
+
+  in_database : is_out_of_database (toc_values label) ≡ false
+  unfolding is_out_of_database
+  in_database = grind (arith, nat_tests)
+
+  four : List Toc
+  four = toc_values label ∷ toc_values label ∷ toc_values label ∷ toc_values label ∷ []
+
+  four_agree : some_differ four ≡ false
+  unfolding some_differ four
+  four_agree = rw (same_itself (toc_values label)) refl
+
+  four_good : answer (toc_faults four) (first_toc four) ≡ Ok (toc_values label)
+  unfolding toc_faults four
+  four_good = let agree = four_agree in rw (agree, in_database) refl
+
+-- ---- an image
+
+module _ (label : Label) (image : List ℕ) (has : HasLabel label image) (fits : Fits label (sectors_of image)) (writable : IsWritable label) where
+  long : 7 ≤ sectors_of image
+  long = omega (arith, fits.inside)
+
+  good : answer (mbr_faults (sector image 0) ++ header_faults (sector image 6) (sectors_of image)) (header_of (sector image 6)) ≡ Ok (header_values label)
+  good = rw (has.mbr, has.header)
+      (front_ok (mbr_faults written_mbr) (header_faults (written_header label) (sectors_of image)) tt tt (header_of (written_header label)) mbr_good
+      ∙ header_good label (sectors_of image) fits writable)
+
+  agree : answer {A = Unit {0}} (copy_faults (header_values label) image) tt ≡ Ok tt
+  unfolding copy_faults
+  agree = rw (has.header_2, has.header_3, copy_agrees label (sectors_of image) fits writable) refl
+
+  tocs : tocs_in label.config_start image ≡ four label (sectors_of image) fits writable
+  unfolding tocs_in four
+  tocs = rw (has.toc_1, has.toc_2, has.toc_3, has.toc_4, toc_is label (sectors_of image) fits writable) refl
+
+  table : answer (toc_faults (tocs_in label.config_start image)) (first_toc (tocs_in label.config_start image)) ≡ Ok (toc_values label)
+  table = rw (tocs) (four_good label (sectors_of image) fits writable)
+
+  pub label_reads : label_of image ≡ Ok label
+  label_reads = label_is image long (header_values label) good agree (toc_values label) table
