@@ -115,7 +115,7 @@ has_disk (d ∷ disks) (suc k) g lt is =
     [ true ↦ refl | false ↦ has_disk disks k g (omega arith) is ]
 
 -- none passes, where each fails
-no_position : {X : Type 0} (t : X → Bool) (xs : List X) → ((k : ℕ) (d : X) → k < length xs → t (get_or xs k d) ≡ false) → position t xs ≡ None
+pub no_position : {X : Type 0} (t : X → Bool) (xs : List X) → ((k : ℕ) (d : X) → k < length xs → t (get_or xs k d) ≡ false) → position t xs ≡ None
 no_position t [] fails = refl
 no_position {X} t (x ∷ xs) fails =
     let all : List X = x ∷ xs in

@@ -1,9 +1,7 @@
-//! Images of small groups, for examples and tests: `Dg0`, with one to three disks and no volume, and a
-//! usual group with four volumes.
+//! The images of a small sample group, for examples and tests: `Dg0`, with one to three disks and no
+//! volume.
 #![tactic(auto)]
 
 mod images;
-mod usual;
 
 pub use images::sample_images;
-pub use usual::usual_images;
