@@ -1,12 +1,12 @@
 use crate::made::bytes_of;
 use ldm_host::{Host, MemoryHost};
+use ldm_images::usual_images;
 use ldm_label::LabelFault::*;
 use ldm_label::{Label, LabelError, LabelFault, read_label, write_label};
-use ldm_vectors::sample_images;
 use std::alloc::Global;
 use std::test::Fail;
 
-// The label of the first image of the sample group.
+// The label of the first image of the usual group.
 const USUAL: Label = Label {
     disk_guid: 0x1111_1111_1111_1111_1111_1111_1111_1111,
     minor: 11,
@@ -53,7 +53,7 @@ fn change(alloc: Global, image: &mut [u8], text: &str) -> Result<(), Fail> {
     Ok(())
 }
 
-// A host that has the first image of the sample group, changed and cut to so many sectors. The calls
+// A host that has the first image of the usual group, changed and cut to so many sectors. The calls
 // with these numbers fail.
 fn host_with(
     alloc: Global,
@@ -61,7 +61,8 @@ fn host_with(
     sectors: usize,
     failing: &[u64],
 ) -> Result<MemoryHost, Fail> {
-    let mut images = sample_images(alloc, 1, 64)?;
+    let mut images = usual_images(alloc)?;
+    images.truncate(1);
     for image in images.iter_mut() {
         for text in changes.split_whitespace() {
             change(alloc, image, text)?;

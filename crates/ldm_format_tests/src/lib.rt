@@ -10,8 +10,6 @@ mod made;
 #[cfg(test)]
 mod records;
 #[cfg(test)]
-mod vectors;
-#[cfg(test)]
 mod vmdb;
 #[cfg(test)]
 mod words;

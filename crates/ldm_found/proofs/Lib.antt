@@ -8,3 +8,4 @@ pub mod GroupLaws
 pub mod ClearLaws
 pub mod FoundLaws
 pub mod SameDisks
+pub mod NewLaws

@@ -7,3 +7,4 @@ pub mod Facts
 pub mod Answers
 pub mod Steps
 pub mod Alike
+pub mod New

@@ -9,6 +9,7 @@ ghost use Rattle.ldm_found.specs.Opening.{group_faults, IsGroupOfCopies};
 ghost use Rattle.ldm_found.specs.Editing.{blocked_in};
 ghost use Rattle.ldm_found.specs.Labels.{stranger};
 ghost use Rattle.ldm_found.specs.Alike.{AllAlike, AnswerAlike};
+ghost use Rattle.ldm_found.specs.New.{NewOpens, NewIsEditable};
 
 /// That the group that is found, its faults and whether it may be edited depend on the labels and on what
 /// makes each copy's group, and not on the carried bytes of their headers. The call does nothing.
@@ -26,4 +27,11 @@ pub fn disks_alone()
         → blocked_in a labels ≡ blocked_in b labels }
     ensures stranger { (a b : Database) (labels : List Label) → HasSameDisks a.records b.records
         → stranger a.records labels ≡ stranger b.records labels }
+{}
+
+/// That images which hold a new group are found as it, and that it may be edited where there are two disks
+/// at least. The call does nothing.
+pub fn new_groups_open()
+    ensures opens { NewOpens }
+    ensures editable { NewIsEditable }
 {}

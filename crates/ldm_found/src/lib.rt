@@ -17,5 +17,5 @@ mod notes;
 pub use fault::{OpenError, OpenFault};
 pub use finding::find_group;
 pub use found::Found;
-pub use laws::{disks_alone, group_alone};
+pub use laws::{disks_alone, group_alone, new_groups_open};
 pub use notes::{Note, Notes};

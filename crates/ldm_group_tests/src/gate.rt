@@ -12,8 +12,9 @@ use ldm_bytes::{put_bytes, put_u16, put_u32};
 use ldm_copy::{CopyState, body_of, read_copy, rewrite};
 use ldm_group::Db;
 use ldm_host::{Filling, Host, MemoryHost};
+use ldm_images::usual_images;
 use ldm_label::{Label, read_label};
-use ldm_vectors::{sample_images, usual_images};
+use ldm_vectors::sample_images;
 use std::alloc::Global;
 use std::test::Fail;
 

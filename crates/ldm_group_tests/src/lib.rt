@@ -21,3 +21,5 @@ mod space;
 mod steps;
 #[cfg(test)]
 mod text;
+#[cfg(test)]
+mod vectors;

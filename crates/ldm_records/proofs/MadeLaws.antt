@@ -8,10 +8,13 @@ use Rattle.std.proofs.lemmas.Fmt.{length-decimal-le}
 use Rattle.byteorder.specs.Numbers.{length-bytes_high_first}
 use Rattle.ldm_bytes.specs.Numbers.{own_number}
 use Rattle.ldm_bytes.proofs.NumberLaws.{own_len, width_fits}
+use Rattle.ldm_bytes.proofs.GuidLaws.{own_guid-len}
 use Rattle.ldm_records.specs.declared.pieces.Striping.{Striping}
 use Rattle.ldm_records.specs.declared.types.Volume.{Volume}
 use Rattle.ldm_records.specs.declared.types.Component.{Component}
 use Rattle.ldm_records.specs.declared.types.Partition.{Partition}
+use Rattle.ldm_records.specs.declared.types.Disk.{Disk}
+use Rattle.ldm_records.specs.declared.types.GroupRec.{GroupRec}
 use Rattle.ldm_records.specs.declared.types.Record.{Record}
 use Rattle.ldm_records.specs.declared.types.Record.TheVariants as kinds
 use Rattle.ldm_records.specs.Values.{Value, values_len, value_len}
@@ -19,7 +22,7 @@ use Rattle.ldm_records.specs.Fields.{component_values, volume_values, number_opt
 use Rattle.ldm_records.specs.Forms.{chunk_value, columns_value}
 use Rattle.ldm_records.specs.Plain.{Plain, own_spelling}
 use Rattle.ldm_records.specs.Views.{plain_volume, plain_component, plain_of}
-use Rattle.ldm_records.specs.Made.{given, given_short, partition_with, component_with, volume_with, new_partition, new_partition_values, part_name, index_flags, IsStriping, new_component, new_component_values, component_name, striping_flags, with_children, new_volume, new_volume_values, volume_kind, volume_fixed21, resized}
+use Rattle.ldm_records.specs.Made.{given, given_short, partition_with, component_with, volume_with, new_partition, new_partition_values, part_name, index_flags, IsStriping, new_component, new_component_values, component_name, striping_flags, with_children, new_volume, new_volume_values, volume_kind, volume_fixed21, resized, disk_with, new_disk, new_disk_values, group_with, new_group, new_group_values}
 use Rattle.ldm_records.proofs.PlainLaws.{own-len}
 use Rattle.ldm_records.proofs.OneRecord.{one_volume, one_component, one_record}
 
@@ -272,3 +275,69 @@ plain_sized v size = record { mark = v.head.mark; flags = v.head.flags; type = 0
 pub resized_is : (v copy w : Volume) (size : ℕ) → is_some (resized v size) ≡ true → copy ≡ v → plain_volume w ≡ plain_sized copy size → resized v size ≡ Some w
 resized_is v copy w size there same is =
     given_true _ _ (given_there _ _ there) ∙ ap (λ (x : Volume). Some x) (one_volume _ w (ap (λ (x : Volume). plain_sized x size) (sym same) ∙ sym is))
+
+-- ---- disks
+
+-- a new disk of these values
+pub record MakesDisk (id : ℕ) (name : List ℕ) (guid : ℕ) : Type 0 where
+  pub disk : Disk
+  pub made : new_disk id name guid ≡ Some (kinds.Disk disk)
+  pub plain_is : plain_of (kinds.Disk disk) ≡ record { mark = 0; flags = 0; type = 0x34; fields = new_disk_values id name guid; tail = [] }
+  pub id_is : disk.head.id ≡ id
+  pub name_is : disk.head.name ≡ name
+  pub guid_is : disk.guid ≡ guid
+  pub len_is : length (own_spelling (plain_of (kinds.Disk disk))) ≡ 59 + length (own_number id) + length name
+
+pub makes_disk : (id : ℕ) (name : List ℕ) (guid : ℕ) → id < 2 ^ 64 → length name ≤ 255 → MakesDisk id name guid
+makes_disk id name guid a b =
+    let named = is_named name b in
+    let short = is_short (new_disk_values id name guid) (omega (arith, number_len id a)) in
+    let d : Disk = disk_with id name guid (leb-true _ _ named) (ltb-true _ _ short) in
+    record {
+      disk = d;
+      made = short_given name (new_disk_values id name guid) (λ a b. kinds.Disk (disk_with id name guid a b)) named short;
+      plain_is = refl;
+      id_is = refl;
+      name_is = refl;
+      guid_is = refl;
+      len_is = (let l = own-len (plain_of (kinds.Disk d)) in omega arith);
+    }
+
+-- a record of these plain values is the one that is made
+pub disk_is : (id : ℕ) (name : List ℕ) (guid : ℕ) → id < 2 ^ 64 → length name ≤ 255 → (r : Record)
+    → plain_of r ≡ record { mark = 0; flags = 0; type = 0x34; fields = new_disk_values id name guid; tail = [] } → new_disk id name guid ≡ Some r
+disk_is id name guid a b r is =
+    let m = makes_disk id name guid a b in
+    m.made ∙ ap (λ (x : Record). Some x) (one_record (kinds.Disk m.disk) r (m.plain_is ∙ sym is))
+
+-- ---- the group
+
+-- a new group record of these values
+pub record MakesGroup (id : ℕ) (name : List ℕ) (guid : ℕ) : Type 0 where
+  pub group : GroupRec
+  pub made : new_group id name guid ≡ Some (kinds.Group group)
+  pub plain_is : plain_of (kinds.Group group) ≡ record { mark = 0; flags = 0; type = 0x35; fields = new_group_values id name guid; tail = [] }
+  pub id_is : group.head.id ≡ id
+  pub name_is : group.head.name ≡ name
+  pub len_is : length (own_spelling (plain_of (kinds.Group group))) ≡ 58 + length (own_number id) + length name
+
+pub makes_group : (id : ℕ) (name : List ℕ) (guid : ℕ) → id < 2 ^ 64 → length name ≤ 255 → MakesGroup id name guid
+makes_group id name guid a b =
+    let named = is_named name b in
+    let short = is_short (new_group_values id name guid) (omega (arith, number_len id a, own_guid-len guid)) in
+    let g : GroupRec = group_with id name guid (leb-true _ _ named) (ltb-true _ _ short) in
+    record {
+      group = g;
+      made = short_given name (new_group_values id name guid) (λ a b. kinds.Group (group_with id name guid a b)) named short;
+      plain_is = refl;
+      id_is = refl;
+      name_is = refl;
+      len_is = (let l = own-len (plain_of (kinds.Group g)) in omega (arith, own_guid-len guid));
+    }
+
+-- a record of these plain values is the one that is made
+pub group_is : (id : ℕ) (name : List ℕ) (guid : ℕ) → id < 2 ^ 64 → length name ≤ 255 → (r : Record)
+    → plain_of r ≡ record { mark = 0; flags = 0; type = 0x35; fields = new_group_values id name guid; tail = [] } → new_group id name guid ≡ Some r
+group_is id name guid a b r is =
+    let m = makes_group id name guid a b in
+    m.made ∙ ap (λ (x : Record). Some x) (one_record (kinds.Group m.group) r (m.plain_is ∙ sym is))

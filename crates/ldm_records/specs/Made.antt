@@ -1,20 +1,26 @@
--- The records that commands make or change, each a record of these values where there is one: texts of at most 255 bytes, and
+-- The records that are made or changed, each a record of these values where there is one: texts of at most 255 bytes, and
 -- a spelling whose length has four bytes. Fields of a new record that aren't named are zero or empty, and optional fields
 -- that aren't named are absent.
 use Rattle.std.specs.Prelude.{◌≡◌, ℕ, ◌+◌, ◌<◌, ◌≤◌, ◌^◌, Bool, true, false, List, [], ◌∷◌, ◌++◌, length, decimal, replicate, is_some, Option, Some, None, nat_lt, nat_le, option_and_then}
-use Rattle.std.proofs.Common.{refl}
+use Rattle.std.proofs.Common.{refl, sym, subst}
 use Rattle.std.proofs.lemmas.Bool.{ltb-true, leb-true}
 use Rattle.byteorder.specs.Endian.{big_bytes}
+use Rattle.ldm_bytes.specs.Guid.{own_guid}
+use Rattle.ldm_bytes.proofs.GuidLaws.{own_guid-len}
+use Rattle.ldm_records.specs.declared.pieces.DiskForm.TheVariants as disks
+use Rattle.ldm_records.specs.declared.pieces.GroupForm.TheVariants as groups
 use Rattle.ldm_records.specs.declared.pieces.Striping.{Striping}
 use Rattle.ldm_records.specs.declared.types.Volume.{Volume}
 use Rattle.ldm_records.specs.declared.types.Component.{Component}
 use Rattle.ldm_records.specs.declared.types.Partition.{Partition}
+use Rattle.ldm_records.specs.declared.types.Disk.{Disk}
+use Rattle.ldm_records.specs.declared.types.GroupRec.{GroupRec}
 use Rattle.ldm_records.specs.declared.types.Record.{Record}
 use Rattle.ldm_records.specs.declared.types.Record.TheVariants as kinds
-use Rattle.ldm_records.specs.Values.{Value, values_len}
+use Rattle.ldm_records.specs.Values.{Value, Absent, values_len}
 use Rattle.ldm_records.specs.Table.{has_flag}
 use Rattle.ldm_records.specs.Fields.{partition_values, component_values, volume_values}
-use Rattle.ldm_records.specs.Forms.{chunk_value, columns_value}
+use Rattle.ldm_records.specs.Forms.{chunk_value, columns_value, disk_values, group_values}
 
 -- what is made of a test that passes
 abbrev pub given : {A : Type 0} (test : Bool) → (test ≡ true → A) → Option A
@@ -180,3 +186,47 @@ abbrev pub resized : Volume → ℕ → Option Volume
 resized v size =
     given (nat_lt (values_len (volume_values v.head.id v.head.name v.kind v.second v.fixed21 v.children v.fixed16 size v.fixed4 v.part_type v.guid v.id1 v.id2 v.size2 v.hint) + length v.tail) (2 ^ 32))
     (λ short. record v { size = size; short = ltb-true _ _ short })
+
+-- ---- disks
+
+-- a disk of version 3, without an alternative name
+abbrev pub new_disk_values : (id : ℕ) → List ℕ → (guid : ℕ) → List Value
+new_disk_values id name guid = disk_values id name guid (disks.V3 [] (replicate 12 0))
+
+abbrev pub disk_with : (id : ℕ) (name : List ℕ) (guid : ℕ) → length name ≤ 255 → values_len (new_disk_values id name guid) + 0 < 2 ^ 32 → Disk
+disk_with id name guid named short = record {
+  head = record { mark = 0; flags = 0; id = id; name = name; name_short = named };
+  guid = guid;
+  form = disks.V3 [] (replicate 12 0);
+  tail = [];
+  alt_short = leb-true 0 255 refl;
+  short = short;
+}
+
+abbrev pub new_disk : (id : ℕ) → List ℕ → (guid : ℕ) → Option Record
+new_disk id name guid =
+    given_short name (new_disk_values id name guid) (λ named short. kinds.Disk (disk_with id name guid named short))
+
+-- ---- the group
+
+-- a group record of version 3, which carries the GUID as its text in lower case
+abbrev pub new_group_values : (id : ℕ) → List ℕ → (guid : ℕ) → List Value
+new_group_values id name guid = group_values id name (groups.V3 (own_guid guid) (replicate 12 0)) Absent Absent
+
+pub guid_text_short : (guid : ℕ) → length (own_guid guid) ≤ 255
+guid_text_short guid = let P : ℕ → Type 0 = λ n. n ≤ 255 in subst P (sym (own_guid-len guid)) (leb-true 36 255 refl)
+
+abbrev pub group_with : (id : ℕ) (name : List ℕ) (guid : ℕ) → length name ≤ 255 → values_len (new_group_values id name guid) + 0 < 2 ^ 32 → GroupRec
+group_with id name guid named short = record {
+  head = record { mark = 0; flags = 0; id = id; name = name; name_short = named };
+  form = groups.V3 (own_guid guid) (replicate 12 0);
+  ids = None;
+  tail = [];
+  guid_short = guid_text_short guid;
+  flagged = refl;
+  short = short;
+}
+
+abbrev pub new_group : (id : ℕ) → List ℕ → (guid : ℕ) → Option Record
+new_group id name guid =
+    given_short name (new_group_values id name guid) (λ named short. kinds.Group (group_with id name guid named short))

@@ -24,7 +24,7 @@ mod writing;
 
 pub use changed::{resized, with_children};
 pub use fault::{RecordError, RecordFault};
-pub use made::{new_component, new_partition, new_volume};
+pub use made::{new_component, new_disk, new_group, new_partition, new_volume};
 pub use pieces::{DiskForm, GroupForm, Head, Striping, TwoIds};
 pub use reading::read_record;
 pub use types::{Component, Disk, GroupRec, Partition, Record, Volume};

@@ -1,9 +1,10 @@
 ghost use Rattle.std.specs.Prelude.{◌≡◌, ◌≤◌, ◌<◌, ◌^◌, length, unwrap_or, Some, IfOk};
-ghost use Rattle.ldm_records.specs.Made.{new_partition, part_name, index_flags, IsStriping, new_component, component_name, striping_flags, active, new_volume, volume_kind, volume_fixed21};
+ghost use Rattle.ldm_bytes.specs.Guid.{own_guid};
+ghost use Rattle.ldm_records.specs.Made.{new_partition, part_name, index_flags, IsStriping, new_component, component_name, striping_flags, active, new_volume, volume_kind, volume_fixed21, new_disk, new_group};
 
-use crate::pieces::{Head, Striping};
-use crate::types::{Component, Partition, Record, Volume};
-use ldm_bytes::{Bytes, NoMemory};
+use crate::pieces::{DiskForm, GroupForm, Head, Striping};
+use crate::types::{Component, Disk, GroupRec, Partition, Record, Volume};
+use ldm_bytes::{Bytes, NoMemory, write_guid};
 use std::alloc::Global;
 
 /// A new volume of a command's name and GUID: a RAID-5, or any other. Its size is in sectors. Its type
@@ -180,4 +181,64 @@ fn index_flags(index: Option<u64>) -> u8
         Some(_) => 0x08,
         None => 0,
     }
+}
+
+/// A new disk (DSK3), with no alternative name.
+pub fn new_disk(alloc: Global, id: u64, name: &[u8], guid: u128) -> Result<Record, NoMemory>
+    requires { length name.now ≤ 255 }
+    ensures { IfOk result (λ r. new_disk id name.now guid ≡ Some r) }
+{
+    let name = Bytes::from_slice(alloc, name)?;
+    let alt = Bytes::from_vec(Vec::new(alloc));
+    let tail = Bytes::from_vec(Vec::new(alloc));
+    let head = Head {
+        mark: 0,
+        flags: 0,
+        id,
+        name,
+    };
+    let form = DiskForm::V3 {
+        alt,
+        fixed12: [0; 12],
+    };
+    Ok(Record::Disk(Disk {
+        head,
+        guid,
+        form,
+        tail,
+    }))
+}
+
+/// A new group record (DGR3). It carries the GUID as its text in lower case.
+pub fn new_group(alloc: Global, id: u64, name: &[u8], guid: u128) -> Result<Record, NoMemory>
+    requires { length name.now ≤ 255 }
+    ensures { IfOk result (λ r. new_group id name.now guid ≡ Some r) }
+{
+    let name = Bytes::from_slice(alloc, name)?;
+    let guid = guid_text(alloc, guid)?;
+    let tail = Bytes::from_vec(Vec::new(alloc));
+    let head = Head {
+        mark: 0,
+        flags: 0,
+        id,
+        name,
+    };
+    let form = GroupForm::V3 {
+        guid,
+        fixed12: [0; 12],
+    };
+    Ok(Record::Group(GroupRec {
+        head,
+        form,
+        ids: None,
+        tail,
+    }))
+}
+
+fn guid_text(alloc: Global, guid: u128) -> Result<Bytes, NoMemory>
+    ensures { IfOk result (λ text. text ≡ own_guid guid) }
+{
+    let mut text = [0; 36];
+    write_guid(guid, &mut text);
+    Bytes::from_slice(alloc, &text)
 }

@@ -12,3 +12,4 @@ pub mod EndLaws
 pub mod SoundLaws
 pub mod HeadLaws
 pub mod DisksAlone
+pub mod NewLaws

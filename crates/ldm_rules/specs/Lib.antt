@@ -7,3 +7,4 @@ pub mod Spans
 pub mod Sizes
 pub mod Disjoint
 pub mod Facts
+pub mod New

@@ -19,6 +19,6 @@ mod table;
 
 pub use ends::sectors_of;
 pub use fault::{RuleError, RuleFault};
-pub use laws::places_are_disjoint;
+pub use laws::{new_groups_are_sound, places_are_disjoint};
 pub use present::{image_with, label_with};
 pub use table::check;

@@ -5,7 +5,7 @@
 ghost use Rattle.std.specs.Prelude.{◌≡◌, ◌++◌, IfOk, codes, string_bytes};
 
 use ldm_bytes::NoMemory;
-use ldm_vectors::usual_images;
+use ldm_images::usual_images;
 use std::alloc::Global;
 use std::fs::File;
 use std::io::{ErrorKind, Write};

@@ -4,7 +4,8 @@ ghost use Rattle.std.specs.Prelude.{◌<◌, ◌≤◌, ◌+◌, ◌*◌, length
 use super::tests::words_in;
 use super::*;
 use ldm_host::{Failed, Host};
-use ldm_vectors::{sample_images, usual_images};
+use ldm_images::usual_images;
+use ldm_vectors::sample_images;
 use std::fs;
 use std::fs::File;
 use std::path::PathBuf;

@@ -2,7 +2,8 @@
 use super::tests::{run_over, words_in};
 use super::*;
 use ldm_host::MemoryHost;
-use ldm_vectors::{sample_images, usual_images};
+use ldm_images::usual_images;
+use ldm_vectors::sample_images;
 use run::Status;
 use std::process::Abort;
 use std::test::Fail;

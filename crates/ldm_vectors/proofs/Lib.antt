@@ -1,2 +1,4 @@
+pub mod SampleLaws
+pub mod ImageLaws
 mod DrawLaws
 mod SizeLaws

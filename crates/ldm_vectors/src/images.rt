@@ -1,183 +1,98 @@
-ghost use Rattle.std.specs.Prelude.{◌≡◌, ◌+◌, ◌*◌, ◌<◌, ◌≤◌, All, IfOk, length, vec_len};
+ghost use Rattle.std.specs.Prelude.{◌≡◌, ◌+◌, ◌*◌, ◌<◌, ◌≤◌, Some, All, IfOk, Result, length, vec_len};
+ghost use Rattle.ldm_host.specs.Images.{items_of};
+ghost use Rattle.ldm_found.specs.declared.found.Found.{Found};
+ghost use Rattle.ldm_found.specs.Opening.{IsGroupIn};
+ghost use Rattle.ldm_images.specs.Sample.{sample_label};
+ghost use Rattle.ldm_vectors.specs.Zeros.{IsZeros};
+ghost use Rattle.ldm_vectors.specs.Sample.{sample_disk, sample_records, IsSampleDatabase, IsSampleImage, AreSampleImages, IsSampleGroup};
 
-use ldm_bytes::{NoMemory, put_bytes, put_u16, put_u32, put_u64};
+use ldm_bytes::{NoMemory, put_bytes};
+use ldm_copy::{Body, bodies_are_copies, body_of};
+use ldm_found::new_groups_open;
+use ldm_group::{Db, DbError};
+use ldm_images::{guid_with, sample_label};
+use ldm_label::{write_label, written_label_reads_back};
+use ldm_records::{Record, new_disk, new_group};
+use ldm_vmdb::Header;
 use std::alloc::Global;
 
-/// Bytes of a sector.
-const SECTOR: usize = 512;
 /// Bytes of an image: 8192 sectors.
-const IMAGE: usize = 8192 * SECTOR;
-/// The first sector of the database.
-const DATABASE: usize = 6144;
+const IMAGE: usize = 8192 * 512;
 /// Where the config area begins, in bytes.
-pub(crate) const AREA: usize = (DATABASE + 17) * SECTOR;
+const AREA: usize = (6144 + 17) * 512;
 
-// The GUID text whose every hexadecimal digit is this one.
-pub(crate) fn guid_text(digit: u8) -> [u8; 36] {
-    let mut text = [digit; 36];
-    for place in [8, 13, 18, 23] {
-        text[place] = b'-';
-    }
-    text
-}
-
-fn write_mbr(image: &mut [u8])
-    requires { length image.old ≡ IMAGE }
-{
-    image[0x1C2] = 0x42;
-    image[0x1FE] = 0x55;
-    image[0x1FF] = 0xAA;
-}
-
-// A copy of the private header: version 2.11, the data area 63+6081, the database 6144+2048.
-fn write_privhead(image: &mut [u8], sector: usize, digit: u8)
-    requires size { length image.old ≡ IMAGE }
-    requires place { sector < 8192 }
-{
-    let at = sector * SECTOR;
-    put_bytes(image, at, b"PRIVHEAD");
-    put_u16(image, at + 0x0C, 2);
-    put_u16(image, at + 0x0E, 11);
-    put_bytes(image, at + 0x30, &guid_text(digit));
-    put_u64(image, at + 0x11B, 63);
-    put_u64(image, at + 0x123, 6081);
-    put_u64(image, at + 0x12B, DATABASE as u64);
-    put_u64(image, at + 0x133, 2048);
-}
-
-// A copy of the table of contents: the config area 17+1481, the log area 1498+224.
-fn write_tocblock(image: &mut [u8], sector: usize)
-    requires size { length image.old ≡ IMAGE }
-    requires place { sector < 8192 }
-{
-    let at = sector * SECTOR;
-    put_bytes(image, at, b"TOCBLOCK");
-    put_bytes(image, at + 0x24, b"config");
-    put_u64(image, at + 0x2E, 17);
-    put_u64(image, at + 0x36, 1481);
-    put_bytes(image, at + 0x46, b"log");
-    put_u64(image, at + 0x50, 1498);
-    put_u64(image, at + 0x58, 224);
-}
-
-// The header of the database: group Dg0, sequence 7, no volume.
-fn write_vmdb(image: &mut [u8], disks: u8, last: u32)
-    requires { length image.old ≡ IMAGE }
-{
-    put_bytes(image, AREA, b"VMDB");
-    put_u32(image, AREA + 0x04, last);
-    put_u32(image, AREA + 0x08, 128);
-    put_u32(image, AREA + 0x0C, 512);
-    put_u16(image, AREA + 0x10, 1);
-    put_u16(image, AREA + 0x12, 4);
-    put_u16(image, AREA + 0x14, 10);
-    put_bytes(image, AREA + 0x16, b"Dg0");
-    put_bytes(image, AREA + 0x35, &guid_text(b'a'));
-    put_u64(image, AREA + 0x75, 7);
-    put_u64(image, AREA + 0x7D, 7);
-    put_u32(image, AREA + 0x85 + 12, u32::from(disks));
-    put_u32(image, AREA + 0xA1 + 12, u32::from(disks));
-}
-
-// The heads of the blocks 4 to last, unused.
-fn write_unused(image: &mut [u8], last: u32)
-    requires size { length image.old ≡ IMAGE }
-    requires few { last ≤ 5924 }
-{
-    for block in 4..last / 4 * 4 {
-        let at = AREA + 128 * block as usize;
-        put_bytes(image, at, b"VBLK");
-        put_u32(image, at + 4, block);
-    }
-}
-
-// The common part of a record, whole in its block: the group record or a disk record, with a GUID text.
-fn write_record(image: &mut [u8], block: u32, kind: u8, len: u32, id: u8, name: &[u8], digit: u8)
-    requires size { length image.old ≡ IMAGE }
-    requires place { block < 8 }
-    requires short { length name.now ≤ 5 }
-{
-    let at = AREA + 128 * block as usize;
-    put_u32(image, at + 0x08, block);
-    put_u16(image, at + 0x0E, 1);
-    image[at + 16 + 3] = kind;
-    put_u32(image, at + 16 + 4, len);
-    image[at + 16 + 8] = 1;
-    image[at + 16 + 9] = id;
-    image[at + 16 + 10] = name.len() as u8;
-    put_bytes(image, at + 16 + 11, name);
-    image[at + 16 + 11 + name.len()] = 36;
-    put_bytes(image, at + 16 + 12 + name.len(), &guid_text(digit));
-}
-
-fn write_group(image: &mut [u8])
-    requires { length image.old ≡ IMAGE }
-{
-    write_record(image, 4, 0x35, 55, 1, b"Dg0", b'a');
-}
-
-fn write_disk(image: &mut [u8], disk: u8)
-    requires size { length image.old ≡ IMAGE }
-    requires place { disk < 3 }
+// The record of the disk of this number, from 0.
+fn sample_disk(alloc: Global, disk: u8) -> Result<Record, NoMemory>
+    requires { disk < 3 }
+    ensures { IfOk result (λ r. sample_disk disk ≡ Some r) }
 {
     let name = [b'D', b'i', b's', b'k', b'1' + disk];
-    write_record(
-        image,
-        5 + u32::from(disk),
-        0x34,
-        58,
-        2 + disk,
-        &name,
-        b'1' + disk,
-    );
+    new_disk(alloc, u64::from(disk) + 2, &name, guid_with(disk + 1))
 }
 
-// Writes the image of one disk of the group over zeros.
-fn write_image(image: &mut [u8], disk: u8, disks: u8, last: u32)
-    requires size { length image.old ≡ IMAGE }
-    requires disk { disk < 3 }
-    requires disks { disks ≤ 3 }
-    requires few { last ≤ 5924 }
+// The group record, and those of so many disks.
+fn sample_records(alloc: Global, disks: u8) -> Result<Vec<Record>, NoMemory>
+    requires { disks ≤ 3 }
+    ensures { IfOk result (λ records. records.items ≡ sample_records disks) }
 {
-    write_mbr(image);
-    for sector in [6, 8000, 8191] {
-        write_privhead(image, sector, b'1' + disk);
+    let mut records = Vec::new(alloc);
+    records.push(new_group(alloc, 1, b"Dg0", guid_with(0xA))?)?;
+    for disk in 0..disks {
+        records.push(sample_disk(alloc, disk)?)?;
     }
-    for sector in [1, 2, 2045, 2046] {
-        write_tocblock(image, DATABASE + sector);
-    }
-    write_vmdb(image, disks, last);
-    write_unused(image, last);
-    write_group(image);
-    for other in 0..disks {
-        write_disk(image, other);
+    Ok(records)
+}
+
+// The group of so many disks. No two of its records have one id.
+fn sample_database(alloc: Global, disks: u8, last: u32) -> Result<Db, NoMemory>
+    requires { disks ≤ 3 }
+    ensures { IfOk result (λ db. IsSampleDatabase disks last db) }
+{
+    let header = Header::new(alloc, b"Dg0", guid_with(0xA), last, 7)?;
+    let records = sample_records(alloc, disks)?;
+    match Db::new(alloc, header, records) {
+        Ok(db) => Ok(db),
+        Err(DbError::SameId { .. } | DbError::NoMemory) => Err(NoMemory),
     }
 }
 
-// The image of one disk of the group.
-pub(crate) fn image_of(alloc: Global, disk: u8, disks: u8, last: u32) -> Result<Vec<u8>, NoMemory>
-    requires disk { disk < 3 }
-    requires disks { disks ≤ 3 }
-    requires few { last ≤ 5924 }
-    ensures { IfOk result (λ image. length image.items ≡ 8192 * 512) }
+fn zeros(alloc: Global, count: usize) -> Result<Vec<u8>, NoMemory>
+    ensures { IfOk result (λ bytes. IsZeros count bytes.items) }
 {
-    let mut image = vec![in alloc; 0u8; IMAGE]?;
-    write_image(&mut image, disk, disks, last);
+    Ok(vec![in alloc; 0u8; count]?)
+}
+
+// The image of the disk of this number, whose copy is this body.
+fn sample_image(alloc: Global, disk: u8, body: &[u8]) -> Result<Vec<u8>, NoMemory>
+    requires disk { disk < 3 }
+    requires room { length body.now ≤ 512 * 1481 }
+    ensures { IfOk result (λ image. IsSampleImage (sample_label disk) body.now image.items) }
+{
+    let mut image = zeros(alloc, IMAGE)?;
+    put_bytes(&mut image, AREA, body);
+    write_label(&mut image, &sample_label(disk));
     Ok(image)
 }
 
-/// The first images of the group `Dg0`, sequence 7, with as many disk records `Disk1` to `Disk3`.
-/// `last` is the header's last VBLK sequence.
+/// The images of the first disks of the sample group, which is `Dg0` with sequence 7 and the disks `Disk1`
+/// to `Disk3`. `last` is the header's last VBLK sequence.
 pub fn sample_images(alloc: Global, disks: u8, last: u32) -> Result<Vec<Vec<u8>>, NoMemory>
     requires some { 1 ≤ disks }
     requires disks { disks ≤ 3 }
     requires room { 8 ≤ last }
     requires few { last ≤ 5924 }
-    ensures { IfOk result (λ images. (vec_len images ≡ disks) × All (λ image. length image.items ≡ 8192 * 512) images.items) }
+    ensures sizes { IfOk result (λ images. (vec_len images ≡ disks) × All (λ image. length image.items ≡ 8192 * 512) images.items) }
+    ensures made { IfOk result (λ images. AreSampleImages disks last (items_of images.items)) }
+    ensures found { IfOk result (λ images. (found : Found) × IsGroupIn (items_of images.items) (Result.Ok found) × IsSampleGroup disks last found) }
 {
+    let db = sample_database(alloc, disks, last)?;
+    let body = body_of(alloc, &db)?;
     let mut images = Vec::new(alloc);
     for disk in 0..disks {
-        images.push(image_of(alloc, disk, disks, last)?)?;
+        images.push(sample_image(alloc, disk, body.as_slice())?)?;
     }
+    bodies_are_copies();
+    written_label_reads_back();
+    new_groups_open();
     Ok(images)
 }

@@ -1,11 +1,9 @@
-//! Images of small groups, for examples and tests: `Dg0`, with one to three disks and no volume, and a
-//! usual group with four volumes.
+//! A small sample group, for examples and tests: the images of `Dg0`, with one to three disks and no
+//! volume, and a script for it.
 #![tactic(auto)]
 
 mod images;
 mod script;
-mod usual;
 
 pub use images::sample_images;
 pub use script::sample_script;
-pub use usual::usual_images;

@@ -1,2 +1,3 @@
 pub mod Sectors
 pub mod Headers
+pub mod Made

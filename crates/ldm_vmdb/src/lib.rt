@@ -1,7 +1,8 @@
-//! The header sector of the database (VMDB): read, and written with a new sequence.
+//! The header sector of the database (VMDB): read, made anew, and written with a new sequence.
 #![tactic(auto)]
 
 mod header;
+mod made;
 mod reading;
 mod writing;
 

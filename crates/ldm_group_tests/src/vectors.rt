@@ -1,4 +1,7 @@
+use ldm_found::find_group;
+use ldm_host::{Host, MemoryHost};
 use ldm_vectors::sample_images;
+use std::alloc::Global;
 use std::test::Fail;
 
 type Row = (usize, &'static [u8]);
@@ -139,5 +142,26 @@ fn writes_fewer_disks_and_more_blocks(rt: HostRuntime) -> Result<(), Fail> {
     for image in &images {
         assert!(rt; rows(image, 512 * 6161, &FEWER).is_some());
     }
+    Ok(())
+}
+
+// The committed sequence, the last VBLK sequence and the number of records of the sample group, as it is found.
+fn found_in(alloc: Global, disks: u8, last: u32) -> Result<(u64, u32, usize), Fail> {
+    let images = sample_images(alloc, disks.clamp(1, 3), last.clamp(8, 5924))?;
+    let mut host = MemoryHost::new(alloc, images, Vec::new(alloc))?;
+    if host.disks() == 0 {
+        return Err(Fail::from("no disk"));
+    }
+    let Ok(found) = find_group(alloc, &mut host) else {
+        return Err(Fail::from("no group"));
+    };
+    let header = found.db.header();
+    Ok((header.seq, header.last, found.db.count()))
+}
+
+#[test]
+fn found_with_few_blocks_and_with_all(rt: HostRuntime) -> Result<(), Fail> {
+    assert_eq!(rt; found_in(rt.alloc(), 1, 8)?, (7, 8, 2));
+    assert_eq!(rt; found_in(rt.alloc(), 3, 5924)?, (7, 5924, 4));
     Ok(())
 }

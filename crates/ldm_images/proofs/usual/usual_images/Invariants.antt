@@ -1,6 +1,6 @@
 use Rattle.std.proofs.Common.{◌≡◌, ◌*◌, length}
 use Rattle.std.specs.Prelude.{All}
-use Rattle.ldm_vectors.proofs.usual.usual_images.Given as goal
+use Rattle.ldm_images.proofs.usual.usual_images.Given as goal
 
 abbrev pub invariant-loop-disk : goal.invariant-loop-disk
 invariant-loop-disk l = record {

@@ -1,14 +1,13 @@
-//! A usual group: a simple volume, a spanned, a striped and a mirrored one on three disks.
-ghost use Rattle.std.specs.Prelude.{◌≡◌, ◌*◌, All, IfOk, length, vec_len};
+//! The records of a usual group, each as it is spelled.
 
-use crate::images::{AREA, guid_text, image_of};
-use ldm_bytes::{NoMemory, number_len, put_bytes, put_number, put_u16, put_u32};
+use crate::sample::guid_with;
+use ldm_bytes::{NoMemory, number_len, put_number, write_guid};
 use std::alloc::Global;
 
 /// A record, as it is put together: 8 bytes for its type and length, and its fields.
 #[derive(Drop)]
-struct Payload {
-    bytes: Vec<u8>,
+pub(crate) struct Payload {
+    pub bytes: Vec<u8>,
 }
 
 impl Payload {
@@ -35,15 +34,21 @@ impl Payload {
         self.fixed(&buf[..len])
     }
 
+    fn guid(&mut self, guid: u128) -> Result<(), NoMemory> {
+        let mut text = [0; 36];
+        write_guid(guid, &mut text);
+        self.text(&text)
+    }
+
     fn text(&mut self, text: &[u8]) -> Result<(), NoMemory> {
         self.bytes.push((text.len() & 0xFF) as u8)?;
         self.fixed(text)
     }
 }
 
-fn disk_payload(alloc: Global, id: u64, name: &[u8], digit: u8) -> Result<Payload, NoMemory> {
+fn disk_payload(alloc: Global, id: u64, name: &[u8], guid: u128) -> Result<Payload, NoMemory> {
     let mut payload = Payload::new(alloc, 0x34, 0, id, name)?;
-    payload.text(&guid_text(digit))?;
+    payload.guid(guid)?;
     payload.fixed(&[0; 13])?;
     Ok(payload)
 }
@@ -126,18 +131,18 @@ fn partition_payload(alloc: Global, p: &Partition) -> Result<Payload, NoMemory> 
     Ok(payload)
 }
 
-fn push_disks(alloc: Global, payloads: &mut Vec<Payload>) -> Result<(), NoMemory> {
+pub(crate) fn push_disks(alloc: Global, payloads: &mut Vec<Payload>) -> Result<(), NoMemory> {
     let mut group = Payload::new(alloc, 0x35, 0, 1, b"Dg0")?;
-    group.text(&guid_text(b'a'))?;
+    group.guid(guid_with(0xA))?;
     group.fixed(&[0; 12])?;
     payloads.push(group)?;
-    payloads.push(disk_payload(alloc, 1025, b"Disk1", b'1')?)?;
-    payloads.push(disk_payload(alloc, 1026, b"Disk2", b'2')?)?;
-    payloads.push(disk_payload(alloc, 1027, b"Disk3", b'3')?)?;
+    payloads.push(disk_payload(alloc, 1025, b"Disk1", guid_with(1))?)?;
+    payloads.push(disk_payload(alloc, 1026, b"Disk2", guid_with(2))?)?;
+    payloads.push(disk_payload(alloc, 1027, b"Disk3", guid_with(3))?)?;
     Ok(())
 }
 
-fn push_simple(alloc: Global, payloads: &mut Vec<Payload>) -> Result<(), NoMemory> {
+pub(crate) fn push_simple(alloc: Global, payloads: &mut Vec<Payload>) -> Result<(), NoMemory> {
     payloads.push(volume_payload(
         alloc,
         &Volume {
@@ -166,7 +171,7 @@ fn push_simple(alloc: Global, payloads: &mut Vec<Payload>) -> Result<(), NoMemor
     Ok(())
 }
 
-fn push_spanned(alloc: Global, payloads: &mut Vec<Payload>) -> Result<(), NoMemory> {
+pub(crate) fn push_spanned(alloc: Global, payloads: &mut Vec<Payload>) -> Result<(), NoMemory> {
     payloads.push(volume_payload(
         alloc,
         &Volume {
@@ -208,7 +213,7 @@ fn push_spanned(alloc: Global, payloads: &mut Vec<Payload>) -> Result<(), NoMemo
     Ok(())
 }
 
-fn push_striped(alloc: Global, payloads: &mut Vec<Payload>) -> Result<(), NoMemory> {
+pub(crate) fn push_striped(alloc: Global, payloads: &mut Vec<Payload>) -> Result<(), NoMemory> {
     payloads.push(volume_payload(
         alloc,
         &Volume {
@@ -250,7 +255,7 @@ fn push_striped(alloc: Global, payloads: &mut Vec<Payload>) -> Result<(), NoMemo
     Ok(())
 }
 
-fn push_mirrored(alloc: Global, payloads: &mut Vec<Payload>) -> Result<(), NoMemory> {
+pub(crate) fn push_mirrored(alloc: Global, payloads: &mut Vec<Payload>) -> Result<(), NoMemory> {
     payloads.push(volume_payload(
         alloc,
         &Volume {
@@ -291,49 +296,4 @@ fn push_mirrored(alloc: Global, payloads: &mut Vec<Payload>) -> Result<(), NoMem
         },
     )?)?;
     Ok(())
-}
-
-// A record, whole in its block. One that doesn't fit is left out.
-fn write_payload(image: &mut [u8], block: usize, payload: &[u8])
-    requires { length image.old ≡ 8192 * 512 }
-    ensures { length image.new ≡ length image.old }
-{
-    if block >= 5920 || payload.len() > 112 || payload.len() < 8 {
-        return;
-    }
-    let at = AREA + 128 * block;
-    put_u32(image, at + 0x08, block as u32);
-    put_u16(image, at + 0x0E, 1);
-    put_bytes(image, at + 16, payload);
-    put_u32(image, at + 20, payload.len() as u32 - 8);
-}
-
-// The records, from block 4 on.
-fn write_payloads(image: &mut [u8], payloads: &[Payload])
-    requires { length image.old ≡ 8192 * 512 }
-    ensures { length image.new ≡ length image.old }
-{
-    for (place, payload) in payloads.iter().enumerate() {
-        write_payload(image, place.saturating_add(4), payload.bytes.as_slice());
-    }
-}
-
-/// The images of the three disks of a usual group: `Dg0`, sequence 7, last VBLK sequence 5924, with the
-/// volumes `Volume1`, `Volume2`, `Stripe1` and `Mirror1`.
-pub fn usual_images(alloc: Global) -> Result<Vec<Vec<u8>>, NoMemory>
-    ensures { IfOk result (λ images. (vec_len images ≡ 3) × All (λ image. length image.items ≡ 8192 * 512) images.items) }
-{
-    let mut payloads = Vec::new(alloc);
-    push_disks(alloc, &mut payloads)?;
-    push_simple(alloc, &mut payloads)?;
-    push_spanned(alloc, &mut payloads)?;
-    push_striped(alloc, &mut payloads)?;
-    push_mirrored(alloc, &mut payloads)?;
-    let mut images = Vec::new(alloc);
-    for disk in 0..3 {
-        let mut image = image_of(alloc, disk, 3, 5924)?;
-        write_payloads(&mut image, &payloads);
-        images.push(image)?;
-    }
-    Ok(images)
 }

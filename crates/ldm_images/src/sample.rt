@@ -1,0 +1,30 @@
+ghost use Rattle.std.specs.Prelude.{◌≡◌, ◌<◌};
+ghost use Rattle.ldm_images.specs.Sample.{guid_with, sample_label};
+
+use ldm_label::Label;
+
+/// The GUID whose every hexadecimal digit is this one.
+pub fn guid_with(digit: u8) -> u128
+    requires { digit < 16 }
+    ensures { result ≡ guid_with digit }
+{
+    u128::from(digit) * 0x1111_1111_1111_1111_1111_1111_1111_1111
+}
+
+/// The label of the disk of this number, from 0.
+pub fn sample_label(disk: u8) -> Label
+    requires { disk < 15 }
+    ensures { result ≡ sample_label disk }
+{
+    Label {
+        disk_guid: guid_with(disk + 1),
+        minor: 11,
+        data_start: 63,
+        data_size: 6081,
+        config_start: 6144,
+        area_start: 17,
+        area_sectors: 1481,
+        log_start: 1498,
+        log_sectors: 224,
+    }
+}

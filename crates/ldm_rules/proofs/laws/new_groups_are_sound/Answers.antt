@@ -1,0 +1,5 @@
+use Rattle.ldm_rules.proofs.NewLaws.{new_sound}
+use Rattle.ldm_rules.proofs.laws.new_groups_are_sound.Goals as goal
+
+pub returns : goal.returns
+returns c = new_sound
