@@ -3,7 +3,7 @@ use Rattle.std.specs.Prelude.{codes}
 use Rattle.std.proofs.lemmas.List.{append-nil}
 use Rattle.byteorder.specs.Endian.{big_bytes}
 use Rattle.ldm_bytes.specs.Guid.{own_guid}
-use Rattle.ldm_bytes.specs.Places.{put}
+use Rattle.ldm_bytes.specs.Places.{put, put_each}
 use Rattle.ldm_vmdb.specs.Made.{new_raw}
 use Rattle.ldm_vmdb.proofs.made.new_raw.Goals as goal
 
