@@ -20,7 +20,6 @@ use Rattle.ldm_vmdb.specs.declared.header.Header.{Header}
 use Rattle.ldm_vmdb.specs.Made.{IsNewHeader}
 use Rattle.ldm_frags.specs.Written.{parts_of}
 use Rattle.ldm_label.specs.declared.Label.{Label}
-use Rattle.ldm_label.specs.LabelOf.{Fits}
 use Rattle.ldm_label.specs.Written.{IsWritable}
 use Rattle.ldm_group.specs.Order.{place_of, Rising}
 use Rattle.ldm_group.specs.Database.{Database, IsDatabaseOf}
@@ -52,17 +51,6 @@ labels_apart disks i j one =
     let same : guid_with (i + 1) ≡ guid_with (j + 1) = ap (λ (l : Label). l.disk_guid) first.1 ∙ one.same ∙ sym (ap (λ (l : Label). l.disk_guid) second.1) in
     let order = one.order in
     absurd (omega (arith, same, order))
-
-pub label_fits : (disk : ℕ) → Fits (sample_label disk) 8192
-label_fits disk = record {
-  some_data = omega arith;
-  before = omega arith;
-  room = omega arith;
-  inside = omega arith;
-  some_area = omega arith;
-  area = omega arith;
-  log = omega arith;
-}
 
 pub label_writable : (disk : ℕ) → disk < 3 → IsWritable (sample_label disk)
 label_writable disk lt = record { minor = inl refl; guid = omega arith; start = omega arith }

@@ -3,14 +3,13 @@ ghost use Rattle.ldm_host.specs.Images.{items_of};
 ghost use Rattle.ldm_found.specs.declared.found.Found.{Found};
 ghost use Rattle.ldm_found.specs.Opening.{IsGroupIn};
 ghost use Rattle.ldm_images.specs.Sample.{sample_label};
-ghost use Rattle.ldm_vectors.specs.Zeros.{IsZeros};
 ghost use Rattle.ldm_vectors.specs.Sample.{sample_disk, sample_records, IsSampleDatabase, IsSampleImage, AreSampleImages, IsSampleGroup};
 
 use ldm_bytes::{NoMemory, put_bytes};
 use ldm_copy::{Body, bodies_are_copies, body_of};
 use ldm_found::new_groups_open;
 use ldm_group::{Db, DbError};
-use ldm_images::{guid_with, sample_label};
+use ldm_images::{guid_with, sample_label, zeros};
 use ldm_label::{write_label, written_label_reads_back};
 use ldm_records::{Record, new_disk, new_group};
 use ldm_vmdb::Header;
@@ -54,12 +53,6 @@ fn sample_database(alloc: Global, disks: u8, last: u32) -> Result<Db, NoMemory>
         Ok(db) => Ok(db),
         Err(DbError::SameId { .. } | DbError::NoMemory) => Err(NoMemory),
     }
-}
-
-fn zeros(alloc: Global, count: usize) -> Result<Vec<u8>, NoMemory>
-    ensures { IfOk result (λ bytes. IsZeros count bytes.items) }
-{
-    Ok(vec![in alloc; 0u8; count]?)
 }
 
 // The image of the disk of this number, whose copy is this body.
