@@ -1,5 +1,5 @@
 -- The disks of the sample groups.
-use Rattle.std.specs.Prelude.{ℕ, ◌+◌, ◌*◌, List, map}
+use Rattle.std.specs.Prelude.{◌≡◌, ℕ, ◌+◌, ◌*◌, List, map, length, slice_index}
 use Rattle.std.specs.List.{range_with_len}
 use Rattle.ldm_label.specs.declared.Label.{Label}
 
@@ -25,3 +25,8 @@ sample_label disk = record {
 -- the labels of so many disks
 abbrev pub sample_labels : ℕ → List Label
 sample_labels disks = map sample_label (range_with_len 0 disks)
+
+-- so many zeros
+pub record IsZeros (count : ℕ) (bytes : List ℕ) : Type 0 where
+  pub size : length bytes ≡ count
+  pub zeros : (k : ℕ) → slice_index bytes k ≡ 0

@@ -6,5 +6,5 @@ mod payloads;
 mod sample;
 mod usual;
 
-pub use sample::{guid_with, sample_label};
+pub use sample::{guid_with, sample_label, zeros};
 pub use usual::usual_images;

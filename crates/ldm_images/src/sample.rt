@@ -1,7 +1,16 @@
-ghost use Rattle.std.specs.Prelude.{◌≡◌, ◌<◌};
-ghost use Rattle.ldm_images.specs.Sample.{guid_with, sample_label};
+ghost use Rattle.std.specs.Prelude.{◌≡◌, ◌<◌, IfOk};
+ghost use Rattle.ldm_images.specs.Sample.{guid_with, sample_label, IsZeros};
 
+use ldm_bytes::NoMemory;
 use ldm_label::Label;
+use std::alloc::Global;
+
+/// So many zeros, as an image begins.
+pub fn zeros(alloc: Global, count: usize) -> Result<Vec<u8>, NoMemory>
+    ensures { IfOk result (λ bytes. IsZeros count bytes.items) }
+{
+    Ok(vec![in alloc; 0u8; count]?)
+}
 
 /// The GUID whose every hexadecimal digit is this one.
 pub fn guid_with(digit: u8) -> u128

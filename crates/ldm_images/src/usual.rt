@@ -4,7 +4,7 @@ ghost use Rattle.std.specs.Prelude.{◌≡◌, ◌*◌, ◌<◌, All, IfOk, leng
 use crate::payloads::{
     Payload, push_disks, push_mirrored, push_simple, push_spanned, push_striped,
 };
-use crate::sample::{guid_with, sample_label};
+use crate::sample::{guid_with, sample_label, zeros};
 use ldm_bytes::{NoMemory, put_bytes, put_u16, put_u32, put_u64, write_guid};
 use ldm_label::write_label;
 use std::alloc::Global;
@@ -78,7 +78,7 @@ fn image_of(alloc: Global, disk: u8, payloads: &[Payload]) -> Result<Vec<u8>, No
     requires { disk < 3 }
     ensures { IfOk result (λ image. length image.items ≡ 8192 * 512) }
 {
-    let mut image = vec![in alloc; 0u8; IMAGE]?;
+    let mut image = zeros(alloc, IMAGE)?;
     write_label(&mut image, &sample_label(disk));
     write_vmdb(&mut image);
     write_unused(&mut image);

@@ -1,9 +1,13 @@
 -- The images of the sample group are found to hold it.
-use Rattle.std.proofs.Common.{◌≡◌, ◌≢◌, ◌⊎◌, ℕ, ◌+◌, ◌-◌, ◌*◌, ◌/◌, ◌<◌, ◌≤◌, List, [], ◌∷◌, length, slice_get, slice_index, take, Some, None, Ok, refl, sym, ap, subst, ◌∙◌, arith}
-use Rattle.std.specs.Prelude.{map, nat_lt, if◌then◌else◌, Option}
+use Rattle.std.proofs.Common.{◌≡◌, ◌≢◌, ◌⊎◌, ℕ, ◌+◌, ◌-◌, ◌*◌, ◌/◌, ◌<◌, ◌≤◌, List, [], ◌∷◌, ◌++◌, inl, inr, length, get_or, slice_get, slice_index, take, Some, None, Ok, refl, sym, ap, subst, ◌∙◌, arith}
+use Rattle.std.specs.Prelude.{map, nat_lt, if◌then◌else◌, Vec}
+use Rattle.std.specs.declared.alloc.Global.{Global}
+use Rattle.std.proofs.lemmas.Bool.{cases_lt}
+use Rattle.std.proofs.lemmas.List.{length-append, map-append, get_or_append_left, get_or-append_right}
 use Rattle.std.proofs.lemmas.List.Elements.{All-from_recursion}
 use Rattle.ldm_bytes.specs.Places.{put}
 use Rattle.ldm_bytes.proofs.PlaceLaws.{length-put, get_or-put_inside, get_or-put_outside}
+use Rattle.ldm_host.specs.Images.{items_of}
 use Rattle.ldm_host.specs.Seen.{image}
 use Rattle.ldm_label.specs.declared.Label.{Label}
 use Rattle.ldm_label.specs.Fields.{sectors_of}
@@ -20,10 +24,10 @@ use Rattle.ldm_found.specs.declared.notes.Note.{Note}
 use Rattle.ldm_found.specs.declared.notes.Note.TheVariants as notes
 use Rattle.ldm_found.specs.New.{HoldCopies, NewOpens, NewIsEditable}
 use Rattle.ldm_found.specs.Opening.{IsGroupIn, found_with}
-use Rattle.ldm_images.specs.Sample.{sample_label, sample_labels}
-use Rattle.ldm_vectors.specs.Sample.{IsSampleDatabase, IsSampleImage, IsSampleGroup}
-use Rattle.ldm_vectors.specs.Zeros.{IsZeros}
-use Rattle.ldm_vectors.proofs.SampleLaws.{label_at, labels_count, labels_apart, label_fits, label_writable, own_areas, sample_new}
+use Rattle.ldm_images.specs.Sample.{sample_label, sample_labels, IsZeros}
+use Rattle.ldm_images.proofs.SampleLaws.{label_fits}
+use Rattle.ldm_vectors.specs.Sample.{IsSampleDatabase, IsSampleImage, AreImagesWith, IsSampleGroup}
+use Rattle.ldm_vectors.proofs.SampleLaws.{label_at, labels_count, labels_apart, label_writable, own_areas, sample_new}
 
 -- ---- one image
 
@@ -46,6 +50,24 @@ image_of disk body zeros filled image few none is label same =
       zeros = λ k outside sides. same.outside k outside ∙ ap (λ (l : List ℕ). slice_index l k) is ∙ get_or-put_outside zeros gate body k fits sides ∙ none.zeros k;
     }
 
+-- one image more
+pub images_more : (disks : ℕ) (body : List ℕ) (images : List (Vec ℕ Global)) (one : Vec ℕ Global) → AreImagesWith disks body (items_of images)
+    → IsSampleImage (sample_label disks) body one.items → AreImagesWith (disks + 1) body (items_of (images ++ one ∷ []))
+images_more disks body images one before is =
+    let items : items_of (images ++ one ∷ []) ≡ items_of images ++ one.items ∷ [] = map-append (λ (v : Vec ℕ Global). v.items) images (one ∷ []) in
+    subst (AreImagesWith (disks + 1) body) (sym items) (record {
+      count = length-append (items_of images) (one.items ∷ []) ∙ omega (arith, before.count);
+      each = λ disk lt. elim (cases_lt disk disks) [
+        | inl less ↦
+            subst (IsSampleImage (sample_label disk) body) (sym (get_or_append_left (items_of images) (one.items ∷ []) [] disk (omega (arith, less, before.count)))) (before.each disk less)
+        | inr ge ↦
+            let at : disks ≡ disk = omega arith in
+            let last : image (items_of images ++ one.items ∷ []) disk ≡ one.items =
+            get_or-append_right (items_of images) (one.items ∷ []) disks disk [] before.count ge ∙ ap (λ (k : ℕ). get_or (one.items ∷ []) k []) (omega arith) in
+            subst (IsSampleImage (sample_label disk) body) (sym last) (subst (λ (k : ℕ). IsSampleImage (sample_label k) body one.items) at is)
+      ];
+    })
+
 -- ---- the laws that are cited
 
 abbrev pub BodiesAreWritten : Type 0
@@ -55,20 +77,19 @@ BodiesAreWritten = (db : Database) (label : Label) (body image : List ℕ) → I
 -- ---- the group
 
 module _ (disks last : ℕ) (some : 1 ≤ disks) (few : disks ≤ 3) (low : 8 ≤ last) (high : last ≤ 5924) (db : Database) (body : List ℕ) (images : List (List ℕ))
-    (sample : IsSampleDatabase disks last db) (is : IsBodyOf db body) (count : length images ≡ disks)
-    (each : (disk : ℕ) → disk < disks → IsSampleImage (sample_label disk) body (image images disk)) where
+    (sample : IsSampleDatabase disks last db) (is : IsBodyOf db body) (are : AreImagesWith disks body images) where
   last_is : db.header.last ≡ last
   last_is = sample.header_is.last_is
 
   has_label : WrittenLabelsRead → (disk : ℕ) → disk < disks → label_of (image images disk) ≡ Ok (sample_label disk)
   has_label reads disk lt =
-      let own = each disk lt in
+      let own = are.each disk lt in
       let sectors : sectors_of (image images disk) ≡ 8192 = ap (λ (n : ℕ). n / 512) own.size in
       reads (sample_label disk) (image images disk) own.label_is (subst (Fits (sample_label disk)) (sym sectors) (label_fits disk)) (label_writable disk (omega arith))
 
   has_copy : BodiesAreWritten → (disk : ℕ) → disk < disks → IsWritten (sample_label disk) db (image images disk)
   has_copy written disk lt =
-      let own = each disk lt in
+      let own = are.each disk lt in
       let label = sample_label disk in
       let some_bytes : 0 < length body = omega (arith, is.is.size, last_is) in
       let on : IsBodyOn db label body =
@@ -79,7 +100,7 @@ module _ (disks last : ℕ) (some : 1 ≤ disks) (few : disks ≤ 3) (low : 8 �
 
   hold : WrittenLabelsRead → BodiesAreWritten → HoldCopies db (sample_labels disks) images
   hold reads written = record {
-    one_each = count ∙ sym (labels_count disks);
+    one_each = are.count ∙ sym (labels_count disks);
     labels_are = λ disk label at. let own = label_at disks disk label at in subst (λ (l : Label). label_of (image images disk) ≡ Ok l) own.1 (has_label reads disk own.0);
     copies_are = λ disk label at. let own = label_at disks disk label at in subst (λ (l : Label). IsWritten l db (image images disk)) own.1 (has_copy written disk own.0);
   }

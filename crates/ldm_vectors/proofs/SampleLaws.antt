@@ -20,7 +20,6 @@ use Rattle.ldm_vmdb.specs.declared.header.Header.{Header}
 use Rattle.ldm_vmdb.specs.Made.{IsNewHeader}
 use Rattle.ldm_frags.specs.Written.{parts_of}
 use Rattle.ldm_label.specs.declared.Label.{Label}
-use Rattle.ldm_label.specs.LabelOf.{Fits}
 use Rattle.ldm_label.specs.Written.{IsWritable}
 use Rattle.ldm_group.specs.Order.{place_of, Rising}
 use Rattle.ldm_group.specs.Database.{Database, IsDatabaseOf}
@@ -52,17 +51,6 @@ labels_apart disks i j one =
     let same : guid_with (i + 1) ≡ guid_with (j + 1) = ap (λ (l : Label). l.disk_guid) first.1 ∙ one.same ∙ sym (ap (λ (l : Label). l.disk_guid) second.1) in
     let order = one.order in
     absurd (omega (arith, same, order))
-
-pub label_fits : (disk : ℕ) → Fits (sample_label disk) 8192
-label_fits disk = record {
-  some_data = omega arith;
-  before = omega arith;
-  room = omega arith;
-  inside = omega arith;
-  some_area = omega arith;
-  area = omega arith;
-  log = omega arith;
-}
 
 pub label_writable : (disk : ℕ) → disk < 3 → IsWritable (sample_label disk)
 label_writable disk lt = record { minor = inl refl; guid = omega arith; start = omega arith }
@@ -98,8 +86,8 @@ pub record Sampled (disks : ℕ) : Type 0 where
   pub small : All (λ r. own_len r ≤ 112) (sample_records disks)
   pub count : length (sample_records disks) ≡ disks + 1
 
-only : {P : Record → Type 0} (r : Record) → P r → All P (r ∷ [])
-only {P} r holds = All-from_recursion P (r ∷ []) (holds, tt)
+only : (P : Record → Type 0) (r : Record) → P r → All P (r ∷ [])
+only P r holds = All-from_recursion P (r ∷ []) (holds, tt)
 
 alone : (r : Record) → Rising (r ∷ [])
 alone r i j d less lt = absurd (omega arith)
@@ -122,8 +110,8 @@ none_yet =
       records_are = is;
       guids_are = refl;
       rising = subst Rising (sym is) (alone r);
-      low = subst (All (λ r. place_of r < 2 * 2 ^ 64 + (0 + 2))) (sym is) (only r place);
-      small = subst (All (λ r. own_len r ≤ 112)) (sym is) (only r len);
+      low = subst (All (λ r. place_of r < 2 * 2 ^ 64 + (0 + 2))) (sym is) (only (λ r. place_of r < 2 * 2 ^ 64 + (0 + 2)) r place);
+      small = subst (All (λ r. own_len r ≤ 112)) (sym is) (only (λ r. own_len r ≤ 112) r len);
       count = ap length is;
     }
 
@@ -150,8 +138,8 @@ one_more disks lt before =
       rising = subst Rising (sym is) (pairs_append (λ a b. place_of a < place_of b) (sample_records disks) (r ∷ []) before.rising (alone r) behind);
       low =
           subst (All (λ r. place_of r < 2 * 2 ^ 64 + (disks + 1 + 2))) (sym is)
-          (All-append (λ r. place_of r < 2 * 2 ^ 64 + (disks + 1 + 2)) (sample_records disks) (r ∷ []) (λ k d le. omega (arith, before.low k d le)) (only r (omega (arith, place))));
-      small = subst (All (λ r. own_len r ≤ 112)) (sym is) (All-append (λ r. own_len r ≤ 112) (sample_records disks) (r ∷ []) before.small (only r len));
+          (All-append (λ r. place_of r < 2 * 2 ^ 64 + (disks + 1 + 2)) (sample_records disks) (r ∷ []) (λ k d le. omega (arith, before.low k d le)) (only (λ r. place_of r < 2 * 2 ^ 64 + (disks + 1 + 2)) r (omega (arith, place))));
+      small = subst (All (λ r. own_len r ≤ 112)) (sym is) (All-append (λ r. own_len r ≤ 112) (sample_records disks) (r ∷ []) before.small (only (λ r. own_len r ≤ 112) r len));
       count = ap length is ∙ length-append (sample_records disks) (r ∷ []) ∙ omega (arith, before.count);
     }
 

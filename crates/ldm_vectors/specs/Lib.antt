@@ -1,3 +1,2 @@
 pub mod Sample
-pub mod Zeros
 pub mod Script

@@ -41,15 +41,19 @@ pub record IsSampleImage (label : Label) (body image : List ℕ) : Type 0 where
   pub body_is : (k : ℕ) → k < length body → slice_index image (gate_at label + k) ≡ slice_index body k
   pub zeros : (k : ℕ) → IsOutsideLabel label k → (k < gate_at label) ⊎ (gate_at label + length body ≤ k) → slice_index image k ≡ 0
 
--- one image for each disk, with its label and the body that is made of the group
+-- an image for each of so many disks, with its label and this body
+pub record AreImagesWith (disks : ℕ) (body : List ℕ) (images : List (List ℕ)) : Type 0 where
+  pub count : length images ≡ disks
+  pub each : (disk : ℕ) → disk < disks → IsSampleImage (sample_label disk) body (image images disk)
+
+-- the images of the group of so many disks, with the body that is made of it
 pub record AreSampleImages (disks last : ℕ) (images : List (List ℕ)) : Type 0 where
   pub db : Database
   pub database : IsSampleDatabase disks last db
   pub body : List ℕ
   pub made : IsMadeOf db body
   pub size : length body ≡ 512 * (last / 4)
-  pub count : length images ≡ disks
-  pub each : (disk : ℕ) → disk < disks → IsSampleImage (sample_label disk) body (image images disk)
+  pub images_are : AreImagesWith disks body images
 
 -- ---- what they are found to hold
 

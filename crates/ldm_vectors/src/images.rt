@@ -3,14 +3,13 @@ ghost use Rattle.ldm_host.specs.Images.{items_of};
 ghost use Rattle.ldm_found.specs.declared.found.Found.{Found};
 ghost use Rattle.ldm_found.specs.Opening.{IsGroupIn};
 ghost use Rattle.ldm_images.specs.Sample.{sample_label};
-ghost use Rattle.ldm_vectors.specs.Zeros.{IsZeros};
-ghost use Rattle.ldm_vectors.specs.Sample.{sample_disk, sample_records, IsSampleDatabase, IsSampleImage, AreSampleImages, IsSampleGroup};
+ghost use Rattle.ldm_vectors.specs.Sample.{sample_disk, sample_records, IsSampleDatabase, IsSampleImage, AreImagesWith, AreSampleImages, IsSampleGroup};
 
 use ldm_bytes::{NoMemory, put_bytes};
 use ldm_copy::{Body, bodies_are_copies, body_of};
 use ldm_found::new_groups_open;
 use ldm_group::{Db, DbError};
-use ldm_images::{guid_with, sample_label};
+use ldm_images::{guid_with, sample_label, zeros};
 use ldm_label::{write_label, written_label_reads_back};
 use ldm_records::{Record, new_disk, new_group};
 use ldm_vmdb::Header;
@@ -56,12 +55,6 @@ fn sample_database(alloc: Global, disks: u8, last: u32) -> Result<Db, NoMemory>
     }
 }
 
-fn zeros(alloc: Global, count: usize) -> Result<Vec<u8>, NoMemory>
-    ensures { IfOk result (λ bytes. IsZeros count bytes.items) }
-{
-    Ok(vec![in alloc; 0u8; count]?)
-}
-
 // The image of the disk of this number, whose copy is this body.
 fn sample_image(alloc: Global, disk: u8, body: &[u8]) -> Result<Vec<u8>, NoMemory>
     requires disk { disk < 3 }
@@ -72,6 +65,20 @@ fn sample_image(alloc: Global, disk: u8, body: &[u8]) -> Result<Vec<u8>, NoMemor
     put_bytes(&mut image, AREA, body);
     write_label(&mut image, &sample_label(disk));
     Ok(image)
+}
+
+// An image for each of so many disks, whose copies are this body.
+fn images_with(alloc: Global, disks: u8, body: &[u8]) -> Result<Vec<Vec<u8>>, NoMemory>
+    requires disks { disks ≤ 3 }
+    requires room { length body.now ≤ 512 * 1481 }
+    ensures sizes { IfOk result (λ images. All (λ image. length image.items ≡ 8192 * 512) images.items) }
+    ensures are { IfOk result (λ images. AreImagesWith disks body.now (items_of images.items)) }
+{
+    let mut images = Vec::new(alloc);
+    for disk in 0..disks {
+        images.push(sample_image(alloc, disk, body)?)?;
+    }
+    Ok(images)
 }
 
 /// The images of the first disks of the sample group, which is `Dg0` with sequence 7 and the disks `Disk1`
@@ -87,12 +94,8 @@ pub fn sample_images(alloc: Global, disks: u8, last: u32) -> Result<Vec<Vec<u8>>
 {
     let db = sample_database(alloc, disks, last)?;
     let body = body_of(alloc, &db)?;
-    let mut images = Vec::new(alloc);
-    for disk in 0..disks {
-        images.push(sample_image(alloc, disk, body.as_slice())?)?;
-    }
     bodies_are_copies();
     written_label_reads_back();
     new_groups_open();
-    Ok(images)
+    images_with(alloc, disks, body.as_slice())
 }
