@@ -1,5 +1,6 @@
 use Rattle.std.proofs.Common.{◌∙◌, Ok}
 use Rattle.ldm_host.specs.Seen.{image}
+use Rattle.ldm_host.proofs.Relations.{still_trans}
 use Rattle.ldm_copy.specs.declared.answer.CopyState.TheVariants.{Closed, Valid}
 use Rattle.ldm_copy.specs.Copy.{config_area}
 use Rattle.ldm_copy.proofs.OneCopy.{one_copy}
@@ -76,6 +77,10 @@ returns-in_ok-database_of-in-Some-clause-sound g c =
     let made = c.in_ok-database_of-in-Some.ensures.makes in
     fits_area_of c.args.label.now.area_sectors c.in-Some.header c.deref.result.now c.in_ok-database_of-in-Some.field-0 made.2.header_is small
     (c.deref.ensures.len ∙ c.in_ok-blocks-in-Some.ensures.size) c.in_ok-database_of-in-Some.ensures.room
+
+pub returns-in_ok-database_of-in-Some-clause-still : goal.returns-in_ok-database_of-in-Some-clause-still
+returns-in_ok-database_of-in-Some-clause-still g c =
+    still_trans (g.H.Host.seen c.args.host.now) (g.H.Host.seen c.read_sector.new.host) (g.H.Host.seen c.read_blocks.new.host) c.read_sector.ensures.still c.read_blocks.ensures.still
 
 pub returns-in_err-first-clause-one : goal.returns-in_err-first-clause-one
 returns-in_err-first-clause-one g c a b = one_copy (config_area c.args.label.now (image (g.H.Host.seen c.args.host.now).content c.args.disk)) c.args.label.now.area_sectors a b
