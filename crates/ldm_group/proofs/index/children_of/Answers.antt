@@ -1,4 +1,4 @@
-use Rattle.std.proofs.Common.{sym, ◌||◌, ◌∙◌, refl, take, ap, arith}
+use Rattle.std.proofs.Common.{sym, ◌||◌, ◌∙◌, take, ap, arith}
 use Rattle.std.proofs.lemmas.Grind.{common_steps}
 use Rattle.ldm_group.specs.Hits.{at_object}
 use Rattle.ldm_group.specs.Looks.{is_child}

@@ -1,4 +1,4 @@
-use Rattle.std.proofs.Common.{◌≡◌, find, option_copied, rules}
+use Rattle.std.proofs.Common.{rules}
 use Rattle.ldm_group.specs.Looks.{is_volume_named}
 use Rattle.ldm_group.proofs.db.Db.volume_named.Goals as goal
 
