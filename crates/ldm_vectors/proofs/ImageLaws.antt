@@ -1,5 +1,5 @@
 -- The images of the sample group are found to hold it.
-use Rattle.std.proofs.Common.{◌≡◌, ◌≢◌, ◌⊎◌, ℕ, ◌+◌, ◌-◌, ◌*◌, ◌/◌, ◌<◌, ◌≤◌, List, [], ◌∷◌, ◌++◌, inl, inr, length, get_or, slice_get, slice_index, take, Some, None, Ok, refl, sym, ap, subst, ◌∙◌, arith}
+use Rattle.std.proofs.Common.{◌≡◌, ◌≢◌, ℕ, ◌+◌, ◌-◌, ◌*◌, ◌/◌, ◌<◌, ◌≤◌, List, [], ◌∷◌, ◌++◌, inl, inr, length, get_or, slice_index, Some, None, Ok, refl, sym, ap, subst, ◌∙◌, arith}
 use Rattle.std.specs.Prelude.{map, nat_lt, if◌then◌else◌, Vec}
 use Rattle.std.specs.declared.alloc.Global.{Global}
 use Rattle.std.proofs.lemmas.Bool.{cases_lt}
@@ -17,7 +17,6 @@ use Rattle.ldm_label.specs.Written.{HasLabel, SameOutsideLabel, IsOutsideLabel, 
 use Rattle.ldm_group.specs.Database.{Database}
 use Rattle.ldm_copy.specs.Copy.{gate_at}
 use Rattle.ldm_copy.specs.Body.{IsBodyOf, IsBodyOn, HasBody, IsWritten}
-use Rattle.ldm_found.specs.declared.fault.OpenFault.{OpenFault}
 use Rattle.ldm_found.specs.declared.fault.OpenFault.TheVariants as faults
 use Rattle.ldm_found.specs.declared.found.Found.{Found}
 use Rattle.ldm_found.specs.declared.notes.Note.{Note}
@@ -62,8 +61,9 @@ images_more disks body images one before is =
             subst (IsSampleImage (sample_label disk) body) (sym (get_or_append_left (items_of images) (one.items ∷ []) [] disk (omega (arith, less, before.count)))) (before.each disk less)
         | inr ge ↦
             let at : disks ≡ disk = omega arith in
+            let start : disk - disks ≡ 0 = omega arith in
             let last : image (items_of images ++ one.items ∷ []) disk ≡ one.items =
-            get_or-append_right (items_of images) (one.items ∷ []) disks disk [] before.count ge ∙ ap (λ (k : ℕ). get_or (one.items ∷ []) k []) (omega arith) in
+            get_or-append_right (items_of images) (one.items ∷ []) disks disk [] before.count ge ∙ ap (λ (k : ℕ). get_or (one.items ∷ []) k []) start in
             subst (IsSampleImage (sample_label disk) body) (sym last) (subst (λ (k : ℕ). IsSampleImage (sample_label k) body one.items) at is)
       ];
     })

@@ -2,7 +2,7 @@ ghost use Rattle.std.specs.Prelude.{◌≡◌, ◌+◌, ◌*◌, ◌<◌, ◌≤
 ghost use Rattle.ldm_host.specs.Images.{items_of};
 ghost use Rattle.ldm_found.specs.declared.found.Found.{Found};
 ghost use Rattle.ldm_found.specs.Opening.{IsGroupIn};
-ghost use Rattle.ldm_images.specs.Sample.{sample_label};
+ghost use Rattle.ldm_images.specs.Sample.{sample_label, IsZeros};
 ghost use Rattle.ldm_vectors.specs.Sample.{sample_disk, sample_records, IsSampleDatabase, IsSampleImage, AreImagesWith, AreSampleImages, IsSampleGroup};
 
 use ldm_bytes::{NoMemory, put_bytes};
@@ -55,15 +55,24 @@ fn sample_database(alloc: Global, disks: u8, last: u32) -> Result<Db, NoMemory>
     }
 }
 
-// The image of the disk of this number, whose copy is this body.
+// Writes the image of the disk of this number, whose copy is this body, over zeros.
+fn write_image(image: &mut [u8], disk: u8, body: &[u8])
+    requires zeros { IsZeros IMAGE image.old }
+    requires disk { disk < 3 }
+    requires room { length body.now ≤ 512 * 1481 }
+    ensures { IsSampleImage (sample_label disk) body.now image.new }
+{
+    put_bytes(image, AREA, body);
+    write_label(image, &sample_label(disk));
+}
+
 fn sample_image(alloc: Global, disk: u8, body: &[u8]) -> Result<Vec<u8>, NoMemory>
     requires disk { disk < 3 }
     requires room { length body.now ≤ 512 * 1481 }
     ensures { IfOk result (λ image. IsSampleImage (sample_label disk) body.now image.items) }
 {
     let mut image = zeros(alloc, IMAGE)?;
-    put_bytes(&mut image, AREA, body);
-    write_label(&mut image, &sample_label(disk));
+    write_image(&mut image, disk, body);
     Ok(image)
 }
 
