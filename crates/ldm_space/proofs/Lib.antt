@@ -1,3 +1,6 @@
 pub mod FreeLaws
+pub mod GapLaws
+pub mod GapTake
+pub mod GapWalk
 pub mod PlacedLaws
 pub mod PlacedWalk
