@@ -4,3 +4,4 @@ pub mod GapTake
 pub mod GapWalk
 pub mod PlacedLaws
 pub mod PlacedWalk
+pub mod PlacedMaps
