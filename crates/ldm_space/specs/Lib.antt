@@ -1,3 +1,4 @@
 pub mod Free
+pub mod Gaps
 pub mod Wanted
 pub mod Placed

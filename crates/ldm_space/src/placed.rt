@@ -1,14 +1,16 @@
-ghost use Rattle.std.specs.Prelude.{◌≡◌, ◌≢◌, ◌+◌, ◌^◌, ◌<◌, ◌≤◌, ℕ, All, List, [], ◌++◌, true, false, Some, IfOk, if◌then◌else◌};
+ghost use Rattle.std.specs.Prelude.{◌≡◌, ◌-◌, ◌^◌, ◌<◌, ◌≤◌, ◌∷◌, List, All, IfOk, IfSome, MatchOption};
 ghost use Rattle.ldm_group.specs.Partitions.{EndsInRange};
-ghost use Rattle.ldm_space.specs.Free.{taken_in, is_taken, first_free_start};
+ghost use Rattle.ldm_space.specs.Free.{Taken, taken_in, first_free_start};
+ghost use Rattle.ldm_space.specs.Gaps.{AreGaps};
 ghost use Rattle.ldm_space.specs.Wanted.{placed};
 ghost use Rattle.ldm_space.specs.Placed.{PlacesAs};
 
-use crate::free::past_all;
-use crate::taken::{Taken, past};
+use crate::gaps::FreeMap;
+use crate::taken::Taken;
 use ldm_bytes::NoMemory;
 use ldm_records::Record;
 use std::alloc::Global;
+use std::collections::BTreeMap;
 
 /// `size` sectors that are asked of the disk of this id, whose data area has `limit` sectors.
 #[derive(Clone, Copy)]
@@ -18,46 +20,37 @@ pub struct Wanted {
     pub size: u64,
 }
 
-// A walk past all that is taken.
-fn past_spots(spots: &[Taken], disk: u64, len: u64, from: u64) -> u64
-    requires some { 0 < len }
-    requires ends { All (λ t. t.start + t.size < 2 ^ 64) spots.now }
-    ensures not_before { from ≤ result }
-    ensures passed { (q : ℕ) → from ≤ q → q < result → is_taken spots.now disk len q ≡ true }
-    ensures free { result ≡ from → is_taken spots.now disk len from ≡ false }
+// The map of a disk that was met, or one that is made of the partitions. It has no limit: what is asked of it says its own.
+fn opened(
+    alloc: Global,
+    records: &[Record],
+    disk: u64,
+    kept: Option<FreeMap>,
+) -> Result<FreeMap, NoMemory>
+    requires ends { All EndsInRange records.now }
+    ensures { IfOk result (λ map. MatchOption kept (AreGaps map (taken_in records.now) disk (2 ^ 64 - 1)) (λ old. map ≡ old)) }
 {
-    let mut at = from;
-    for spot in spots {
-        at = past(spot, disk, len, at);
+    match kept {
+        Some(map) => Ok(map),
+        None => FreeMap::beside(alloc, records, disk, u64::MAX),
     }
-    at
 }
 
-// The first fit beside the partitions and what else is taken.
-fn fit_beside(records: &[Record], spots: &[Taken], asked: Wanted) -> Option<u64>
+// Takes the first fit, where it ends within the limit. The map is of no use after `None`.
+fn fit(map: &mut FreeMap, asked: Wanted) -> Option<u64>
     requires some { 0 < asked.size }
-    requires ends { All EndsInRange records.now }
-    requires spots_end { All (λ t. t.start + t.size < 2 ^ 64) spots.now }
-    ensures { result ≡ first_free_start (spots.now ++ taken_in records.now) asked.disk asked.limit asked.size }
+    ensures first { (taken : List Taken) → AreGaps map.old taken asked.disk (2 ^ 64 - 1) → result ≡ first_free_start taken asked.disk asked.limit asked.size }
+    ensures left { IfSome result (λ start. (taken : List Taken) → AreGaps map.old taken asked.disk (2 ^ 64 - 1) → AreGaps map.new (record { disk = asked.disk; start = start; size = asked.size } ∷ taken) asked.disk (2 ^ 64 - 1)) }
 {
-    if asked.limit < asked.size {
-        return None;
-    }
-    let last = asked.limit - asked.size;
-    let mut at = 0;
-    while at <= last {
-        let half = past_all(records, asked.disk, asked.size, at);
-        let next = past_spots(spots, asked.disk, asked.size, half);
-        if next == at {
-            return Some(at);
-        }
-        at = next;
-    }
-    None
+    let last = asked.limit.checked_sub(asked.size)?;
+    let start = map.take(asked.size)?;
+    if start <= last { Some(start) } else { None }
 }
 
 /// What the partitions that are asked for take, each at its first fit beside those before it; or the place of the first that
 /// finds none.
+///
+/// It walks over the records once for each disk that is asked.
 pub fn place_all(
     alloc: Global,
     records: &[Record],
@@ -68,17 +61,21 @@ pub fn place_all(
     requires limits { All (λ w. w.limit < 2 ^ 64) wanted.now }
     ensures { IfOk result (PlacesAs (placed (taken_in records.now) 0 wanted.now) wanted.now) }
 {
+    let mut maps = BTreeMap::new(alloc);
     let mut spots = Vec::new(alloc);
     for at in 0..wanted.len() {
         let asked = wanted[at];
-        match fit_beside(records, spots.as_slice(), asked) {
-            Some(start) => spots.push(Taken {
-                disk: asked.disk,
-                start,
-                size: asked.size,
-            })?,
-            None => return Ok(Err(at)),
-        }
+        let kept = maps.remove(&asked.disk);
+        let mut map = opened(alloc, records, asked.disk, kept)?;
+        let Some(start) = fit(&mut map, asked) else {
+            return Ok(Err(at));
+        };
+        maps.insert(asked.disk, map)?;
+        spots.push(Taken {
+            disk: asked.disk,
+            start,
+            size: asked.size,
+        })?;
     }
     Ok(Ok(spots))
 }
