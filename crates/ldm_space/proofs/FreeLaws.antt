@@ -177,16 +177,6 @@ free_more records disk len at i r lt is stays free =
     go None e s = refl
     go (Some t) e s = ap (λ (b : Bool). b || false) (past_stays disk len at t s)
 
--- the same of a list of what is taken
-pub taken_more : (taken : List Taken) (disk len at i : ℕ) (t : Taken) → i < length taken → get_or taken i t ≡ t → past disk len at (Some t) ≡ at
-    → is_taken (take i taken) disk len at ≡ false → is_taken (take (i + 1) taken) disk len at ≡ false
-unfolding is_taken
-taken_more taken disk len at i t lt is stays free =
-    ap (λ (l : List Taken). list_any (takes_one disk len at) l) (take_more taken i t lt ∙ ap (λ (x : Taken). take i taken ++ x ∷ []) is)
-    ∙ list_any-append (takes_one disk len at) (take i taken) (t ∷ [])
-    ∙ ap (λ (b : Bool). b || list_any (takes_one disk len at) (t ∷ [])) free
-    ∙ ap (λ (b : Bool). b || false) (past_stays disk len at t stays)
-
 -- what is taken in two lists
 pub taken_both : (a b : List Taken) (disk len p : ℕ) → is_taken (a ++ b) disk len p ≡ (is_taken a disk len p || is_taken b disk len p)
 unfolding is_taken

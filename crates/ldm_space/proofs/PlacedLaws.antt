@@ -147,13 +147,3 @@ taken_push [] taken [] w start h = refl
 taken_push [] taken (s ∷ ss) w start h = absurd h
 taken_push (v ∷ more) taken [] w start h = absurd h
 taken_push (v ∷ more) taken (s ∷ ss) w start h = ap (λ (l : List Taken). placing v s ∷ l) (taken_push more (placing v s ∷ taken) ss w start h.1)
-
--- each ends below the greatest number where its disk does
-pub fits_end : (bound : ℕ) (wanted : List Wanted) (taken : List Taken) (starts : List ℕ) → All (λ w. w.limit < bound) wanted → AreFirstFits taken wanted starts → All (λ t. t.start + t.size < bound) (taken_at wanted starts)
-fits_end bound [] taken [] limits h = All-nil (λ (t : Taken). t.start + t.size < bound)
-fits_end bound [] taken (s ∷ ss) limits h = absurd h
-fits_end bound (w ∷ more) taken [] limits h = absurd h
-fits_end bound (w ∷ more) taken (s ∷ ss) limits h =
-    let ends : s + w.size ≤ w.limit = h.0.ends in
-    let limit : w.limit < bound = limits 0 w (omega arith) in
-    All-cons (λ (t : Taken). t.start + t.size < bound) (placing w s) (taken_at more ss) (omega arith) (fits_end bound more (placing w s ∷ taken) ss (All-tail (λ (v : Wanted). v.limit < bound) w more limits) h.1)

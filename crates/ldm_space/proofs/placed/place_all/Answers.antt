@@ -13,7 +13,7 @@ use Rattle.ldm_space.proofs.placed.place_all.Goals as goal
 pub loop-at-init : goal.loop-at-init
 loop-at-init c =
     let taken : List Taken = taken_in c.args.records.now in
-    subst (λ (l : List Taken). record {so_far : IsSoFar taken c.args.wanted.now 0 l; maps : AreMaps taken l c.new-maps.result}) (sym c.new-spots.ensures.items) (record {
+    subst (λ (l : List Taken). record { so_far : IsSoFar taken c.args.wanted.now 0 l; maps : AreMaps taken l c.new-maps.result }) (sym c.new-spots.ensures.items) (record {
       so_far = record { fits = tt; taken_are = refl };
       maps = no_maps taken c.new-maps.result c.new-maps.ensures.empty;
     })
