@@ -2,7 +2,7 @@ use crate::made::bytes_of;
 use ldm_host::{Host, MemoryHost};
 use ldm_images::usual_images;
 use ldm_label::LabelFault::*;
-use ldm_label::{Label, LabelError, LabelFault, read_label};
+use ldm_label::{Label, LabelError, LabelFault, read_label, write_label};
 use std::alloc::Global;
 use std::test::Fail;
 
@@ -172,5 +172,38 @@ fn failing_disks(rt: HostRuntime) -> Result<(), Fail> {
         let mut host = host_with(rt.alloc(), changes, 8192, &[call])?;
         assert_eq!(rt; label_on(&mut host)?, want, "call {call}");
     }
+    Ok(())
+}
+
+// All bytes but zeros of the written label.
+const WRITTEN: &str = "
+M+1c2=42 M+1fe=55aa
+P1+0=5052495648454144 P1+c=0002000b P1+30='11111111-1111-1111-1111-111111111111
+P1+11b=000000000000003f00000000000017c1 P1+12b=00000000000018000000000000000800
+P2+0=5052495648454144 P2+c=0002000b P2+30='11111111-1111-1111-1111-111111111111
+P2+11b=000000000000003f00000000000017c1 P2+12b=00000000000018000000000000000800
+P3+0=5052495648454144 P3+c=0002000b P3+30='11111111-1111-1111-1111-111111111111
+P3+11b=000000000000003f00000000000017c1 P3+12b=00000000000018000000000000000800
+T1+0=544f43424c4f434b T1+24='config T1+2e=000000000000001100000000000005c9
+T1+46='log T1+50=00000000000005da00000000000000e0
+T2+0=544f43424c4f434b T2+24='config T2+2e=000000000000001100000000000005c9
+T2+46='log T2+50=00000000000005da00000000000000e0
+T3+0=544f43424c4f434b T3+24='config T3+2e=000000000000001100000000000005c9
+T3+46='log T3+50=00000000000005da00000000000000e0
+T4+0=544f43424c4f434b T4+24='config T4+2e=000000000000001100000000000005c9
+T4+46='log T4+50=00000000000005da00000000000000e0";
+
+#[test]
+fn written_label(rt: HostRuntime) -> Result<(), Fail> {
+    let mut image = vec![in rt.alloc(); 0u8; 8192 * 512]?;
+    write_label(&mut image, &USUAL);
+    let mut want = vec![in rt.alloc(); 0u8; 8192 * 512]?;
+    for text in WRITTEN.split_whitespace() {
+        change(rt.alloc(), &mut want, text)?;
+    }
+    assert!(rt; image == want);
+    let images = vec![in rt.alloc(); image]?;
+    let mut host = MemoryHost::new(rt.alloc(), images, Vec::new(rt.alloc()))?;
+    assert_eq!(rt; label_on(&mut host)?, Ok(USUAL));
     Ok(())
 }

@@ -2,7 +2,7 @@
 //! (TOCBLOCK) say of the disk and its database, or the first fault that they have.
 //!
 //! Sectors have 512 bytes. The format's fields are in `specs/Fields.antt`, the faults in their order
-//! in `specs/LabelOf.antt`.
+//! in `specs/LabelOf.antt`, the sectors that are written in `specs/Written.antt`.
 #![tactic(auto)]
 
 ghost use Rattle.std.specs.Prelude.{◌≡◌};
