@@ -1,6 +1,7 @@
 use Rattle.std.proofs.Common.{◌≡◌, ◌∷◌, [], ◌++◌, Some, refl, sym, ap, subst, ◌∙◌}
 use Rattle.std.proofs.lemmas.Bool.{false≢true}
 use Rattle.ldm_vmdb.specs.declared.header.Header.{Header}
+use Rattle.ldm_group.specs.Room.{FitsHeader}
 use Rattle.ldm_copy.specs.declared.answer.CopyState.{CopyState}
 use Rattle.ldm_copy.specs.declared.answer.CopyState.TheVariants.{Valid}
 use Rattle.ldm_found.specs.declared.copies.Newest.{Newest}
@@ -46,4 +47,13 @@ returns-clause-is c copies at before =
             with c.in-Some.newest w.newest-is (with_older copies c.in-Some.newest c.in-Valid.db some le (λ none differs.
             w'.if-same_seq.false (ap (λ (h : Header). h.seq) c.header-3.ensures ∙ sym differs.0 ∙ sym (ap (λ (h : Header). h.seq) c.header-4.ensures))))
       ]
+    ]
+
+pub returns-clause-room : goal.returns-clause-room
+returns-clause-room c =
+    let fits = rw c.in-Some.is at c.requires.newest in
+    let with = λ (n : Newest) (is : c.if-same_seq.newest ≡ n) (room : FitsHeader n.db). subst (λ (m : Newest). FitsHeader m.db) (sym is) room in
+    elim c.if-same_seq.branch [
+      | then-same_seq+then-is_none+then-not-same_core w ↦ with (record c.in-Some.newest { other = Some c.args.image }) w.newest-is fits
+      | else-same_seq w ↦ with c.in-Some.newest w.newest-is fits
     ]
