@@ -1,5 +1,5 @@
 -- The first gap that is long enough begins at the first fit.
-use Rattle.std.proofs.Common.{◌≡◌, ◌≢◌, ◌⊎◌, inl, inr, ℕ, zero, suc, ◌+◌, ◌<◌, ◌≤◌, ◌==◌, ◌&&◌, max, min, List, [], ◌∷◌, length, get_or, refl, sym, ap, subst, ◌∙◌, arith, Bool, true, false, cond, Option, Some, None, find, eq-eqb}
+use Rattle.std.proofs.Common.{◌≡◌, ◌≢◌, ◌⊎◌, inl, inr, ℕ, zero, suc, ◌+◌, ◌<◌, ◌≤◌, ◌==◌, max, min, List, [], ◌∷◌, length, get_or, sym, ap, subst, ◌∙◌, arith, Bool, true, false, cond, Some, None, find, eq-eqb}
 use Rattle.std.specs.List.{All, AllPairs, Contains}
 use Rattle.std.proofs.lemmas.Bool.{cases_order, and_parts, and_from, ltb-true, lt-ltb, leb-true, le-leb, eqb-true, false_from_ne_true, true_from_ne_false, false≢true}
 use Rattle.std.proofs.lemmas.List.{get_or_default}
@@ -57,13 +57,13 @@ pub apart_at : (gaps : List Gap) (g h : Gap) (i j : ℕ) → AllPairs (λ a b. a
     → (g.start + g.len < h.start) ⊎ (h.start + h.len < g.start)
 apart_at gaps g h i j rising lt_i is_g lt_j is_h off = elim off [ inl low ↦ inl (before_at gaps g h i j rising low is_g lt_j is_h) | inr high ↦ inr (before_at gaps h g j i rising high is_h lt_i is_g) ]
 
-apart : (gaps : List Gap) (g h : Gap) → AllPairs (λ a b. a.start + a.len < b.start) gaps → Contains gaps g → Contains gaps h → (g ≡ h) ⊎ ((g.start + g.len < h.start) ⊎ (h.start + h.len < g.start))
+pub apart : (gaps : List Gap) (g h : Gap) → AllPairs (λ a b. a.start + a.len < b.start) gaps → Contains gaps g → Contains gaps h → (g ≡ h) ⊎ ((g.start + g.len < h.start) ⊎ (h.start + h.len < g.start))
 apart gaps g h rising (i, lt_i, is_g) (j, lt_j, is_h) = elim (cases_order i j) [
   | inl same ↦ inl (sym is_g ∙ (get_or_default gaps i g h lt_i ∙ (ap (λ (k : ℕ). get_or gaps k h) same ∙ is_h)))
   | inr off ↦ inr (apart_at gaps g h i j rising lt_i is_g lt_j is_h off)
 ]
 
-run_in : (gaps : List Gap) (taken : List Taken) (disk size len q : ℕ) (h : Gap) → AreGaps gaps taken disk size → Contains gaps h → IsIn h q → q + len ≤ size
+pub run_in : (gaps : List Gap) (taken : List Taken) (disk size len q : ℕ) (h : Gap) → AreGaps gaps taken disk size → Contains gaps h → IsIn h q → q + len ≤ size
     → ((s : ℕ) → q ≤ s → s < q + len → is_taken taken disk 1 s ≡ false) → q + len ≤ h.start + h.len
 run_in gaps taken disk size len q h are there in_h ends each = elim (cases_order (q + len) (h.start + h.len)) [
   | inl same ↦ omega arith

@@ -2,6 +2,7 @@ pub mod FreeLaws
 pub mod GapLaws
 pub mod GapTake
 pub mod GapWalk
+pub mod OneMap
 pub mod PlacedLaws
 pub mod PlacedWalk
 pub mod PlacedMaps

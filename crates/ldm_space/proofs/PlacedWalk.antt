@@ -1,5 +1,5 @@
 -- A walk over what is asked for, one after the other, places it.
-use Rattle.std.proofs.Common.{◌≡◌, ℕ, suc, ◌+◌, ◌<◌, ◌≤◌, ◌^◌, List, [], ◌∷◌, ◌++◌, length, get_or, map, take, drop, refl, sym, ap, subst, ◌∙◌, arith, Some, None, Err, drop-cons}
+use Rattle.std.proofs.Common.{◌≡◌, ℕ, suc, ◌+◌, ◌<◌, List, [], ◌∷◌, ◌++◌, length, get_or, map, take, drop, refl, sym, ap, subst, ◌∙◌, arith, Some, None, Err, drop-cons}
 use Rattle.std.proofs.lemmas.List.{take_more, take-append-drop, length-take-le}
 use Rattle.ldm_space.specs.declared.taken.Taken.{Taken}
 use Rattle.ldm_space.specs.declared.placed.Wanted.{Wanted}

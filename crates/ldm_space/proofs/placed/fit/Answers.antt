@@ -1,5 +1,4 @@
-use Rattle.std.proofs.Common.{◌≡◌, ◌+◌, ◌-◌, ◌<◌, ◌≤◌, ◌^◌, ℕ, sym, ◌∙◌, arith, Some, None}
-use Rattle.ldm_space.specs.Free.{first_free_start}
+use Rattle.std.proofs.Common.{◌-◌, ◌^◌, sym, ◌∙◌, arith}
 use Rattle.ldm_space.proofs.FreeLaws.{is_none}
 use Rattle.ldm_space.proofs.PlacedMaps.{limited, limited_none, none_limited}
 use Rattle.ldm_space.proofs.placed.fit.Goals as goal

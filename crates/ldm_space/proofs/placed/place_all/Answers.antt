@@ -1,9 +1,9 @@
-use Rattle.std.proofs.Common.{◌≡◌, ◌++◌, ◌∷◌, [], ℕ, ◌-◌, ◌^◌, ap, sym, ◌∙◌, refl, subst, arith, get_or, take, List, Some, None}
+use Rattle.std.proofs.Common.{◌≡◌, ◌++◌, ℕ, ◌-◌, ◌^◌, ap, sym, ◌∙◌, refl, subst, arith, get_or, take, List}
 use Rattle.std.proofs.lemmas.List.{take_all}
 use Rattle.ldm_space.specs.declared.taken.Taken.{Taken}
 use Rattle.ldm_space.specs.declared.placed.Wanted.{Wanted}
-use Rattle.ldm_space.specs.Free.{taken_in, first_free_start}
-use Rattle.ldm_space.specs.Gaps.{Gap, AreGaps}
+use Rattle.ldm_space.specs.Free.{taken_in}
+use Rattle.ldm_space.specs.Gaps.{AreGaps}
 use Rattle.ldm_space.specs.Placed.{taken_at, AreFirstFits}
 use Rattle.ldm_space.proofs.PlacedLaws.{fit_placed}
 use Rattle.ldm_space.proofs.PlacedWalk.{IsSoFar, starts_of, so_far_more, so_far_none}

@@ -1,8 +1,7 @@
-use Rattle.std.proofs.Common.{◌≡◌, ◌+◌, ◌-◌, ◌^◌, ◌<◌, ◌≤◌, refl, sym, ap, ◌∙◌, subst, arith, get_or, set, length, ℕ, List, Some, None, Option, true, false}
-use Rattle.std.specs.List.{All, position, remove}
+use Rattle.std.proofs.Common.{◌≡◌, ◌+◌, ◌^◌, ◌<◌, ◌≤◌, sym, ap, ◌∙◌, subst, arith, get_or, set, length, ℕ, List, Some, None, Option, false}
+use Rattle.std.specs.List.{All, position}
 use Rattle.std.proofs.lemmas.Bool.{leb-true}
 use Rattle.std.proofs.lemmas.List.Elements.{All-set}
-use Rattle.ldm_space.specs.Free.{Taken}
 use Rattle.ldm_space.specs.Gaps.{Gap, AreGaps, TakesFirst, is_long, first_gap, shorter, without_first}
 use Rattle.ldm_space.proofs.GapLaws.{IsFirstLong}
 use Rattle.ldm_space.proofs.GapTake.{first_at, starts_first, is_removed, is_shortened, none_long, none_starts, all_stay, takes_whole, takes_part, takes_none}
