@@ -6,11 +6,12 @@ use Rattle.ldm_group.specs.Database.{Database}
 use Rattle.ldm_copy.specs.Body.{IsBodyOf}
 use Rattle.ldm_found.specs.declared.found.Found.{Found}
 use Rattle.ldm_found.specs.declared.fault.OpenError.TheVariants.{Disk}
+use Rattle.ldm_found.specs.Facts.{LieOn}
 use Rattle.ldm_found.specs.Labels.{AreSameOutside}
 use Rattle.ldm_found.specs.Opening.{IsGroupIn}
 use Rattle.ldm_found.proofs.FoundLaws.{holds_group, one_image}
 use Rattle.ldm_store.specs.Healing.{AreSpared}
-use Rattle.ldm_store.specs.Sessions.{Opened, HoldsGroup}
+use Rattle.ldm_store.specs.Sessions.{Opened, HoldsGroup, RestsOn}
 use Rattle.ldm_store.proofs.EditLaws.{low_last, high_last, bodies_for}
 use Rattle.ldm_store.proofs.SettleLaws.{settles_still_only, one_group_since, settles_still, same_found, kept_from, session_is, holds_after, AreHealed}
 use Rattle.ldm_store.proofs.settling.settle.Goals as goal
@@ -241,3 +242,22 @@ returns-clause-each g c tells =
     let same = c.find_group.ensures.still.content ∙ c.sync_all.ensures.settles.content in
     subst (λ (s : Opened). AreHealed s (seen c.args.host.now).content (seen c.heal_all.new.host).content) (session_is c.in_ok-found.found c.of.result c.of.ensures.db c.of.ensures.labels)
     (λ disk lt. ⊎_elim (λ has. inl has) (λ is. inr (is ∙ ap (λ (l : List (List ℕ)). image l disk) same)) (c.in-Ok-heal_all.ensures.each tells disk lt))
+
+pub returns-clause-later : goal.returns-clause-later
+returns-clause-later g c =
+    let seen = g.H.Host.seen in
+    let a = seen c.args.host.now in
+    let b = seen c.sync_all.new.host in
+    let m = seen c.find_group.new.host in
+    later_trans a m (seen c.heal_all.new.host) (later_trans a b m c.sync_all.ensures.settles.later c.find_group.ensures.still.later) c.heal_all.ensures.later
+
+pub returns-clause-rests : goal.returns-clause-rests
+returns-clause-rests g c =
+    let seen = g.H.Host.seen in
+    let d = seen c.heal_all.new.host in
+    let found = c.in_ok-found.found in
+    let sizes = c.heal_all.ensures.later.sizes ∙ c.find_group.ensures.still.later.sizes in
+    subst (λ (s : Opened). RestsOn s d) (session_is found c.of.result c.of.ensures.db c.of.ensures.labels) (record {
+      lie = subst (λ (l : List ℕ). LieOn found.labels l) (sym sizes) c.in_ok-found.ensures.lies;
+      settled = c.in-Ok-heal_all.ensures.settled;
+    })
