@@ -84,10 +84,10 @@ module _ {seed : ℕ} {start host : MemoryHost} {status : Status} {found : Found
       let of_group = subst (λ (b : Bool). IsAnswerToScript b (memory_seen start).input (memory_seen start).content answer) not_long is in
       let same : of_group.0 ≡ Ok found = one_group (memory_seen start).content of_group.0 (Ok found) of_group.1 starts.holds in
       ap (λ (a : Answer). a.0) (
-        of_group.2
-        ∙ ap (group_answer (try_answer (commands_in (memory_seen start).input))) same
-        ∙ ap (λ (script : List ℕ). try_answer (commands_in script) found) starts.input
-        ∙ ap (λ (blocked : Option OpenFault). unless_blocked blocked (replies_from 1 (replies_to found.labels found.db (sample_lines seed)))) starts.group.blocked_is)
+      of_group.2
+      ∙ ap (group_answer (try_answer (commands_in (memory_seen start).input))) same
+      ∙ ap (λ (script : List ℕ). try_answer (commands_in script) found) starts.input
+      ∙ ap (λ (blocked : Option OpenFault). unless_blocked blocked (replies_from 1 (replies_to found.labels found.db (sample_lines seed)))) starts.group.blocked_is)
 
   said_is : (memory_seen host).said ≡ text_of_replies 1 (replies_to found.labels found.db (sample_lines seed))
   said_is =
@@ -178,9 +178,12 @@ module _ {seed : ℕ} {host : MemoryHost} {other : Found} (is : IsSampleHost see
       let up = sequence_is in
       let said = lines_said in
       let one : done ≡ count_by is_done (replies_to is.found.labels is.found.db (sample_lines seed)) = omega (arith, up, done_is) in
-      let two : refused ≡ count_by is_refused (replies_to is.found.labels is.found.db (sample_lines seed)) = omega (arith, all, one, said, refused_is) in
-      (is.found, is.starts.group, ap (λ (t : List ℕ). (t, Done)) (
-        text_is
-        ∙ ap (λ (n : ℕ). text_of_summary seed n refused other.db.header.seq (need_of other.db.records) (room_of other.db.header.last)) one
-        ∙ ap (λ (n : ℕ). text_of_summary seed (count_by is_done (replies_to is.found.labels is.found.db (sample_lines seed))) n other.db.header.seq (need_of other.db.records) (room_of other.db.header.last)) two
-        ∙ ap (λ (c : Core). text_of_summary seed (count_by is_done (replies_to is.found.labels is.found.db (sample_lines seed))) (count_by is_refused (replies_to is.found.labels is.found.db (sample_lines seed))) c.seq (need_of c.records) (room_of c.last)) same_group))
+      let two : refused ≡ count_by is_refused (replies_to is.found.labels is.found.db (sample_lines seed)) = omega (arith, all, one, said, refused_is) in (
+        is.found,
+        is.starts.group,
+        ap (λ (t : List ℕ). (t, Done)) (
+            text_is
+            ∙ ap (λ (n : ℕ). text_of_summary seed n refused other.db.header.seq (need_of other.db.records) (room_of other.db.header.last)) one
+            ∙ ap (λ (n : ℕ). text_of_summary seed (count_by is_done (replies_to is.found.labels is.found.db (sample_lines seed))) n other.db.header.seq (need_of other.db.records) (room_of other.db.header.last)) two
+            ∙ ap (λ (c : Core). text_of_summary seed (count_by is_done (replies_to is.found.labels is.found.db (sample_lines seed))) (count_by is_refused (replies_to is.found.labels is.found.db (sample_lines seed))) c.seq (need_of c.records) (room_of c.last)) same_group),
+      )

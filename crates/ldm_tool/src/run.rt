@@ -65,7 +65,11 @@ const _: () = prove!(Status::NoMemory as i32 == 4);
 const _: () = prove!(Status::TalkFault as i32 == 5);
 
 /// Says a text that was made, whole.
-pub(crate) fn say_made<H: Host>(host: &mut H, made: Result<Bytes, NoMemory>, status: Status) -> Status
+pub(crate) fn say_made<H: Host>(
+    host: &mut H,
+    made: Result<Bytes, NoMemory>,
+    status: Status,
+) -> Status
     requires { HasAnswer status }
     ensures says { (text : List ℕ) → IfOk made (λ m. m ≡ text)
         → OnlyReads H.tells_talk (H.seen host.old) (H.seen host.new) (λ answer. answer ≡ (text, status)) result }

@@ -44,7 +44,9 @@ fn summary_text(
 ) -> Result<Bytes, NoMemory>
     ensures { IfOk result (λ text. text ≡ text_of_summary seed done refused seq need room) }
 {
-    let text = format!(in alloc; "sample {seed} ok {done} refused {refused} sequence {seq} blocks {need} of {room}\n")?;
+    let text = format!(in alloc;
+        "sample {seed} ok {done} refused {refused} sequence {seq} blocks {need} of {room}\n"
+    )?;
     Ok(Bytes::from_vec(text.into_bytes()))
 }
 

@@ -33,14 +33,18 @@ fn span_line(alloc: Global, line: u64, value: u64) -> Result<String, NoMemory>
 {
     let disk = 1 + value % 3;
     let size = 1 + value / 3 % 64;
-    Ok(format!(in alloc; "create V{line} eeeeeeee-eeee-eeee-eeee-eeeeeeeeeeee span Disk{disk}={size}\n")?)
+    Ok(format!(in alloc;
+        "create V{line} eeeeeeee-eeee-eeee-eeee-eeeeeeeeeeee span Disk{disk}={size}\n"
+    )?)
 }
 
 fn mirror_line(alloc: Global, line: u64, value: u64) -> Result<String, NoMemory>
     ensures { IfOk result (λ text. string_bytes text ≡ mirror_line line value) }
 {
     let size = 1 + value % 64;
-    Ok(format!(in alloc; "create V{line} eeeeeeee-eeee-eeee-eeee-eeeeeeeeeeee mirror {size} Disk1 Disk2\n")?)
+    Ok(format!(in alloc;
+        "create V{line} eeeeeeee-eeee-eeee-eeee-eeeeeeeeeeee mirror {size} Disk1 Disk2\n"
+    )?)
 }
 
 fn extend_line(alloc: Global, line: u64, value: u64) -> Result<String, NoMemory>
