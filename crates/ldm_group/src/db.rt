@@ -1,5 +1,4 @@
 use crate::error::DbError;
-use crate::index::Index;
 use crate::order::{first_twice, id_of, kind_of, place_of};
 use crate::records::Records;
 use ldm_records::Record;
@@ -7,35 +6,31 @@ use ldm_vmdb::Header;
 use std::alloc::Global;
 use std::marker::Model;
 
-/// A group's header and its records, in rising order of kind and id, with the index by which they are
-/// looked up.
+/// A group's header and its records, in rising order of kind and id.
 #[derive(Drop)]
 pub struct Db {
     header: Header,
     records: Records,
-    index: Index,
 }
 
 impl Model for Db {
     ghost use Rattle.ldm_group.specs.Database.{Database};
-    ghost use Rattle.ldm_group.specs.Index.{IsIndexOf};
     ghost use Rattle.ldm_group.specs.Order.{Rising};
 
     ghost Value = { Database };
 
     ghost view = { λ d. record { header = d.header; records = d.records } };
 
-    ghost invariant = { λ d. Rising d.records × IsIndexOf d.index d.records };
+    ghost invariant = { λ d. Rising d.records };
 }
 
 impl Db {
     ghost use Rattle.std.specs.Prelude.{◌≡◌, ◌<◌, length, slice_get, Some};
     ghost use Rattle.ldm_group.specs.Order.{Rising};
     ghost use Rattle.ldm_group.specs.Database.{Database, MakesDb};
-    ghost use Rattle.ldm_group.specs.Index.{IsIndexOf};
 
     /// The database of this header, with the records in their order.
-    pub fn new(alloc: Global, header: Header, records: Vec<Record>) -> Result<Db, DbError>
+    pub fn new(_alloc: Global, header: Header, records: Vec<Record>) -> Result<Db, DbError>
         ensures { MakesDb result header records.items }
     {
         let mut records = records;
@@ -46,11 +41,9 @@ impl Db {
                 id: id_of(&records[at]),
             });
         }
-        let index = Index::of(alloc, records.as_slice())?;
         Ok(Db {
             header,
             records: Records::from_vec(records),
-            index,
         })
     }
 
@@ -73,13 +66,6 @@ impl Db {
         ensures rising { Rising self.now.records }
     {
         self.records.as_slice()
-    }
-
-    /// What the records are looked up by.
-    pub(crate) fn index(&self) -> &Index
-        ensures { IsIndexOf result.now self.now.records }
-    {
-        &self.index
     }
 
     /// The record at a place of the list.

@@ -1,8 +1,7 @@
-use Rattle.std.proofs.Common.{rules, sym, refl, subst, ◌∙◌}
+use Rattle.std.proofs.Common.{rules, sym, refl, subst}
 use Rattle.std.specs.List.Sorted.{IsNonDecreasingBy, IsPermutation}
 use Rattle.std.proofs.lemmas.List.Sorted.{IsNonDecreasingBy-from_sort_by_key}
 use Rattle.ldm_group.specs.Order.{Rising, place_of, IsFirstTwice, NoneTwice}
-use Rattle.ldm_group.specs.Index.{IsIndexOf}
 use Rattle.ldm_group.proofs.Rise.{strictly}
 use Rattle.ldm_group.proofs.OrderLaws.{found_twice}
 use Rattle.ldm_group.proofs.db.Db.new.Goals as goal
@@ -16,14 +15,12 @@ returns-in-Some c =
 
 pub invariant_of-result : goal.invariant_of-result
 invariant_of-result c =
-    let up : IsNonDecreasingBy place_of c.sort_by_key.new.self.items = IsNonDecreasingBy-from_sort_by_key place_of _ c.in_ok-sort_by_key.ensures.sorted (λ a r q k. search rules) in (
-      subst Rising (sym c.from_vec.ensures) (strictly place_of c.sort_by_key.new.self.items up (subst NoneTwice c.as_slice.ensures.value c.in_default.ensures)),
-      subst (IsIndexOf c.in_ok-index.index) (c.as_slice-2.ensures.value ∙ sym c.from_vec.ensures) c.in_ok-index.ensures,
-    )
+    let up : IsNonDecreasingBy place_of c.sort_by_key.new.self.items = IsNonDecreasingBy-from_sort_by_key place_of _ c.in_ok-sort_by_key.ensures.sorted (λ a r q k. search rules) in
+    subst Rising (sym c.from_vec.ensures) (strictly place_of c.sort_by_key.new.self.items up (subst NoneTwice c.as_slice.ensures.value c.in_default.ensures))
 
 pub returns : goal.returns
 returns c = record {
   header_is = refl;
   same = subst (λ xs. IsPermutation c.args.records.items xs) (sym c.from_vec.ensures) c.sort_by_key.ensures.permutation;
-  rising = (invariant_of-result c).0;
+  rising = invariant_of-result c;
 }
