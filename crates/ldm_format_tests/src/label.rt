@@ -1,12 +1,11 @@
 use crate::made::bytes_of;
 use ldm_host::{Host, MemoryHost};
-use ldm_images::usual_images;
 use ldm_label::LabelFault::*;
 use ldm_label::{Label, LabelError, LabelFault, read_label, write_label};
 use std::alloc::Global;
 use std::test::Fail;
 
-// The label of the first image of the usual group.
+// A usual label, which is that of the first image of the sample group.
 const USUAL: Label = Label {
     disk_guid: 0x1111_1111_1111_1111_1111_1111_1111_1111,
     minor: 11,
@@ -53,7 +52,14 @@ fn change(alloc: Global, image: &mut [u8], text: &str) -> Result<(), Fail> {
     Ok(())
 }
 
-// A host that has the first image of the usual group, changed and cut to so many sectors. The calls
+// An image of zeros but for the usual label.
+fn labelled(alloc: Global) -> Result<Vec<u8>, Fail> {
+    let mut image = vec![in alloc; 0u8; 8192 * 512]?;
+    write_label(&mut image, &USUAL);
+    Ok(image)
+}
+
+// A host that has an image with the usual label, changed and cut to so many sectors. The calls
 // with these numbers fail.
 fn host_with(
     alloc: Global,
@@ -61,14 +67,12 @@ fn host_with(
     sectors: usize,
     failing: &[u64],
 ) -> Result<MemoryHost, Fail> {
-    let mut images = usual_images(alloc)?;
-    images.truncate(1);
-    for image in images.iter_mut() {
-        for text in changes.split_whitespace() {
-            change(alloc, image, text)?;
-        }
-        image.truncate(sectors.saturating_mul(512));
+    let mut image = labelled(alloc)?;
+    for text in changes.split_whitespace() {
+        change(alloc, &mut image, text)?;
     }
+    image.truncate(sectors.saturating_mul(512));
+    let images = vec![in alloc; image]?;
     let host = MemoryHost::new(alloc, images, Vec::new(alloc))?;
     Ok(host.with_failures(Vec::from_slice(alloc, failing)?))
 }
@@ -195,8 +199,7 @@ T4+46='log T4+50=00000000000005da00000000000000e0";
 
 #[test]
 fn written_label(rt: HostRuntime) -> Result<(), Fail> {
-    let mut image = vec![in rt.alloc(); 0u8; 8192 * 512]?;
-    write_label(&mut image, &USUAL);
+    let image = labelled(rt.alloc())?;
     let mut want = vec![in rt.alloc(); 0u8; 8192 * 512]?;
     for text in WRITTEN.split_whitespace() {
         change(rt.alloc(), &mut want, text)?;
