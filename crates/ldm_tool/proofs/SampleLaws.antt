@@ -1,11 +1,14 @@
 -- What a host in memory has been through that did the sample script, and its summary.
-use Rattle.std.proofs.Common.{◌≡◌, ◌⊎◌, inl, inr, ⊎_elim, ℕ, suc, ◌+◌, ◌-◌, ◌≤◌, ◌<◌, Bool, true, false, List, [], ◌∷◌, ◌++◌, length, take, refl, sym, ap, subst, ◌∙◌, arith, ⊤, Option, None, Ok, Result}
-use Rattle.std.specs.Prelude.{count_by, min}
+use Rattle.std.proofs.Common.{◌≡◌, ◌⊎◌, inl, inr, ⊎_elim, ℕ, suc, ◌+◌, ◌-◌, ◌≤◌, ◌<◌, Bool, true, false, List, [], ◌∷◌, ◌++◌, length, take, refl, sym, ap, subst, ◌∙◌, arith, Option, None, Ok, Result}
+use Rattle.std.specs.Prelude.{⊤, count_by, min}
+use Rattle.std.proofs.Props.{props}
+use mathlib.Core.HLevel.{is_prop→PathP}
 use Rattle.std.proofs.lemmas.Bool.{le-ltb}
 use Rattle.std.proofs.lemmas.List.{append-nil}
 use Rattle.std.proofs.Math.Seq.{take-length}
 use Rattle.ldm_host.specs.Seen.{Leaves}
 use Rattle.ldm_host.specs.declared.memory.MemoryHost.{MemoryHost}
+use Rattle.ldm_host.specs.Moves.{Settled}
 use Rattle.ldm_host.specs.Memory.{memory_seen, counts_of}
 use Rattle.ldm_host.specs.Laws.{law_counts_now, law_one_each, law_may_stay}
 use Rattle.ldm_label.specs.declared.Label.{Label}
@@ -24,8 +27,9 @@ use Rattle.ldm_found.specs.Opening.{IsGroupIn}
 use Rattle.ldm_found.proofs.GroupLaws.{one_group}
 use Rattle.ldm_store.proofs.SettleLaws.{same_found}
 use Rattle.ldm_text.specs.Reply.{text_of_replies}
-use Rattle.ldm_copy.proofs.OneCopy.{same_header, same_database}
-use Rattle.ldm_vectors.specs.Sample.{IsSampleGroup, IsSampleDatabase}
+use Rattle.ldm_vmdb.specs.declared.header.Header.{Header}
+use Rattle.ldm_vmdb.specs.Sectors.{IsKept}
+use Rattle.ldm_vectors.specs.Sample.{AreSampleImages, IsSampleGroup, IsSampleDatabase}
 use Rattle.ldm_vectors.specs.Script.{script_of}
 use Rattle.ldm_tool.specs.declared.run.Status.{Status}
 use Rattle.ldm_tool.specs.declared.run.Status.TheVariants.{Done}
@@ -41,12 +45,26 @@ use Rattle.ldm_tool.proofs.TurnLists.{replies_length}
 
 -- ---- one answer
 
+kept_prop : (last : ℕ) (name : List ℕ) (guid : ℕ) (raw : List ℕ) → IsProp (IsKept last name guid raw)
+kept_prop last name guid raw = hlevel props
+
+same_header : (a b : Header) → a.last ≡ b.last → a.seq ≡ b.seq → a.name ≡ b.name → a.guid ≡ b.guid → a.raw ≡ b.raw → a ≡ b
+same_header a b last seq name guid raw = λ i. record {
+  last = last i;
+  seq = seq i;
+  name = name i;
+  guid = guid i;
+  raw = raw i;
+  kept = is_prop→PathP (λ j. IsKept (last j) (name j) (guid j) (raw j)) (λ j. kept_prop (last j) (name j) (guid j) (raw j)) a.kept b.kept i;
+}
+
 one_database : (disks last : ℕ) (a b : Database) → IsSampleDatabase disks last a → IsSampleDatabase disks last b → a ≡ b
 one_database disks last a b x y =
     let p = x.header_is in
     let q = y.header_is in
     let header = same_header a.header b.header (p.last_is ∙ sym q.last_is) (p.seq_is ∙ sym q.seq_is) (p.name_is ∙ sym q.name_is) (p.guid_is ∙ sym q.guid_is) (p.raw_is ∙ sym q.raw_is) in
-    same_database a b header (x.records_are ∙ sym y.records_are)
+    let records = x.records_are ∙ sym y.records_are in
+    λ i. record { header = header i; records = records i }
 
 pub one_sample : (seed : ℕ) (a b : Answer) → IsSampleAnswer seed a → IsSampleAnswer seed b → a ≡ b
 one_sample seed a b x y =
@@ -61,7 +79,7 @@ one_sample seed a b x y =
 pub holds_now : (m : MemoryHost) → (memory_seen m).left_since 0 (memory_seen m).content (memory_seen m).said
 holds_now m = law_counts_now m 0 (memory_seen m).content (omega arith) (record { one_each = law_one_each m; each = λ disk lt. law_may_stay m disk })
 
-module _ {seed : ℕ} {start host : MemoryHost} {status : Status} {found : Found} (starts : IsSampleStart seed found start) (short : length (script_of seed) ≤ 20000)
+module _ {seed : ℕ} {start : MemoryHost} (host : MemoryHost) {status : Status} {found : Found} (starts : IsSampleStart seed found start) (short : length (script_of seed) ≤ 20000)
     (does : HearsAndEdits ⊤ ⊤ (memory_seen start) (memory_seen host) status) (has : HasAnswer status) (dry : (counts_of host).dry ≡ 0) (first : (memory_seen start).left_since 0 (memory_seen start).content (memory_seen start).said) where
   not_long : is_long (memory_seen start).input ≡ false
   not_long = le-ltb 1048576 (length (memory_seen start).input) (rw starts.input (omega (arith, short)))
@@ -110,6 +128,28 @@ module _ {seed : ℕ} {start host : MemoryHost} {status : Status} {found : Found
         subst (λ (l : List (Option Command)). Reopens found.labels found.db l (memory_seen start) images said) lines_are
         (does.stops tt starts.settled found starts.holds starts.group.blocked_is images said (subst (λ (t : ℕ). (memory_seen host).left_since t images said) (sym starts.clock) left));
   }
+
+-- a host that was made of the sample images and the sample script
+pub started : {seed : ℕ} {host : MemoryHost} (images : List (List ℕ)) (found : Found) → AreSampleImages 3 512 images → IsGroupIn images (Ok found) → IsSampleGroup 3 512 found → (memory_seen host).content ≡ images
+    → ((disk : ℕ) → Settled (memory_seen host) disk) → (memory_seen host).clock ≡ 0 → (memory_seen host).said ≡ [] → (memory_seen host).heard ≡ [] → (memory_seen host).input ≡ script_of seed → IsSampleStart seed found host
+started {seed} {host} images found made holds group content settled clock said heard input = record {
+  images = subst (λ (l : List (List ℕ)). AreSampleImages 3 512 l) (sym content) made;
+  holds = subst (λ (l : List (List ℕ)). IsGroupIn l (Ok found)) (sym content) holds;
+  group = group;
+  settled = λ disk lt. settled disk;
+  clock = clock;
+  said = said;
+  heard = heard;
+  input = input;
+}
+
+-- it has disks
+pub some_disk : {seed : ℕ} {host : MemoryHost} → IsSampleHost seed host → 0 < length (memory_seen host).sizes
+some_disk {seed} {host} is =
+    let three = is.starts.images.images_are.count in
+    let one_each = law_one_each is.start in
+    let sizes = ap length is.sizes in
+    omega (arith, three, one_each, sizes)
 
 -- ---- the summary
 

@@ -22,11 +22,16 @@ use Rattle.ldm_tool.specs.Written.{HoldsAfter}
 
 -- ---- the answer
 
--- how many lines were done and refused, and what the group is then
+-- how many lines were done and refused
+abbrev pub text_of_counts : (seed done refused : ℕ) → List ℕ
+text_of_counts seed done refused = codes "sample " ++ decimal seed ++ codes " ok " ++ decimal done ++ codes " refused " ++ decimal refused
+
+-- and what the group is then
+abbrev pub text_of_group : (seq need room : ℕ) → List ℕ
+text_of_group seq need room = codes " sequence " ++ decimal seq ++ codes " blocks " ++ decimal need ++ codes " of " ++ decimal room ++ codes "\n"
+
 abbrev pub text_of_summary : (seed done refused seq need room : ℕ) → List ℕ
-text_of_summary seed done refused seq need room =
-    codes "sample " ++ decimal seed ++ codes " ok " ++ decimal done ++ codes " refused " ++ decimal refused
-    ++ codes " sequence " ++ decimal seq ++ codes " blocks " ++ decimal need ++ codes " of " ++ decimal room ++ codes "\n"
+text_of_summary seed done refused seq need room = text_of_counts seed done refused ++ text_of_group seq need room
 
 -- of these replies, after which the group is this
 abbrev pub summary_of : ℕ → List Reply → Database → List ℕ

@@ -1,8 +1,8 @@
 //! The sample: a script from a seed, done to a group of three images in memory.
-ghost use Rattle.std.specs.Prelude.{◌≡◌, ◌≢◌, ◌==◌, count_by, IfOk};
+ghost use Rattle.std.specs.Prelude.{◌≡◌, ◌≢◌, ◌==◌, count_by, IfOk, string_bytes};
 ghost use Rattle.ldm_tool.specs.declared.run.Status.{Status as Ending};
 ghost use Rattle.ldm_tool.specs.Runs.{OnlyReads};
-ghost use Rattle.ldm_tool.specs.Sample.{text_of_summary, IsSampleAnswer, IsSampleHost};
+ghost use Rattle.ldm_tool.specs.Sample.{text_of_counts, text_of_group, text_of_summary, IsSampleAnswer, IsSampleHost};
 
 use crate::run::{Status, edit, say_made};
 use ldm_bytes::{Bytes, NoMemory};
@@ -32,6 +32,18 @@ fn count_lines(text: &[u8]) -> u64
     text.iter().filter(|b| **b == b'\n').count() as u64
 }
 
+fn counts_text(alloc: Global, seed: u64, done: u64, refused: u64) -> Result<String, NoMemory>
+    ensures { IfOk result (λ text. string_bytes text ≡ text_of_counts seed done refused) }
+{
+    Ok(format!(in alloc; "sample {seed} ok {done} refused {refused}")?)
+}
+
+fn group_text(alloc: Global, seq: u64, need: u64, room: u64) -> Result<String, NoMemory>
+    ensures { IfOk result (λ text. string_bytes text ≡ text_of_group seq need room) }
+{
+    Ok(format!(in alloc; " sequence {seq} blocks {need} of {room}\n")?)
+}
+
 // The line that says how many lines of the script were done and refused, and what the group is then.
 fn summary_text(
     alloc: Global,
@@ -44,10 +56,9 @@ fn summary_text(
 ) -> Result<Bytes, NoMemory>
     ensures { IfOk result (λ text. text ≡ text_of_summary seed done refused seq need room) }
 {
-    let text = format!(in alloc;
-        "sample {seed} ok {done} refused {refused} sequence {seq} blocks {need} of {room}\n"
-    )?;
-    Ok(Bytes::from_vec(text.into_bytes()))
+    let mut text = counts_text(alloc, seed, done, refused)?.into_bytes();
+    text.extend_from_slice(group_text(alloc, seq, need, room)?.as_bytes())?;
+    Ok(Bytes::from_vec(text))
 }
 
 // The summary of what such a host said and holds. The group began at sequence 7, and each line that was done took it one
