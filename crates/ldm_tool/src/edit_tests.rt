@@ -162,7 +162,8 @@ $ edit on A B C
 ! *.copy+412=80
 ! *.copy+417=4d
 ! *.copy+463=0100
-$ extend Data Disk1=1 on A B C
+$ try on A B C
+< extend Data Disk1=1
 1 refused: second size
 = 1";
 
@@ -294,7 +295,8 @@ $ create Data bbbbbbbb-bbbb-bbbb-bbbb-bbbbbbbbbbbb span Disk3=1 on A B C
 1 ok 8
 = 0 ABC
 ! *.copy+75=ffffffffffffffff
-$ delete Data on A B C
+$ try on A B C
+< delete Data
 1 refused: sequence spent
 = 1";
 
@@ -326,7 +328,8 @@ vol5 5 Data 448
 cmp3 6 c6 46
 prt3 7 p7 47
 = 0
-$ extend Data Disk1=1 on A B C
+$ try on A B C
+< extend Data Disk1=1
 1 refused: record 5 too long
 = 1
 $ delete Data on A B C
