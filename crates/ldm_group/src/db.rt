@@ -1,6 +1,7 @@
+use crate::catalog::Catalog;
 use crate::error::DbError;
+use crate::index::Index;
 use crate::order::{first_twice, id_of, kind_of, place_of};
-use crate::records::Records;
 use ldm_records::Record;
 use ldm_vmdb::Header;
 use std::alloc::Global;
@@ -10,7 +11,7 @@ use std::marker::Model;
 #[derive(Drop)]
 pub struct Db {
     header: Header,
-    records: Records,
+    records: Catalog,
 }
 
 impl Model for Db {
@@ -28,9 +29,10 @@ impl Db {
     ghost use Rattle.std.specs.Prelude.{◌≡◌, ◌<◌, length, slice_get, Some};
     ghost use Rattle.ldm_group.specs.Order.{Rising};
     ghost use Rattle.ldm_group.specs.Database.{Database, MakesDb};
+    ghost use Rattle.ldm_group.specs.Index.{IsIndexOf};
 
     /// The database of this header, with the records in their order.
-    pub fn new(_alloc: Global, header: Header, records: Vec<Record>) -> Result<Db, DbError>
+    pub fn new(alloc: Global, header: Header, records: Vec<Record>) -> Result<Db, DbError>
         ensures { MakesDb result header records.items }
     {
         let mut records = records;
@@ -43,7 +45,7 @@ impl Db {
         }
         Ok(Db {
             header,
-            records: Records::from_vec(records),
+            records: Catalog::of(alloc, records)?,
         })
     }
 
@@ -66,6 +68,13 @@ impl Db {
         ensures rising { Rising self.now.records }
     {
         self.records.as_slice()
+    }
+
+    /// What the records are looked up by.
+    pub(crate) fn index(&self) -> &Index
+        ensures { IsIndexOf result.now self.now.records }
+    {
+        self.records.index()
     }
 
     /// The record at a place of the list.
