@@ -311,7 +311,7 @@ same_kept a b e = ap (λ (x : Fed). x.blocks) (sym e)
 
 -- ---- blocks that are fed in their order
 
-pub chunk_there : (n : ℕ) (blocks : List ℕ) (i : ℕ) (d : List ℕ) → i < n → get_or (first_chunks 128 n blocks) i d ≡ take 128 (drop (128 * i) blocks)
+chunk_there : (n : ℕ) (blocks : List ℕ) (i : ℕ) (d : List ℕ) → i < n → get_or (first_chunks 128 n blocks) i d ≡ take 128 (drop (128 * i) blocks)
 chunk_there zero blocks i d lt = absurd (omega arith)
 chunk_there (suc n) blocks zero d lt = refl
 chunk_there (suc n) blocks (suc i) d lt =
@@ -320,7 +320,7 @@ chunk_there (suc n) blocks (suc i) d lt =
     ∙ ap (take 128) (drop-drop (128 * i) 128 blocks ∙ ap (λ (m : ℕ). drop m blocks) (sym skip))
 
 -- one block more is fed
-pub take_block : (blocks block : List ℕ) (i : ℕ) → block ≡ take 128 (drop (128 * i) blocks) → take (128 * i) blocks ++ block ≡ take (128 * (i + 1)) blocks
+take_block : (blocks block : List ℕ) (i : ℕ) → block ≡ take 128 (drop (128 * i) blocks) → take (128 * i) blocks ++ block ≡ take (128 * (i + 1)) blocks
 take_block blocks block i e =
     ap (λ (x : List ℕ). take (128 * i) blocks ++ x) e ∙ sym (ap (λ (m : ℕ). take m blocks) (omega arith) ∙ take-add (128 * i) 128 blocks)
 
@@ -331,7 +331,7 @@ pub fed_count : (joiner : Fed) (blocks : List ℕ) (i : ℕ) → i ≤ count blo
 fed_count joiner blocks i le fed = fed.many ∙ take_count blocks i le
 
 -- the fault of a block, none before which has one, is the first
-pub fault_met : (blocks block : List ℕ) (joiner : Fed) (i : ℕ) (e : FragError) → i < count blocks → block ≡ take 128 (drop (128 * i) blocks) → IsFed joiner (take (128 * i) blocks)
+fault_met : (blocks block : List ℕ) (joiner : Fed) (i : ℕ) (e : FragError) → i < count blocks → block ≡ take 128 (drop (128 * i) blocks) → IsFed joiner (take (128 * i) blocks)
     → IsFault e (block_fault (take (128 * i) blocks ++ block) (count (take (128 * i) blocks))) → IsFault e (first_below (count blocks) (block_fault blocks))
 fault_met blocks block joiner i NoMemory lt is fed found = tt
 fault_met blocks block joiner i (Fault f) lt is fed found = first_there (count blocks) i (block_fault blocks) f lt clean here
@@ -357,3 +357,14 @@ fault_met blocks block joiner i (Fault f) lt is fed found = first_there (count b
         ∙ fault_before (take (128 * (i + 1)) blocks) (drop (128 * (i + 1)) blocks) i (omega (arith, more))
         ∙ ap (λ (x : List ℕ). block_fault x i) (sym (take_block blocks block i is))
         ∙ ap (block_fault (take (128 * i) blocks ++ block)) (sym at) ∙ found
+
+chunk_is : (blocks : List ℕ) (chunks : List (List ℕ)) (i : ℕ) (d : List ℕ) → chunks ≡ first_chunks 128 (count blocks) blocks → i < count blocks → get_or chunks i d ≡ take 128 (drop (128 * i) blocks)
+chunk_is blocks chunks i d e lt = ap (λ (x : List (List ℕ)). get_or x i d) e ∙ chunk_there (count blocks) blocks i d lt
+
+pub chunk_fed : (joiner : Fed) (blocks : List ℕ) (chunks : List (List ℕ)) (i : ℕ) (d : List ℕ) → chunks ≡ first_chunks 128 (count blocks) blocks → i < count blocks → IsFed joiner (take (128 * i) blocks ++ get_or chunks i d)
+    → IsFed joiner (take (128 * (i + 1)) blocks)
+chunk_fed joiner blocks chunks i d e lt fed = subst (IsFed joiner) (take_block blocks (get_or chunks i d) i (chunk_is blocks chunks i d e lt)) fed
+
+pub chunk_fault : (joiner : Fed) (blocks : List ℕ) (chunks : List (List ℕ)) (i : ℕ) (d : List ℕ) (e : FragError) → chunks ≡ first_chunks 128 (count blocks) blocks → i < count blocks → IsFed joiner (take (128 * i) blocks)
+    → IsFault e (block_fault (take (128 * i) blocks ++ get_or chunks i d) (count (take (128 * i) blocks))) → IsFault e (first_below (count blocks) (block_fault blocks))
+chunk_fault joiner blocks chunks i d e is lt fed found = fault_met blocks (get_or chunks i d) joiner i e lt (chunk_is blocks chunks i d is lt) fed found
