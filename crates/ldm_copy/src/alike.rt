@@ -90,7 +90,7 @@ fn is_same<H: Host>(
 }
 
 /// Whether the config areas of two disks have room for this last VBLK sequence, and the same header sector
-/// and blocks in use. Then the copy in one is that in the other.
+/// and blocks in use. Then a valid copy with that sequence in one is the copy in the other.
 ///
 /// It reads a few sectors of each disk at a time, up to the first that differ, and takes no memory for them.
 pub fn is_alike<H: Host>(
@@ -107,7 +107,7 @@ pub fn is_alike<H: Host>(
     requires other_fits { Fits other_label.now (slice_index (H.seen host.old).sizes other) }
     ensures is { H.tells_disks → IfOk result (λ alike. IsTrue alike ↔ AreAlike last
         (label.now, image (H.seen host.old).content disk) (other_label.now, image (H.seen host.old).content other)) }
-    // What the copy on the other disk is, that on this disk is too.
+    // A valid copy with that sequence on the other disk is the copy on this disk.
     ensures copy { H.tells_disks → IfOk result (λ alike. IsTrue alike → (db : Database) → db.header.last ≡ last
         → IsWritten other_label.now db (image (H.seen host.old).content other)
         → IsWritten label.now db (image (H.seen host.old).content disk)) }
