@@ -154,7 +154,7 @@ fn with_image<H: Host>(
         return Ok((newest, note));
     }
     let copy = copy_at(alloc, host, disk, label)?;
-    let note = match &newest { Some(Newest { db, .. }) => Note::Sequence(db.header().seq), None => note_of(&copy) };
+    let note = note_of(&copy);
     Ok((with_copy(newest, disk, copy), note))
 }
 
