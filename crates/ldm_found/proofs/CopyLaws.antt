@@ -86,6 +86,10 @@ pub copies_passed : (labels : List Label) (images : List (List ℕ)) (r : Result
 copies_passed labels images (Ok read) error is reads = absurd is
 copies_passed labels images (Err e) error is reads = subst (λ (x : OpenError). ReadsCopies labels images (Err x)) (sym is) reads
 
+-- an error that is passed on as Disk was Disk
+pub passed_disk : {T : Type 0} (r : Result T OpenError) (error : OpenError) → IsErrAnd r (λ e. e ≡ error) → r ≡ Err Disk → error ≡ Disk
+passed_disk {T} r error is disk = sym (subst (λ (x : Result T OpenError). IsErrAnd x (λ e. e ≡ error)) disk is)
+
 -- a fault behind copies that have none is the first of the group
 pub copy_fault : (labels : List Label) (images content : List (List ℕ)) (i : ℕ) (d : Label) (newest : Option Newest) (notes : List Note) (error : OpenError)
     → content ≡ images → i < length labels → length images ≡ length labels → HaveCopies labels images i newest notes

@@ -1,13 +1,19 @@
-use Rattle.std.proofs.Common.{◌≡◌, ℕ, List, length, Ok, subst, arith}
+use Rattle.std.proofs.Common.{◌≡◌, ℕ, List, length, Ok, Err, ap, subst, arith}
 use Rattle.ldm_host.specs.Seen.{image}
-use Rattle.ldm_host.proofs.Relations.{still_trans}
+use Rattle.ldm_host.proofs.Relations.{still_trans, rose_sooner}
+use Rattle.ldm_found.specs.declared.fault.OpenError.{OpenError}
 use Rattle.ldm_found.specs.Copies.{IsCopyIn}
-use Rattle.ldm_found.proofs.CopyLaws.{one_copy_each}
+use Rattle.ldm_found.proofs.CopyLaws.{one_copy_each, passed_disk}
 use Rattle.ldm_found.proofs.copies.with_image.Goals as goal
 
 pub returns-in_err-copy-clause-still : goal.returns-in_err-copy-clause-still
 returns-in_err-copy-clause-still g c =
     still_trans (g.H.Host.seen c.args.host.now) (g.H.Host.seen c.note_alike.new.host) (g.H.Host.seen c.copy_at.new.host) c.note_alike.ensures.still c.copy_at.ensures.still
+
+pub returns-in_err-copy-clause-cause : goal.returns-in_err-copy-clause-cause
+returns-in_err-copy-clause-cause g c disk =
+    rose_sooner _ _ _ c.note_alike.ensures.still.later.disk_faults
+    (c.in_err-copy.ensures.cause (ap (λ (e : OpenError). Err e) (passed_disk c.from_residual-in_err-copy.result c.in_err-copy.field-0.0 c.from_residual-in_err-copy.ensures.1 disk)))
 
 pub returns-clause-is : goal.returns-clause-is
 returns-clause-is g c tells copies all is =
