@@ -26,14 +26,15 @@ impl Model for Catalog {
 
 impl Catalog {
     /// The catalog of these records.
-    pub fn of(alloc: Global, records: Vec<Record>) -> Result<Catalog, NoMemory>
-        ensures { IfOk result (λ catalog. catalog ≡ records.items) }
+    pub fn of(alloc: Global, records: Vec<Record>) -> Result<Box<Catalog>, NoMemory>
+        ensures { IfOk result (λ catalog. catalog.value ≡ records.items) }
     {
         let index = Index::of(alloc, records.as_slice())?;
-        Ok(Catalog {
+        let catalog = Catalog {
             records: Records::from_vec(records),
             index,
-        })
+        };
+        Ok(Box::new(alloc, catalog)?)
     }
 
     /// The records in their order.

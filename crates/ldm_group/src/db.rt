@@ -11,7 +11,8 @@ use std::marker::Model;
 #[derive(Drop)]
 pub struct Db {
     header: Header,
-    records: Catalog,
+    // In a box: so a function that lets a database go has one step for its records and their maps.
+    records: Box<Catalog>,
 }
 
 impl Model for Db {
@@ -20,9 +21,9 @@ impl Model for Db {
 
     ghost Value = { Database };
 
-    ghost view = { λ d. record { header = d.header; records = d.records } };
+    ghost view = { λ d. record { header = d.header; records = d.records.value } };
 
-    ghost invariant = { λ d. Rising d.records };
+    ghost invariant = { λ d. Rising d.records.value };
 }
 
 impl Db {
