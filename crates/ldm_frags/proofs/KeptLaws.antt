@@ -1,5 +1,5 @@
 -- What is kept of blocks, seen as blocks.
-use Rattle.std.proofs.Common.{◌≡◌, ℕ, zero, suc, ◌+◌, ◌-◌, ◌*◌, ◌^◌, ◌<◌, ◌≤◌, true, eqb, List, [], ◌∷◌, ◌++◌, length, take, drop, replicate, get_or, All, Option, Some, None, is_some, refl, sym, ap, subst, ◌∙◌, arith, inl, inr}
+use Rattle.std.proofs.Common.{◌≡◌, ℕ, zero, suc, ◌+◌, ◌*◌, ◌<◌, ◌≤◌, true, eqb, List, [], ◌∷◌, ◌++◌, length, take, drop, replicate, get_or, All, Option, Some, None, is_some, refl, sym, ap, subst, ◌∙◌, arith, inl, inr}
 use Rattle.std.specs.Prelude.{Result}
 use Rattle.std.specs.Global.{Vec}
 use Rattle.std.specs.List.{flat_map}
@@ -9,7 +9,7 @@ use Rattle.std.specs.BTreeMap.{BTreeMap, get}
 use Rattle.std.proofs.Math.Seq.{drop-append-add, drop-append_seam, take-add}
 use Rattle.std.proofs.lemmas.Bool.{cases_lt, leb-true}
 use Rattle.std.proofs.lemmas.Grind.{flat_map-append}
-use Rattle.std.proofs.lemmas.List.{append-nil, drop-drop, take-append-drop, length-append, length-replicate, length-drop, length-take-le, length_push, get_or_push, take_all, take_at}
+use Rattle.std.proofs.lemmas.List.{append-nil, drop-drop, take-append-drop, length-append, length-replicate, length-drop, length-take-le, length_push, get_or_push, take_at}
 use Rattle.std.proofs.lemmas.List.Elements.{All-push}
 use Rattle.ldm_frags.specs.declared.blocks.Head.{Head}
 use Rattle.ldm_frags.specs.declared.blocks.Piece.{Piece}
@@ -23,7 +23,6 @@ use Rattle.ldm_frags.specs.Faults.{fault_by, block_fault, has_all, first_below}
 use Rattle.ldm_frags.specs.Fed.{Fed, IsSameBlock, IsFed}
 use Rattle.ldm_frags.specs.Groups.{place_in, has_other, Knows, IsTable}
 use Rattle.ldm_frags.specs.Kept.{head_at, IsNext, IsPiece, IsWhole, block_of, blocks_of, IsKept}
-use Rattle.ldm_frags.specs.Written.{block_at}
 use Rattle.ldm_frags.proofs.Below.{faultless_below, faultless_from, first_there, least_passes}
 use Rattle.ldm_frags.proofs.Fields.{HasFields, fields_of}
 use Rattle.ldm_frags.proofs.JoinLaws.{sound_of, both_of, frag_is, few_parts}

@@ -1,10 +1,10 @@
 -- Blocks that read alike have the same faults, and join to the same records.
-use Rattle.std.proofs.Common.{◌≡◌, ℕ, zero, suc, ◌+◌, ◌-◌, ◌*◌, ◌<◌, ◌≤◌, Bool, true, false, not, cond, eqb, leb, List, [], ◌∷◌, ◌++◌, length, take, drop, Option, Some, None, refl, sym, ap, subst, ◌∙◌, arith, inl, inr, add-one}
+use Rattle.std.proofs.Common.{◌≡◌, ℕ, zero, suc, ◌+◌, ◌*◌, ◌<◌, ◌≤◌, Bool, true, false, not, cond, eqb, leb, List, [], ◌∷◌, ◌++◌, take, drop, Option, Some, None, refl, sym, ap, subst, ◌∙◌, arith, add-one}
 use Rattle.std.specs.Prelude.{◌||◌, ◌&&◌, Result, Ok, Err}
 use Rattle.std.specs.Global.{Vec}
 use Rattle.std.specs.Ordering.{nat_cmp}
 use Rattle.std.specs.BTreeMap.{BTreeMap, get}
-use Rattle.std.proofs.lemmas.Bool.{cases_lt, leb-true, eqb-true}
+use Rattle.std.proofs.lemmas.Bool.{leb-true, eqb-true}
 use Rattle.std.proofs.lemmas.List.{drop-append-le, take-append-le, length-drop}
 use Rattle.byteorder.specs.Endian.{big_number}
 use Rattle.ldm_frags.specs.declared.faults.FragFault.{FragFault}
@@ -14,10 +14,10 @@ use Rattle.ldm_frags.specs.declared.faults.FragError.TheVariants.{Fault, NoMemor
 use Rattle.ldm_frags.specs.declared.faults.Joined.{Joined}
 use Rattle.ldm_frags.specs.declared.groups.Group.{Group}
 use Rattle.ldm_frags.specs.Answers.{Answers}
-use Rattle.ldm_frags.specs.Blocks.{count, has_magic, group, part, parts, payload, is_fragment, is_of, is_part, is_mixed, is_there, has_parts, some_below, all_below, least_below}
-use Rattle.ldm_frags.specs.Faults.{fault_by, block_fault, has_all, missing_fault, or_else, first_below, first_block_fault}
+use Rattle.ldm_frags.specs.Blocks.{count, group, part, parts, payload, is_fragment, is_of, is_part, is_mixed, is_there, has_parts, some_below, all_below, least_below}
+use Rattle.ldm_frags.specs.Faults.{fault_by, block_fault, missing_fault, or_else, first_below, first_block_fault}
 use Rattle.ldm_frags.specs.Fed.{IsSameBlock}
-use Rattle.ldm_frags.specs.Groups.{place_in, first_passing, IsMet, Knows, IsTable}
+use Rattle.ldm_frags.specs.Groups.{first_passing, Knows, IsTable}
 use Rattle.ldm_frags.specs.Joins.{gathered, entry, entries, Joins}
 use Rattle.ldm_frags.specs.Written.{block_at}
 use Rattle.ldm_frags.proofs.Below.{least_passes, or_none, faultless_below}

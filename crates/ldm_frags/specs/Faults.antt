@@ -21,8 +21,8 @@ fault_by number magic part parts mixed repeated =
 unfoldable pub block_fault : List ℕ → ℕ → Option FragFault
 block_fault blocks k =
     fault_by (k + 4) (has_magic blocks k) (part blocks k) (parts blocks k)
-        (some_below k (is_mixed blocks (group blocks k) (parts blocks k)))
-        (some_below k (is_part blocks (group blocks k) (part blocks k)))
+    (some_below k (is_mixed blocks (group blocks k) (parts blocks k)))
+    (some_below k (is_part blocks (group blocks k) (part blocks k)))
 
 -- every part of the group of block k is there, where it is a fragment
 abbrev pub has_all : List ℕ → ℕ → Bool

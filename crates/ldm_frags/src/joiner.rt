@@ -120,7 +120,7 @@ fn add(
 }
 
 impl Joiner {
-    ghost use Rattle.std.specs.Prelude.{◌≡◌, ◌≤◌, ◌<◌, ◌++◌, [], ℕ, List, Some, None, Err, IfOk, IfErr, MatchResult};
+    ghost use Rattle.std.specs.Prelude.{◌≡◌, ◌≤◌, ◌<◌, ◌+◌, ◌++◌, [], ℕ, List, Some, None, Err, IfOk, IfErr, OnOk, MatchResult};
     ghost use Rattle.ldm_frags.specs.declared.faults.FragError.{FragError};
     ghost use Rattle.ldm_frags.specs.Blocks.{count};
     ghost use Rattle.ldm_frags.specs.Faults.{block_fault};
@@ -149,6 +149,7 @@ impl Joiner {
         ensures fed { (blocks : List ℕ) → IsFed self.old blocks → MatchResult result
             (λ _. IsFed self.new (blocks ++ block.now))
             (λ error. IsFault error (block_fault (blocks ++ block.now) (count blocks))) }
+        ensures taken { OnOk result (count self.new.blocks ≡ count self.old.blocks + 1) }
         ensures limit { self.new.limit ≡ self.old.limit }
         // With an error it has failed, and is as it was otherwise.
         ensures fails { IfErr result (λ error. self.new ≡ record self.old { failed = Some error }) }
@@ -251,14 +252,29 @@ mod tests {
         blocks
     }
 
+    // What a joiner of these blocks answers.
+    fn fed(alloc: Global, blocks: &[u8; 1024]) -> Result<Vec<Joined>, FragError> {
+        let (chunks, _) = blocks.as_chunks::<128>();
+        let mut joiner = Joiner::new(alloc, 8)?;
+        for block in chunks {
+            joiner.feed(block)?;
+        }
+        joiner.finish()
+    }
+
     #[test]
     fn joins_by_part(rt: HostRuntime) -> Result<(), Fail> {
-        let list = join(rt.alloc(), &blocks_of(&GROUP_9))?;
-        assert_eq!(rt; list.len(), 1);
-        assert_eq!(rt; list[0].block, 9);
+        let blocks = blocks_of(&GROUP_9);
         let mut want = [9u8; 336];
         want[112..224].fill(11);
         want[224..].fill(8);
+        let list = join(rt.alloc(), &blocks)?;
+        assert_eq!(rt; list.len(), 1);
+        assert_eq!(rt; list[0].block, 9);
+        assert_eq!(rt; list[0].payload.as_slice(), want.as_slice());
+        let list = fed(rt.alloc(), &blocks)?;
+        assert_eq!(rt; list.len(), 1);
+        assert_eq!(rt; list[0].block, 9);
         assert_eq!(rt; list[0].payload.as_slice(), want.as_slice());
         Ok(())
     }
@@ -276,8 +292,10 @@ mod tests {
         for (number, head, fault) in changes {
             let mut heads = GROUP_9;
             heads[number - 4] = head;
-            let answer = join(rt.alloc(), &blocks_of(&heads));
-            assert_eq!(rt; answer.err(), Some(FragError::Fault(fault)));
+            let blocks = blocks_of(&heads);
+            let want = Some(FragError::Fault(fault));
+            assert_eq!(rt; join(rt.alloc(), &blocks).err(), want);
+            assert_eq!(rt; fed(rt.alloc(), &blocks).err(), want);
         }
     }
 
@@ -285,10 +303,27 @@ mod tests {
     fn missing_after_all_blocks(rt: HostRuntime) {
         let mut blocks = blocks_of(&GROUP_9);
         blocks[128 * 7] = b'X';
-        let answer = join(rt.alloc(), &blocks);
-        assert_eq!(rt;
-            answer.err(),
-            Some(FragError::Fault(FragFault::NoMagic(11)))
-        );
+        let want = Some(FragError::Fault(FragFault::NoMagic(11)));
+        assert_eq!(rt; join(rt.alloc(), &blocks).err(), want);
+        assert_eq!(rt; fed(rt.alloc(), &blocks).err(), want);
+    }
+
+    // A joiner of nine blocks, of which the eighth repeats a part.
+    #[test]
+    fn says_a_fault_again(rt: HostRuntime) -> Result<(), Fail> {
+        let mut heads = GROUP_9;
+        heads[7] = (9, 0, 3);
+        let blocks = blocks_of(&heads);
+        let (chunks, _) = blocks.as_chunks::<128>();
+        let mut joiner = Joiner::new(rt.alloc(), 9)?;
+        let mut answer = Ok(());
+        for block in chunks {
+            answer = joiner.feed(block);
+        }
+        let want = Some(FragError::Fault(FragFault::Repeated(11)));
+        assert_eq!(rt; answer.err(), want);
+        assert_eq!(rt; joiner.feed(&chunks[0]).err(), want);
+        assert_eq!(rt; joiner.finish().err(), want);
+        Ok(())
     }
 }

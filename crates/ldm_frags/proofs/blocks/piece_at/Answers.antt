@@ -1,5 +1,4 @@
 use Rattle.std.proofs.Common.{arith, subst, sym}
-use Rattle.ldm_frags.specs.declared.blocks.Piece.{Piece}
 use Rattle.ldm_frags.specs.Kept.{blocks_of, IsPiece}
 use Rattle.ldm_frags.proofs.KeptLaws.{count_of, piece_read}
 use Rattle.ldm_frags.proofs.blocks.piece_at.Goals as goal

@@ -1,4 +1,4 @@
-use Rattle.std.proofs.Common.{◌≡◌, ◌∙◌, ℕ, List, Bor, length, ap, arith}
+use Rattle.std.proofs.Common.{◌∙◌, ℕ, List, Bor, length, ap, arith}
 use Rattle.ldm_frags.proofs.KeptLaws.{payload_length}
 use Rattle.ldm_frags.proofs.blocks.piece_of.Goals as goal
 use Rattle.ldm_frags.proofs.blocks.piece_of.Goals.{then-head-gt0, else-head-gt0}

@@ -1,6 +1,6 @@
 use Rattle.std.proofs.Common.{◌≡◌, ◌∙◌, true, refl, sym, ap, subst, arith}
 use Rattle.ldm_frags.specs.declared.blocks.Head.{Head}
-use Rattle.ldm_frags.specs.Blocks.{parts, has_parts}
+use Rattle.ldm_frags.specs.Blocks.{has_parts}
 use Rattle.ldm_frags.specs.Joins.{gathered}
 use Rattle.ldm_frags.specs.Kept.{blocks_of}
 use Rattle.ldm_frags.proofs.HoldLaws.{one_entry, entry_none, entry_later, entry_whole, entry_first}

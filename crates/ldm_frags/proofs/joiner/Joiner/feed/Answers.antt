@@ -1,5 +1,6 @@
-use Rattle.std.proofs.Common.{◌≡◌, ◌∙◌, length, ap, subst, arith}
+use Rattle.std.proofs.Common.{List, [], ◌∷◌, ◌++◌, ◌∙◌, length, ap, subst, arith}
 use Rattle.std.proofs.lemmas.List.{length_push}
+use Rattle.ldm_frags.specs.declared.blocks.Piece.{Piece}
 use Rattle.ldm_frags.specs.Answers.{IsFault}
 use Rattle.ldm_frags.specs.Blocks.{count}
 use Rattle.ldm_frags.specs.Fed.{Fed}
@@ -35,3 +36,11 @@ pub returns-clause-fed : goal.returns-clause-fed
 returns-clause-fed c = λ blocks fed.
     let added = c.in_default-add.ensures.added in
     fed_more c.args.self.now _ c.self.inside.pieces.items added.0 blocks c.args.block.now (same_kept _ _ c.self.view_is) (ap blocks_of added.1) c.in_default.is added.2 fed
+
+pub returns-clause-taken : goal.returns-clause-taken
+returns-clause-taken c =
+    let added = c.in_default-add.ensures.added in
+    let items = c.self.inside.pieces.items in
+    let many = ap (λ (v : Fed). count v.blocks) c.self.view_is in
+    let now = ap (λ (x : List Piece). count (blocks_of x)) added.1 in
+    omega (arith, count_of items, count_of (items ++ added.0 ∷ []), length_push items added.0)
