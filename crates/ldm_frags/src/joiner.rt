@@ -25,7 +25,7 @@ use std::marker::Model;
 
 /// Joins blocks that it is fed one by one, in rising number from block 4 on.
 ///
-/// Of an unused block it keeps 40 bytes or less, and of a block in use the payload besides.
+/// Of each block it keeps a piece of 32 bytes, and of a block in use the payload besides.
 #[derive(Drop)]
 pub struct Joiner {
     alloc: Global,
