@@ -6,7 +6,7 @@ use Rattle.ldm_label.specs.declared.Label.{Label}
 use Rattle.ldm_copy.specs.Copy.{header_sector, config_area, gate_at}
 
 -- a range of a range
-pub range_range : (xs : List ℕ) (a b from to : ℕ) → a + from ≤ b → a + to ≤ b → slice_range (slice_range xs a b) from to ≡ slice_range xs (a + from) (a + to)
+range_range : (xs : List ℕ) (a b from to : ℕ) → a + from ≤ b → a + to ≤ b → slice_range (slice_range xs a b) from to ≡ slice_range xs (a + from) (a + to)
 range_range xs a b from to begins ends =
     let m : ℕ = b - a - from in
     let whole : b - a ≡ from + m = omega arith in

@@ -12,4 +12,3 @@ pub mod MadeLaws
 pub mod GateLaws
 pub mod LeftLaws
 pub mod RewriteLaws
-pub mod AlikeLaws

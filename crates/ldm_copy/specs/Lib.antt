@@ -4,4 +4,3 @@ pub mod Body
 pub mod Answers
 pub mod Errors
 pub mod Steps
-pub mod Alike

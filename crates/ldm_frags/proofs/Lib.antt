@@ -5,5 +5,3 @@ pub mod HoldLaws
 pub mod PutLaws
 pub mod OrderLaws
 pub mod TableLaws
-pub mod SameLaws
-pub mod KeptLaws

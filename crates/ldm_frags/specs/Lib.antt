@@ -4,5 +4,3 @@ pub mod Joins
 pub mod Answers
 pub mod Groups
 pub mod Written
-pub mod Kept
-pub mod Fed

@@ -8,11 +8,10 @@
 mod blocks;
 mod faults;
 mod groups;
-mod joiner;
 mod joining;
 mod splitting;
 mod writing;
 
 pub use faults::{FragError, FragFault, Joined, SplitError};
-pub use joiner::{Joiner, join};
+pub use joining::join;
 pub use splitting::{parts_of, split};

@@ -1,6 +1,8 @@
 pub mod SpanLaws
-pub mod FirstLaws
+pub mod CountLaws
+pub mod NameLaws
 pub mod TableLaws
+pub mod SizeLaws
 pub mod LayoutLaws
 pub mod GroupLaws
 pub mod SectorLaws

@@ -1,0 +1,10 @@
+use Rattle.std.proofs.Common.{◌∙◌}
+use Rattle.ldm_rules.specs.declared.counts.Counted.TheVariants.{Ids}
+use Rattle.ldm_rules.specs.Counts.{count_of}
+use Rattle.ldm_rules.specs.Rules.{lacks_volume}
+use Rattle.ldm_rules.proofs.CountLaws.{by_counts}
+use Rattle.ldm_rules.proofs.counted.orphan_component.Goals as goal
+
+pub returns : goal.returns
+returns c = c.id_in.ensures
+    ∙ by_counts lacks_volume (λ rs q. count_of (Ids 3) q rs) _ _ _ _ _ c.first_orphan_component.ensures c.in_ok-counts.ensures c.as_slice.ensures.all c.as_slice-2.ensures.all

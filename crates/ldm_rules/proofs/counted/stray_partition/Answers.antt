@@ -1,0 +1,10 @@
+use Rattle.std.proofs.Common.{◌∙◌}
+use Rattle.ldm_rules.specs.declared.counts.Counted.TheVariants.{Ids}
+use Rattle.ldm_rules.specs.Counts.{count_of}
+use Rattle.ldm_rules.specs.Rules.{lacks_disk}
+use Rattle.ldm_rules.proofs.CountLaws.{by_counts}
+use Rattle.ldm_rules.proofs.counted.stray_partition.Goals as goal
+
+pub returns : goal.returns
+returns c = c.id_in.ensures
+    ∙ by_counts lacks_disk (λ rs q. count_of (Ids 2) q rs) _ _ _ _ _ c.first_stray_partition.ensures c.in_ok-counts.ensures c.as_slice.ensures.all c.as_slice-2.ensures.all
