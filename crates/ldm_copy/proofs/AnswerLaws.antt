@@ -5,10 +5,7 @@ use Rattle.std.proofs.lemmas.Result.{err_from_is_err_and}
 use Rattle.ldm_vmdb.specs.declared.header.Header.{Header}
 use Rattle.ldm_vmdb.specs.Headers.{IsHeaderOf}
 use Rattle.ldm_frags.specs.declared.faults.Joined.{Joined}
-use Rattle.ldm_frags.specs.declared.faults.FragError.{FragError}
-use Rattle.ldm_frags.specs.declared.faults.FragError.TheVariants as frag_errors
 use Rattle.ldm_frags.specs.Joins.{Joins}
-use Rattle.ldm_frags.specs.Answers as frag_answers
 use Rattle.ldm_group.specs.Order.{IsLeastTwice}
 use Rattle.ldm_group.specs.Database.{Database, IsDatabaseOf}
 use Rattle.ldm_copy.specs.declared.answer.CopyState.{CopyState}
@@ -17,22 +14,16 @@ use Rattle.ldm_copy.specs.declared.answer.CopyFault.{CopyFault}
 use Rattle.ldm_copy.specs.declared.answer.CopyFault.TheVariants.{Vmdb, Frag, BadRecord, SameId}
 use Rattle.ldm_copy.specs.declared.answer.CopyError.{CopyError}
 use Rattle.ldm_copy.specs.declared.answer.CopyError.TheVariants.{Fault, Disk, NoMemory}
-use Rattle.ldm_copy.specs.Errors.{of_frag}
 use Rattle.ldm_copy.specs.Records.{SpellRecords, HoldRecords}
 use Rattle.ldm_copy.specs.Copy.{header_sector, blocks_in_use, IsOpen, HasHeader, IsCopyOf}
 use Rattle.ldm_copy.specs.Answers.{IsAnswer, Answers}
-use Rattle.ldm_copy.specs.Steps.{OpensHeader, ReadsRecord, ReadsRecords, MakesDatabase, IsNoFault}
+use Rattle.ldm_copy.specs.Steps.{OpensHeader, ReadsRecord, ReadsRecords, MakesDatabase}
 use Rattle.ldm_records.specs.declared.types.Record.{Record}
 use Rattle.ldm_copy.proofs.RecordLaws.{fault_at}
 use Rattle.ldm_copy.proofs.AreaLaws.{gate_there}
 use Rattle.ldm_copy.proofs.OneCopy.{one_copy}
 
 -- ---- the errors of the parts, handed on
-
-pub frag_passed : (header : Header) (blocks : List ℕ) (r : Result Database CopyError) (e : FragError) → IsErrAnd r (λ x. x ≡ of_frag e) → frag_answers.Answers blocks (Err e)
-    → MakesDatabase header blocks r
-frag_passed header blocks r (frag_errors.Fault f) h a = let p = err_from_is_err_and r h in rw (p.1, p.2) a
-frag_passed header blocks r frag_errors.NoMemory h a = let p = err_from_is_err_and r h in rw (p.1, p.2) tt
 
 records_failed : (header : Header) (blocks : List ℕ) (list : List Joined) (e : CopyError) → Joins blocks list → ReadsRecords list (Err e) → MakesDatabase header blocks (Err e)
 records_failed header blocks list (Fault (Vmdb f)) joins a = a
@@ -47,8 +38,8 @@ pub records_passed : (header : Header) (blocks : List ℕ) (list : List Joined) 
 records_passed header blocks list r e h joins a = let p = err_from_is_err_and r h in rw (p.1, p.2) (records_failed header blocks list e joins a)
 
 -- the blocks hold the records that their list spells
-pub holds : (blocks : List ℕ) (list seen : List Joined) (records : List Record) → seen ≡ list → Joins blocks list → SpellRecords seen records → HoldRecords blocks records
-holds blocks list seen records same joins spelled = record { list = list; joined = joins; spelled = subst (λ (l : List Joined). SpellRecords l records) same spelled }
+pub holds : (blocks : List ℕ) (list : List Joined) (records : List Record) → Joins blocks list → SpellRecords list records → HoldRecords blocks records
+holds blocks list records joins spelled = record { list = list; joined = joins; spelled = spelled }
 
 pub twice_made : (header : Header) (blocks : List ℕ) (records : List Record) (kind id : ℕ) (fault : CopyFault) → fault ≡ SameId kind id → id < 2 ^ 64 → HoldRecords blocks records
     → IsLeastTwice records kind id → MakesDatabase header blocks (Err (Fault fault))
@@ -101,11 +92,6 @@ module _ (area : List ℕ) (sectors : ℕ) where
   database_is header db h m =
       let own : IsDatabaseOf db db.header m.0 = record { header_is = refl; same = m.2.same; rising = m.2.rising } in
       (has_header header h, subst (λ (x : Header). IsHeaderOf x (header_sector area)) (sym m.2.header_is) h.2, (m.0, m.1, own))
-
-  pub no_fault : (e : CopyError) → IsNoFault e → IsAnswer area sectors (Err e)
-  no_fault (Fault f) h = absurd h
-  no_fault Disk h = tt
-  no_fault NoMemory h = tt
 
   pub passed : (r : Result CopyState CopyError) (e : CopyError) → IsErrAnd r (λ x. x ≡ e) → IsAnswer area sectors (Err e) → IsAnswer area sectors r
   passed r e h a = let p = err_from_is_err_and r h in rw (p.1, p.2) a

@@ -12,3 +12,4 @@ pub mod MadeLaws
 pub mod GateLaws
 pub mod LeftLaws
 pub mod RewriteLaws
+pub mod AlikeLaws

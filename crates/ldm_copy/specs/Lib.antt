@@ -4,3 +4,4 @@ pub mod Body
 pub mod Answers
 pub mod Errors
 pub mod Steps
+pub mod Alike

@@ -1,10 +1,11 @@
 -- What the steps of reading a copy answer.
-use Rattle.std.specs.Prelude.{◌≡◌, ◌^◌, ◌<◌, ℕ, List, slice_index, Option, Some, None, Result, Ok, Err}
+use Rattle.std.specs.Prelude.{◌≡◌, ◌*◌, ◌^◌, ◌<◌, ℕ, List, length, slice_index, Option, Some, None, Result, Ok, Err}
 use Rattle.std.specs.Global.{Vec}
 use Rattle.ldm_vmdb.specs.declared.header.Header.{Header}
 use Rattle.ldm_vmdb.specs.Headers.{vmdb_fault, IsHeaderOf}
 use Rattle.ldm_frags.specs.declared.faults.Joined.{Joined}
 use Rattle.ldm_frags.specs.Faults.{first_block_fault}
+use Rattle.ldm_frags.specs.Joins.{Joins}
 use Rattle.ldm_records.specs.declared.types.Record.{Record}
 use Rattle.ldm_records.specs.Plain.{Spells}
 use Rattle.ldm_records.specs.Views.{plain_of}
@@ -13,6 +14,7 @@ use Rattle.ldm_group.specs.Database.{Database, IsDatabaseOf}
 use Rattle.ldm_copy.specs.declared.answer.CopyFault.TheVariants.{Vmdb, Frag, BadRecord, SameId}
 use Rattle.ldm_copy.specs.declared.answer.CopyError.{CopyError}
 use Rattle.ldm_copy.specs.declared.answer.CopyError.TheVariants.{Fault, Disk, NoMemory}
+use Rattle.ldm_copy.specs.Alike.{sectors_from}
 use Rattle.ldm_copy.specs.Records.{SpellRecords, HasFault, IsFirstFault, HoldRecords, HoldBadRecord}
 
 -- the header of an open copy, or nothing of a closed one
@@ -22,6 +24,21 @@ OpensHeader first sectors (Ok (Some header)) = (slice_index first 0 ≡ 0x56) ×
 OpensHeader first sectors (Err (Fault (Vmdb fault))) = (slice_index first 0 ≡ 0x56) × (vmdb_fault first sectors ≡ Some fault)
 OpensHeader first sectors (Err NoMemory) = Unit {0}
 OpensHeader first sectors (Err _) = ⊥
+
+-- the records that blocks hold, joined, or the first fault of a block
+abbrev pub JoinsBlocks : List ℕ → Result (Vec Joined) CopyError → Type 0
+JoinsBlocks blocks (Ok list) = Joins blocks list.items
+JoinsBlocks blocks (Err (Fault (Frag fault))) = first_block_fault blocks ≡ Some fault
+JoinsBlocks blocks (Err Disk) = Unit {0}
+JoinsBlocks blocks (Err NoMemory) = Unit {0}
+JoinsBlocks blocks (Err _) = ⊥
+
+-- Bytes that pass. Where the image is told, they are so many sectors of it, from this one on.
+pub record IsRead (told : Type 0) (image : List ℕ) (from sectors : ℕ) (Passes : List ℕ → Type 0) : Type 0 where
+  pub bytes : List ℕ
+  pub size : length bytes ≡ 512 * sectors
+  pub there : told → bytes ≡ sectors_from from sectors image
+  pub passes : Passes bytes
 
 -- the record that a payload spells, or its fault
 abbrev pub ReadsRecord : Joined → Result Record CopyError → Type 0
@@ -45,9 +62,3 @@ MakesDatabase header blocks (Err (Fault (BadRecord block fault))) = HoldBadRecor
 MakesDatabase header blocks (Err (Fault (SameId kind id))) = (id < 2 ^ 64) × ((records : List Record) × HoldRecords blocks records × IsLeastTwice records kind id)
 MakesDatabase header blocks (Err NoMemory) = Unit {0}
 MakesDatabase header blocks (Err _) = ⊥
-
--- the error is no fault of the copy
-abbrev pub IsNoFault : CopyError → Type 0
-IsNoFault (Fault fault) = ⊥
-IsNoFault Disk = Unit {0}
-IsNoFault NoMemory = Unit {0}

@@ -1,10 +1,11 @@
-ghost use Rattle.std.specs.Prelude.{◌≡◌, ◌%◌, ◌*◌, ◌^◌, ◌<◌, ◌≤◌, length, IfOk, IfSome};
+ghost use Rattle.std.specs.Prelude.{◌≡◌, ◌*◌, ◌^◌, ◌<◌, ◌≤◌, ℕ, List, IfOk, IfSome};
 ghost use Rattle.ldm_frags.specs.Blocks.{count};
+ghost use Rattle.ldm_frags.specs.Joins.{Joins};
 ghost use Rattle.ldm_group.specs.Room.{HasRoom};
 ghost use Rattle.ldm_copy.specs.Steps.{OpensHeader, ReadsRecord, ReadsRecords, MakesDatabase};
 
 use crate::answer::{CopyError, CopyFault};
-use ldm_frags::{Joined, join};
+use ldm_frags::Joined;
 use ldm_group::{Db, DbError};
 use ldm_records::{Record, RecordError, read_record};
 use ldm_vmdb::{Header, read_header};
@@ -62,15 +63,12 @@ fn same_id(kind: u8, id: u64) -> CopyFault
     CopyFault::SameId { kind, id }
 }
 
-// The database of this header whose records stand in these blocks, from number 4 on.
-pub fn database_of(alloc: Global, header: Header, blocks: &[u8]) -> Result<Db, CopyError>
-    requires whole { length blocks.now % 128 ≡ 0 }
-    requires small { length blocks.now ≤ 1048576 }
-    ensures makes { MakesDatabase header blocks.now result }
-    ensures room { IfOk result (λ db. HasRoom (count blocks.now) db.records) }
+// The database of this header whose records these payloads spell.
+pub fn database_of(alloc: Global, header: Header, list: &[Joined]) -> Result<Db, CopyError>
+    ensures makes { (blocks : List ℕ) → Joins blocks list.now → MakesDatabase header blocks result }
+    ensures room { (blocks : List ℕ) → Joins blocks list.now → IfOk result (λ db. HasRoom (count blocks) db.records) }
 {
-    let list = join(alloc, blocks)?;
-    let records = records_of(alloc, &list)?;
+    let records = records_of(alloc, list)?;
     match Db::new(alloc, header, records) {
         Ok(db) => Ok(db),
         Err(DbError::SameId { kind, id }) => Err(CopyError::Fault(same_id(kind, id))),

@@ -5,6 +5,7 @@
 //! `specs/Copy.antt`.
 #![tactic(auto)]
 
+mod alike;
 mod answer;
 mod body;
 mod database;
@@ -13,6 +14,7 @@ mod laws;
 mod reading;
 mod rewriting;
 
+pub use alike::is_alike;
 pub use answer::{CopyError, CopyFault, CopyState};
 pub use body::{Body, body_of};
 pub use gate::{close, fill, unseal};

@@ -1,52 +1,77 @@
-ghost use Rattle.std.specs.Prelude.{◌≡◌, ◌+◌, ◌-◌, ◌*◌, ◌/◌, ◌^◌, ◌<◌, ◌≤◌, Result, length, vec_len, slice_index, slice_range, IfOk, IfErr, IsErrOf};
+ghost use Rattle.std.specs.Prelude.{◌≡◌, ◌+◌, ◌*◌, ◌^◌, ◌<◌, ◌≤◌, [], Result, Err, length, slice_index, IfOk, IfErr, OnOk, IsErrOf};
 ghost use Rattle.ldm_host.specs.Moves.{Rose, Still, Quiet};
 ghost use Rattle.ldm_host.specs.Seen.{image};
 ghost use Rattle.ldm_label.specs.LabelOf.{Fits};
+ghost use Rattle.ldm_frags.specs.Fed.{IsFed};
+ghost use Rattle.ldm_frags.specs.Joins.{Joins};
 ghost use Rattle.ldm_copy.specs.declared.answer.CopyState.{CopyState};
 ghost use Rattle.ldm_copy.specs.declared.answer.CopyFault.{CopyFault};
 ghost use Rattle.ldm_copy.specs.Copy.{config_area, IsCopyOf};
 ghost use Rattle.ldm_copy.specs.Answers.{IsAnswer, Answers, IsSoundState};
-ghost use Rattle.ldm_copy.specs.Steps.{IsNoFault};
+ghost use Rattle.ldm_copy.specs.Alike.{sectors_from};
+ghost use Rattle.ldm_copy.specs.Steps.{JoinsBlocks, IsRead};
 
 use crate::answer::{CopyError, CopyState};
 use crate::database::{database_of, open_header};
+use ldm_frags::{Joined, Joiner};
 use ldm_host::Host;
 use ldm_label::{Label, read_sector};
 use std::alloc::Global;
 
-// The blocks in use of the area that begins at a sector of the disk, from number 4 on, where `last` is
-// the last VBLK sequence.
-fn read_blocks<H: Host>(
-    alloc: Global,
+// Feeds a new joiner the blocks in so many sectors of the disk, from this one on.
+fn feed_sectors<H: Host>(
     host: &mut H,
     disk: usize,
-    start: u64,
-    last: u32,
-) -> Result<Vec<u8>, CopyError>
+    from: u64,
+    sectors: u64,
+    joiner: &mut Joiner,
+) -> Result<(), CopyError>
     requires disk { disk < length (H.seen host.old).sizes }
-    requires inside { start + last / 4 ≤ slice_index (H.seen host.old).sizes disk }
-    requires some { start < slice_index (H.seen host.old).sizes disk }
-    requires few { start + 1 < 2 ^ 55 }
-    requires small { last ≤ 8192 }
-    ensures bytes { H.tells_disks → IfOk result (λ bytes. bytes.items
-        ≡ slice_range (image (H.seen host.old).content disk) (512 * start + 512) (512 * start + 512 * (last / 4))) }
-    ensures size { IfOk result (λ bytes. vec_len bytes ≡ 512 * (last / 4) - 512) }
-    ensures error { IfErr result (λ e. IsNoFault e) }
+    requires inside { from + sectors ≤ slice_index (H.seen host.old).sizes disk }
+    requires few { from + sectors < 2 ^ 55 }
+    requires fresh { IsFed joiner.old [] }
+    requires room { 4 * sectors ≤ joiner.old.limit }
+    ensures read { OnOk result (IsRead H.tells_disks (image (H.seen host.old).content disk) from sectors (IsFed joiner.new)) }
+    ensures fault { H.tells_disks → IfErr result (λ e. JoinsBlocks (sectors_from from sectors (image (H.seen host.old).content disk)) (Err e)) }
     ensures still { Still (H.seen host.old) (H.seen host.new) }
     ensures quiet { Quiet (H.seen host.old) (H.seen host.new) }
     ensures cause { IsErrOf result CopyError.Disk → Rose (H.seen host.old).disk_faults (H.seen host.new).disk_faults }
 {
-    let size = (512 * (last as usize / 4)).saturating_sub(512);
-    let mut blocks = vec![in alloc; 0u8; size]?;
-    host.read_at(disk, 512 * (start + 1), blocks.as_mut_slice())?;
-    Ok(blocks)
+    for k in 0..sectors {
+        let sector = read_sector(host, disk, from + k)?;
+        joiner.feed_all(&sector)?;
+    }
+    Ok(())
+}
+
+// The records that the blocks in so many sectors of the disk hold, from this one on.
+fn join_sectors<H: Host>(
+    alloc: Global,
+    host: &mut H,
+    disk: usize,
+    from: u64,
+    sectors: u64,
+) -> Result<Vec<Joined>, CopyError>
+    requires disk { disk < length (H.seen host.old).sizes }
+    requires inside { from + sectors ≤ slice_index (H.seen host.old).sizes disk }
+    requires few { from + sectors < 2 ^ 55 }
+    requires small { sectors ≤ 2048 }
+    ensures read { IfOk result (λ list. IsRead H.tells_disks (image (H.seen host.old).content disk) from sectors (λ blocks. Joins blocks list.items)) }
+    ensures fault { H.tells_disks → IfErr result (λ e. JoinsBlocks (sectors_from from sectors (image (H.seen host.old).content disk)) (Err e)) }
+    ensures still { Still (H.seen host.old) (H.seen host.new) }
+    ensures quiet { Quiet (H.seen host.old) (H.seen host.new) }
+    ensures cause { IsErrOf result CopyError.Disk → Rose (H.seen host.old).disk_faults (H.seen host.new).disk_faults }
+{
+    let mut joiner = Joiner::new(alloc, 4 * sectors as u32)?;
+    feed_sectors(host, disk, from, sectors, &mut joiner)?;
+    Ok(joiner.finish()?)
 }
 
 /// The copy in the config area of a disk, or its first fault. `Disk` comes only where a call of the disk
 /// failed.
 ///
-/// It reads the first sector of the area, and where the copy is open the blocks in use, into one
-/// buffer. It takes memory for these, for their payloads and for the records.
+/// It reads the first sector of the area, and where the copy is open the blocks in use, a sector at a time. It takes
+/// memory for the heads of these blocks, for their payloads and for the records.
 pub fn read_copy<H: Host>(
     alloc: Global,
     host: &mut H,
@@ -82,8 +107,9 @@ pub fn read_copy<H: Host>(
     match open_header(alloc, &first, label.area_sectors)? {
         None => Ok(CopyState::Closed),
         Some(header) => {
-            let blocks = read_blocks(alloc, host, disk, start, header.last)?;
-            Ok(CopyState::Valid(database_of(alloc, header, &blocks)?))
+            let sectors = (u64::from(header.last) / 4).saturating_sub(1);
+            let list = join_sectors(alloc, host, disk, start + 1, sectors)?;
+            Ok(CopyState::Valid(database_of(alloc, header, &list)?))
         }
     }
 }

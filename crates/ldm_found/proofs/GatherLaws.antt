@@ -1,5 +1,6 @@
 -- Walks along a list that end at the first fault.
-use Rattle.std.proofs.Common.{◌≡◌, ℕ, zero, suc, ◌+◌, ◌<◌, List, [], ◌∷◌, ◌++◌, length, get_or, take, drop, Result, Ok, Err, refl, sym, ap, subst, ◌∙◌, arith}
+use Rattle.std.proofs.Common.{◌≡◌, ℕ, zero, suc, ◌+◌, ◌<◌, List, [], ◌∷◌, ◌++◌, length, get_or, take, drop, Some, Result, Ok, Err, refl, sym, ap, subst, ◌∙◌, arith}
+use Rattle.std.specs.Prelude.{slice_get}
 use Rattle.std.proofs.Math.Seq.{drop-cons}
 use Rattle.std.proofs.lemmas.List.{take_more, take-append-drop, length-take-le}
 use Rattle.ldm_found.specs.Gathers.{Gathers}
@@ -25,6 +26,14 @@ gather_length Is [] [] all = refl
 gather_length Is [] (c ∷ bs) all = absurd all
 gather_length Is (x ∷ xs) [] all = absurd all
 gather_length Is (x ∷ xs) (c ∷ bs) all = ap suc (gather_length Is xs bs all.1)
+
+-- what stands at a place
+pub gather_at : {A B F : Type 0} (Is : A → Result B F → Type 0) (xs : List A) (bs : List B) (k : ℕ) (d : A) (b : B) → Gathers Is xs (Ok bs) → slice_get bs k ≡ Some b → Is (get_or xs k d) (Ok b)
+gather_at Is [] [] k d b all at = absurd (cc)
+gather_at Is [] (c ∷ bs) k d b all at = absurd all
+gather_at Is (x ∷ xs) [] k d b all at = absurd all
+gather_at {B = B} Is (x ∷ xs) (c ∷ bs) zero d b all at = let same : c ≡ b = cc in subst (λ (e : B). Is x (Ok e)) same all.0
+gather_at Is (x ∷ xs) (c ∷ bs) (suc k) d b all at = gather_at Is xs bs k d b all.1 at
 
 -- the same by the place in a list
 pub gather_next : {A B F : Type 0} (Is : A → Result B F → Type 0) (xs : List A) (i : ℕ) (bs : List B) (d : A) (b : B) → i < length xs

@@ -1,5 +1,5 @@
 -- What the steps of finding a group answer.
-use Rattle.std.specs.Prelude.{◌≡◌, ℕ, List, map, zip, Option, Some, None, Result, Ok, Err}
+use Rattle.std.specs.Prelude.{◌≡◌, ℕ, ◌<◌, List, [], ◌∷◌, ◌++◌, map, zip, Option, Some, None, Result, Ok, Err}
 use Rattle.ldm_copy.specs.Answers.{FitsHeader}
 use Rattle.ldm_label.specs.declared.Label.{Label}
 use Rattle.ldm_copy.specs.declared.answer.CopyState.{CopyState}
@@ -64,6 +64,20 @@ ReadsCopies labels images (Ok read) =
 ReadsCopies labels images (Err (Fault fault)) = IsGroupOfDisks None images labels (Err fault)
 ReadsCopies labels images (Err Disk) = Unit {0}
 ReadsCopies labels images (Err NoMemory) = Unit {0}
+
+-- One more copy, which an image has: of all so far this is the newest, and this the note of that one.
+abbrev pub Adds : Label × List ℕ → List CopyState → Option Newest → Note → Type 0
+Adds image copies newest note = (copy : CopyState) × IsCopyIn image (Ok copy) × IsNewestOf (copies ++ copy ∷ []) newest × (note ≡ note_of copy)
+
+-- one more copy, that on the image of this number, or its fault
+abbrev pub ReadsNext : ℕ → Label × List ℕ → List CopyState → Result (Option Newest × Note) OpenError → Type 0
+ReadsNext disk image copies (Ok next) = Adds image copies next.0 next.1
+ReadsNext disk image copies (Err error) = ReadsCopy disk image (Err error)
+
+-- the newest of so many images, whose records fit its header
+pub record IsAmong (images : ℕ) (newest : Newest) : Type 0 where
+  pub within : newest.image < images
+  pub room : FitsHeader newest.db
 
 abbrev pub IsRoomy : CopyState → Type 0
 IsRoomy Closed = Unit {0}

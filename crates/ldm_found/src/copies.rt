@@ -1,16 +1,17 @@
-ghost use Rattle.std.specs.Prelude.{◌≡◌, ◌<◌, [], ◌∷◌, ◌++◌, List, ℕ, length, slice_index, IfOk, IfSome, IsErrOf};
+ghost use Rattle.std.specs.Prelude.{◌≡◌, ◌+◌, ◌<◌, [], ◌∷◌, ◌++◌, List, ℕ, length, take, zip, slice_index, Ok, IfOk, IfErr, IfSome, IsErrOf};
 ghost use Rattle.ldm_host.specs.Seen.{image};
 ghost use Rattle.ldm_host.specs.Moves.{Rose, Still, Quiet};
 ghost use Rattle.ldm_label.specs.LabelOf.{Fits};
 ghost use Rattle.ldm_copy.specs.declared.answer.CopyState.{CopyState};
 ghost use Rattle.ldm_copy.specs.Answers.{FitsHeader};
-ghost use Rattle.ldm_found.specs.Copies.{note_of};
+ghost use Rattle.ldm_found.specs.Copies.{IsCopyIn, note_of};
 ghost use Rattle.ldm_found.specs.Facts.{LieOn};
-ghost use Rattle.ldm_found.specs.Steps.{ReadsCopy, ReadsCopies, IsNewestOf, IsRoomy};
+ghost use Rattle.ldm_found.specs.Gathers.{Gathers};
+ghost use Rattle.ldm_found.specs.Steps.{Adds, ReadsCopy, ReadsNext, ReadsCopies, IsNewestOf, IsAmong, IsRoomy};
 
 use crate::fault::{OpenError, OpenFault};
 use crate::notes::{Note, Notes};
-use ldm_copy::{CopyError, CopyState, read_copy};
+use ldm_copy::{CopyError, CopyState, is_alike, read_copy};
 use ldm_group::Db;
 use ldm_host::Host;
 use ldm_label::Label;
@@ -66,11 +67,11 @@ fn note_of(copy: &CopyState) -> Note
 
 // The newest of the copies so far, and the copy of the next image.
 fn with_copy(newest: Option<Newest>, image: usize, copy: CopyState) -> Option<Newest>
-    requires newest { IfSome newest (λ n. FitsHeader n.db) }
+    requires newest { IfSome newest (λ n. IsAmong image n) }
     requires copy { IsRoomy copy }
     ensures is { (copies : List CopyState) → length copies ≡ image → IsNewestOf copies newest
         → IsNewestOf (copies ++ copy ∷ []) result }
-    ensures room { IfSome result (λ n. FitsHeader n.db) }
+    ensures room { IfSome result (λ n. IsAmong (image + 1) n) }
 {
     let CopyState::Valid(db) = copy else {
         return newest;
@@ -96,8 +97,70 @@ fn with_copy(newest: Option<Newest>, image: usize, copy: CopyState) -> Option<Ne
     Some(newest)
 }
 
+// What is noted of the next image, whose copy has the same bytes as the newest so far. None where it hasn't.
+fn note_alike<H: Host>(
+    host: &mut H,
+    disk: usize,
+    label: &Label,
+    labels: &[Label],
+    newest: &Option<Newest>,
+) -> Result<Option<Note>, OpenError>
+    requires disk { disk < length labels.now }
+    requires fits { Fits label.now (slice_index (H.seen host.old).sizes disk) }
+    requires lie { LieOn labels.now (H.seen host.old).sizes }
+    requires newest { IfSome newest.now (λ n. IsAmong disk n) }
+    ensures is { H.tells_disks → IfOk result (λ note. IfSome note (λ note. (copies : List CopyState)
+        → Gathers IsCopyIn (take disk (zip labels.now (H.seen host.old).content)) (Ok copies) → IsNewestOf copies newest.now
+        → Adds (label.now, image (H.seen host.old).content disk) copies newest.now note)) }
+    ensures error { IfErr result (λ error. error ≡ OpenError.Disk) }
+    ensures still { Still (H.seen host.old) (H.seen host.new) }
+    ensures quiet { Quiet (H.seen host.old) (H.seen host.new) }
+    ensures cause { IsErrOf result OpenError.Disk → Rose (H.seen host.old).disk_faults (H.seen host.new).disk_faults }
+{
+    let Some(newest) = newest else {
+        return Ok(None);
+    };
+    let header = newest.db.header();
+    let other_label = &labels[newest.image];
+    if !is_alike(host, disk, label, newest.image, other_label, header.last)? {
+        return Ok(None);
+    }
+    Ok(Some(Note::Sequence(header.seq)))
+}
+
+// The newest of the copies so far and that on the next image, and a note of this one. Where it has the same
+// bytes as the newest, it isn't read again.
+fn with_image<H: Host>(
+    alloc: Global,
+    host: &mut H,
+    disk: usize,
+    label: &Label,
+    labels: &[Label],
+    newest: Option<Newest>,
+) -> Result<(Option<Newest>, Note), OpenError>
+    requires disk { disk < length labels.now }
+    requires fits { Fits label.now (slice_index (H.seen host.old).sizes disk) }
+    requires lie { LieOn labels.now (H.seen host.old).sizes }
+    requires newest { IfSome newest (λ n. IsAmong disk n) }
+    ensures is { H.tells_disks → (copies : List CopyState)
+        → Gathers IsCopyIn (take disk (zip labels.now (H.seen host.old).content)) (Ok copies) → IsNewestOf copies newest
+        → ReadsNext disk (label.now, image (H.seen host.old).content disk) copies result }
+    ensures room { IfOk result (λ next. IfSome next.0 (λ n. IsAmong (disk + 1) n)) }
+    ensures still { Still (H.seen host.old) (H.seen host.new) }
+    ensures quiet { Quiet (H.seen host.old) (H.seen host.new) }
+    ensures cause { IsErrOf result OpenError.Disk → Rose (H.seen host.old).disk_faults (H.seen host.new).disk_faults }
+{
+    if let Some(note) = note_alike(host, disk, label, labels, &newest)? {
+        return Ok((newest, note));
+    }
+    let copy = copy_at(alloc, host, disk, label)?;
+    let note = note_of(&copy);
+    Ok((with_copy(newest, disk, copy), note))
+}
+
 /// The newest of the copies on all images, which have these labels, and a note of each, or the first
-/// fault. At most two databases are kept at a time.
+/// fault. At most two databases are kept at a time, and a copy with the same bytes as the newest isn't
+/// read into one.
 pub fn read_copies<H: Host>(
     alloc: Global,
     host: &mut H,
@@ -114,9 +177,9 @@ pub fn read_copies<H: Host>(
     let mut newest = None;
     let mut notes = Vec::new(alloc);
     for (disk, label) in labels.iter().enumerate() {
-        let copy = copy_at(alloc, host, disk, label)?;
-        notes.push(note_of(&copy))?;
-        newest = with_copy(newest, disk, copy);
+        let (next, note) = with_image(alloc, host, disk, label, labels, newest)?;
+        notes.push(note)?;
+        newest = next;
     }
     Ok(Copies {
         newest,

@@ -3,6 +3,7 @@ ghost use Rattle.ldm_found.specs.declared.fault.OpenError.TheVariants as errors;
 
 use ldm_bytes::NoMemory;
 use ldm_copy::CopyFault;
+use ldm_host::Failed;
 use ldm_label::LabelFault;
 use ldm_rules::RuleFault;
 use std::alloc::AllocFailed;
@@ -47,6 +48,14 @@ pub enum OpenError {
     Disk,
     /// Memory ran out.
     NoMemory,
+}
+
+impl From<Failed> for OpenError {
+    ghost from_gives = { λ _ error. error ≡ errors.Disk };
+
+    fn from(_failed: Failed) -> OpenError {
+        OpenError::Disk
+    }
 }
 
 impl From<NoMemory> for OpenError {

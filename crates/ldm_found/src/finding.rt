@@ -15,7 +15,8 @@ use ldm_host::Host;
 use std::alloc::Global;
 
 /// The group that the images hold, or the first fault. `Disk` comes only where a call of a disk failed.
-/// It reads the label of each image, and then each copy; it keeps two copies at most.
+/// It reads the label of each image, and then each copy, of those with the same bytes one after another
+/// only the first; it keeps two copies at most.
 pub fn find_group<H: Host>(alloc: Global, host: &mut H) -> Result<Found, OpenError>
     requires { 0 < length (H.seen host.old).sizes }
     // What is answered is the group in the images, and there is one.

@@ -139,7 +139,7 @@ part_fields blocks r i k small is lt e =
     let first = is.within 0 (omega arith) in
     let below = first.1 in
     let n = small_count blocks small in
-    fields_of blocks k (slot r i) (slot r 0) i (length r.slots) (part_bytes r.payload i) e (is.written i lt) (omega arith) (omega arith) (omega arith)
+    fields_of blocks k (slot r i) (slot r i) (slot r 0) i (length r.slots) (part_bytes r.payload i) e (is.written i lt) (omega arith) (omega arith) (omega arith)
 
 stands : (blocks : List ℕ) (records : List Placed) → length blocks ≤ 1048576 → Holds blocks records → (k : ℕ) → k < count blocks → Stands blocks records k
 stands blocks records small holds k lt =
@@ -148,7 +148,7 @@ stands blocks records small holds k lt =
           in_record found.m found.i found.in_records found.in_slots found.there
           (part_fields blocks (record_at records found.m) found.i k small (holds.placed found.m nowhere found.in_records) found.in_slots found.there)
       | inr none ↦
-          free none (fields_of blocks k (k + 4) 0 0 0 (replicate 112 0) refl (holds.unused (k + 4) (omega arith, omega arith) none) (omega arith) (omega arith) (omega arith))
+          free none (fields_of blocks k (k + 4) (k + 4) 0 0 0 (replicate 112 0) refl (holds.unused (k + 4) (omega arith, omega arith) none) (omega arith) (omega arith) (omega arith))
     ]
 
 not_free : (blocks : List ℕ) (k g p : ℕ) (bytes : List ℕ) → HasFields blocks k g p 0 bytes → is_fragment blocks k ≡ true → ⊥
@@ -272,11 +272,11 @@ all_parts blocks r n is e =
     take_all (112 * n) (filled r.payload) (omega arith)
 
 -- what a block adds, by its fields
-entry_none : (blocks : List ℕ) (k : ℕ) → parts blocks k ≡ 0 → entry blocks k ≡ []
+pub entry_none : (blocks : List ℕ) (k : ℕ) → parts blocks k ≡ 0 → entry blocks k ≡ []
 unfolding entry
 entry_none blocks k e = rw e refl
 
-entry_later : (blocks : List ℕ) (k : ℕ) → 2 ≤ parts blocks k → 1 ≤ part blocks k → entry blocks k ≡ []
+pub entry_later : (blocks : List ℕ) (k : ℕ) → 2 ≤ parts blocks k → 1 ≤ part blocks k → entry blocks k ≡ []
 unfolding entry
 entry_later blocks k two later =
     let one : eqb (parts blocks k) 1 ≡ false = ne_eqb _ _ (λ e. absurd (omega arith)) in
@@ -284,11 +284,11 @@ entry_later blocks k two later =
     let first : eqb (part blocks k) 0 ≡ false = ne_eqb _ _ (λ e. absurd (omega arith)) in
     rw (one, frag, first) refl
 
-entry_whole : (blocks : List ℕ) (k : ℕ) → parts blocks k ≡ 1 → entry blocks k ≡ record { block = k + 4; payload = payload blocks k } ∷ []
+pub entry_whole : (blocks : List ℕ) (k : ℕ) → parts blocks k ≡ 1 → entry blocks k ≡ record { block = k + 4; payload = payload blocks k } ∷ []
 unfolding entry
 entry_whole blocks k e = rw e refl
 
-entry_first : (blocks : List ℕ) (k : ℕ) → 2 ≤ parts blocks k → part blocks k ≡ 0 → entry blocks k ≡ record { block = k + 4; payload = gathered blocks (group blocks k) (parts blocks k) } ∷ []
+pub entry_first : (blocks : List ℕ) (k : ℕ) → 2 ≤ parts blocks k → part blocks k ≡ 0 → entry blocks k ≡ record { block = k + 4; payload = gathered blocks (group blocks k) (parts blocks k) } ∷ []
 unfolding entry
 entry_first blocks k two e =
     let one : eqb (parts blocks k) 1 ≡ false = ne_eqb _ _ (λ e. absurd (omega arith)) in
@@ -296,10 +296,10 @@ entry_first blocks k two e =
     let first : eqb (part blocks k) 0 ≡ true = eq-eqb _ _ e in
     rw (one, frag, first) refl
 
-abbrev joined : ℕ → List ℕ → Joined
+abbrev pub joined : ℕ → List ℕ → Joined
 joined block bytes = record { block = block; payload = bytes }
 
-one_entry : (a b : ℕ) (x y : List ℕ) → a ≡ b → x ≡ y → joined a x ∷ [] ≡ joined b y ∷ []
+pub one_entry : (a b : ℕ) (x y : List ℕ) → a ≡ b → x ≡ y → joined a x ∷ [] ≡ joined b y ∷ []
 one_entry a b x y e f = λ i. joined (e i) (f i) ∷ []
 
 -- a block of part 0 adds its record

@@ -245,13 +245,13 @@ unfolding first_block_fault
 group_first blocks f e g = rw (e, g) refl
 
 -- an error of the blocks is handed on
-pub block_error : (blocks : List ℕ) (r : Result (Vec Joined) FragError) (e : FragError) → IsErrAnd r (λ given. given ≡ e) → IsFault e (first_below (count blocks) (block_fault blocks)) → Answers blocks r
-block_error blocks (Ok v) e is found = absurd is
-block_error blocks (Err given) e is found = go given (subst (λ (x : FragError). IsFault x (first_below (count blocks) (block_fault blocks))) (sym is) found)
+pub fault_answers : (blocks : List ℕ) (r : Result (Vec Joined) FragError) (e : FragError) → IsErrAnd r (λ given. given ≡ e) → IsFault e (first_block_fault blocks) → Answers blocks r
+fault_answers blocks (Ok v) e is found = absurd is
+fault_answers blocks (Err given) e is found = go given (subst (λ (x : FragError). IsFault x (first_block_fault blocks)) (sym is) found)
   where
-    go : (x : FragError) → IsFault x (first_below (count blocks) (block_fault blocks)) → Answers blocks (Err x)
+    go : (x : FragError) → IsFault x (first_block_fault blocks) → Answers blocks (Err x)
     go NoMemory h = tt
-    go (Fault f) h = block_first blocks f h
+    go (Fault f) h = h
 
 -- ---- what an answer says of each list and each fault
 

@@ -5,3 +5,5 @@ pub mod HoldLaws
 pub mod PutLaws
 pub mod OrderLaws
 pub mod TableLaws
+pub mod SameLaws
+pub mod KeptLaws

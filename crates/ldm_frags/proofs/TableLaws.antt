@@ -1,16 +1,20 @@
 -- What a table of groups answers, and one more block in it.
-use Rattle.std.proofs.Common.{◌≡◌, ℕ, zero, suc, ◌+◌, ◌<◌, Bool, true, false, not, eqb, List, length, get_or, set, Option, Some, None, is_some, unwrap_or, refl, sym, ap, subst, ◌∙◌, arith, inl, inr, get_or-set_same, get_or-set_other}
+use Rattle.std.proofs.Common.{◌≡◌, ℕ, zero, suc, ◌+◌, ◌<◌, ◌≤◌, Bool, true, false, not, cond, eqb, leb, ltb, List, ◌++◌, length, get_or, set, Option, Some, None, is_some, unwrap_or, refl, sym, ap, subst, ◌∙◌, arith, inl, inr, get_or-set_same, get_or-set_other}
 use Rattle.std.specs.Prelude.{◌&&◌}
 use Rattle.std.specs.Ordering.{nat_cmp}
 use Rattle.std.specs.BTreeMap.{BTreeMap, get, Updates}
 use Rattle.std.specs.Cmp.{unsigned_tied}
 use Rattle.std.proofs.lemmas.List.{length-set}
-use Rattle.std.proofs.lemmas.Bool.{cases_lt, cases_eq, eqb-true, eq-eqb, ne_eqb}
+use Rattle.std.proofs.lemmas.Bool.{cases_lt, cases_eq, eqb-true, eq-eqb, ne_eqb, lt-ltb, le-leb, lt-leb}
 use Rattle.ldm_frags.specs.declared.groups.Group.{Group}
-use Rattle.ldm_frags.specs.Blocks.{count, group, part, parts, is_fragment, is_of, is_part, is_mixed, is_there, some_below, least_below}
-use Rattle.ldm_frags.specs.Groups.{empty_group, place_in, first_passing, IsMet, Knows, IsTable}
+use Rattle.ldm_frags.specs.Blocks.{count, has_magic, group, part, parts, is_fragment, is_of, is_part, is_mixed, is_there, has_parts, some_below, all_below, least_below}
+use Rattle.ldm_frags.specs.Faults.{fault_by, block_fault, has_all, missing_fault}
+use Rattle.ldm_frags.specs.declared.faults.FragFault.TheVariants.{Missing}
+use Rattle.ldm_frags.specs.Fed.{IsSameBlock}
+use Rattle.ldm_frags.specs.Groups.{empty_group, place_in, has_other, first_passing, IsMet, Knows, IsTable}
 use Rattle.ldm_frags.proofs.Below.{some_there, none_there, none_from, least_passes, some_more, passing_skip, passing_here, passing_some}
 use Rattle.ldm_frags.proofs.JoinLaws.{Sound}
+use Rattle.ldm_frags.proofs.SameLaws.{same_turned, same_before, some_same, all_same, part_same, mixed_same}
 
 -- ---- what a table answers
 
@@ -40,6 +44,60 @@ mixed_some blocks k g n found met = go (eqb found.parts n) refl
         let mixed : is_mixed blocks g n j ≡ true = rw (of, differs) refl in
         rw e (sym (some_there k j (is_mixed blocks g n) least.0 mixed))
 
+-- whether a fragment of the group has another number of parts
+pub other_is : (blocks : List ℕ) (k g n : ℕ) (found : Option Group) → Knows blocks k g found → has_other found n ≡ some_below k (is_mixed blocks g n)
+other_is blocks k g n None known = sym (mixed_none blocks k g n known)
+other_is blocks k g n (Some s) known = mixed_some blocks k g n s known
+
+-- every part of a group was met
+pub all_is : (blocks : List ℕ) (groups : BTreeMap ℕ Group) (g n : ℕ) → IsTable blocks (count blocks) groups → n ≤ 4 → all_below n (λ p. is_some (place_in (get nat_cmp groups g) p)) ≡ has_parts blocks g n
+unfolding has_parts
+all_is blocks groups g n table few = all_same n (λ p. is_some (place_in (get nat_cmp groups g) p)) (is_there blocks g) (λ p lt. part_in blocks groups g p _ table (omega arith) refl)
+
+-- whether a part was met counts only of a part below 4
+fault_lazy : (number : ℕ) (magic : Bool) (part parts : ℕ) (mixed again other : Bool) → (part < 4 → again ≡ other) → fault_by number magic part parts mixed again ≡ fault_by number magic part parts mixed other
+fault_lazy number magic part parts mixed again other h =
+    elim (cases_lt part 4) [
+      | inl low ↦ ap (fault_by number magic part parts mixed) (h low)
+      | inr high ↦ elim (cases_lt 4 parts) [
+        | inl many ↦ let over : ltb 4 parts ≡ true = lt-ltb _ _ many in rw over refl
+        | inr few ↦ let past : leb parts part ≡ true = le-leb _ _ (omega arith) in rw past refl
+      ]
+    ]
+
+-- the table of the blocks before it says the fault of a block
+pub fault_is : (blocks block : List ℕ) (k : ℕ) (groups : BTreeMap ℕ Group) → k ≡ count blocks → IsSameBlock (blocks ++ block) k block 0 → IsTable blocks k groups
+    → fault_by (k + 4) (has_magic block 0) (part block 0) (parts block 0) (has_other (get nat_cmp groups (group block 0)) (parts block 0)) (is_some (place_in (get nat_cmp groups (group block 0)) (part block 0)))
+    ≡ block_fault (blocks ++ block) k
+unfolding block_fault
+fault_is blocks block k groups e s table =
+    fault_lazy (k + 4) (has_magic block 0) (part block 0) (parts block 0) (has_other (get nat_cmp groups (group block 0)) (parts block 0)) (is_some (place_in (get nat_cmp groups (group block 0)) (part block 0)))
+    (some_below k (is_part (blocks ++ block) (group (blocks ++ block) k) (part (blocks ++ block) k))) again
+    ∙ (λ i. fault_by (k + 4) (sym s.magic i) (sym s.part i) (sym s.parts i) (mixed i) (some_below k (is_part (blocks ++ block) (group (blocks ++ block) k) (part (blocks ++ block) k))))
+  where
+    same : (j : ℕ) → j < k → IsSameBlock blocks j (blocks ++ block) j
+    same j lt = same_turned (blocks ++ block) j blocks j (same_before blocks block j (omega arith))
+
+    mixed : has_other (get nat_cmp groups (group block 0)) (parts block 0) ≡ some_below k (is_mixed (blocks ++ block) (group (blocks ++ block) k) (parts (blocks ++ block) k))
+    mixed =
+        other_is blocks k (group block 0) (parts block 0) (get nat_cmp groups (group block 0)) (table.known (group block 0))
+        ∙ some_same k (is_mixed blocks (group block 0) (parts block 0)) (is_mixed (blocks ++ block) (group (blocks ++ block) k) (parts (blocks ++ block) k)) (λ j lt. mixed_same blocks (blocks ++ block) j (same j lt) (sym s.group) (sym s.parts))
+
+    again : part block 0 < 4 → is_some (place_in (get nat_cmp groups (group block 0)) (part block 0)) ≡ some_below k (is_part (blocks ++ block) (group (blocks ++ block) k) (part (blocks ++ block) k))
+    again lt =
+        ap is_some (table.places (group block 0) (part block 0) lt) ∙ passing_some k (is_part blocks (group block 0) (part block 0))
+        ∙ some_same k (is_part blocks (group block 0) (part block 0)) (is_part (blocks ++ block) (group (blocks ++ block) k) (part (blocks ++ block) k)) (λ j lj. part_same blocks (blocks ++ block) j (same j lj) (sym s.group) (sym s.part))
+
+-- whether block k is of a group that lacks a part
+pub missing_none : (blocks : List ℕ) (k : ℕ) → parts blocks k < 2 → missing_fault blocks k ≡ None
+unfolding missing_fault
+missing_none blocks k few = let other : leb 2 (parts blocks k) ≡ false = lt-leb _ _ few in rw other refl
+
+pub missing_is : (blocks : List ℕ) (k : ℕ) (all : Bool) → 2 ≤ parts blocks k → has_all blocks k ≡ all → missing_fault blocks k ≡ cond all None (Some (Missing (k + 4)))
+unfolding missing_fault
+missing_is blocks k true two e = let frag : leb 2 (parts blocks k) ≡ true = le-leb _ _ two in rw (frag, e) refl
+missing_is blocks k false two e = let frag : leb 2 (parts blocks k) ≡ true = le-leb _ _ two in rw (frag, e) refl
+
 -- ---- one more block
 
 -- a block of another group changes nothing of this one
@@ -56,6 +114,13 @@ known_kept blocks k g (Some group) other met = record {
   where
     differs : is_of blocks g k ≡ true → ⊥
     differs is = cc
+
+-- a block that is no fragment adds nothing
+pub table_skip : (blocks : List ℕ) (k : ℕ) (groups : BTreeMap ℕ Group) → is_fragment blocks k ≡ false → IsTable blocks k groups → IsTable blocks (k + 1) groups
+table_skip blocks k groups other table = record {
+  known = λ g. known_kept blocks k g (get nat_cmp groups g) (rw other refl) (table.known g);
+  places = λ g p lt. table.places g p lt ∙ sym (passing_skip k (is_part blocks g p) (rw other refl));
+}
 
 -- the group of block k, as the table has it, or without any part
 abbrev pub found_of : BTreeMap ℕ Group → ℕ → ℕ → Group

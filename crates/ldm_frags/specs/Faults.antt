@@ -5,16 +5,24 @@ use Rattle.ldm_frags.specs.declared.faults.FragFault.{FragFault}
 use Rattle.ldm_frags.specs.declared.faults.FragFault.TheVariants.{NoMagic, Parts, Part, Mixed, Repeated, Missing}
 use Rattle.ldm_frags.specs.Blocks.{count, has_magic, group, part, parts, is_fragment, is_part, is_mixed, some_below, has_parts}
 
+-- the fault of the block of a number, by its head, and by whether some fragment of its group before it has
+-- another number of parts, or is the same part
+abbrev pub fault_by : ℕ → Bool → ℕ → ℕ → Bool → Bool → Option FragFault
+fault_by number magic part parts mixed repeated =
+    if not magic then Some (NoMagic number)
+    else if nat_lt 4 parts then Some (Parts number)
+    else if not (nat_le 2 parts) then None
+    else if nat_le parts part then Some (Part number)
+    else if mixed then Some (Mixed number)
+    else if repeated then Some (Repeated number)
+    else None
+
 -- the fault of block k, by what stands before it
 unfoldable pub block_fault : List ℕ → ℕ → Option FragFault
 block_fault blocks k =
-    if not (has_magic blocks k) then Some (NoMagic (k + 4))
-    else if nat_lt 4 (parts blocks k) then Some (Parts (k + 4))
-    else if not (is_fragment blocks k) then None
-    else if nat_le (parts blocks k) (part blocks k) then Some (Part (k + 4))
-    else if some_below k (is_mixed blocks (group blocks k) (parts blocks k)) then Some (Mixed (k + 4))
-    else if some_below k (is_part blocks (group blocks k) (part blocks k)) then Some (Repeated (k + 4))
-    else None
+    fault_by (k + 4) (has_magic blocks k) (part blocks k) (parts blocks k)
+    (some_below k (is_mixed blocks (group blocks k) (parts blocks k)))
+    (some_below k (is_part blocks (group blocks k) (part blocks k)))
 
 -- every part of the group of block k is there, where it is a fragment
 abbrev pub has_all : List ℕ → ℕ → Bool

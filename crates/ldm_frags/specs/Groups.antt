@@ -1,5 +1,5 @@
 -- What a table of groups says of the blocks that were met, those below k.
-use Rattle.std.specs.Prelude.{◌≡◌, ℕ, ◌<◌, Bool, true, false, List, [], ◌∷◌, length, Option, Some, None, slice_index_or, if◌then◌else◌}
+use Rattle.std.specs.Prelude.{◌≡◌, ℕ, ◌<◌, ◌==◌, Bool, true, false, not, List, [], ◌∷◌, length, Option, Some, None, slice_index_or, if◌then◌else◌}
 use Rattle.std.specs.Ordering.{nat_cmp}
 use Rattle.std.specs.BTreeMap.{BTreeMap, get}
 use Rattle.ldm_frags.specs.declared.groups.Group.{Group}
@@ -13,6 +13,11 @@ empty_group count = record { parts = count; places = None ∷ None ∷ None ∷ 
 abbrev pub place_in : Option Group → ℕ → Option ℕ
 place_in None part = None
 place_in (Some group) part = slice_index_or group.places part None
+
+-- the group has another number of parts
+abbrev pub has_other : Option Group → ℕ → Bool
+has_other None count = false
+has_other (Some group) count = not (group.parts == count)
 
 -- the least number below n that passes, if there is one
 abbrev pub first_passing : ℕ → (ℕ → Bool) → Option ℕ

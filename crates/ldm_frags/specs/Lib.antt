@@ -4,3 +4,5 @@ pub mod Joins
 pub mod Answers
 pub mod Groups
 pub mod Written
+pub mod Kept
+pub mod Fed

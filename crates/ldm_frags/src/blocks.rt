@@ -1,44 +1,71 @@
-ghost use Rattle.std.specs.Prelude.{◌≡◌, ◌<◌};
-ghost use Rattle.ldm_frags.specs.Blocks.{count, group, part, parts, payload, has_magic};
+ghost use Rattle.std.specs.Prelude.{◌≡◌, ◌≤◌, ◌<◌, All, length, IfOk};
+ghost use Rattle.ldm_frags.specs.Blocks.{count, parts, payload, has_magic};
+ghost use Rattle.ldm_frags.specs.Kept.{head_at, blocks_of, IsPiece, IsWhole};
 
-use ldm_bytes::{get_u16, get_u32};
+use ldm_bytes::{Bytes, NoMemory, get_u16, get_u32};
+use std::alloc::Global;
 
-/// Whether block `k` begins with `VBLK`.
-pub fn has_magic(blocks: &[u8], k: usize) -> bool
-    requires { k < count blocks.now }
-    ensures { result ≡ has_magic blocks.now k }
-{
-    get_u32(blocks, 128 * k) == 0x5642_4c4b
+/// What the head of a block says of its record.
+#[derive(Clone, Copy)]
+pub struct Head {
+    /// Which group a fragment is of.
+    pub group: u32,
+    /// Which part of its group a fragment is.
+    pub part: u16,
+    /// 0 in an unused block, 1 in a whole record, and more in a fragment.
+    pub parts: u16,
 }
 
-/// The group of block `k`.
-pub fn group(blocks: &[u8], k: usize) -> u32
-    requires { k < count blocks.now }
-    ensures { result ≡ group blocks.now k }
-{
-    get_u32(blocks, 128 * k + 8)
+/// What is kept of a block.
+#[derive(Drop)]
+pub struct Piece {
+    pub head: Head,
+    /// Empty where the block is unused.
+    pub payload: Bytes,
 }
 
-/// The part of block `k`.
-pub fn part(blocks: &[u8], k: usize) -> u16
-    requires { k < count blocks.now }
-    ensures { result ≡ part blocks.now k }
+/// Whether the block begins with `VBLK`.
+pub fn has_magic(block: &[u8; 128]) -> bool
+    ensures { result ≡ has_magic block.now 0 }
 {
-    get_u16(blocks, 128 * k + 12)
+    get_u32(block, 0) == 0x5642_4c4b
 }
 
-/// The number of parts of block `k`.
-pub fn parts(blocks: &[u8], k: usize) -> u16
-    requires { k < count blocks.now }
-    ensures { result ≡ parts blocks.now k }
+/// The head of the block.
+pub fn head_of(block: &[u8; 128]) -> Head
+    ensures { result ≡ head_at block.now 0 }
 {
-    get_u16(blocks, 128 * k + 14)
+    Head {
+        group: get_u32(block, 8),
+        part: get_u16(block, 12),
+        parts: get_u16(block, 14),
+    }
 }
 
-/// The payload of block `k`.
-pub fn payload(blocks: &[u8], k: usize) -> &[u8]
-    requires { k < count blocks.now }
-    ensures { result.now ≡ payload blocks.now k }
+// The payload of the block.
+fn payload(block: &[u8; 128]) -> &[u8]
+    ensures { result.now ≡ payload block.now 0 }
 {
-    &blocks[128 * k + 16..128 * k + 128]
+    &block[16..]
+}
+
+/// What is kept of the block.
+pub fn piece_of(alloc: Global, block: &[u8; 128]) -> Result<Piece, NoMemory>
+    ensures kept { IfOk result (λ piece. IsPiece block.now 0 piece) }
+    ensures whole { IfOk result (λ piece. IsWhole piece) }
+{
+    let head = head_of(block);
+    let kept = if head.parts > 0 { payload(block) } else { &[] };
+    let payload = Bytes::from_slice(alloc, kept)?;
+    Ok(Piece { head, payload })
+}
+
+/// The piece of block `k`.
+pub fn piece_at(pieces: &[Piece], k: usize) -> &Piece
+    requires within { k < count (blocks_of pieces.now) }
+    requires small { length pieces.now ≤ 8192 }
+    requires whole { All IsWhole pieces.now }
+    ensures { IsPiece (blocks_of pieces.now) k result.now }
+{
+    &pieces[k]
 }

@@ -1,11 +1,12 @@
-ghost use Rattle.std.specs.Prelude.{◌≡◌, ◌≤◌, ◌<◌, ◌+◌, true, None, length, unwrap_or, OnOk};
+ghost use Rattle.std.specs.Prelude.{◌≡◌, ◌≤◌, ◌<◌, ◌+◌, ℕ, List, true, None, length, unwrap_or, OnOk, is_some};
 ghost use Rattle.std.specs.Ordering.{nat_cmp};
 ghost use Rattle.std.specs.BTreeMap.{get};
-ghost use Rattle.ldm_frags.specs.Blocks.{count, group, part, parts, is_fragment, is_part, is_mixed, some_below, least_below};
-ghost use Rattle.ldm_frags.specs.Faults.{block_fault, has_all};
-ghost use Rattle.ldm_frags.specs.Groups.{empty_group, place_in, IsTable};
+ghost use Rattle.ldm_frags.specs.Blocks.{count, is_part, all_below, least_below};
+ghost use Rattle.ldm_frags.specs.Faults.{block_fault};
+ghost use Rattle.ldm_frags.specs.Groups.{empty_group, place_in, has_other, IsTable};
+ghost use Rattle.ldm_frags.specs.Kept.{head_at, blocks_of};
 
-use crate::blocks::{group, part, parts};
+use crate::blocks::{Head, Piece};
 use ldm_bytes::NoMemory;
 use std::collections::BTreeMap;
 
@@ -32,37 +33,22 @@ pub fn place(groups: &Groups, number: u32, part: u16) -> Option<u32>
     }
 }
 
-/// Whether a fragment of the group of block `k` before it has another number of parts.
-pub fn is_mixed(groups: &Groups, blocks: &[u8], k: usize) -> bool
-    requires table { IsTable blocks.now k groups.now }
-    requires within { k < count blocks.now }
-    ensures { result ≡ some_below k (is_mixed blocks.now (group blocks.now k) (parts blocks.now k)) }
+/// Whether the group was met with another number of parts.
+pub fn has_other(groups: &Groups, number: u32, parts: u16) -> bool
+    ensures { result ≡ has_other (get nat_cmp groups.now number) parts }
 {
-    match groups.get(&group(blocks, k)) {
-        Some(found) => found.parts != parts(blocks, k),
+    match groups.get(&number) {
+        Some(found) => found.parts != parts,
         None => false,
     }
 }
 
-/// Whether a fragment of the group of block `k` before it is the same part.
-pub fn is_repeated(groups: &Groups, blocks: &[u8], k: usize) -> bool
-    requires table { IsTable blocks.now k groups.now }
-    requires within { k < count blocks.now }
-    requires few { part blocks.now k < 4 }
-    ensures { result ≡ some_below k (is_part blocks.now (group blocks.now k) (part blocks.now k)) }
+/// Whether every part of the group below this one was met.
+pub fn has_all(groups: &Groups, number: u32, parts: u16) -> bool
+    requires { parts ≤ 4 }
+    ensures { result ≡ all_below parts (λ p. is_some (place_in (get nat_cmp groups.now number) p)) }
 {
-    place(groups, group(blocks, k), part(blocks, k)).is_some()
-}
-
-/// Whether every part of the group of block `k` was met.
-pub fn is_complete(groups: &Groups, blocks: &[u8], k: usize) -> bool
-    requires table { IsTable blocks.now (count blocks.now) groups.now }
-    requires within { k < count blocks.now }
-    requires few { parts blocks.now k ≤ 4 }
-    ensures { result ≡ has_all blocks.now k }
-{
-    let number = group(blocks, k);
-    for part in 0..parts(blocks, k) {
+    for part in 0..parts {
         if place(groups, number, part).is_none() {
             return false;
         }
@@ -71,14 +57,14 @@ pub fn is_complete(groups: &Groups, blocks: &[u8], k: usize) -> bool
 }
 
 /// The index of the block that is this part of the group, or the number of blocks.
-pub fn place_of(groups: &Groups, blocks: &[u8], number: u32, part: u16) -> usize
-    requires table { IsTable blocks.now (count blocks.now) groups.now }
+pub fn place_of(groups: &Groups, pieces: &[Piece], number: u32, part: u16) -> usize
+    requires table { IsTable (blocks_of pieces.now) (count (blocks_of pieces.now)) groups.now }
     requires few { part < 4 }
-    ensures { result ≡ least_below (count blocks.now) (is_part blocks.now number part) }
+    ensures { result ≡ least_below (count (blocks_of pieces.now)) (is_part (blocks_of pieces.now) number part) }
 {
     match place(groups, number, part) {
         Some(k) => k as usize,
-        None => blocks.len() / 128,
+        None => pieces.len(),
     }
 }
 
@@ -95,21 +81,19 @@ fn group_of(groups: &Groups, number: u32, parts: u16) -> Group
     }
 }
 
-/// Notes block `k`, which has no fault.
-pub fn note(groups: &mut Groups, blocks: &[u8], k: usize) -> Result<(), NoMemory>
-    requires table { IsTable blocks.now k groups.old }
-    requires within { k < count blocks.now }
-    requires small { length blocks.now ≤ 1048576 }
-    requires sound { block_fault blocks.now k ≡ None }
-    ensures { OnOk result (IsTable blocks.now (k + 1) groups.new) }
+/// Notes block `k`, which has this head.
+pub fn note(groups: &mut Groups, k: usize, head: Head) -> Result<(), NoMemory>
+    requires small { k < 8192 }
+    requires few { 2 ≤ head.parts → head.part < 4 }
+    // Where the table had the blocks before it, and it has no fault, the table has it too.
+    ensures { OnOk result ((blocks : List ℕ) → head ≡ head_at blocks k → block_fault blocks k ≡ None
+        → IsTable blocks k groups.old → IsTable blocks (k + 1) groups.new) }
 {
-    let count = parts(blocks, k);
-    if count < 2 {
+    if head.parts < 2 {
         return Ok(());
     }
-    let number = group(blocks, k);
-    let mut found = group_of(groups, number, count);
-    found.places[part(blocks, k) as usize] = Some(k as u32);
-    groups.insert(number, found)?;
+    let mut found = group_of(groups, head.group, head.parts);
+    found.places[head.part as usize] = Some(k as u32);
+    groups.insert(head.group, found)?;
     Ok(())
 }

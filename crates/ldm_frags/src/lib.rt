@@ -8,10 +8,11 @@
 mod blocks;
 mod faults;
 mod groups;
+mod joiner;
 mod joining;
 mod splitting;
 mod writing;
 
 pub use faults::{FragError, FragFault, Joined, SplitError};
-pub use joining::join;
+pub use joiner::{Joiner, join};
 pub use splitting::{parts_of, split};

@@ -7,3 +7,5 @@ pub mod KinLaws
 pub mod KindLaws
 pub mod EqualLaws
 pub mod InOrder
+pub mod HitLaws
+pub mod KeyLaws

@@ -1,10 +1,10 @@
 -- What is found is a record of the group, which its kind and id find again.
-use Rattle.std.proofs.Common.{◌≡◌, ℕ, zero, suc, ◌+◌, ◌*◌, ◌^◌, ◌<◌, ◌≤◌, ◌==◌, ◌&&◌, inl, inr, Bool, true, false, cond, List, [], ◌∷◌, length, get_or, refl, ap, sym, ◌∙◌, arith, Option, Some, None, find, Contains, ltb}
-use Rattle.std.proofs.lemmas.Bool.{and_parts, cases_lt, eqb-true, eq-eqb, ltb-true, ltb-false}
+use Rattle.std.proofs.Common.{◌≡◌, ℕ, zero, suc, ◌+◌, ◌*◌, ◌^◌, ◌<◌, ◌==◌, ◌&&◌, inl, inr, Bool, true, false, cond, List, [], ◌∷◌, length, get_or, refl, ap, sym, ◌∙◌, arith, Option, Some, None, find, Contains, Bor, IfSome, option_copied, slice_get}
+use Rattle.std.proofs.lemmas.Bool.{and_parts, cases_lt, eqb-true, eq-eqb}
+use Rattle.std.proofs.lemmas.Option.{slice_get_within, slice_get-get_or}
 use Rattle.std.proofs.lemmas.List.{get_or_default}
-use Rattle.std.specs.List.Sorted.{IsPartitionPoint, IsNonDecreasingBy}
 use Rattle.ldm_records.specs.declared.types.Record.{Record}
-use Rattle.ldm_group.specs.Order.{Rising, kind_of, id_of, place, place_of}
+use Rattle.ldm_group.specs.Order.{Rising, kind_of, id_of, place_of}
 use Rattle.ldm_group.specs.Looks.{is_at, by_id}
 
 -- what passes a test first is there, and passes it
@@ -68,48 +68,20 @@ found_again records r up there = go (by_id (kind_of r) (id_of r) records) refl
         let found = find_there (is_at (kind_of r) (id_of r)) records s e in
         e ∙ ap (λ (x : Record). Some x) (one_record records s r up found.0 there (own_place r s found.1))
 
--- ---- by halves
+-- ---- what a call hands out
 
--- the first record that isn't below a place is found where it is of that kind and id
-pub half_found : (records : List Record) (kind id at : ℕ) (r : Record) → Rising records → at < length records → get_or records at r ≡ r → is_at kind id r ≡ true → Some r ≡ by_id kind id records
-half_found records kind id at r up within here is =
-    let both = and_parts (kind_of r == kind) (id_of r == id) is in
-    let again : by_id (kind_of r) (id_of r) records ≡ Some r = found_again records r up (at, within, here) in
-    sym (ap (λ (n : ℕ). by_id n id records) (sym (eqb-true (kind_of r) kind both.0)) ∙ (ap (λ (n : ℕ). by_id (kind_of r) n records) (sym (eqb-true (id_of r) id both.1)) ∙ again))
+pub found_at : (kind id : ℕ) (records : List Record) (found : Option (Bor Record)) → option_copied found ≡ by_id kind id records → IfSome found (λ r. is_at kind id r.now ≡ true)
+found_at kind id records None is = tt
+found_at kind id records (Some r) is = (find_there (is_at kind id) records r.now (sym is)).1
 
-pub never_falls : (records : List Record) → Rising records → IsNonDecreasingBy place_of records
-never_falls records up i j d le within = elim (cases_lt i j) [
-  | inl lt ↦ (let above : place_of (get_or records i d) < place_of (get_or records j d) = up i j d lt within in omega arith)
-  | inr ge ↦ (let same : i ≡ j = omega arith in let e : place_of (get_or records i d) ≡ place_of (get_or records j d) = ap (λ k. place_of (get_or records k d)) same in omega arith)
-]
+pub there_at : (found : Option (Bor Record)) (records : List Record) (place : ℕ) → option_copied found ≡ slice_get records place → IfSome found (λ r. Contains records r.now)
+there_at None records place is = tt
+there_at (Some r) records place is =
+    let within : place < length records = slice_get_within records place r.now (sym is) in
+    let same : Some r.now ≡ Some (get_or records place r.now) = is ∙ slice_get-get_or records place r.now within in
+    (place, within, cc)
 
-is_placed : (r : Record) (kind id : ℕ) → is_at kind id r ≡ true → place_of r ≡ place kind id
-unfolding place_of
-is_placed r kind id is =
-    let both = and_parts (kind_of r == kind) (id_of r == id) is in
-    ap (λ (n : ℕ). place n (id_of r)) (eqb-true (kind_of r) kind both.0) ∙ ap (λ (n : ℕ). place kind n) (eqb-true (id_of r) id both.1)
-
--- and otherwise there is none
-pub half_none : (records : List Record) (kind id at : ℕ) → Rising records
-    → IsPartitionPoint (λ r. ltb (place_of r) (place kind id) ≡ true) (λ r. ltb (place_of r) (place kind id) ≡ false) records at
-    → ((r : Record) → at < length records → get_or records at r ≡ r → is_at kind id r ≡ false) → None ≡ by_id kind id records
-half_none records kind id at up point other = go (by_id kind id records) refl
-  where
-    go : (o : Option Record) → by_id kind id records ≡ o → None ≡ by_id kind id records
-    go None e = sym e
-    go (Some r) e =
-        let found = find_there (is_at kind id) records r e in
-        let k = found.0.0 in
-        let placed : place_of (get_or records k r) ≡ place kind id = ap place_of found.0.2 ∙ is_placed r kind id found.1 in
-        absurd (elim (cases_lt k at) [
-          | inl lt ↦ (let below : place_of (get_or records k r) < place kind id = ltb-true _ _ (point.0 k r (omega arith) lt) in omega (arith, below, placed))
-          | inr ge ↦ elim (cases_lt at k) [
-            | inl lt ↦ (let above : place_of (get_or records at r) < place_of (get_or records k r) = up at k r lt found.0.1 in
-                let high : place kind id ≤ place_of (get_or records at r) = ltb-false _ _ (point.1 at r (omega arith) (omega (arith, lt, found.0.1))) in
-                omega (arith, above, high, placed))
-            | inr le ↦ (let index : k ≡ at = omega arith in
-                let here : get_or records at r ≡ r = ap (λ j. get_or records j r) (sym index) ∙ found.0.2 in
-                let bad : true ≡ false = sym found.1 ∙ other r (omega (arith, index, found.0.1)) here in
-                absurd cc)
-          ]
-        ])
+pub again_at : (found : Option (Bor Record)) (records : List Record) (place : ℕ) → Rising records → option_copied found ≡ slice_get records place
+    → IfSome found (λ r. by_id (kind_of r.now) (id_of r.now) records ≡ Some r.now)
+again_at None records place up is = tt
+again_at (Some r) records place up is = found_again records r.now up (there_at (Some r) records place is)

@@ -3,3 +3,5 @@ pub mod Database
 pub mod Looks
 pub mod Room
 pub mod Partitions
+pub mod Hits
+pub mod Index

@@ -1,6 +1,7 @@
+use crate::catalog::Catalog;
 use crate::error::DbError;
+use crate::index::Index;
 use crate::order::{first_twice, id_of, kind_of, place_of};
-use crate::records::Records;
 use ldm_records::Record;
 use ldm_vmdb::Header;
 use std::alloc::Global;
@@ -10,7 +11,8 @@ use std::marker::Model;
 #[derive(Drop)]
 pub struct Db {
     header: Header,
-    records: Records,
+    // In a box: so a function that lets a database go has one step for its records and their maps.
+    records: Box<Catalog>,
 }
 
 impl Model for Db {
@@ -19,18 +21,21 @@ impl Model for Db {
 
     ghost Value = { Database };
 
-    ghost view = { λ d. record { header = d.header; records = d.records } };
+    ghost view = { λ d. record { header = d.header; records = d.records.value } };
 
-    ghost invariant = { λ d. Rising d.records };
+    ghost invariant = { λ d. Rising d.records.value };
 }
 
 impl Db {
     ghost use Rattle.std.specs.Prelude.{◌≡◌, ◌<◌, length, slice_get, Some};
     ghost use Rattle.ldm_group.specs.Order.{Rising};
     ghost use Rattle.ldm_group.specs.Database.{Database, MakesDb};
+    ghost use Rattle.ldm_group.specs.Index.{IsIndexOf};
 
-    /// The database of this header, with the records in their order.
-    pub fn new(_alloc: Global, header: Header, records: Vec<Record>) -> Result<Db, DbError>
+    /// The database of this header, with the records in their order. Its maps are made in near linear time,
+    /// but where records were chosen so that their keys fall on one place of a hash table: then in some
+    /// five steps for each pair of records.
+    pub fn new(alloc: Global, header: Header, records: Vec<Record>) -> Result<Db, DbError>
         ensures { MakesDb result header records.items }
     {
         let mut records = records;
@@ -43,7 +48,7 @@ impl Db {
         }
         Ok(Db {
             header,
-            records: Records::from_vec(records),
+            records: Catalog::of(alloc, records)?,
         })
     }
 
@@ -66,6 +71,13 @@ impl Db {
         ensures rising { Rising self.now.records }
     {
         self.records.as_slice()
+    }
+
+    /// What the records are looked up by.
+    pub(crate) fn index(&self) -> &Index
+        ensures { IsIndexOf result.now self.now.records }
+    {
+        self.records.index()
     }
 
     /// The record at a place of the list.

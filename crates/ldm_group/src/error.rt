@@ -1,3 +1,4 @@
+use ldm_bytes::NoMemory;
 use std::alloc::AllocError;
 
 /// Why records make no database.
@@ -15,6 +16,17 @@ impl From<AllocError> for DbError {
     ghost from_gives = { λ _ error. error ≡ NoMemory };
 
     fn from(_error: AllocError) -> DbError {
+        DbError::NoMemory
+    }
+}
+
+impl From<NoMemory> for DbError {
+    ghost use Rattle.std.specs.Prelude.{◌≡◌};
+    ghost use Rattle.ldm_group.specs.declared.error.DbError.TheVariants as errors;
+
+    ghost from_gives = { λ _ error. error ≡ errors.NoMemory };
+
+    fn from(_error: NoMemory) -> DbError {
         DbError::NoMemory
     }
 }

@@ -120,13 +120,13 @@ fn first_faults(rt: HostRuntime) -> Result<(), Fail> {
     Ok(())
 }
 
-// A label takes eight reads, and a copy two.
+// A label takes eight reads, and a copy one for each of its 16 sectors.
 #[test]
 fn failing_disks(rt: HostRuntime) -> Result<(), Fail> {
-    for call in [9, 10] {
+    for call in [9, 10, 24] {
         let copy = copy_with(rt.alloc(), &[], &[call])?;
         assert_eq!(rt; copy.err(), Some(CopyError::Disk), "call {call}");
     }
-    assert!(rt; copy_with(rt.alloc(), &[], &[11])?.is_ok());
+    assert!(rt; copy_with(rt.alloc(), &[], &[25])?.is_ok());
     Ok(())
 }

@@ -94,8 +94,8 @@ fn stopped(alloc: Global, db: &Db, calls: u8) -> Result<MemoryHost, Fail>
 {
     let mut host = host_of(alloc, images_at(alloc, 7)?)?;
     let (label, _) = opened(alloc, &mut host)?;
-    // A label takes eight reads, and a copy two.
-    let mut host = host.stop_after(10 + u64::from(calls));
+    // A label takes eight reads, and a copy one for each of its 16 sectors.
+    let mut host = host.stop_after(24 + u64::from(calls));
     rewrites(alloc, &mut host, &label, db)?;
     Ok(host)
 }

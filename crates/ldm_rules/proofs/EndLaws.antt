@@ -1,7 +1,7 @@
 -- Where no partition passes the end of its disk, and each disk's end is a number of the format, so is each partition's.
-use Rattle.std.proofs.Common.{◌≡◌, ℕ, ◌+◌, ◌-◌, ◌^◌, ◌<◌, ◌≤◌, ◌==◌, Bool, true, false, cond, List, [], ◌∷◌, get_or, arith, Option, Some, None, unwrap_or}
+use Rattle.std.proofs.Common.{◌≡◌, ℕ, ◌+◌, ◌^◌, ◌<◌, ◌≤◌, ◌==◌, true, false, cond, List, [], ◌∷◌, get_or, arith, Option, Some, None}
 use Rattle.std.specs.List.{All}
-use Rattle.std.specs.Option.{option_or, option_and_then}
+use Rattle.std.specs.Option.{option_and_then}
 use Rattle.std.proofs.lemmas.Bool.{ltb-false}
 use Rattle.std.proofs.lemmas.List.Elements.{All-tail, Contains-get_or}
 use Rattle.ldm_records.specs.declared.types.Record.{Record}
@@ -43,12 +43,3 @@ disk_low labels (Some d) low = label_low d.guid labels low
 
 pub data_low : (labels : List Label) (records : List Record) → All (λ l. l.data_size < 2 ^ 64) labels → (disk : ℕ) → data_size labels records disk < 2 ^ 64
 data_low labels records low disk = disk_low labels (disk_in (by_id 2 disk records)) low
-
--- an end more that is kept
-pub kept_low : (old new : Option ℕ) (b : Bool) (size : ℕ) → size < 2 ^ 64 → new ≡ option_or old (cond b (Some size) None) → unwrap_or old (2 ^ 64 - 1) < 2 ^ 64 → unwrap_or new (2 ^ 64 - 1) < 2 ^ 64
-kept_low old new b size lt is low = go old b new is low
-  where
-    go : (o : Option ℕ) (c : Bool) (n : Option ℕ) → n ≡ option_or o (cond c (Some size) None) → unwrap_or o (2 ^ 64 - 1) < 2 ^ 64 → unwrap_or n (2 ^ 64 - 1) < 2 ^ 64
-    go (Some s) c n e h = rw e h
-    go None true n e h = rw e lt
-    go None false n e h = rw e h

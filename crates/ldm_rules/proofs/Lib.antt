@@ -1,8 +1,6 @@
 pub mod SpanLaws
-pub mod CountLaws
-pub mod NameLaws
+pub mod FirstLaws
 pub mod TableLaws
-pub mod SizeLaws
 pub mod LayoutLaws
 pub mod GroupLaws
 pub mod SectorLaws

@@ -1,21 +1,21 @@
 //! The rules of a sound group.
 //!
 //! `check` tests them in their order, which `specs/Table.antt` has as a table, and answers the first
-//! that is broken, with the least id at which it is. What is counted is counted once, in a map.
+//! that is broken, with the least id at which it is. Most rules are a walk over the records, each
+//! of which asks the look-ups of the database.
 #![tactic(auto)]
 
-mod counted;
-mod counts;
 mod ends;
 mod fault;
 mod found;
 mod laws;
 mod layouts;
 mod meetings;
-mod names;
 mod present;
 mod single;
 mod table;
+mod tree;
+mod twins;
 
 pub use ends::sectors_of;
 pub use fault::{RuleError, RuleFault};

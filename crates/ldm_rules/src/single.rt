@@ -1,4 +1,4 @@
-ghost use Rattle.std.specs.Prelude.{◌≡◌, ◌==◌, IfOk, find, option_copied};
+ghost use Rattle.std.specs.Prelude.{◌≡◌, IfOk};
 ghost use Rattle.std.specs.List.{filter_map};
 ghost use Rattle.ldm_rules.specs.Rules.{first_broken, group_id, group_fault, is_empty};
 
@@ -50,15 +50,9 @@ fn is_empty(r: &Record) -> bool
     }
 }
 
-fn first_empty(records: &[Record]) -> Option<&Record>
-    ensures { option_copied result ≡ find is_empty records.now }
-{
-    records.iter().find(|r| is_empty(r))
-}
-
 /// The least volume of size 0, else the least partition.
 pub fn empty(db: &Db) -> Option<u64>
     ensures { result ≡ first_broken is_empty db.now.records }
 {
-    id_in(first_empty(db.as_slice()))
+    id_in(db.as_slice().iter().find(|r| is_empty(r)))
 }

@@ -5,16 +5,15 @@ ghost use Rattle.ldm_rules.specs.Disjoint.{AllLaidOut};
 ghost use Rattle.ldm_rules.specs.Table.{ChecksAs, first_broken_rule, name_rules, tree_rules, sector_rules};
 ghost use Rattle.ldm_rules.specs.declared.fault.RuleError.TheVariants.{Fault};
 
-use crate::counted::{
-    miscounted_component, miscounted_volume, orphan_component, orphan_partition, stray_partition,
-    twin_guid,
-};
 use crate::ends::over_the_end;
 use crate::fault::{RuleError, RuleFault};
 use crate::layouts::{faulty, too_large};
 use crate::meetings::meeting;
-use crate::names::namesake;
 use crate::single::{empty, not_one_group};
+use crate::tree::{
+    miscounted_component, miscounted_volume, orphan_component, orphan_partition, stray_partition,
+};
+use crate::twins::{namesake, twin_guid};
 use ldm_group::Db;
 use ldm_label::Labels;
 use ldm_layout::faults;
@@ -33,32 +32,32 @@ fn check_names(alloc: Global, db: &Db) -> Result<(), RuleError>
     if let Some(id) = not_one_group(alloc, db)? {
         return Err(broken(1, id));
     }
-    if let Some(id) = twin_guid(alloc, db)? {
+    if let Some(id) = twin_guid(db) {
         return Err(broken(2, id));
     }
-    if let Some(id) = namesake(alloc, db)? {
+    if let Some(id) = namesake(db) {
         return Err(broken(3, id));
     }
     Ok(())
 }
 
 #[tactic(auto, unfolding(crate::specs::Table::tree_rules))]
-fn check_tree(alloc: Global, db: &Db) -> Result<(), RuleError>
+fn check_tree(db: &Db) -> Result<(), RuleError>
     ensures { ChecksAs result (first_of (tree_rules db.now.records)) }
 {
-    if let Some(id) = orphan_component(alloc, db)? {
+    if let Some(id) = orphan_component(db) {
         return Err(broken(4, id));
     }
-    if let Some(id) = orphan_partition(alloc, db)? {
+    if let Some(id) = orphan_partition(db) {
         return Err(broken(5, id));
     }
-    if let Some(id) = stray_partition(alloc, db)? {
+    if let Some(id) = stray_partition(db) {
         return Err(broken(6, id));
     }
-    if let Some(id) = miscounted_volume(alloc, db)? {
+    if let Some(id) = miscounted_volume(db) {
         return Err(broken(7, id));
     }
-    if let Some(id) = miscounted_component(alloc, db)? {
+    if let Some(id) = miscounted_component(db) {
         return Err(broken(8, id));
     }
     Ok(())
@@ -72,7 +71,7 @@ fn check_sectors(alloc: Global, db: &Db, labels: &Labels) -> Result<(), RuleErro
     if let Some(id) = empty(db) {
         return Err(broken(9, id));
     }
-    if let Some(id) = over_the_end(alloc, db, labels)? {
+    if let Some(id) = over_the_end(db, labels) {
         return Err(broken(10, id));
     }
     if let Some(id) = meeting(alloc, db)? {
@@ -97,6 +96,6 @@ pub fn check(alloc: Global, db: &Db, labels: &Labels) -> Result<(), RuleError>
     ensures laid_out { OnOk result (AllLaidOut db.now.records) }
 {
     check_names(alloc, db)?;
-    check_tree(alloc, db)?;
+    check_tree(db)?;
     check_sectors(alloc, db, labels)
 }

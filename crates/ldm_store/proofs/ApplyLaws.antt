@@ -1,5 +1,6 @@
 -- What a command makes of a session's group, and the moments of writing it.
-use Rattle.std.proofs.Common.{◌≡◌, inl, inr, ℕ, List, length, Ok, Err, sym, ◌∙◌, ap, subst, refl, Result}
+use Rattle.std.proofs.Common.{◌≡◌, ◌≤◌, ◌+◌, ◌*◌, ◌/◌, inl, inr, ℕ, List, length, slice_index, Ok, Err, sym, ◌∙◌, ap, subst, refl, Result, arith}
+use Rattle.ldm_host.specs.Moves.{Later}
 use Rattle.ldm_host.specs.Seen.{Seen, Leaves}
 use Rattle.ldm_label.specs.declared.Label.{Label}
 use Rattle.ldm_group.specs.Database.{Database}
@@ -11,11 +12,12 @@ use Rattle.ldm_edits.specs.declared.reply.Refusal.{Refusal}
 use Rattle.ldm_edits.specs.declared.stepping.Outcome.{Outcome}
 use Rattle.ldm_edits.specs.declared.stepping.Outcome.TheVariants as outcomes
 use Rattle.ldm_edits.specs.Steps.{Keeps, StepsAs, next_of, turn_by}
+use Rattle.ldm_found.specs.Facts.{LieOn}
 use Rattle.ldm_found.specs.Labels.{AreSameOutside}
 use Rattle.ldm_found.proofs.ClearLaws.{clear_of, labels_stay}
 use Rattle.ldm_found.proofs.SameDisks.{same_reasons}
 use Rattle.ldm_store.specs.Kept.{IsCurrent, AlwaysKept}
-use Rattle.ldm_store.specs.Turning.{IsBodyOnEach, AllHave}
+use Rattle.ldm_store.specs.Turning.{IsBodyOnEach, AllSettled, AllHave}
 use Rattle.ldm_store.specs.Sessions.{IsEditable, IsNextFor, Opened, RestsOn, HoldsGroup, turn_in}
 use Rattle.ldm_store.proofs.EditLaws.{bodies_for}
 use Rattle.ldm_store.proofs.HasLaws.{has_more, valid_current}
@@ -98,4 +100,20 @@ holds_next session next slice a d same editable holds one_each outside have = re
   labelled = labels_stay session.labels a.content d.content holds.labelled one_each (subst (λ (l : List Label). AreSameOutside l a.content d.content) same outside)
       (clear_of session.db session.labels editable.unblocked).clear;
   current = λ disk lt. has_more session.labels d.content disk (λ copy. copy ≡ Valid next) (IsCurrent next) (valid_current next) (have disk lt);
+}
+
+-- each disk is handed the bytes of a body at most, and one more
+pub bounded : (session : Opened) (command : Command) (next : Database) (body : List ℕ) (a d : Seen) → StepsFrom session command next → IsBodyOf next body
+    → ((disk : ℕ) → slice_index d.wrote disk ≤ slice_index a.wrote disk + length body + 1)
+    → (disk : ℕ) → slice_index d.wrote disk ≤ slice_index a.wrote disk + (512 * (session.db.header.last / 4) + 1)
+bounded session command next body a d steps is wrote disk =
+    let size : length body ≡ 512 * (session.db.header.last / 4) = is.is.size ∙ ap (λ (l : ℕ). 512 * (l / 4)) steps.keeps.last in
+    omega (arith, size, wrote disk)
+
+-- and the disks rest
+pub rests_next : (session : Opened) (next : Database) (slice : List Label) (a d : Seen) → slice ≡ session.labels → RestsOn session a → Later a d → AllSettled slice d
+    → RestsOn (record { db = next; labels = session.labels }) d
+rests_next session next slice a d same rests later settled = record {
+  lie = subst (λ (l : List ℕ). LieOn session.labels l) (sym later.sizes) rests.lie;
+  settled = subst (λ (l : List Label). AllSettled l d) same settled;
 }

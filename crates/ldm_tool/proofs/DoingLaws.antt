@@ -1,7 +1,7 @@
 -- The moments of one line: while it is done on all disks, and while the reply is said.
 use Rattle.std.proofs.Common.{◌≡◌, ◌⊎◌, inl, inr, ⊎_elim, ℕ, ◌≤◌, List, ◌++◌, take, drop, refl, sym, ap, subst, ◌∙◌, append_assoc, arith, Option}
 use Rattle.std.proofs.lemmas.List.{take-append-drop}
-use Rattle.ldm_host.specs.Seen.{Seen, Leaves}
+use Rattle.ldm_host.specs.Seen.{Seen, Leaves, image}
 use Rattle.ldm_host.specs.Moves.{Begins, Later, Quiet, Still}
 use Rattle.ldm_host.specs.StoryLaws.{begins_both}
 use Rattle.ldm_host.proofs.Relations.{moments_trans, begins_trans}
@@ -9,6 +9,7 @@ use Rattle.ldm_label.specs.declared.Label.{Label}
 use Rattle.ldm_group.specs.Database.{Database}
 use Rattle.ldm_words.specs.declared.command.Command.{Command}
 use Rattle.ldm_edits.specs.declared.reply.Reply.{Reply}
+use Rattle.ldm_found.specs.Facts.{LieOn}
 use Rattle.ldm_found.specs.Labels.{AreSameOutside}
 use Rattle.ldm_store.specs.Kept.{IsKept, AlwaysKept, Opens}
 use Rattle.ldm_store.specs.Sessions.{IsEditable, IsNextFor, IsTurnOf, Opened, RestsOn, HoldsGroup}
@@ -17,6 +18,13 @@ use Rattle.ldm_store.proofs.ApplyLaws.{untouched}
 use Rattle.ldm_text.specs.Reply.{text_of_reply}
 use Rattle.ldm_tool.specs.Editing.{turn_on, IsDoing, IsAnswering}
 use Rattle.ldm_tool.proofs.OpenLaws.{outside_trans}
+
+-- while nothing is written, the disks of a session rest as they did
+pub rests_still : (session : Opened) (a b : Seen) → RestsOn session a → Still a b → RestsOn session b
+rests_still session a b rests still = record {
+  lie = subst (λ (l : List ℕ). LieOn session.labels l) (sym still.later.sizes) rests.lie;
+  settled = λ disk lt c left. rests.settled disk lt c ((still.left disk c).0 left) ∙ sym (ap (λ (l : List (List ℕ)). image l disk) still.content);
+}
 
 -- the two laws of a host on the present
 abbrev pub Counts : Seen → Type 0

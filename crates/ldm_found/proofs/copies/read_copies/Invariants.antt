@@ -1,6 +1,6 @@
 use Rattle.std.proofs.Common.{◌≡◌, length, IfSome}
 use Rattle.ldm_host.specs.Moves.{Still, Quiet}
-use Rattle.ldm_copy.specs.Answers.{FitsHeader}
+use Rattle.ldm_found.specs.Steps.{IsAmong}
 use Rattle.ldm_found.proofs.CopyLaws.{HaveCopies}
 use Rattle.ldm_found.proofs.copies.read_copies.Given as goal
 
@@ -11,6 +11,6 @@ invariant-loop-disk g l =
       still : Still start (g.H.Host.seen l.host);
       quiet : Quiet start (g.H.Host.seen l.host);
       one_note : length l.notes.items ≡ l.disk;
-      room : IfSome l.newest (λ n. FitsHeader n.db);
+      newest : IfSome l.newest (λ n. IsAmong l.disk n);
       copies : g.H.Host.tells_disks → HaveCopies l.labels start.content l.disk l.newest l.notes.items;
     }

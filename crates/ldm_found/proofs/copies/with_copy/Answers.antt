@@ -1,11 +1,11 @@
-use Rattle.std.proofs.Common.{◌≡◌, ◌∷◌, [], ◌++◌, Some, refl, sym, ap, subst, ◌∙◌}
+use Rattle.std.proofs.Common.{◌≡◌, ◌+◌, ◌∷◌, [], ◌++◌, Some, refl, sym, ap, subst, ◌∙◌, arith}
 use Rattle.std.proofs.lemmas.Bool.{false≢true}
 use Rattle.ldm_vmdb.specs.declared.header.Header.{Header}
-use Rattle.ldm_group.specs.Room.{FitsHeader}
 use Rattle.ldm_copy.specs.declared.answer.CopyState.{CopyState}
 use Rattle.ldm_copy.specs.declared.answer.CopyState.TheVariants.{Valid}
 use Rattle.ldm_found.specs.declared.copies.Newest.{Newest}
-use Rattle.ldm_found.specs.Steps.{IsNewestOf}
+use Rattle.ldm_found.specs.Steps.{IsNewestOf, IsAmong}
+use Rattle.ldm_found.proofs.CopyLaws.{among_more}
 use Rattle.ldm_found.proofs.NewestLaws.{with_closed, with_first, with_newer, with_older, with_other, no_other, has_other}
 use Rattle.ldm_found.proofs.copies.with_copy.Goals as goal
 use Rattle.ldm_found.proofs.copies.with_copy.Goals.{then-same_seq+then-is_none+then-not-same_core, else-same_seq, else-same_seq-via-then-same_seq+then-is_none+else-not-same_core, else-same_seq-via-then-same_seq+else-is_none, else-same_seq-via-else-same_seq}
@@ -49,11 +49,14 @@ returns-clause-is c copies at before =
       ]
     ]
 
+pub returns-in_default-clause-room : goal.returns-in_default-clause-room
+returns-in_default-clause-room c = among_more c.args.newest c.args.image c.requires.newest
+
 pub returns-clause-room : goal.returns-clause-room
 returns-clause-room c =
-    let fits = rw c.in-Some.is at c.requires.newest in
-    let with = λ (n : Newest) (is : c.if-same_seq.newest ≡ n) (room : FitsHeader n.db). subst (λ (m : Newest). FitsHeader m.db) (sym is) room in
+    let among = rw c.in-Some.is at c.requires.newest in
+    let with = λ (n : Newest) (is : c.if-same_seq.newest ≡ n) (room : IsAmong (c.args.image + 1) n). subst (λ (m : Newest). IsAmong (c.args.image + 1) m) (sym is) room in
     elim c.if-same_seq.branch [
-      | then-same_seq+then-is_none+then-not-same_core w ↦ with (record c.in-Some.newest { other = Some c.args.image }) w.newest-is fits
-      | else-same_seq w ↦ with c.in-Some.newest w.newest-is fits
+      | then-same_seq+then-is_none+then-not-same_core w ↦ with (record c.in-Some.newest { other = Some c.args.image }) w.newest-is (record { within = omega (arith, among.within); room = among.room })
+      | else-same_seq w ↦ with c.in-Some.newest w.newest-is (record { within = omega (arith, among.within); room = among.room })
     ]

@@ -31,3 +31,6 @@ returns-clause-any_moment g c tells =
     let editable : IsEditable c.args.session.db c.args.session.labels = search rules in
     doing_still c.args.session (g.H.Host.seen c.args.host.now) editable c.requires.rests (c.requires.holds tells) (g.met.H.Host.counts_now c.args.host.now) (g.met.H.Host.only_now c.args.host.now) c.args.line
     (g.H.Host.seen c.apply.new.host) (c.apply.ensures.nothing c.in-Err-NoMemory.field-0-0 (search rules)) c.apply.ensures.quiet
+
+pub returns-in-Err-Disk-clause-fault : goal.returns-in-Err-Disk-clause-fault
+returns-in-Err-Disk-clause-fault g c = c.apply.ensures.cause (search rules)

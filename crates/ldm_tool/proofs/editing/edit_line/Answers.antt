@@ -1,6 +1,7 @@
 use Rattle.std.proofs.Common.{rules, ◌∙◌}
+use Rattle.ldm_host.proofs.Relations.{later_trans}
 use Rattle.ldm_store.specs.Sessions.{IsEditable}
-use Rattle.ldm_tool.proofs.DoingLaws.{answering, reply_front}
+use Rattle.ldm_tool.proofs.DoingLaws.{answering, reply_front, rests_still}
 use Rattle.ldm_tool.proofs.editing.edit_line.Goals as goal
 
 pub returns-in_default-say-clause-any_moment : goal.returns-in_default-say-clause-any_moment
@@ -32,3 +33,14 @@ pub returns-clause-front : goal.returns-clause-front
 returns-clause-front g c tells =
     reply_front c.args.session c.in_ok-session.session c.args.line c.args.number c.in_ok-session.reply (g.H.Host.seen c.args.host.now) (g.H.Host.seen c.apply_line.new.host) (g.H.Host.seen c.say.new.self)
     c.in_ok-session.ensures.turn c.apply_line.ensures.later c.apply_line.ensures.quiet c.say.ensures.still c.as_slice.result.now (c.as_slice.ensures ∙ c.in-Ok.ensures) c.say.ensures.front
+
+pub returns-in_default-say-clause-later : goal.returns-in_default-say-clause-later
+returns-in_default-say-clause-later g c =
+    later_trans (g.H.Host.seen c.args.host.now) (g.H.Host.seen c.apply_line.new.host) (g.H.Host.seen c.say.new.self) c.apply_line.ensures.later c.say.ensures.still.later
+
+pub returns-clause-later : goal.returns-clause-later
+returns-clause-later g c =
+    later_trans (g.H.Host.seen c.args.host.now) (g.H.Host.seen c.apply_line.new.host) (g.H.Host.seen c.say.new.self) c.apply_line.ensures.later c.say.ensures.still.later
+
+pub returns-clause-rests : goal.returns-clause-rests
+returns-clause-rests g c = rests_still c.in_ok-session.session (g.H.Host.seen c.apply_line.new.host) (g.H.Host.seen c.say.new.self) c.in_ok-session.ensures.rests c.say.ensures.still

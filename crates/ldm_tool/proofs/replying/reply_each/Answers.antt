@@ -1,6 +1,6 @@
-use Rattle.std.proofs.Common.{rules, arith, ◌≡◌, ℕ, ◌+◌, ◌++◌, Bool, if◌then◌else◌, List, ◌∷◌, IsErr, take, ◌||◌, ap, sym, ◌∙◌, subst}
+use Rattle.std.proofs.Common.{rules, arith, ◌≡◌, ℕ, ◌+◌, ◌++◌, Bool, if◌then◌else◌, List, ◌∷◌, IsErr, take, ◌||◌, ap, refl, sym, ◌∙◌, subst}
 use Rattle.ldm_host.specs.Moves.{Begins}
-use Rattle.ldm_host.proofs.Relations.{still_trans, rose_sooner}
+use Rattle.ldm_host.proofs.Relations.{still_itself, still_trans, rose_sooner}
 use Rattle.ldm_edits.specs.Steps.{replies_to}
 use Rattle.ldm_text.specs.Reply.{text_of_reply, text_of_replies}
 use Rattle.std.specs.List.{list_any}
@@ -10,6 +10,27 @@ use Rattle.ldm_tool.specs.declared.run.Status.TheVariants.{Done, Refused}
 use Rattle.ldm_tool.proofs.TurnLaws.{replies_front, no_replies, said_on, refused_on, begins_part}
 use Rattle.ldm_tool.proofs.ReplyLaws.{stopped, all_replied}
 use Rattle.ldm_tool.proofs.replying.reply_each.Goals as goal
+
+pub replying-init : goal.replying-init
+replying-init g c = record {
+  still = still_itself (g.H.Host.seen c.args.host.now) (g.met.H.Host.counts_now c.args.host.now) (g.met.H.Host.only_now c.args.host.now);
+  input = record { input = refl; heard = refl };
+  sound = c.requires.sound;
+  few = omega arith;
+  refused = refl;
+  so_far = λ tells. refl;
+}
+
+-- where memory ran out, what was said begins the answer
+pub returns-in_default-turn : goal.returns-in_default-turn
+returns-in_default-turn g c =
+    stopped tt (λ tells. (text_of_replies c.replying.number (replies_to c.args.labels.now c.replying.db (commands_in c.replying.rest.now)), sym (c.replying.invariant.so_far tells)))
+    c.replying.invariant.still c.replying.invariant.input
+
+pub returns-in_default-reply_text : goal.returns-in_default-reply_text
+returns-in_default-reply_text g c =
+    stopped tt (λ tells. (text_of_replies c.replying.number (replies_to c.args.labels.now c.replying.db (commands_in c.replying.rest.now)), sym (c.replying.invariant.so_far tells)))
+    c.replying.invariant.still c.replying.invariant.input
 
 pub returns-in_default-say : goal.returns-in_default-say
 returns-in_default-say g c =

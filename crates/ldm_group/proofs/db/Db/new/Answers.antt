@@ -16,11 +16,11 @@ returns-in-Some c =
 pub invariant_of-result : goal.invariant_of-result
 invariant_of-result c =
     let up : IsNonDecreasingBy place_of c.sort_by_key.new.self.items = IsNonDecreasingBy-from_sort_by_key place_of _ c.in_ok-sort_by_key.ensures.sorted (λ a r q k. search rules) in
-    subst Rising (sym c.from_vec.ensures) (strictly place_of c.sort_by_key.new.self.items up (subst NoneTwice c.as_slice.ensures.value c.in_default.ensures))
+    subst Rising (sym c.in_ok-of.ensures) (strictly place_of c.sort_by_key.new.self.items up (subst NoneTwice c.as_slice.ensures.value c.in_default.ensures))
 
 pub returns : goal.returns
 returns c = record {
   header_is = refl;
-  same = subst (λ xs. IsPermutation c.args.records.items xs) (sym c.from_vec.ensures) c.sort_by_key.ensures.permutation;
+  same = subst (λ xs. IsPermutation c.args.records.items xs) (sym c.in_ok-of.ensures) c.sort_by_key.ensures.permutation;
   rising = invariant_of-result c;
 }

@@ -8,9 +8,9 @@ use Rattle.ldm_edits.specs.Steps.{Keeps, StepsAs, next_of}
 use Rattle.ldm_found.proofs.ClearLaws.{clear_of}
 use Rattle.ldm_store.specs.Kept.{IsCurrent}
 use Rattle.ldm_store.specs.Turning.{IsBodyOnEach, AllHave}
-use Rattle.ldm_store.specs.Sessions.{IsEditable, IsNextFor, Opened, HoldsGroup, turn_in}
+use Rattle.ldm_store.specs.Sessions.{IsEditable, IsNextFor, Opened, RestsOn, HoldsGroup, turn_in}
 use Rattle.ldm_store.proofs.EditLaws.{low_last, high_last}
-use Rattle.ldm_store.proofs.ApplyLaws.{StepsFrom, steps_from, next_for, refused_for, untouched, bodies_of, moved, written, holds_next}
+use Rattle.ldm_store.proofs.ApplyLaws.{StepsFrom, steps_from, next_for, refused_for, untouched, bodies_of, moved, written, holds_next, bounded, rests_next}
 use Rattle.ldm_store.proofs.session.Session.apply.Goals as goal
 
 -- the session's facts, of the session as it was given
@@ -113,3 +113,22 @@ pub returns-clause-next : goal.returns-clause-next
 returns-clause-next g c =
     next_for c.args.self c.args.command.now c.in-Next.newer
     (stepped _ c.args.self c.args.command.now c.in-Next.newer c.in-Ok.outcome c.self.view_is c.self.invariant c.in-Ok.ensures.is c.in-Ok.ensures.keeps c.in-Next.is)
+
+pub returns-in_default-rewrite_all-clause-wrote : goal.returns-in_default-rewrite_all-clause-wrote
+returns-in_default-rewrite_all-clause-wrote g c =
+    bounded c.args.self c.args.command.now c.in-Next.newer c.in-Ok-body_of.body (g.H.Host.seen c.args.host.now) (g.H.Host.seen c.rewrite_all.new.host)
+    (stepped _ c.args.self c.args.command.now c.in-Next.newer c.in-Ok.outcome c.self.view_is c.self.invariant c.in-Ok.ensures.is c.in-Ok.ensures.keeps c.in-Next.is)
+    c.in-Ok-body_of.ensures.body c.rewrite_all.ensures.wrote
+
+pub returns-clause-wrote : goal.returns-clause-wrote
+returns-clause-wrote g c =
+    bounded c.args.self c.args.command.now c.in-Next.newer c.in-Ok-body_of.body (g.H.Host.seen c.args.host.now) (g.H.Host.seen c.rewrite_all.new.host)
+    (stepped _ c.args.self c.args.command.now c.in-Next.newer c.in-Ok.outcome c.self.view_is c.self.invariant c.in-Ok.ensures.is c.in-Ok.ensures.keeps c.in-Next.is)
+    c.in-Ok-body_of.ensures.body c.rewrite_all.ensures.wrote
+
+pub returns-clause-rests : goal.returns-clause-rests
+returns-clause-rests g c =
+    let d = g.H.Host.seen c.rewrite_all.new.host in
+    let same = slice_is c.as_slice.result.now _ c.args.self c.as_slice.ensures c.self.view_is in
+    subst (λ (s : Opened). RestsOn (record { db = c.in-Next.newer; labels = s.labels }) d) (sym c.self.view_is)
+    (rests_next c.args.self c.in-Next.newer c.as_slice.result.now (g.H.Host.seen c.args.host.now) d same c.requires.rests c.rewrite_all.ensures.later c.in-Ok-rewrite_all.ensures.settled)

@@ -1,0 +1,346 @@
+ghost use Rattle.std.specs.Prelude.{◌≡◌, ◌≤◌, ◌<◌, ◌+◌, ◌%◌, ◌++◌, ◌∷◌, [], ◌↔◌, ℕ, List, Some, None, Err, length, is_some, vec_len, IfOk, IfErr, OnOk, OnErr, IsErrAnd, MatchResult};
+ghost use Rattle.std.specs.Ordering.{nat_cmp};
+ghost use Rattle.std.specs.BTreeMap.{get};
+ghost use Rattle.ldm_frags.specs.declared.faults.FragFault.{FragFault};
+ghost use Rattle.ldm_frags.specs.declared.faults.FragError.{FragError};
+ghost use Rattle.ldm_frags.specs.declared.faults.Joined.{Joined};
+ghost use Rattle.ldm_frags.specs.declared.blocks.Piece.{Piece};
+ghost use Rattle.ldm_frags.specs.Blocks.{count, has_magic, group, part, parts};
+ghost use Rattle.ldm_frags.specs.Faults.{fault_by, block_fault, first_block_fault};
+ghost use Rattle.ldm_frags.specs.Joins.{Joins};
+ghost use Rattle.ldm_frags.specs.Groups.{place_in, has_other};
+ghost use Rattle.ldm_frags.specs.Written.{Placed, Holds, joined_below};
+ghost use Rattle.ldm_frags.specs.Answers.{Answers, Gives, Refuses, IsFault};
+ghost use Rattle.ldm_frags.specs.Kept.{blocks_of, IsKept, IsNext};
+ghost use Rattle.ldm_frags.specs.Fed.{IsFed};
+
+use crate::blocks::{Piece, has_magic, head_of, piece_of};
+use crate::groups::{Groups, has_other, note, place};
+use crate::joining::join_all;
+use crate::{FragError, FragFault, Joined};
+use ldm_bytes::NoMemory;
+use std::alloc::Global;
+use std::collections::BTreeMap;
+use std::marker::Model;
+
+/// Joins blocks that it is fed one by one, in rising number from block 4 on.
+///
+/// Of each block it keeps a piece of 32 bytes, and of a block in use the payload besides.
+#[derive(Drop)]
+pub struct Joiner {
+    alloc: Global,
+    limit: u32,
+    pieces: Vec<Piece>,
+    groups: Groups,
+    failed: Option<FragError>,
+}
+
+impl Model for Joiner {
+    ghost use Rattle.ldm_frags.specs.Fed.{Fed};
+
+    ghost Value = { Fed };
+
+    ghost use Rattle.ldm_frags.specs.Kept.{blocks_of, IsJoiner};
+
+    ghost view = { λ j. record { limit = j.limit; blocks = blocks_of j.pieces.items; failed = j.failed } };
+
+    ghost invariant = { λ j. IsJoiner j.limit j.pieces.items j.groups j.failed };
+}
+
+// The fault of the block of this number. The table has the blocks before it.
+fn fault_of(groups: &Groups, number: u32, block: &[u8; 128]) -> Option<FragFault>
+    ensures { result ≡ fault_by number (has_magic block.now 0) (part block.now 0) (parts block.now 0)
+        (has_other (get nat_cmp groups.now (group block.now 0)) (parts block.now 0))
+        (is_some (place_in (get nat_cmp groups.now (group block.now 0)) (part block.now 0))) }
+{
+    if !has_magic(block) {
+        return Some(FragFault::NoMagic(number));
+    }
+    let head = head_of(block);
+    if head.parts > 4 {
+        return Some(FragFault::Parts(number));
+    }
+    if head.parts < 2 {
+        return None;
+    }
+    if head.parts <= head.part {
+        return Some(FragFault::Part(number));
+    }
+    if has_other(groups, head.group, head.parts) {
+        return Some(FragFault::Mixed(number));
+    }
+    if place(groups, head.group, head.part).is_some() {
+        return Some(FragFault::Repeated(number));
+    }
+    None
+}
+
+// Keeps one block more, which has no fault.
+fn keep(
+    alloc: Global,
+    pieces: &mut Vec<Piece>,
+    groups: &mut Groups,
+    block: &[u8; 128],
+) -> Result<(), NoMemory>
+    requires few { vec_len pieces.old < 8192 }
+    requires kept { IsKept pieces.old.items groups.old }
+    requires sound { block_fault (blocks_of pieces.old.items ++ block.now) (length pieces.old.items) ≡ None }
+    ensures kept { OnOk result (IsKept pieces.new.items groups.new) }
+    ensures added { OnOk result ((piece : Piece) × (pieces.new.items ≡ pieces.old.items ++ piece ∷ [])
+        × IsNext pieces.old.items piece block.now) }
+    ensures stays { OnErr result (pieces.new.items ≡ pieces.old.items) }
+{
+    let piece = piece_of(alloc, block)?;
+    note(groups, pieces.len(), piece.head)?;
+    pieces.push(piece)?;
+    Ok(())
+}
+
+// Keeps one block more, or answers its fault.
+fn add(
+    alloc: Global,
+    pieces: &mut Vec<Piece>,
+    groups: &mut Groups,
+    block: &[u8; 128],
+) -> Result<(), FragError>
+    requires few { vec_len pieces.old < 8192 }
+    requires kept { IsKept pieces.old.items groups.old }
+    ensures kept { OnOk result (IsKept pieces.new.items groups.new) }
+    ensures added { OnOk result ((piece : Piece) × (pieces.new.items ≡ pieces.old.items ++ piece ∷ [])
+        × IsNext pieces.old.items piece block.now) }
+    ensures stays { OnErr result (pieces.new.items ≡ pieces.old.items) }
+    ensures fault { IfErr result (λ error. IsFault error
+        (block_fault (blocks_of pieces.old.items ++ block.now) (length pieces.old.items))) }
+{
+    if let Some(fault) = fault_of(groups, pieces.len() as u32 + 4, block) {
+        return Err(FragError::Fault(fault));
+    }
+    keep(alloc, pieces, groups, block)?;
+    Ok(())
+}
+
+impl Joiner {
+    ghost use Rattle.std.specs.Prelude.{◌≡◌, ◌≤◌, ◌<◌, ◌+◌, ◌%◌, ◌++◌, [], ℕ, List, Some, None, Err, length, IfOk, IfErr, OnOk, MatchResult};
+    ghost use Rattle.ldm_frags.specs.declared.faults.FragError.{FragError};
+    ghost use Rattle.ldm_frags.specs.Blocks.{count};
+    ghost use Rattle.ldm_frags.specs.Faults.{block_fault, first_block_fault};
+    ghost use Rattle.ldm_frags.specs.Answers.{Answers, IsFault};
+    ghost use Rattle.ldm_frags.specs.Fed.{IsFed};
+
+    /// A joiner of so many blocks, for all of which it takes room at once.
+    pub fn new(alloc: Global, blocks: u32) -> Result<Joiner, NoMemory>
+        requires { blocks ≤ 8192 }
+        ensures fed { IfOk result (λ joiner. IsFed joiner []) }
+        ensures limit { IfOk result (λ joiner. joiner.limit ≡ blocks) }
+    {
+        Ok(Joiner {
+            alloc,
+            limit: blocks,
+            pieces: Vec::with_capacity(alloc, blocks as usize)?,
+            groups: BTreeMap::new(alloc),
+            failed: None,
+        })
+    }
+
+    /// Takes the next block. After an error the joiner answers that error to every call.
+    pub fn feed(&mut self, block: &[u8; 128]) -> Result<(), FragError>
+        requires { count self.old.blocks < self.old.limit }
+        // Whatever blocks it was fed, it was fed this one too, or this one has that fault.
+        ensures fed { (blocks : List ℕ) → IsFed self.old blocks → MatchResult result
+            (λ _. IsFed self.new (blocks ++ block.now))
+            (λ error. IsFault error (block_fault (blocks ++ block.now) (count blocks))) }
+        // Its fault is the first of all that begins with these blocks.
+        ensures first { (blocks rest : List ℕ) → IsFed self.old blocks
+            → IfErr result (λ error. IsFault error (first_block_fault (blocks ++ block.now ++ rest))) }
+        ensures taken { OnOk result (count self.new.blocks ≡ count self.old.blocks + 1) }
+        ensures limit { self.new.limit ≡ self.old.limit }
+        // With an error it has failed, and is as it was otherwise.
+        ensures fails { IfErr result (λ error. self.new ≡ record self.old { failed = Some error }) }
+        ensures failed { (error : FragError) → self.old.failed ≡ Some error → result ≡ Err error }
+    {
+        if let Some(error) = self.failed {
+            return Err(error);
+        }
+        if let Err(error) = add(self.alloc, &mut self.pieces, &mut self.groups, block) {
+            self.failed = Some(error);
+            return Err(error);
+        }
+        Ok(())
+    }
+
+    /// Takes the next blocks one by one, up to the first that has a fault.
+    pub fn feed_all(&mut self, blocks: &[u8]) -> Result<(), FragError>
+        requires whole { length blocks.now % 128 ≡ 0 }
+        requires room { count self.old.blocks + count blocks.now ≤ self.old.limit }
+        ensures fed { (fed : List ℕ) → IsFed self.old fed → OnOk result (IsFed self.new (fed ++ blocks.now)) }
+        ensures first { (fed rest : List ℕ) → IsFed self.old fed
+            → IfErr result (λ error. IsFault error (first_block_fault (fed ++ blocks.now ++ rest))) }
+        ensures taken { OnOk result (count self.new.blocks ≡ count self.old.blocks + count blocks.now) }
+        ensures limit { self.new.limit ≡ self.old.limit }
+    {
+        let (chunks, _) = blocks.as_chunks::<128>();
+        for block in chunks {
+            self.feed(block)?;
+        }
+        Ok(())
+    }
+
+    /// The records that the blocks hold, in the order of their whole blocks and blocks of part 0, or the first block whose
+    /// group lacks a part.
+    pub fn finish(self) -> Result<Vec<Joined>, FragError>
+        ensures answers { (blocks : List ℕ) → IsFed self blocks → Answers blocks result }
+        ensures failed { (error : FragError) → self.failed ≡ Some error → result ≡ Err error }
+    {
+        if let Some(error) = self.failed {
+            return Err(error);
+        }
+        join_all(self.alloc, &self.groups, self.pieces.as_slice())
+    }
+}
+
+// The list of all blocks, or the first fault.
+fn join_each(alloc: Global, blocks: &[u8]) -> Result<Vec<Joined>, FragError>
+    requires whole { length blocks.now % 128 ≡ 0 }
+    requires small { length blocks.now ≤ 1048576 }
+    ensures { Answers blocks.now result }
+{
+    let mut joiner = Joiner::new(alloc, (blocks.len() / 128) as u32)?;
+    joiner.feed_all(blocks)?;
+    joiner.finish()
+}
+
+/// The records that the blocks hold, in the order of their whole blocks and blocks of part 0, or the
+/// first fault. `blocks` is the blocks from number 4 on.
+pub fn join(alloc: Global, blocks: &[u8]) -> Result<Vec<Joined>, FragError>
+    requires whole { length blocks.now % 128 ≡ 0 }
+    requires small { length blocks.now ≤ 1048576 }
+    ensures answers { Answers blocks.now result }
+    // A list is answered exactly where it is joined.
+    ensures joined { (list : List Joined) → Joins blocks.now list → Gives result list }
+    // Each fault is answered exactly where it is the first.
+    ensures refused { (fault : FragFault) → first_block_fault blocks.now ≡ Some fault → Refuses result fault }
+
+    // There is a fault exactly where no list is joined, and at most one list is.
+    ensures faultless { (first_block_fault blocks.now ≡ None) ↔ ((list : List Joined) × Joins blocks.now list) }
+    ensures one { (a b : List Joined) → Joins blocks.now a → Joins blocks.now b → a ≡ b }
+    // Blocks that hold records join to these, wherever their parts stand.
+    ensures held { (records : List Placed) → Holds blocks.now records
+        → Joins blocks.now (joined_below records (count blocks.now)) }
+{
+    join_each(alloc, blocks)
+}
+
+#[cfg(test)]
+mod tests {
+    use super::*;
+    use ldm_bytes::{put_u16, put_u32};
+    use std::test::Fail;
+
+    // A group, a part and a number of parts.
+    type Head = (u32, u16, u16);
+
+    const UNUSED: Head = (0, 0, 0);
+
+    // Group 9 stands in the blocks 8, 9 and 11.
+    const GROUP_9: [Head; 8] = [
+        UNUSED,
+        UNUSED,
+        UNUSED,
+        UNUSED,
+        (9, 2, 3),
+        (9, 0, 3),
+        UNUSED,
+        (9, 1, 3),
+    ];
+
+    // The blocks from number 4 on with these heads. The bytes of a payload are the block's number.
+    fn blocks_of(heads: &[Head; 8]) -> [u8; 1024] {
+        let mut blocks = [0u8; 1024];
+        for k in 0..8 {
+            let (group, part, parts) = heads[k];
+            let at = 128 * k;
+            blocks[at..at + 4].copy_from_slice(b"VBLK");
+            put_u32(&mut blocks, at + 4, k as u32 + 4);
+            put_u32(&mut blocks, at + 8, group);
+            put_u16(&mut blocks, at + 12, part);
+            put_u16(&mut blocks, at + 14, parts);
+            blocks[at + 16..at + 128].fill(k as u8 + 4);
+        }
+        blocks
+    }
+
+    // What a joiner of these blocks answers.
+    fn fed(alloc: Global, blocks: &[u8; 1024]) -> Result<Vec<Joined>, FragError> {
+        let (chunks, _) = blocks.as_chunks::<128>();
+        let mut joiner = Joiner::new(alloc, 8)?;
+        for block in chunks {
+            joiner.feed(block)?;
+        }
+        joiner.finish()
+    }
+
+    #[test]
+    fn joins_by_part(rt: HostRuntime) -> Result<(), Fail> {
+        let blocks = blocks_of(&GROUP_9);
+        let mut want = [9u8; 336];
+        want[112..224].fill(11);
+        want[224..].fill(8);
+        let list = join(rt.alloc(), &blocks)?;
+        assert_eq!(rt; list.len(), 1);
+        assert_eq!(rt; list[0].block, 9);
+        assert_eq!(rt; list[0].payload.as_slice(), want.as_slice());
+        let list = fed(rt.alloc(), &blocks)?;
+        assert_eq!(rt; list.len(), 1);
+        assert_eq!(rt; list[0].block, 9);
+        assert_eq!(rt; list[0].payload.as_slice(), want.as_slice());
+        Ok(())
+    }
+
+    #[test]
+    fn first_faults(rt: HostRuntime) {
+        let changes = [
+            (11, UNUSED, FragFault::Missing(8)),
+            (11, (9, 0, 3), FragFault::Repeated(11)),
+            (11, (9, 1, 4), FragFault::Mixed(11)),
+            (5, (1, 0, 5), FragFault::Parts(5)),
+            (5, (1, 2, 2), FragFault::Part(5)),
+            (5, (1, 0, 4), FragFault::Missing(5)),
+        ];
+        for (number, head, fault) in changes {
+            let mut heads = GROUP_9;
+            heads[number - 4] = head;
+            let blocks = blocks_of(&heads);
+            let want = Some(FragError::Fault(fault));
+            assert_eq!(rt; join(rt.alloc(), &blocks).err(), want);
+            assert_eq!(rt; fed(rt.alloc(), &blocks).err(), want);
+        }
+    }
+
+    #[test]
+    fn missing_after_all_blocks(rt: HostRuntime) {
+        let mut blocks = blocks_of(&GROUP_9);
+        blocks[128 * 7] = b'X';
+        let want = Some(FragError::Fault(FragFault::NoMagic(11)));
+        assert_eq!(rt; join(rt.alloc(), &blocks).err(), want);
+        assert_eq!(rt; fed(rt.alloc(), &blocks).err(), want);
+    }
+
+    // A joiner of nine blocks, of which the eighth repeats a part.
+    #[test]
+    fn says_a_fault_again(rt: HostRuntime) -> Result<(), Fail> {
+        let mut heads = GROUP_9;
+        heads[7] = (9, 0, 3);
+        let blocks = blocks_of(&heads);
+        let (chunks, _) = blocks.as_chunks::<128>();
+        let mut joiner = Joiner::new(rt.alloc(), 9)?;
+        let mut answer = Ok(());
+        for block in chunks {
+            answer = joiner.feed(block);
+        }
+        let want = Some(FragError::Fault(FragFault::Repeated(11)));
+        assert_eq!(rt; answer.err(), want);
+        assert_eq!(rt; joiner.feed(&chunks[0]).err(), want);
+        assert_eq!(rt; joiner.finish().err(), want);
+        Ok(())
+    }
+}
