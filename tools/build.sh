@@ -32,8 +32,9 @@ kit_line() {
     { cat "$(dirname "$kit")/../KIT-ID" 2>/dev/null || rt version 2>/dev/null; } | head -n 1
 }
 
-# The crates that $crate stands on and itself, by crates.txt below $1. For each a line: the lines of text from this crate on to
-# the program, its name, and the names of all crates below it. $2 has the lines of each crate. Those with most to come are first.
+# The crates that $crate stands on and itself, by crates.txt below $1. For each a line: the lines of code from this crate on to
+# the program, by which the time that a crate takes goes best, its name, and the names of all crates below it. $2 has the lines
+# of each crate. Those with most to come are first.
 plan_of() {
     sed 's/#.*//; s/[:,]/ /g; /^ *$/d' "$1/crates.txt" | awk -v top="$crate" '
         function need(name, count, words, i) {
@@ -280,7 +281,7 @@ build() {
         return 1
     }
     for it in "$rooms"/source/crates/*; do
-        echo "= $(basename "$it") $(find "$it" -type f -exec cat {} + | wc -l)"
+        echo "= $(basename "$it") $(find "$it/src" -type f -exec cat {} + | wc -l)"
     done >"$rooms/sizes"
     plan_of "$rooms/source" "$rooms/sizes" >"$rooms/plan"
     kit=$(kit_line)
