@@ -127,17 +127,16 @@ move_kept() {
     ) 8<"$here/crates/$1"
 }
 
-# Proves crate $1 in a folder of its own, and leaves the status there. $2: flags of rt.
+# Proves crate $1 in a folder of its own, and leaves the status there. $2: how many jobs it has. $3: by how much it stands back.
 prove() {
     child='' status=1
     trap '[ -z "$child" ] || kill "$child"; exit 1' TERM
     make_room "$1" && cd "$rooms/$1/crates/$1" && {
         # (a program is run with no words: what it says and its status tell nothing of the build)
-        # shellcheck disable=SC2086
         if [ -f src/main.rt ]; then
-            rt run $2 -- </dev/null &
+            nice -n "$3" rt run --jobs "$2" -- </dev/null &
         else
-            rt lib $2 &
+            nice -n "$3" rt lib --jobs "$2" &
         fi
         child=$!
         wait "$child"
@@ -172,8 +171,8 @@ lanes() {
         END { print most < 1 ? 1 : most }' /proc/meminfo 2>/dev/null || echo 1
 }
 
-# Proves the crates of the plan, each once those below it are proved. That with most to come has as many jobs as the kit
-# chooses, those beside it have one each.
+# Proves the crates of the plan, each once those below it are proved. That with most to come has a job for each lane. Those
+# beside it share as many among them and stand back, so that they take what it leaves.
 prove_all() {
     left=$(cut -d ' ' -f 2 "$rooms/plan" | tr '\n' ' ')
     total=$(grep -c . "$rooms/plan")
@@ -197,23 +196,28 @@ prove_all() {
 
 # Starts the crates that can be proved now.
 start_ready() {
-    waiting=''
+    ready='' waiting=''
+    count=$(echo "$running" | wc -w)
     for name in $left; do
-        if [ "$(echo "$running" | wc -w)" -ge "$at_once" ] || ! are_proved "$(below "$name")"; then
+        if [ "$count" -lt "$at_once" ] && are_proved "$(below "$name")"; then
+            ready="$ready$name "
+            count=$((count + 1))
+        else
             waiting="$waiting$name "
-            continue
         fi
+    done
+    left=$waiting
+    for name in $ready; do
         started=$((started + 1))
         say "crate $started of $total: $name .."
-        flags='--jobs 1'
-        [ -n "$wide" ] || { wide=$name flags=''; }
+        jobs=$(((at_once + count - 1) / count)) back=5
+        [ -n "$wide" ] || { wide=$name jobs=$at_once back=0; }
         mkdir "$rooms/$name"
         date +%s >"$rooms/$name/began"
-        prove "$name" "$flags" >"$rooms/$name/log" 2>&1 &
+        prove "$name" "$jobs" "$back" >"$rooms/$name/log" 2>&1 &
         pids="$pids $!"
         running="$running$name "
     done
-    left=$waiting
 }
 
 are_proved() {

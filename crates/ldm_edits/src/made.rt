@@ -84,7 +84,7 @@ fn with_copies(
     for at in 0..spots.len() {
         let spot = spots[at];
         let own = id + 2 * at as u64;
-        let component = new_component(alloc, own, volume, 2, 1, None)?;
+        records.push(new_component(alloc, own, volume, 2, 1, None)?)?;
         let part = new_partition(
             alloc,
             own + 1,
@@ -95,7 +95,6 @@ fn with_copies(
             spot.disk,
             None,
         )?;
-        records.push(component)?;
         records.push(part)?;
     }
     Ok(records)

@@ -21,21 +21,27 @@ const LONGER: &str = "00000033 l43 0107 02 'p7 z28 0400000800 020006 0102 0909";
 const VOLUME: &str =
     "00000051 l75 0105 04 'Data 03 'gen 00 'ACTIVE z8 03 z6 0101 z16 02080a z4 07 bbbbbbbbbbbbbbbbbbbbbbbbbbbbbbbb";
 
-// The own spelling of a copy.
-fn copied(alloc: Global, record: &Record) -> Result<Bytes, NoMemory> {
-    spelling(alloc, &record.clone_in(alloc)?)
+// The own spelling of a record.
+fn spelling_of(alloc: Global, record: Result<Record, NoMemory>) -> Result<Bytes, NoMemory> {
+    spelling(alloc, &record?)
 }
 
 // The own spelling of a copy of what the payload spells.
-fn respelled(alloc: Global, payload: &[u8]) -> Result<Bytes, Fail> {
+fn respelled(alloc: Global, payload: &[u8]) -> Result<Bytes, RecordError> {
     let record = read_record(alloc, payload)?;
-    Ok(copied(alloc, &record)?)
+    Ok(spelling_of(alloc, record.clone_in(alloc))?)
 }
 
-// The length of the own spelling of what the payload spells, if it spells a record.
+// The length of the own spelling of what the payload spells.
+fn len_of(alloc: Global, payload: &[u8]) -> Result<usize, RecordError> {
+    let record = read_record(alloc, payload)?;
+    Ok(spelled_len(&record))
+}
+
+// That length, if the payload spells a record.
 fn read_len(alloc: Global, payload: &[u8]) -> Result<Option<usize>, Fail> {
-    match read_record(alloc, payload) {
-        Ok(record) => Ok(Some(spelled_len(&record))),
+    match len_of(alloc, payload) {
+        Ok(len) => Ok(Some(len)),
         Err(RecordError::Fault(RecordFault::Malformed)) => Ok(None),
         Err(_) => Err(Fail::from("no record")),
     }
@@ -61,8 +67,8 @@ fn numbers(record: &Record) -> [u64; 4] {
 }
 
 // Those of what the payload spells.
-fn numbers_of(alloc: Global, payload: &str) -> Result<[u64; 4], Fail> {
-    let record = read_record(alloc, &bytes_of(alloc, payload)?)?;
+fn numbers_of(alloc: Global, payload: &[u8]) -> Result<[u64; 4], RecordError> {
+    let record = read_record(alloc, payload)?;
     Ok(numbers(&record))
 }
 
@@ -76,22 +82,23 @@ fn values(rt: HostRuntime) -> Result<(), Fail> {
         (DISK, [2, 0x1111_1111, 0, 0]),
     ];
     for (payload, want) in rows {
-        assert_eq!(rt; numbers_of(alloc, payload)?, want, "{payload}");
+        let numbers = numbers_of(alloc, &bytes_of(alloc, payload)?)?;
+        assert_eq!(rt; numbers, want, "{payload}");
     }
     assert!(rt; is_spelled(alloc, LONGER, PARTITION)?);
     Ok(())
 }
 
 // Whether the own spelling of a record is this one.
-fn spells(alloc: Global, record: &Record, own: &str) -> Result<bool, Fail> {
-    let own = bytes_of(alloc, own)?;
-    Ok(spelling(alloc, record)?.as_slice() == own.as_slice())
+fn spells(alloc: Global, record: Result<Record, NoMemory>, own: &str) -> Result<bool, Fail> {
+    let spelling = spelling_of(alloc, record)?;
+    Ok(spelling.as_slice() == bytes_of(alloc, own)?.as_slice())
 }
 
 #[test]
 fn new_volumes(rt: HostRuntime) -> Result<(), Fail> {
-    let volume = new_volume(rt.alloc(), 5, b"Data", VOLUME_GUID, false, 1, 2058)?;
-    assert!(rt; spells(rt.alloc(), &volume, VOLUME)?);
+    let volume = new_volume(rt.alloc(), 5, b"Data", VOLUME_GUID, false, 1, 2058);
+    assert!(rt; spells(rt.alloc(), volume, VOLUME)?);
     Ok(())
 }
 
@@ -101,15 +108,15 @@ fn new_components(rt: HostRuntime) -> Result<(), Fail> {
         chunk: 4,
         columns: 2,
     });
-    let component = new_component(rt.alloc(), 6, 5, 1, 2, striping)?;
-    assert!(rt; spells(rt.alloc(), &component, COMPONENT)?);
+    let component = new_component(rt.alloc(), 6, 5, 1, 2, striping);
+    assert!(rt; spells(rt.alloc(), component, COMPONENT)?);
     Ok(())
 }
 
 #[test]
 fn new_partitions(rt: HostRuntime) -> Result<(), Fail> {
-    let partition = new_partition(rt.alloc(), 7, 0, 0, 2048, 6, 2, None)?;
-    assert!(rt; spells(rt.alloc(), &partition, PARTITION)?);
+    let partition = new_partition(rt.alloc(), 7, 0, 0, 2048, 6, 2, None);
+    assert!(rt; spells(rt.alloc(), partition, PARTITION)?);
     Ok(())
 }
 
@@ -192,6 +199,11 @@ fn payloads(rt: HostRuntime) -> Result<(), Fail> {
     Ok(())
 }
 
+// Why bytes spell no record.
+fn error_of(alloc: Global, payload: &[u8]) -> Option<RecordError> {
+    read_record(alloc, payload).err()
+}
+
 // An unknown type byte is looked at where it is there and the payload has its eight bytes.
 #[test]
 fn types(rt: HostRuntime) -> Result<(), Fail> {
@@ -203,9 +215,8 @@ fn types(rt: HostRuntime) -> Result<(), Fail> {
         } else {
             RecordError::Fault(RecordFault::UnknownType(kind))
         };
-        assert_eq!(rt; read_record(rt.alloc(), &bytes).err(), Some(fault));
-        let short = read_record(rt.alloc(), &bytes[..7]).err();
-        assert_eq!(rt; short, Some(malformed));
+        assert_eq!(rt; error_of(rt.alloc(), &bytes), Some(fault));
+        assert_eq!(rt; error_of(rt.alloc(), &bytes[..7]), Some(malformed));
     }
     Ok(())
 }

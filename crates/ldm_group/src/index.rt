@@ -129,6 +129,50 @@ fn children_of(alloc: Global, records: &[Record]) -> Result<IndexMap<ObjectId, H
     Ok(children)
 }
 
+// The maps by objects.
+#[derive(Drop)]
+struct Objects {
+    ids: IndexMap<ObjectId, Hits>,
+    children: IndexMap<ObjectId, Hits>,
+}
+
+impl Objects {
+    fn of(alloc: Global, records: &[Record]) -> Result<Objects, NoMemory>
+        ensures ids { IfOk result (λ objects. (kind id : ℕ) → at_object objects.ids kind id ≡ hits (is_at kind id) records.now) }
+        ensures children { IfOk result (λ objects. (kind id : ℕ) → at_object objects.children kind id ≡ hits (is_child kind id) records.now) }
+    {
+        let ids = ids_of(alloc, records)?;
+        Ok(Objects {
+            ids,
+            children: children_of(alloc, records)?,
+        })
+    }
+}
+
+// The maps by names and GUIDs.
+#[derive(Drop)]
+struct Names {
+    volumes: IndexMap<Vec<u8>, Hits>,
+    disks: IndexMap<Vec<u8>, Hits>,
+    guids: IndexMap<u128, Hits>,
+}
+
+impl Names {
+    fn of(alloc: Global, records: &[Record]) -> Result<Names, NoMemory>
+        ensures volumes { IfOk result (λ names. (name : List ℕ) → at_name names.volumes name ≡ hits (is_volume_named name) records.now) }
+        ensures disks { IfOk result (λ names. (name : List ℕ) → at_name names.disks name ≡ hits (is_disk_named name) records.now) }
+        ensures guids { IfOk result (λ names. (guid : ℕ) → get nat_eq names.guids guid ≡ hits (is_disk_with guid) records.now) }
+    {
+        let volumes = volumes_of(alloc, records)?;
+        let disks = disks_of(alloc, records)?;
+        Ok(Names {
+            volumes,
+            disks,
+            guids: guids_of(alloc, records)?,
+        })
+    }
+}
+
 impl Index {
     ghost use Rattle.std.specs.Prelude.{◌≡◌, List, IfOk};
     ghost use Rattle.ldm_records.specs.declared.types.Record.{Record};
@@ -140,12 +184,14 @@ impl Index {
     pub fn of(alloc: Global, records: &[Record]) -> Result<Index, NoMemory>
         ensures { IfOk result (λ index. IsIndexOf index records.now) }
     {
+        let objects = Objects::of(alloc, records)?;
+        let names = Names::of(alloc, records)?;
         Ok(Index {
-            ids: ids_of(alloc, records)?,
-            volumes: volumes_of(alloc, records)?,
-            disks: disks_of(alloc, records)?,
-            guids: guids_of(alloc, records)?,
-            children: children_of(alloc, records)?,
+            ids: objects.ids,
+            volumes: names.volumes,
+            disks: names.disks,
+            guids: names.guids,
+            children: objects.children,
         })
     }
 

@@ -1,5 +1,6 @@
 use crate::made::{database, kinds_of};
 use ldm_group::{Db, DbError};
+use std::alloc::Global;
 use std::test::Fail;
 
 // Records in no order. Names are the bytes 65 to 71; the volume of components is 6, and partitions lie in
@@ -72,11 +73,16 @@ fn the_least_id_that_two_have(rt: HostRuntime) -> Result<(), Fail> {
     Ok(())
 }
 
+// Whether a database of 64 blocks and one of so many are the same group.
+fn is_same(alloc: Global, records: &str, last: u32, others: &str) -> Result<bool, Fail> {
+    let db = database(alloc, 64, records)??;
+    let other = database(alloc, last, others)??;
+    Ok(db.same_core(&other))
+}
+
 #[test]
 fn same_groups(rt: HostRuntime) -> Result<(), Fail> {
-    let alloc = rt.alloc();
-    let db = database(alloc, 64, "1.1.70 2.2.65")??;
-    assert!(rt; db.same_core(&database(alloc, 64, "2.2.65 1.1.70")??));
-    assert!(rt; !db.same_core(&database(alloc, 68, "1.1.70 2.2.65")??));
+    assert!(rt; is_same(rt.alloc(), "1.1.70 2.2.65", 64, "2.2.65 1.1.70")?);
+    assert!(rt; !is_same(rt.alloc(), "1.1.70 2.2.65", 68, "1.1.70 2.2.65")?);
     Ok(())
 }

@@ -12,6 +12,8 @@ mod group;
 #[cfg(test)]
 mod layout;
 #[cfg(test)]
+mod layout_columns;
+#[cfg(test)]
 mod made;
 #[cfg(test)]
 mod rules;

@@ -87,9 +87,13 @@ pub(crate) fn payload_of(row: &Row) -> [u8; 76] {
 // The row of a word: its numbers, with points between them, and zeros behind them.
 pub(crate) fn row_of(word: &str) -> Row {
     let mut row = [0u8; 9];
-    for (place, digits) in word.split('.').enumerate() {
-        if place < row.len() {
-            row[place] = digits.parse().unwrap_or(0);
+    let mut place: usize = 0;
+    for byte in word.as_bytes() {
+        if *byte == b'.' {
+            place = place.saturating_add(1);
+        } else if place < row.len() {
+            let digit = byte.wrapping_sub(b'0');
+            row[place] = row[place].wrapping_mul(10).wrapping_add(digit);
         }
     }
     row

@@ -1,4 +1,4 @@
-ghost use Rattle.std.specs.Prelude.{◌≡◌, ◌<◌, All, IfOk};
+ghost use Rattle.std.specs.Prelude.{◌≡◌, ◌<◌, ◌^◌, All, IfOk};
 ghost use Rattle.ldm_group.specs.Partitions.{EndsInRange};
 
 use crate::made::database;
@@ -36,10 +36,26 @@ fn wanted(size: u64) -> Wanted
     }
 }
 
+// The starts of what is placed, or the place of the first that finds no fit.
+fn starts(alloc: Global, all: &[Wanted]) -> Result<Result<Vec<u64>, usize>, Fail>
+    requires some { All (λ w. 0 < w.size) all.now }
+    requires limits { All (λ w. w.limit < 2 ^ 64) all.now }
+{
+    let db = group(alloc)?;
+    let mut starts = Vec::new(alloc);
+    match place_all(alloc, db.as_slice(), all)? {
+        Ok(spots) => {
+            for spot in &spots {
+                starts.push(spot.start)?;
+            }
+            Ok(Ok(starts))
+        }
+        Err(at) => Ok(Err(at)),
+    }
+}
+
 #[test]
 fn places_at_the_first_fits(rt: HostRuntime) -> Result<(), Fail> {
-    let alloc = rt.alloc();
-    let db = group(alloc)?;
     let all = [
         wanted(5),
         wanted(5),
@@ -48,29 +64,48 @@ fn places_at_the_first_fits(rt: HostRuntime) -> Result<(), Fail> {
         wanted(4),
         wanted(1),
     ];
-    let Ok(spots) = place_all(alloc, db.as_slice(), &all[..5])? else {
+    let Ok(five) = starts(rt.alloc(), &all[..5])? else {
         return Err(Fail::from("no fit"));
     };
-    for (spot, start) in spots.iter().zip([10, 15, 30, 40, 46]) {
-        assert_eq!(rt; spot.start, start);
-    }
-    assert_eq!(rt; place_all(alloc, db.as_slice(), &all)?.err(), Some(5));
+    assert_eq!(rt; five.as_slice(), [10, 15, 30, 40, 46].as_slice());
+    assert_eq!(rt; starts(rt.alloc(), &all)?.err(), Some(5));
     Ok(())
+}
+
+// The gaps of the disk.
+fn map(alloc: Global) -> Result<FreeMap, Fail> {
+    Ok(FreeMap::of(alloc, &group(alloc)?, 2, 50)?)
+}
+
+// The start and length of each gap.
+fn gaps_of(alloc: Global, map: &FreeMap) -> Result<Vec<(u64, u64)>, Fail> {
+    let mut gaps = Vec::new(alloc);
+    for gap in map.gaps() {
+        gaps.push((gap.start, gap.len))?;
+    }
+    Ok(gaps)
+}
+
+// What is taken of the disk in turn.
+fn taken(map: &mut FreeMap) -> [Option<u64>; 7] {
+    [
+        map.take(5),
+        map.take(5),
+        map.take(5),
+        map.take(6),
+        map.take(5),
+        map.take(4),
+        map.take(1),
+    ]
 }
 
 #[test]
 fn takes_from_the_first_gaps(rt: HostRuntime) -> Result<(), Fail> {
-    let alloc = rt.alloc();
-    let db = group(alloc)?;
-    let mut map = FreeMap::of(alloc, &db, 2, 50)?;
-    assert_eq!(rt; map.gaps().len(), 3);
-    for (gap, (start, len)) in map.gaps().iter().zip([(10, 10), (30, 5), (40, 10)]) {
-        assert_eq!(rt; (gap.start, gap.len), (start, len));
-    }
-    let four = (map.take(5), map.take(5), map.take(5), map.take(6));
-    assert_eq!(rt; four, (Some(10), Some(15), Some(30), Some(40)));
-    let rest = (map.take(5), map.take(4), map.take(1));
-    assert_eq!(rt; rest, (None, Some(46), None));
+    let mut map = map(rt.alloc())?;
+    let gaps = gaps_of(rt.alloc(), &map)?;
+    assert_eq!(rt; gaps.as_slice(), [(10, 10), (30, 5), (40, 10)].as_slice());
+    let starts = [Some(10), Some(15), Some(30), Some(40), None, Some(46), None];
+    assert_eq!(rt; taken(&mut map), starts);
     assert!(rt; map.gaps().is_empty());
     Ok(())
 }

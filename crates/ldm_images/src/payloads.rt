@@ -4,53 +4,95 @@ use crate::sample::guid_with;
 use ldm_bytes::{NoMemory, number_len, put_number, write_guid};
 use std::alloc::Global;
 
-/// A record, as it is put together: 8 bytes for its type and length, and its fields.
+/// A record as it is spelled, with 8 bytes for its type and length before its fields.
 #[derive(Drop)]
 pub(crate) struct Payload {
     pub bytes: Vec<u8>,
 }
 
-impl Payload {
-    /// A record of this type with these flags.
-    fn new(alloc: Global, kind: u8, flags: u8, id: u64, name: &[u8]) -> Result<Payload, NoMemory> {
-        let mut payload = Payload {
-            bytes: Vec::new(alloc),
-        };
-        payload.fixed(&[0, 0, flags, kind, 0, 0, 0, 0])?;
-        payload.number(id)?;
-        payload.text(name)?;
-        Ok(payload)
-    }
+/// A field of a record.
+#[derive(Clone, Copy)]
+enum Field<'a> {
+    /// These bytes.
+    Plain(&'a [u8]),
+    /// This byte.
+    Byte(u8),
+    /// A number in eight bytes, high byte first.
+    Fixed(u64),
+    /// These bytes, behind their count.
+    Text(&'a [u8]),
+    /// The bytes of a number, behind their count.
+    Number(u64),
+    /// The text of a GUID, behind its length.
+    Guid(u128),
+}
 
-    fn fixed(&mut self, bytes: &[u8]) -> Result<(), NoMemory> {
-        self.bytes.extend_from_slice(bytes)?;
-        Ok(())
-    }
+fn push_text(bytes: &mut Vec<u8>, text: &[u8]) -> Result<(), NoMemory> {
+    bytes.push((text.len() & 0xFF) as u8)?;
+    bytes.extend_from_slice(text)?;
+    Ok(())
+}
 
-    fn number(&mut self, value: u64) -> Result<(), NoMemory> {
-        let mut buf = [0u8; 9];
-        let len = number_len(value);
-        put_number(&mut buf, 0, value);
-        self.fixed(&buf[..len])
-    }
+fn push_number(bytes: &mut Vec<u8>, value: u64) -> Result<(), NoMemory> {
+    let mut buf = [0u8; 9];
+    let len = number_len(value);
+    put_number(&mut buf, 0, value);
+    bytes.extend_from_slice(&buf[..len])?;
+    Ok(())
+}
 
-    fn guid(&mut self, guid: u128) -> Result<(), NoMemory> {
-        let mut text = [0; 36];
-        write_guid(guid, &mut text);
-        self.text(&text)
-    }
+fn push_guid(bytes: &mut Vec<u8>, guid: u128) -> Result<(), NoMemory> {
+    let mut text = [0; 36];
+    write_guid(guid, &mut text);
+    push_text(bytes, &text)
+}
 
-    fn text(&mut self, text: &[u8]) -> Result<(), NoMemory> {
-        self.bytes.push((text.len() & 0xFF) as u8)?;
-        self.fixed(text)
+fn push_field(bytes: &mut Vec<u8>, field: Field) -> Result<(), NoMemory> {
+    match field {
+        Field::Plain(plain) => Ok(bytes.extend_from_slice(plain)?),
+        Field::Byte(byte) => Ok(bytes.push(byte)?),
+        Field::Fixed(value) => Ok(bytes.extend_from_slice(&value.to_be_bytes())?),
+        Field::Text(text) => push_text(bytes, text),
+        Field::Number(value) => push_number(bytes, value),
+        Field::Guid(guid) => push_guid(bytes, guid),
     }
 }
 
-fn disk_payload(alloc: Global, id: u64, name: &[u8], guid: u128) -> Result<Payload, NoMemory> {
-    let mut payload = Payload::new(alloc, 0x34, 0, id, name)?;
-    payload.guid(guid)?;
-    payload.fixed(&[0; 13])?;
-    Ok(payload)
+/// A record of this type with these flags and fields.
+fn payload_of(alloc: Global, kind: u8, flags: u8, fields: &[Field]) -> Result<Payload, NoMemory> {
+    let mut bytes = Vec::new(alloc);
+    push_field(&mut bytes, Field::Plain(&[0, 0, flags, kind, 0, 0, 0, 0]))?;
+    for field in fields {
+        push_field(&mut bytes, *field)?;
+    }
+    Ok(Payload { bytes })
+}
+
+fn push(
+    alloc: Global,
+    payloads: &mut Vec<Payload>,
+    kind: u8,
+    flags: u8,
+    fields: &[Field],
+) -> Result<(), NoMemory> {
+    payloads.push(payload_of(alloc, kind, flags, fields)?)?;
+    Ok(())
+}
+
+fn push_disk(
+    alloc: Global,
+    payloads: &mut Vec<Payload>,
+    id: u64,
+    name: &[u8],
+    guid: u128,
+) -> Result<(), NoMemory> {
+    let fields = [
+        Field::Number(id),
+        Field::Text(name),
+        Field::Guid(guid),
+        Field::Plain(&[0; 13]),
+    ];
+    push(alloc, payloads, 0x34, 0, &fields)
 }
 
 /// A volume, whose GUID has this byte 16 times, with a drive hint where that isn't empty.
@@ -63,48 +105,63 @@ struct Volume<'a> {
     hint: &'a [u8],
 }
 
-fn volume_payload(alloc: Global, v: &Volume) -> Result<Payload, NoMemory> {
-    let flags = if v.hint.is_empty() { 0 } else { 0x02 };
-    let mut payload = Payload::new(alloc, 0x51, flags, v.id, v.name)?;
-    payload.text(b"gen")?;
-    payload.fixed(b"\0ACTIVE\0\0\0\0\0\0\0\0\x03\0\0\0\0\0\0")?;
-    payload.number(v.children)?;
-    payload.fixed(&[0; 16])?;
-    payload.number(v.size)?;
-    payload.fixed(&[0, 0, 0, 0, 0x07])?;
-    payload.fixed(&[v.guid; 16])?;
-    if !v.hint.is_empty() {
-        payload.text(v.hint)?;
-    }
-    Ok(payload)
+fn push_volume(alloc: Global, payloads: &mut Vec<Payload>, v: &Volume) -> Result<(), NoMemory> {
+    let (flags, hint) = if v.hint.is_empty() {
+        (0, Field::Plain(v.hint))
+    } else {
+        (0x02, Field::Text(v.hint))
+    };
+    let fields = [
+        Field::Number(v.id),
+        Field::Text(v.name),
+        Field::Text(b"gen"),
+        Field::Plain(b"\0ACTIVE\0\0\0\0\0\0\0\0\x03\0\0\0\0\0\0"),
+        Field::Number(v.children),
+        Field::Plain(&[0; 16]),
+        Field::Number(v.size),
+        Field::Plain(&[0, 0, 0, 0, 0x07]),
+        Field::Plain(&[v.guid; 16]),
+        hint,
+    ];
+    push(alloc, payloads, 0x51, flags, &fields)
 }
 
-/// A component; the layout type is 2 for basic and 1 for a stripe, of two columns with chunks of 128
-/// sectors.
-fn component_payload(
-    alloc: Global,
+/// A component. That of a stripe has its chunk and its count of columns, as they are spelled; of others it is empty.
+struct Component<'a> {
     id: u64,
-    name: &[u8],
-    layout: u8,
+    name: &'a [u8],
     children: u64,
     parent: u64,
-) -> Result<Payload, NoMemory> {
-    let flags = if layout == 1 { 0x10 } else { 0 };
-    let mut payload = Payload::new(alloc, 0x32, flags, id, name)?;
-    payload.text(b"ACTIVE")?;
-    payload.fixed(&[layout, 0, 0, 0, 0])?;
-    payload.number(children)?;
-    payload.fixed(&[0; 16])?;
-    payload.number(parent)?;
-    payload.fixed(&[0])?;
-    if layout == 1 {
-        payload.number(128)?;
-        payload.number(2)?;
-    }
-    Ok(payload)
+    striping: &'a [u8],
 }
 
-/// A partition of a component, from a sector of its disk's data on. A column has an index.
+fn push_component(
+    alloc: Global,
+    payloads: &mut Vec<Payload>,
+    c: &Component,
+) -> Result<(), NoMemory> {
+    let (flags, layout) = if c.striping.is_empty() {
+        (0, 2)
+    } else {
+        (0x10, 1)
+    };
+    let fields = [
+        Field::Number(c.id),
+        Field::Text(c.name),
+        Field::Text(b"ACTIVE"),
+        Field::Byte(layout),
+        Field::Plain(&[0; 4]),
+        Field::Number(c.children),
+        Field::Plain(&[0; 16]),
+        Field::Number(c.parent),
+        Field::Plain(&[0]),
+        Field::Plain(c.striping),
+    ];
+    push(alloc, payloads, 0x32, flags, &fields)
+}
+
+/// A partition of a component, from a sector of its disk's data on. A column has an index, as it is spelled; of others it is
+/// empty.
 struct Partition<'a> {
     id: u64,
     name: &'a [u8],
@@ -113,38 +170,46 @@ struct Partition<'a> {
     size: u64,
     offset: u64,
     parent: u64,
-    index: Option<u64>,
+    index: &'a [u8],
 }
 
-fn partition_payload(alloc: Global, p: &Partition) -> Result<Payload, NoMemory> {
-    let flags = if p.index.is_some() { 0x08 } else { 0 };
-    let mut payload = Payload::new(alloc, 0x33, flags, p.id, p.name)?;
-    payload.fixed(&[0; 12])?;
-    payload.fixed(&p.start.to_be_bytes())?;
-    payload.fixed(&p.offset.to_be_bytes())?;
-    payload.number(p.size)?;
-    payload.number(p.parent)?;
-    payload.number(p.disk)?;
-    if let Some(index) = p.index {
-        payload.number(index)?;
-    }
-    Ok(payload)
+fn push_partition(
+    alloc: Global,
+    payloads: &mut Vec<Payload>,
+    p: &Partition,
+) -> Result<(), NoMemory> {
+    let flags = if p.index.is_empty() { 0 } else { 0x08 };
+    let fields = [
+        Field::Number(p.id),
+        Field::Text(p.name),
+        Field::Plain(&[0; 12]),
+        Field::Fixed(p.start),
+        Field::Fixed(p.offset),
+        Field::Number(p.size),
+        Field::Number(p.parent),
+        Field::Number(p.disk),
+        Field::Plain(p.index),
+    ];
+    push(alloc, payloads, 0x33, flags, &fields)
 }
 
 pub(crate) fn push_disks(alloc: Global, payloads: &mut Vec<Payload>) -> Result<(), NoMemory> {
-    let mut group = Payload::new(alloc, 0x35, 0, 1, b"Dg0")?;
-    group.guid(guid_with(0xA))?;
-    group.fixed(&[0; 12])?;
-    payloads.push(group)?;
-    payloads.push(disk_payload(alloc, 1025, b"Disk1", guid_with(1))?)?;
-    payloads.push(disk_payload(alloc, 1026, b"Disk2", guid_with(2))?)?;
-    payloads.push(disk_payload(alloc, 1027, b"Disk3", guid_with(3))?)?;
-    Ok(())
+    let group = [
+        Field::Number(1),
+        Field::Text(b"Dg0"),
+        Field::Guid(guid_with(0xA)),
+        Field::Plain(&[0; 12]),
+    ];
+    push(alloc, payloads, 0x35, 0, &group)?;
+    push_disk(alloc, payloads, 1025, b"Disk1", guid_with(1))?;
+    push_disk(alloc, payloads, 1026, b"Disk2", guid_with(2))?;
+    push_disk(alloc, payloads, 1027, b"Disk3", guid_with(3))
 }
 
 pub(crate) fn push_simple(alloc: Global, payloads: &mut Vec<Payload>) -> Result<(), NoMemory> {
-    payloads.push(volume_payload(
+    push_volume(
         alloc,
+        payloads,
         &Volume {
             id: 1028,
             name: b"Volume1",
@@ -153,10 +218,21 @@ pub(crate) fn push_simple(alloc: Global, payloads: &mut Vec<Payload>) -> Result<
             guid: 0x55,
             hint: b"E:",
         },
-    )?)?;
-    payloads.push(component_payload(alloc, 1029, b"Volume1-01", 2, 1, 1028)?)?;
-    payloads.push(partition_payload(
+    )?;
+    push_component(
         alloc,
+        payloads,
+        &Component {
+            id: 1029,
+            name: b"Volume1-01",
+            children: 1,
+            parent: 1028,
+            striping: b"",
+        },
+    )?;
+    push_partition(
+        alloc,
+        payloads,
         &Partition {
             id: 1030,
             name: b"Disk1-01",
@@ -165,15 +241,15 @@ pub(crate) fn push_simple(alloc: Global, payloads: &mut Vec<Payload>) -> Result<
             size: 1000,
             offset: 0,
             parent: 1029,
-            index: None,
+            index: b"",
         },
-    )?)?;
-    Ok(())
+    )
 }
 
 pub(crate) fn push_spanned(alloc: Global, payloads: &mut Vec<Payload>) -> Result<(), NoMemory> {
-    payloads.push(volume_payload(
+    push_volume(
         alloc,
+        payloads,
         &Volume {
             id: 1031,
             name: b"Volume2",
@@ -182,10 +258,21 @@ pub(crate) fn push_spanned(alloc: Global, payloads: &mut Vec<Payload>) -> Result
             guid: 0x66,
             hint: b"",
         },
-    )?)?;
-    payloads.push(component_payload(alloc, 1032, b"Volume2-01", 2, 2, 1031)?)?;
-    payloads.push(partition_payload(
+    )?;
+    push_component(
         alloc,
+        payloads,
+        &Component {
+            id: 1032,
+            name: b"Volume2-01",
+            children: 2,
+            parent: 1031,
+            striping: b"",
+        },
+    )?;
+    push_partition(
+        alloc,
+        payloads,
         &Partition {
             id: 1033,
             name: b"Disk1-02",
@@ -194,11 +281,12 @@ pub(crate) fn push_spanned(alloc: Global, payloads: &mut Vec<Payload>) -> Result
             size: 500,
             offset: 0,
             parent: 1032,
-            index: None,
+            index: b"",
         },
-    )?)?;
-    payloads.push(partition_payload(
+    )?;
+    push_partition(
         alloc,
+        payloads,
         &Partition {
             id: 1034,
             name: b"Disk2-01",
@@ -207,15 +295,15 @@ pub(crate) fn push_spanned(alloc: Global, payloads: &mut Vec<Payload>) -> Result
             size: 1000,
             offset: 500,
             parent: 1032,
-            index: None,
+            index: b"",
         },
-    )?)?;
-    Ok(())
+    )
 }
 
 pub(crate) fn push_striped(alloc: Global, payloads: &mut Vec<Payload>) -> Result<(), NoMemory> {
-    payloads.push(volume_payload(
+    push_volume(
         alloc,
+        payloads,
         &Volume {
             id: 1035,
             name: b"Stripe1",
@@ -224,10 +312,21 @@ pub(crate) fn push_striped(alloc: Global, payloads: &mut Vec<Payload>) -> Result
             guid: 0x77,
             hint: b"",
         },
-    )?)?;
-    payloads.push(component_payload(alloc, 1036, b"Stripe1-01", 1, 2, 1035)?)?;
-    payloads.push(partition_payload(
+    )?;
+    push_component(
         alloc,
+        payloads,
+        &Component {
+            id: 1036,
+            name: b"Stripe1-01",
+            children: 2,
+            parent: 1035,
+            striping: &[1, 128, 1, 2],
+        },
+    )?;
+    push_partition(
+        alloc,
+        payloads,
         &Partition {
             id: 1037,
             name: b"Disk2-02",
@@ -236,11 +335,12 @@ pub(crate) fn push_striped(alloc: Global, payloads: &mut Vec<Payload>) -> Result
             size: 512,
             offset: 0,
             parent: 1036,
-            index: Some(0),
+            index: &[1, 0],
         },
-    )?)?;
-    payloads.push(partition_payload(
+    )?;
+    push_partition(
         alloc,
+        payloads,
         &Partition {
             id: 1038,
             name: b"Disk3-01",
@@ -249,15 +349,15 @@ pub(crate) fn push_striped(alloc: Global, payloads: &mut Vec<Payload>) -> Result
             size: 512,
             offset: 0,
             parent: 1036,
-            index: Some(1),
+            index: &[1, 1],
         },
-    )?)?;
-    Ok(())
+    )
 }
 
 pub(crate) fn push_mirrored(alloc: Global, payloads: &mut Vec<Payload>) -> Result<(), NoMemory> {
-    payloads.push(volume_payload(
+    push_volume(
         alloc,
+        payloads,
         &Volume {
             id: 1039,
             name: b"Mirror1",
@@ -266,10 +366,21 @@ pub(crate) fn push_mirrored(alloc: Global, payloads: &mut Vec<Payload>) -> Resul
             guid: 0x88,
             hint: b"",
         },
-    )?)?;
-    payloads.push(component_payload(alloc, 1040, b"Mirror1-01", 2, 1, 1039)?)?;
-    payloads.push(partition_payload(
+    )?;
+    push_component(
         alloc,
+        payloads,
+        &Component {
+            id: 1040,
+            name: b"Mirror1-01",
+            children: 1,
+            parent: 1039,
+            striping: b"",
+        },
+    )?;
+    push_partition(
+        alloc,
+        payloads,
         &Partition {
             id: 1041,
             name: b"Disk1-03",
@@ -278,12 +389,23 @@ pub(crate) fn push_mirrored(alloc: Global, payloads: &mut Vec<Payload>) -> Resul
             size: 700,
             offset: 0,
             parent: 1040,
-            index: None,
+            index: b"",
         },
-    )?)?;
-    payloads.push(component_payload(alloc, 1042, b"Mirror1-02", 2, 1, 1039)?)?;
-    payloads.push(partition_payload(
+    )?;
+    push_component(
         alloc,
+        payloads,
+        &Component {
+            id: 1042,
+            name: b"Mirror1-02",
+            children: 1,
+            parent: 1039,
+            striping: b"",
+        },
+    )?;
+    push_partition(
+        alloc,
+        payloads,
         &Partition {
             id: 1043,
             name: b"Disk3-02",
@@ -292,8 +414,7 @@ pub(crate) fn push_mirrored(alloc: Global, payloads: &mut Vec<Payload>) -> Resul
             size: 700,
             offset: 0,
             parent: 1042,
-            index: None,
+            index: b"",
         },
-    )?)?;
-    Ok(())
+    )
 }

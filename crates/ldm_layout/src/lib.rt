@@ -17,6 +17,3 @@ pub use parts::{Extent, Parts, Plex};
 pub use places::Plan;
 pub use planning::plan;
 pub use shape::{LayoutError, LayoutFault, Place, Shape};
-
-#[cfg(test)]
-mod tests;

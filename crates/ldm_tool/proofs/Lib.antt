@@ -1,6 +1,5 @@
 pub mod Saying
 pub mod OneAnswer
-pub mod Files
 pub mod PlanLaws
 pub mod HeardLaws
 pub mod TurnLaws

@@ -1,4 +1,3 @@
-pub mod FileSeen
 pub mod Said
 pub mod Mapping
 pub mod Scripts

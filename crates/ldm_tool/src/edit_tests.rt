@@ -1,9 +1,8 @@
 //! Sessions of jobs on the disks of a small group: each job is run on what the jobs before it left.
 use super::group_tests::change_images;
-use super::tests::{run_over, words_in};
+use super::tests::{letters_of, named_images, place_of, run_over, sample_group, words_in};
 use super::*;
 use ldm_host::{Host, MemoryHost};
-use ldm_vectors::sample_images;
 use std::process::Abort;
 use std::test::Fail;
 
@@ -30,38 +29,17 @@ fn push_line(text: &mut String, line: &str) -> Result<(), Fail> {
     Ok(())
 }
 
-fn place_of(letter: &str) -> usize {
-    match letter {
-        "A" => 0,
-        "B" => 1,
-        _ => 2,
-    }
-}
-
 impl<'a> Session<'a> {
-    // The letters of the images that the words name.
-    fn letters(&self) -> Result<&'a str, Fail> {
-        match self.words.split_once(" on ") {
-            Some((_, letters)) => Ok(letters),
-            None => Err(Fail::from("no images")),
-        }
-    }
-
     // A host over the images that the words name.
     fn host(&self, alloc: Global) -> Result<MemoryHost, Fail> {
-        let mut images = Vec::new(alloc);
-        for letter in self.letters()?.split(' ') {
-            if let Some(image) = self.images.get(place_of(letter)) {
-                images.push(image.as_slice().to_vec(alloc)?)?;
-            }
-        }
+        let images = named_images(alloc, &self.images, self.words)?;
         let script = self.script.as_bytes().to_vec(alloc)?;
         Ok(MemoryHost::new(alloc, images, script)?)
     }
 
     // Takes over what the host holds, and adds the letters of the images that were handed bytes.
     fn keep(&mut self, alloc: Global, host: &MemoryHost, written: &mut String) -> Result<(), Fail> {
-        for (disk, letter) in self.letters()?.split(' ').enumerate() {
+        for (disk, letter) in letters_of(self.words)?.split(' ').enumerate() {
             if disk < host.disks() && host.handed(disk) > 0 {
                 written.push_str(letter)?;
                 let image = host.image(disk).to_vec(alloc)?;
@@ -106,7 +84,7 @@ impl<'a> Session<'a> {
 // Plays a session over the images of the sample group with so many disks and this `last`.
 fn play(alloc: Global, rt: &impl Abort, disks: u8, last: u32, text: &str) -> Result<(), Fail> {
     let mut session = Session {
-        images: sample_images(alloc, disks.clamp(1, 3), last.clamp(8, 5924))?,
+        images: sample_group(alloc, disks, last)?,
         words: "",
         script: String::new(alloc),
         said: String::new(alloc),

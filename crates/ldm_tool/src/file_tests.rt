@@ -1,11 +1,10 @@
 //! The program over files, and how it ends.
 ghost use Rattle.std.specs.Prelude.{◌<◌, ◌≤◌, ◌+◌, ◌*◌, length, slice_index, IsTrue};
 
-use super::tests::words_in;
+use super::tests::{sample_group, words_in};
 use super::*;
 use ldm_host::{Failed, Host};
 use ldm_images::usual_images;
-use ldm_vectors::sample_images;
 use std::fs;
 use std::fs::File;
 use std::path::PathBuf;
@@ -55,30 +54,39 @@ fn folder_with(rt: &HostRuntime, name: &str, images: &[Vec<u8>]) -> Result<PathB
 
 // A folder with the images of the usual group.
 fn usual_folder(rt: &HostRuntime, name: &str) -> Result<PathBuf, Fail> {
-    let Ok(images) = usual_images(rt.alloc()) else {
-        return Err(Fail::from("no memory"));
-    };
-    folder_with(rt, name, &images)
+    folder_with(rt, name, &usual_images(rt.alloc())?)
 }
+
+// Runs a job on the files of these names with this input, and answers how it ends and what is said.
+fn run_on(
+    rt: &HostRuntime,
+    job: &str,
+    folder: &PathBuf,
+    names: &[&str],
+    input: &[u8],
+) -> Result<(Result<Status, Stop>, Vec<u8>), Fail> {
+    let words = words_on(rt, job, folder, names)?;
+    let mut said = Vec::new(rt.alloc());
+    let done = run_words(rt, &words, input, &mut said);
+    Ok((done, said))
+}
+
+// The front of what is said of the usual group.
+const IN_ORDER: &[u8] = b"\
+group Dg0 aaaaaaaa-aaaa-aaaa-aaaa-aaaaaaaaaaaa sequence 7 blocks 20 of 5920
+disk 1025 Disk1 11111111-1111-1111-1111-111111111111 image 1 free 3881
+disk 1026 Disk2 22222222-2222-2222-2222-222222222222 image 2 free 4569
+disk 1027 Disk3 33333333-3333-3333-3333-333333333333 image 0 free 4869
+";
 
 #[test]
 fn takes_the_images_in_the_order_of_the_words(rt: HostRuntime) -> Result<(), Fail> {
     let folder = usual_folder(&rt, "order")?;
-    let words = words_on(&rt, "show", &folder, &["c.img", "a.img", "b.img"])?;
-    let input: &[u8] = b"";
-    let mut said = Vec::new(rt.alloc());
-    assert_eq!(rt; run_words(&rt, &words, input, &mut said), Ok(Status::Done));
-    let Ok(text) = std::str::from_utf8(said.as_slice()) else {
-        return Err(Fail::from("no text"));
-    };
-    let mut lines = text.split('\n').skip(1);
-    for line in [
-        "disk 1025 Disk1 11111111-1111-1111-1111-111111111111 image 1 free 3881",
-        "disk 1026 Disk2 22222222-2222-2222-2222-222222222222 image 2 free 4569",
-        "disk 1027 Disk3 33333333-3333-3333-3333-333333333333 image 0 free 4869",
-    ] {
-        assert_eq!(rt; lines.next(), Some(line));
-    }
+    let (done, said) = run_on(&rt, "show", &folder, &["c.img", "a.img", "b.img"], b"")?;
+    assert_eq!(rt;
+        (done, said.get(..IN_ORDER.len())),
+        (Ok(Status::Done), Some(IN_ORDER))
+    );
     fs::remove_dir_all(&rt, &folder)?;
     Ok(())
 }
@@ -110,26 +118,27 @@ image 2 sequence 9
 ok: editable
 ";
 
+// A job on files, its input, what is said of it, and how it ends.
+type Row = (
+    &'static str,
+    &'static [u8],
+    &'static [u8],
+    Result<Status, Stop>,
+);
+
+const EDITS: [Row; 4] = [
+    ("try", SCRIPT, REPLIES, Ok(Status::Refused)),
+    ("edit", SCRIPT, REPLIES, Ok(Status::Refused)),
+    ("show", b"", EDITED, Ok(Status::Done)),
+    ("check", b"", EQUAL, Ok(Status::Done)),
+];
+
 #[test]
 fn edits_files(rt: HostRuntime) -> Result<(), Fail> {
-    let Ok(images) = sample_images(rt.alloc(), 3, 64) else {
-        return Err(Fail::from("no memory"));
-    };
-    let folder = folder_with(&rt, "edit", &images)?;
-    for (job, input, text, status) in [
-        ("try", SCRIPT, REPLIES, Status::Refused),
-        ("edit", SCRIPT, REPLIES, Status::Refused),
-        ("show", b"".as_slice(), EDITED, Status::Done),
-        ("check", b"".as_slice(), EQUAL, Status::Done),
-    ] {
-        let words = words_on(&rt, job, &folder, &NAMES)?;
-        let mut said = Vec::new(rt.alloc());
-        assert_eq!(rt;
-            run_words(&rt, &words, input, &mut said),
-            Ok(status),
-            "{job}"
-        );
-        assert_eq!(rt; said.as_slice(), text, "{job}");
+    let folder = folder_with(&rt, "edit", &sample_group(rt.alloc(), 3, 64)?)?;
+    for (job, input, text, end) in EDITS {
+        let (done, said) = run_on(&rt, job, &folder, &NAMES, input)?;
+        assert_eq!(rt; (done, said.as_slice()), (end, text), "{job}");
     }
     fs::remove_dir_all(&rt, &folder)?;
     Ok(())
@@ -151,15 +160,12 @@ fn ends_with_a_talk_fault_where_nothing_can_be_said(rt: HostRuntime) -> Result<(
 fn opens_nothing_but_files_and_block_devices(rt: HostRuntime) -> Result<(), Fail> {
     let folder = folder_for(&rt, "kinds")?;
     for name in [".", "missing", "../../../../../../../../dev/null"] {
-        let words = words_on(&rt, "disk", &folder, &[name])?;
-        let input: &[u8] = b"";
-        let mut said = Vec::new(rt.alloc());
+        let (done, said) = run_on(&rt, "disk", &folder, &[name], b"")?;
         assert_eq!(rt;
-            run_words(&rt, &words, input, &mut said),
-            Err(Stop::CannotOpen),
+            (done, said.as_slice()),
+            (Err(Stop::CannotOpen), b"".as_slice()),
             "{name}"
         );
-        assert_eq!(rt; said.as_slice(), b"".as_slice(), "{name}");
     }
     fs::remove_dir_all(&rt, &folder)?;
     Ok(())
@@ -188,15 +194,20 @@ fn has<H: Host>(host: &H, disk: usize, at: u64, count: usize) -> bool
         return false;
     }
     let size = host.sectors(disk) * 512;
-    at <= size && count as u64 <= size - at
+    if at > size {
+        return false;
+    }
+    count as u64 <= size - at
 }
 
-fn read<H: Host>(host: &mut H, disk: usize, at: u64, buf: &mut [u8]) -> Result<(), Failed> {
-    if has(host, disk, at, buf.len()) {
-        host.read_at(disk, at, buf)
-    } else {
-        Err(Failed)
+// The five bytes of a disk at a place.
+fn read<H: Host>(host: &mut H, disk: usize, at: u64) -> Result<[u8; 5], Failed> {
+    let mut buf = [0u8; 5];
+    if !has(host, disk, at, buf.len()) {
+        return Err(Failed);
     }
+    host.read_at(disk, at, &mut buf)?;
+    Ok(buf)
 }
 
 fn write<H: Host>(host: &mut H, disk: usize, at: u64, bytes: &[u8]) -> Result<(), Failed> {
@@ -215,73 +226,81 @@ fn sync<H: Host>(host: &mut H, disk: usize) -> Result<(), Failed> {
     }
 }
 
+// A host over two files, the first of them once more, for reading alone, and the null device.
+fn host_in(rt: &HostRuntime, folder: &PathBuf) -> Result<FileHost<&'static [u8], Vec<u8>>, Fail> {
+    let alloc = rt.alloc();
+    let mut images = Vec::new(alloc);
+    images.push(file_of(rt, folder, "a", &[b'a'; 1024])?)?;
+    images.push(file_of(rt, folder, "b", &[b'b'; 1535])?)?;
+    for path in [path_in(rt, folder, "a")?.as_str(), "/dev/null"] {
+        images.push(ImageFile::of(File::open(rt, path)?)?)?;
+    }
+    Ok(FileHost::new(alloc, images, b"abc".as_slice(), Vec::new(alloc))?)
+}
+
 #[test]
 fn handles_each_file_for_its_disk(rt: HostRuntime) -> Result<(), Fail> {
-    let alloc = rt.alloc();
     let folder = folder_for(&rt, "disks")?;
-    let mut images = Vec::new(alloc);
-    images.push(file_of(&rt, &folder, "a", &[b'a'; 1024])?)?;
-    images.push(file_of(&rt, &folder, "b", &[b'b'; 1535])?)?;
-    images.push(ImageFile::of(File::open(&rt, path_in(&rt, &folder, "a")?.as_str())?)?)?;
-    images.push(ImageFile::of(File::open(&rt, "/dev/null")?)?)?;
-    let input: &[u8] = b"abc";
-    let Ok(mut host) = FileHost::new(alloc, images, input, Vec::new(alloc)) else {
-        return Err(Fail::from("no host"));
-    };
-    let mut buf = [0u8; 5];
+    let mut host = host_in(&rt, &folder)?;
     assert_eq!(rt; write(&mut host, 1, 510, b"xyz"), Ok(()));
-    assert_eq!(rt; read(&mut host, 1, 509, &mut buf), Ok(()));
-    assert_eq!(rt; &buf, b"bxyzb");
-    assert_eq!(rt; read(&mut host, 0, 509, &mut buf), Ok(()));
-    assert_eq!(rt; &buf, b"aaaaa");
     // The last byte of the second sector is there, and no third one is.
-    assert_eq!(rt; read(&mut host, 1, 1019, &mut buf), Ok(()));
+    for (disk, at, bytes) in [(1, 509, b"bxyzb"), (0, 509, b"aaaaa"), (1, 1019, b"bbbbb")] {
+        assert_eq!(rt; read(&mut host, disk, at), Ok(*bytes), "{at}");
+    }
     assert!(rt; !has(&host, 1, 1020, 5));
     // The third image is open for reading alone, and the null device syncs nothing.
-    assert_eq!(rt; write(&mut host, 2, 0, b"x"), Err(Failed));
-    assert_eq!(rt; sync(&mut host, 1), Ok(()));
-    assert_eq!(rt; sync(&mut host, 3), Err(Failed));
+    assert_eq!(rt;
+        (
+            write(&mut host, 2, 0, b"x"),
+            sync(&mut host, 1),
+            sync(&mut host, 3)
+        ),
+        (Err(Failed), Ok(()), Err(Failed))
+    );
     // What is no longer there can't be read.
     fs::write(&rt, path_in(&rt, &folder, "a")?.as_str(), b"short")?;
-    assert_eq!(rt; read(&mut host, 0, 509, &mut buf), Err(Failed));
+    assert_eq!(rt; read(&mut host, 0, 509), Err(Failed));
     fs::remove_dir_all(&rt, &folder)?;
     Ok(())
+}
+
+// What a host over no files hears next of an input: how many bytes, and the buffer after it.
+fn hear<H: Host>(host: &mut H, buf: &mut [u8; 2]) -> (Result<usize, Failed>, [u8; 2]) {
+    let count = host.hear(buf);
+    (count, *buf)
 }
 
 #[test]
 fn hears_the_input_to_its_end(rt: HostRuntime) -> Result<(), Fail> {
     let alloc = rt.alloc();
-    let input: &[u8] = b"abc";
-    let Ok(mut host) = FileHost::new(alloc, Vec::new(alloc), input, Vec::new(alloc)) else {
-        return Err(Fail::from("no host"));
-    };
     let mut buf = [0u8; 2];
+    let mut host = FileHost::new(alloc, Vec::new(alloc), b"abc".as_slice(), Vec::new(alloc))?;
     for (count, heard) in [(2, b"ab"), (1, b"cb"), (0, b"cb")] {
-        assert_eq!(rt; host.hear(&mut buf), Ok(count));
-        assert_eq!(rt; &buf, heard);
+        assert_eq!(rt; hear(&mut host, &mut buf), (Ok(count), *heard));
     }
     // A folder is no input.
     let folder = File::open(&rt, ".")?;
-    let Ok(mut host) = FileHost::new(alloc, Vec::new(alloc), folder, Vec::new(alloc)) else {
-        return Err(Fail::from("no host"));
-    };
+    let mut host = FileHost::new(alloc, Vec::new(alloc), folder, Vec::new(alloc))?;
     assert_eq!(rt; host.hear(&mut buf), Err(Failed));
     Ok(())
 }
 
+// How the program ends, the line for it and the exit status.
+const ENDINGS: [(Result<Status, Stop>, &str, u8); 9] = [
+    (Ok(Status::Done), "", 0),
+    (Ok(Status::Refused), "", 1),
+    (Ok(Status::Usage), "ldm: usage: ldm JOB on IMAGE...\n", 2),
+    (Err(Stop::Usage), "ldm: usage: ldm JOB on IMAGE...\n", 2),
+    (Ok(Status::DiskFault), "ldm: disk fault\n", 3),
+    (Err(Stop::CannotOpen), "ldm: cannot open\n", 3),
+    (Ok(Status::NoMemory), "ldm: no memory\n", 4),
+    (Err(Stop::NoMemory), "ldm: no memory\n", 4),
+    (Ok(Status::TalkFault), "ldm: talk fault\n", 5),
+];
+
 #[test]
 fn ends_with_a_status_and_a_line(rt: HostRuntime) {
-    for (done, line, status) in [
-        (Ok(Status::Done), "", 0),
-        (Ok(Status::Refused), "", 1),
-        (Ok(Status::Usage), "ldm: usage: ldm JOB on IMAGE...\n", 2),
-        (Err(Stop::Usage), "ldm: usage: ldm JOB on IMAGE...\n", 2),
-        (Ok(Status::DiskFault), "ldm: disk fault\n", 3),
-        (Err(Stop::CannotOpen), "ldm: cannot open\n", 3),
-        (Ok(Status::NoMemory), "ldm: no memory\n", 4),
-        (Err(Stop::NoMemory), "ldm: no memory\n", 4),
-        (Ok(Status::TalkFault), "ldm: talk fault\n", 5),
-    ] {
+    for (done, line, status) in ENDINGS {
         assert_eq!(rt; ending(done), (line, status));
     }
 }

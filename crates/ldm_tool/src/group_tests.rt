@@ -1,9 +1,7 @@
 //! The jobs on the images of a group, over the sample group with other bytes in its images.
-use super::tests::{run_over, words_in};
+use super::tests::{answer_of, expect, named_images, put, sample_group};
 use super::*;
-use ldm_host::MemoryHost;
 use ldm_images::usual_images;
-use ldm_vectors::sample_images;
 use run::Status;
 use std::process::Abort;
 use std::test::Fail;
@@ -19,24 +17,37 @@ fn sectors_of(name: &str) -> &'static [usize] {
     }
 }
 
+fn digit_of(byte: u8) -> Option<u8> {
+    match byte {
+        b'0'..=b'9' => Some(byte - b'0'),
+        b'a'..=b'f' => Some(byte - b'a' + 10),
+        _ => None,
+    }
+}
+
 fn number_of(digits: &str) -> Result<usize, Fail> {
-    usize::from_str_radix(digits, 16).map_err(|_| Fail::from("no number"))
+    let mut number: usize = 0;
+    for byte in digits.as_bytes() {
+        let Some(digit) = digit_of(*byte) else {
+            return Err(Fail::from("no number"));
+        };
+        number = number.saturating_mul(16).saturating_add(usize::from(digit));
+    }
+    Ok(number)
 }
 
 fn bytes_of(alloc: Global, digits: &str) -> Result<Vec<u8>, Fail> {
     let mut bytes = Vec::new(alloc);
     for pair in digits.as_bytes().chunks(2) {
-        let text = std::str::from_utf8(pair).map_err(|_| Fail::from("no text"))?;
-        bytes.push(u8::from_str_radix(text, 16).map_err(|_| Fail::from("no byte"))?)?;
+        let [high, low] = pair else {
+            return Err(Fail::from("no byte"));
+        };
+        let (Some(high), Some(low)) = (digit_of(*high), digit_of(*low)) else {
+            return Err(Fail::from("no byte"));
+        };
+        bytes.push(high << 4 | low)?;
     }
     Ok(bytes)
-}
-
-fn put(image: &mut [u8], place: usize, bytes: &[u8]) {
-    let end = place.saturating_add(bytes.len());
-    if end <= image.len() && place <= end {
-        image[place..end].copy_from_slice(bytes);
-    }
 }
 
 // Changes an image at a place SECTORS+OFFSET to these bytes.
@@ -55,6 +66,16 @@ fn change(image: &mut [u8], place: &str, bytes: &[u8]) -> Result<(), Fail> {
     Ok(())
 }
 
+// An image by its number, or each where that is a star.
+fn is_named(which: &str, image: usize) -> bool {
+    match which {
+        "*" => true,
+        "0" => image == 0,
+        "1" => image == 1,
+        _ => image == 2,
+    }
+}
+
 // Does a change IMAGE.SECTORS+OFFSET=BYTES, or one of all images where IMAGE is a star.
 pub(crate) fn change_images(alloc: Global, images: &mut [Vec<u8>], text: &str) -> Result<(), Fail> {
     let Some((which, rest)) = text.split_once('.') else {
@@ -64,124 +85,134 @@ pub(crate) fn change_images(alloc: Global, images: &mut [Vec<u8>], text: &str) -
         return Err(Fail::from("no bytes"));
     };
     let bytes = bytes_of(alloc, digits)?;
-    let only = usize::from_str_radix(which, 10).ok();
     for (number, image) in images.iter_mut().enumerate() {
-        if only.is_none_or(|only| only == number) {
+        if is_named(which, number) {
             change(image.as_mut_slice(), place, &bytes)?;
         }
     }
     Ok(())
 }
 
-fn group_of(alloc: Global, disks: u8) -> Result<Vec<Vec<u8>>, Fail> {
-    sample_images(alloc, disks.clamp(1, 3), 64).map_err(|_| Fail::from("no memory"))
-}
-
-// The host over these images of a group, with the changes made.
-fn host_with(
+// The images of a group that the words name, with the changes made.
+fn images_on(
     alloc: Global,
     group: &[Vec<u8>],
-    letters: &str,
-    changes: &str,
-) -> Result<MemoryHost, Fail> {
-    let mut images = Vec::new(alloc);
-    for letter in letters.bytes() {
-        if let Some(image) = group.get(usize::from(letter.saturating_sub(b'A'))) {
-            images.push(image.as_slice().to_vec(alloc)?)?;
+    words: &str,
+    changes: &[&str],
+) -> Result<Vec<Vec<u8>>, Fail> {
+    let mut images = named_images(alloc, group, words)?;
+    for part in changes {
+        for text in part.split_whitespace() {
+            change_images(alloc, images.as_mut_slice(), text)?;
         }
     }
-    for text in changes.split_whitespace() {
-        change_images(alloc, images.as_mut_slice(), text)?;
-    }
-    MemoryHost::new(alloc, images, Vec::new(alloc)).map_err(|_| Fail::from("no memory"))
+    Ok(images)
 }
 
-// Runs a job over these images, and compares its last line, and its status by how the line begins.
-fn expect(alloc: Global, rt: &impl Abort, group: &[Vec<u8>], row: &str) -> Result<(), Fail> {
-    let mut parts = row.split(';');
-    let (Some(job), Some(letters), Some(changes), Some(text)) = (
-        parts.next(),
-        parts.next(),
-        parts.next(),
-        parts.next(),
-    ) else {
-        return Err(Fail::from("no row"));
-    };
-    let mut words = words_in(alloc, job)?;
-    words.push(String::from_str(alloc, "on")?)?;
-    for letter in letters.chars() {
-        words.push(format!(in alloc; "{letter}")?)?;
-    }
-    let mut host = host_with(alloc, group, letters, changes)?;
-    let status = if text.starts_with("refused") {
+// Compares the last line of what is said, and the status by how that line begins.
+fn expect_last(
+    alloc: Global,
+    rt: &impl Abort,
+    group: &[Vec<u8>],
+    words: &str,
+    changes: &[&str],
+    line: &str,
+) -> Result<(), Fail> {
+    let images = images_on(alloc, group, words, changes)?;
+    let (status, mut said) = answer_of(alloc, words, images, b"")?;
+    let wanted = if line.starts_with("refused") {
         Status::Refused
     } else {
         Status::Done
     };
-    assert_eq!(rt; run_over(alloc, &words, &mut host), Some(status), "{row}");
-    let said = format!(in alloc; "{text}\n")?;
-    assert!(rt; host.said().ends_with(said.as_bytes()), "{row}");
+    let end = said.pop();
+    let is_last = said.as_slice().ends_with(line.as_bytes());
+    assert_eq!(rt;
+        (status, end, is_last),
+        (Some(wanted), Some(b'\n'), true),
+        "{words}: {line}"
+    );
     Ok(())
 }
 
-// JOB;IMAGES;CHANGES;LAST LINE: each fault of opening, and pairs of them, of which the earlier is named.
+// WORDS;CHANGES;LAST LINE: each fault of opening, and pairs of them, of which the earlier is named.
 const FAULTS_OF_IMAGES: &str = "\
-show;ABC;1.mbr+1fe=00;refused: image 1: no signature
-show;AAC;2.mbr+1fe=00;refused: image 2: no signature
-show;AA;;refused: images 0 and 1 are one disk
-show;ACA;0.copy+11=02;refused: images 0 and 2 are one disk
-show;ABC;1.copy+11=02;refused: image 1: VMDB not settled
-show;ABC;0.copy+0=00 1.copy+11=02 2.copy+0=00;refused: image 1: VMDB not settled
-show;ABC;*.copy+0=00;refused: no open copy
-show;ABC;1.copy+29f=58;refused: images 0 and 1 differ at one sequence
-show;ABC;2.copy+7=3f;refused: images 0 and 2 differ at one sequence
-show;ABC;1.copy+29f=58 0.copy+7c=06;refused: images 1 and 2 differ at one sequence
-show;ABC;1.copy+29f=58 2.heads+30=39;refused: images 0 and 1 differ at one sequence";
+show on A B C;1.mbr+1fe=00;refused: image 1: no signature
+show on A A C;2.mbr+1fe=00;refused: image 2: no signature
+show on A A;;refused: images 0 and 1 are one disk
+show on A C A;0.copy+11=02;refused: images 0 and 2 are one disk
+show on A B C;1.copy+11=02;refused: image 1: VMDB not settled
+show on A B C;0.copy+0=00 1.copy+11=02 2.copy+0=00;refused: image 1: VMDB not settled
+show on A B C;*.copy+0=00;refused: no open copy
+show on A B C;1.copy+29f=58;refused: images 0 and 1 differ at one sequence
+show on A B C;2.copy+7=3f;refused: images 0 and 2 differ at one sequence
+show on A B C;1.copy+29f=58 0.copy+7c=06;refused: images 1 and 2 differ at one sequence
+show on A B C;1.copy+29f=58 2.heads+30=39;refused: images 0 and 1 differ at one sequence";
 
 const FAULTS_OF_GROUPS: &str = "\
-show;ABC;2.heads+30=39;refused: image 2 is not of the group
-show;ABC;2.heads+30=39 *.copy+20f=00;refused: image 2 is not of the group
-show;ABC;*.copy+20f=00;refused: rule 1 at 0
-check;AB;*.copy+20f=00;refused: rule 1 at 0";
+show on A B C;2.heads+30=39;refused: image 2 is not of the group
+show on A B C;2.heads+30=39 *.copy+20f=00;refused: image 2 is not of the group
+show on A B C;*.copy+20f=00;refused: rule 1 at 0
+check on A B;*.copy+20f=00;refused: rule 1 at 0";
 
 const REASONS: &str = "\
-check;AB;;ok: not editable: disk 4 is absent
-check;A;;ok: not editable: disk 3 is absent
-check;AB;1.copy+0=00 1.tocs+3c=000f;ok: not editable: disk 4 is absent
-check;ABC;1.copy+0=00 1.tocs+3c=000f;ok: not editable: image 1: area too small
-check;ABC;2.copy+0=00 2.tocs+3c=000f 1.tocs+35=02;ok: not editable: image 2: area too small
-check;ABC;1.tocs+56=05d9;ok: not editable: image 1: area clash
-check;ABC;1.copy+0=00 2.tocs+56=05d9;ok: not editable: image 2: area clash
-check;ABC;1.copy+0=00;ok: editable";
+check on A B;;ok: not editable: disk 4 is absent
+check on A;;ok: not editable: disk 3 is absent
+check on A B;1.copy+0=00 1.tocs+3c=000f;ok: not editable: disk 4 is absent
+check on A B C;1.copy+0=00 1.tocs+3c=000f;ok: not editable: image 1: area too small
+check on A B C;2.copy+0=00 2.tocs+3c=000f 1.tocs+35=02;ok: not editable: image 2: area too small
+check on A B C;1.tocs+56=05d9;ok: not editable: image 1: area clash
+check on A B C;1.copy+0=00 2.tocs+56=05d9;ok: not editable: image 2: area clash
+check on A B C;1.copy+0=00;ok: editable";
 
-fn expect_rows(alloc: Global, rt: &impl Abort, disks: u8, rows: &str) -> Result<(), Fail> {
-    let group = group_of(alloc, disks)?;
+// Each row of a text is such words, changes and a line.
+fn expect_rows(alloc: Global, rt: &impl Abort, group: &[Vec<u8>], rows: &str) -> Result<(), Fail> {
     for row in rows.lines() {
-        expect(alloc, rt, &group, row)?;
+        let mut parts = row.split(';');
+        let (Some(words), Some(changes), Some(line)) = (parts.next(), parts.next(), parts.next())
+        else {
+            return Err(Fail::from("no row"));
+        };
+        expect_last(alloc, rt, group, words, &[changes], line)?;
     }
     Ok(())
 }
 
 #[test]
 fn names_the_first_fault_of_the_images(rt: HostRuntime) -> Result<(), Fail> {
-    expect_rows(rt.alloc(), &rt, 3, FAULTS_OF_IMAGES)
+    expect_rows(
+        rt.alloc(),
+        &rt,
+        &sample_group(rt.alloc(), 3, 64)?,
+        FAULTS_OF_IMAGES,
+    )
 }
 
 #[test]
 fn names_the_first_fault_of_the_group(rt: HostRuntime) -> Result<(), Fail> {
-    expect_rows(rt.alloc(), &rt, 3, FAULTS_OF_GROUPS)
+    expect_rows(
+        rt.alloc(),
+        &rt,
+        &sample_group(rt.alloc(), 3, 64)?,
+        FAULTS_OF_GROUPS,
+    )
 }
 
 #[test]
 fn names_the_first_reason_against_editing(rt: HostRuntime) -> Result<(), Fail> {
-    expect_rows(rt.alloc(), &rt, 3, REASONS)?;
-    expect_rows(rt.alloc(), &rt, 1, REASONS_OF_ONE)
+    expect_rows(rt.alloc(), &rt, &sample_group(rt.alloc(), 3, 64)?, REASONS)?;
+    expect_rows(
+        rt.alloc(),
+        &rt,
+        &sample_group(rt.alloc(), 1, 64)?,
+        REASONS_OF_ONE,
+    )
 }
 
 // Of a group of one disk.
 const REASONS_OF_ONE: &str = "\
-check;A;;ok: not editable: fewer than two disks
-check;A;0.tocs+56=05d9;ok: not editable: fewer than two disks";
+check on A;;ok: not editable: fewer than two disks
+check on A;0.tocs+56=05d9;ok: not editable: fewer than two disks";
 
 const SHOW: &str = "\
 group Dg0 aaaaaaaa-aaaa-aaaa-aaaa-aaaaaaaaaaaa sequence 7 blocks 4 of 60
@@ -197,54 +228,41 @@ disk 3 Disk2 22222222-2222-2222-2222-222222222222 missing
 disk 4 Disk3 33333333-3333-3333-3333-333333333333 image 0 free 6081
 ";
 
-// Runs a job over these images of the group, and compares all that is said.
+// Compares all that is said of a job that is done.
 fn expect_all(
     alloc: Global,
     rt: &impl Abort,
     group: &[Vec<u8>],
-    line: &str,
-    letters: &str,
-    changes: &str,
-    text: &str,
+    (words, change, text): (&str, &str, &str),
 ) -> Result<(), Fail> {
-    let words = words_in(alloc, line)?;
-    let mut host = host_with(alloc, group, letters, changes)?;
-    assert_eq!(rt;
-        run_over(alloc, &words, &mut host),
-        Some(Status::Done),
-        "{line}"
-    );
-    assert_eq!(rt; host.said(), text.as_bytes(), "{line}");
-    Ok(())
+    let images = images_on(alloc, group, words, &[change])?;
+    expect(alloc, rt, words, images, b"", (text, Status::Done))
 }
+
+// Words, a change, and all that is said.
+const ANSWERS: [(&str, &str, &str); 5] = [
+    ("show on A B C", "", SHOW),
+    ("show on A B C", "1.copy+0=00", SHOW),
+    ("show on C A", "", SHOW_OF_TWO),
+    (
+        "check on A B",
+        "1.copy+0=00",
+        "image 0 sequence 7\nimage 1 closed\nok: not editable: disk 4 is absent\n",
+    ),
+    (
+        "check on A",
+        "",
+        "image 0 sequence 7\nok: not editable: disk 3 is absent\n",
+    ),
+];
 
 #[test]
 fn shows_and_checks_the_group(rt: HostRuntime) -> Result<(), Fail> {
-    let alloc = rt.alloc();
-    let group = group_of(alloc, 3)?;
-    expect_all(alloc, &rt, &group, "show on A B C", "ABC", "", SHOW)?;
-    expect_all(
-        alloc,
-        &rt,
-        &group,
-        "show on A B C",
-        "ABC",
-        "1.copy+0=00",
-        SHOW,
-    )?;
-    expect_all(alloc, &rt, &group, "show on C A", "CA", "", SHOW_OF_TWO)?;
-    let closed = "image 0 sequence 7\nimage 1 closed\nok: not editable: disk 4 is absent\n";
-    expect_all(
-        alloc,
-        &rt,
-        &group,
-        "check on A B",
-        "AB",
-        "1.copy+0=00",
-        closed,
-    )?;
-    let alone = "image 0 sequence 7\nok: not editable: disk 3 is absent\n";
-    expect_all(alloc, &rt, &group, "check on A", "A", "", alone)
+    let group = sample_group(rt.alloc(), 3, 64)?;
+    for answer in ANSWERS {
+        expect_all(rt.alloc(), &rt, &group, answer)?;
+    }
+    Ok(())
 }
 
 // The blocks 8 to 10: a volume of 200 sectors, its component with two partitions, and the first of them,
@@ -262,16 +280,18 @@ const SECOND: &str = "\
 *.copy+580=56424c4b0000000b0000000b000000010000003300000028010d03703133000000000000000000000000000000000000
 *.copy+5b0=00630000000000000064016501060102";
 
+const MEETING: [&str; 2] = [VOLUME, SECOND];
+
+const APART: [&str; 3] = [VOLUME, SECOND, "*.copy+5b1=64 *.copy+5bb=64"];
+
 #[test]
 fn refuses_partitions_that_meet(rt: HostRuntime) -> Result<(), Fail> {
     let alloc = rt.alloc();
-    let group = group_of(alloc, 3)?;
-    let meeting = format!(in alloc; "show;ABC;{VOLUME} {SECOND};refused: rule 11 at 10")?;
-    expect(alloc, &rt, &group, &meeting)?;
-    let apart = format!(in alloc;
-        "show;ABC;{VOLUME} {SECOND} *.copy+5b1=64 *.copy+5bb=64;    partition 13 p13 disk 2 start 100 size 100 offset 100"
-    )?;
-    expect(alloc, &rt, &group, &apart)
+    let group = sample_group(alloc, 3, 64)?;
+    let refused = "refused: rule 11 at 10";
+    expect_last(alloc, &rt, &group, "show on A B C", &MEETING, refused)?;
+    let shown = "    partition 13 p13 disk 2 start 100 size 100 offset 100";
+    expect_last(alloc, &rt, &group, "show on A B C", &APART, shown)
 }
 
 // The blocks 8 to 10: a volume of 2^64 - 1 sectors on disk 4.
@@ -284,18 +304,22 @@ const GREATEST: &str = "\
 *.copy+500=56424c4b0000000a0000000a00000001000000330000002e010702703700000000000000000000000000000000000000
 *.copy+530=00000000000000000008ffffffffffffffff01060104";
 
+// Words and the last line.
+const GREATEST_PLACES: [(&str, &str); 2] = [
+    (
+        "map V 18446744073709551614 1 on A B",
+        "18446744073709551614 copy 0 Disk3 18446744073709551614 missing",
+    ),
+    ("map V 18446744073709551614 2 on A B", "refused: bad range"),
+];
+
 #[test]
 fn maps_the_greatest_sector_of_an_absent_disk(rt: HostRuntime) -> Result<(), Fail> {
-    let alloc = rt.alloc();
-    let group = group_of(alloc, 3)?;
-    let row = format!(in alloc;
-        "map V 18446744073709551614 1;AB;{GREATEST};18446744073709551614 copy 0 Disk3 18446744073709551614 missing"
-    )?;
-    expect(alloc, &rt, &group, &row)?;
-    let behind = format!(in alloc;
-        "map V 18446744073709551614 2;AB;{GREATEST};refused: bad range"
-    )?;
-    expect(alloc, &rt, &group, &behind)
+    let group = sample_group(rt.alloc(), 3, 64)?;
+    for (words, line) in GREATEST_PLACES {
+        expect_last(rt.alloc(), &rt, &group, words, &[GREATEST], line)?;
+    }
+    Ok(())
 }
 
 const USUAL: &str = "\
@@ -322,34 +346,27 @@ volume 1039 Mirror1 mirror 700 88888888-8888-8888-8888-888888888888
 ";
 
 const PLACES: &str = "\
-map Stripe1 200 1;ABC;;200 copy 0 Disk3 72 at 135
-map Stripe1 300 1;ABC;;300 copy 0 Disk2 1172 at 1235
-map Mirror1 699 1;ABC;;699 copy 1 Disk3 1211 at 1274
-map Mirror1 699 2;ABC;;refused: bad range
-map Mirror1 0 0;ABC;;refused: bad range
-map Nope 0 1;ABC;;refused: no volume
-map Volume1 0 1;AB;;0 copy 0 Disk1 0 at 63
-map Stripe1 200 1;AB;;200 copy 0 Disk3 72 missing";
+map Stripe1 200 1 on A B C;;200 copy 0 Disk3 72 at 135
+map Stripe1 300 1 on A B C;;300 copy 0 Disk2 1172 at 1235
+map Mirror1 699 1 on A B C;;699 copy 1 Disk3 1211 at 1274
+map Mirror1 699 2 on A B C;;refused: bad range
+map Mirror1 0 0 on A B C;;refused: bad range
+map Nope 0 1 on A B C;;refused: no volume
+map Volume1 0 1 on A B;;0 copy 0 Disk1 0 at 63
+map Stripe1 200 1 on A B;;200 copy 0 Disk3 72 missing";
+
+const MIRROR: &str = "699 copy 0 Disk1 2199 at 2262\n699 copy 1 Disk3 1211 at 1274\n";
 
 #[test]
 fn shows_and_maps_a_usual_group(rt: HostRuntime) -> Result<(), Fail> {
     let alloc = rt.alloc();
-    let Ok(group) = usual_images(alloc) else {
-        return Err(Fail::from("no memory"));
-    };
-    expect_all(alloc, &rt, &group, "show on A B C", "ABC", "", USUAL)?;
-    let mirror = "699 copy 0 Disk1 2199 at 2262\n699 copy 1 Disk3 1211 at 1274\n";
+    let group = usual_images(alloc)?;
+    expect_all(alloc, &rt, &group, ("show on A B C", "", USUAL))?;
     expect_all(
         alloc,
         &rt,
         &group,
-        "map Mirror1 699 1 on A B C",
-        "ABC",
-        "",
-        mirror,
+        ("map Mirror1 699 1 on A B C", "", MIRROR),
     )?;
-    for row in PLACES.lines() {
-        expect(alloc, &rt, &group, row)?;
-    }
-    Ok(())
+    expect_rows(alloc, &rt, &group, PLACES)
 }

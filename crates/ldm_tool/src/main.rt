@@ -1,29 +1,26 @@
 //! Looks at the disks of a Windows dynamic disk group, and edits its volumes: `ldm JOB on IMAGE...`.
 //!
-//! The top call is `run`. Its contract is the theorem of the program; `FileHost` and `main` are the
-//! trusted edge.
+//! The top call is `run`. Its contract is the theorem of the program; `main` and the `FileHost` that it makes are
+//! the trusted edge.
 #![tactic(auto)]
 
 ghost use Rattle.std.specs.Prelude.{◌≡◌, ◌≢◌, ◌⊎◌, IfOk, IfErr, length, vec_len};
 
 mod editing;
-mod file_host;
 mod mapping;
 mod replying;
 mod run;
 mod sample;
 mod script;
-mod streams;
 
-use file_host::{Access, FileHost, ImageFile};
 use ldm_bytes::NoMemory;
+use ldm_files::{Access, FileHost, ImageFile, take_closed_streams};
 use ldm_words::{Job, WordsError, read_words};
 use run::{Status, run};
 use std::alloc::Global;
 use std::io::{ErrorKind, Read, Write};
 use std::process::ExitCode;
 use std::{env, io};
-use streams::take_closed_streams;
 
 // How the program ends before a run.
 #[derive(Clone, Copy, Debug, PartialEq, Eq)]

@@ -1,8 +1,7 @@
 //! What a stop at each call of an edit leaves of a group.
-use super::tests::{run_over, words_in};
+use super::tests::{run_over, sample_group, words_in};
 use super::*;
 use ldm_host::{Filling, MemoryHost};
-use ldm_vectors::sample_images;
 use std::process::Abort;
 use std::test::Fail;
 
@@ -65,32 +64,39 @@ const FILLINGS: [Filling; 4] = [
     Filling::Fill(0x00),
 ];
 
+// Which group this says.
+fn group_said(said: &[u8]) -> Option<usize> {
+    GROUPS.iter().position(|group| said == group.as_bytes())
+}
+
 // Which group opens of these images, and stays when an edit of nothing makes all copies equal.
 fn opens(alloc: Global, rt: &impl Abort, images: Vec<Vec<u8>>) -> Result<Option<usize>, Fail> {
     let mut host = MemoryHost::new(alloc, images, Vec::new(alloc))?;
     for job in ["show on A B C", "edit on A B C", "check on A B C"] {
-        assert_eq!(rt;
-            run_over(alloc, &words_in(alloc, job)?, &mut host),
-            Some(Status::Done),
-            "{job}"
-        );
+        let status = run_over(alloc, &words_in(alloc, job)?, &mut host);
+        assert_eq!(rt; status, Some(Status::Done), "{job}");
     }
-    Ok(
-        GROUPS
-            .iter()
-            .position(|group| host.said() == group.as_bytes()),
-    )
+    Ok(group_said(host.said()))
 }
 
-// Edits the sample group, stopped after so many calls, looks at what is left with each filling, and answers
-// whether the edit was whole.
-fn stops(alloc: Global, rt: &impl Abort, calls: u64) -> Result<bool, Fail> {
+// How many replies are whole.
+fn count_replies(said: &[u8]) -> usize {
+    said.iter().filter(|byte| **byte == b'\n').count()
+}
+
+// Edits the sample group, stopped after so many calls.
+fn stopped_edit(alloc: Global, calls: u64) -> Result<(MemoryHost, Option<Status>), Fail> {
     let script = SCRIPT.as_bytes().to_vec(alloc)?;
-    let host = MemoryHost::new(alloc, sample_images(alloc, 3, 64)?, script)?;
+    let host = MemoryHost::new(alloc, sample_group(alloc, 3, 64)?, script)?;
     let mut host = host.stop_after(calls);
     let status = run_over(alloc, &words_in(alloc, "edit on A B C")?, &mut host);
-    let replies = host.said().iter().filter(|byte| **byte == b'\n').count();
-    let Some(may_open) = OPENS.get(replies) else {
+    Ok((host, status))
+}
+
+// Looks at what such an edit leaves with each filling, and answers whether it was whole.
+fn stops(alloc: Global, rt: &impl Abort, calls: u64) -> Result<bool, Fail> {
+    let (host, status) = stopped_edit(alloc, calls)?;
+    let Some(may_open) = OPENS.get(count_replies(host.said())) else {
         return Err(Fail::from("too many replies"));
     };
     for filling in FILLINGS {

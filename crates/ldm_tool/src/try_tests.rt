@@ -1,19 +1,10 @@
 //! What `try` says of scripts, over the sample group.
-use super::tests::{run_over, words_in};
+use super::tests::{expect, expect_fault, sample_group};
 use super::*;
-use ldm_host::MemoryHost;
-use ldm_vectors::sample_images;
+use ldm_words::read_number;
 use run::Status;
 use std::process::Abort;
 use std::test::Fail;
-
-// The host over the images of a sample group of so many disks and with this `last`, and with a script.
-fn host_with(alloc: Global, disks: u8, last: u32, script: Vec<u8>) -> Result<MemoryHost, Fail> {
-    let Ok(images) = sample_images(alloc, disks.clamp(1, 3), last.clamp(8, 5924)) else {
-        return Err(Fail::from("no memory"));
-    };
-    MemoryHost::new(alloc, images, script).map_err(|_| Fail::from("no memory"))
-}
 
 // COUNT|HEAD|PART|REPLY: a line of the head and so many of the part behind it, and the reply to it. The last line
 // has no newline.
@@ -39,6 +30,18 @@ const ODD_LINES: &str = "\
 1|  delete   a=b=c| |ok 9
 1|delete |a=b=c|refused: no volume";
 
+// Adds the line of a row to a script.
+fn push_line(script: &mut String, count: &str, head: &str, part: &str) -> Result<(), Fail> {
+    let Some(count) = read_number(count.as_bytes()) else {
+        return Err(Fail::from("no count"));
+    };
+    script.push_str(head)?;
+    for _ in 0..count {
+        script.push_str(part)?;
+    }
+    Ok(())
+}
+
 // The script of such lines, and the replies to it.
 fn script_of(alloc: Global, rows: &str) -> Result<(String, String), Fail> {
     let mut script = String::new(alloc);
@@ -56,63 +59,84 @@ fn script_of(alloc: Global, rows: &str) -> Result<(String, String), Fail> {
         if number > 1 {
             script.push('\n')?;
         }
-        script.push_str(head)?;
-        for _ in 0..usize::from_str_radix(count, 10).map_err(|_| Fail::from("no count"))? {
-            script.push_str(part)?;
-        }
+        push_line(&mut script, count, head, part)?;
         said.push_str(format!(in alloc; "{number} {reply}\n")?.as_str())?;
     }
     Ok((script, said))
 }
 
 // Tries a script on a group of three disks, and compares all that is said.
-fn expect(
+fn expect_replies(
     alloc: Global,
     rt: &impl Abort,
     script: &str,
     said: &str,
     status: Status,
 ) -> Result<(), Fail> {
-    let words = words_in(alloc, "try on A B C")?;
-    let mut host = host_with(alloc, 3, 64, script.as_bytes().to_vec(alloc)?)?;
-    assert_eq!(rt;
-        run_over(alloc, &words, &mut host),
-        Some(status),
-        "{script}"
-    );
-    assert_eq!(rt; host.said(), said.as_bytes(), "{script}");
+    let images = sample_group(alloc, 3, 64)?;
+    expect(
+        alloc,
+        rt,
+        "try on A B C",
+        images,
+        script.as_bytes(),
+        (said, status),
+    )
+}
+
+// Scripts, the replies to them, and the status.
+type Replied = (&'static str, &'static str, Status);
+
+fn expect_each(alloc: Global, rt: &impl Abort, scripts: &[Replied]) -> Result<(), Fail> {
+    for (script, said, status) in scripts {
+        expect_replies(alloc, rt, script, said, *status)?;
+    }
     Ok(())
 }
 
+const BAD_LINES: &str = "1 refused: bad line\n2 refused: bad line\n";
+
+const UNREAD: [Replied; 3] = [
+    ("", "", Status::Done),
+    ("\n\n", BAD_LINES, Status::Refused),
+    ("frob\ndelete", BAD_LINES, Status::Refused),
+];
+
 #[test]
 fn replies_to_lines_without_a_reading(rt: HostRuntime) -> Result<(), Fail> {
-    let alloc = rt.alloc();
-    let bad = "1 refused: bad line\n2 refused: bad line\n";
-    expect(alloc, &rt, "", "", Status::Done)?;
-    expect(alloc, &rt, "\n\n", bad, Status::Refused)?;
-    expect(alloc, &rt, "frob\ndelete", bad, Status::Refused)
+    expect_each(rt.alloc(), &rt, &UNREAD)
 }
 
 #[test]
 fn replies_to_odd_lines(rt: HostRuntime) -> Result<(), Fail> {
     let alloc = rt.alloc();
     let (script, said) = script_of(alloc, ODD_LINES)?;
-    expect(alloc, &rt, script.as_str(), said.as_str(), Status::Refused)
+    expect_replies(alloc, &rt, script.as_str(), said.as_str(), Status::Refused)
+}
+
+// Words, the size of a script, and what is said.
+const SIZES: [(&str, usize, &str); 3] = [
+    ("try on A B C", 1_048_576, "1 refused: bad line\n"),
+    ("try on A B C", 1_048_577, "refused: script too long\n"),
+    ("edit on A B C", 1_048_577, "refused: script too long\n"),
+];
+
+fn refuse_size(
+    alloc: Global,
+    rt: &impl Abort,
+    words: &str,
+    size: usize,
+    said: &str,
+) -> Result<(), Fail> {
+    let script = vec![in alloc; b'x'; size]?;
+    let images = sample_group(alloc, 3, 64)?;
+    expect(alloc, rt, words, images, &script, (said, Status::Refused))
 }
 
 #[test]
 fn refuses_a_script_that_is_too_long(rt: HostRuntime) -> Result<(), Fail> {
-    let alloc = rt.alloc();
-    let longest = [
-        ("try on A B C", 1_048_576, "1 refused: bad line\n"),
-        ("try on A B C", 1_048_577, "refused: script too long\n"),
-        ("edit on A B C", 1_048_577, "refused: script too long\n"),
-    ];
-    for (job, size, said) in longest {
-        let mut host = host_with(alloc, 3, 64, vec![in alloc; b'x'; size]?)?;
-        let status = run_over(alloc, &words_in(alloc, job)?, &mut host);
-        assert_eq!(rt; status, Some(Status::Refused), "{size}");
-        assert_eq!(rt; host.said(), said.as_bytes(), "{size}");
+    for (words, size, said) in SIZES {
+        refuse_size(rt.alloc(), &rt, words, size, said)?;
     }
     Ok(())
 }
@@ -120,29 +144,18 @@ fn refuses_a_script_that_is_too_long(rt: HostRuntime) -> Result<(), Fail> {
 #[test]
 fn tries_no_group_that_may_not_be_edited(rt: HostRuntime) -> Result<(), Fail> {
     let alloc = rt.alloc();
-    let words = words_in(alloc, "try on A")?;
-    let script = b"delete Data\n".as_slice().to_vec(alloc)?;
-    let Ok(mut images) = sample_images(alloc, 3, 64) else {
-        return Err(Fail::from("no memory"));
-    };
+    let mut images = sample_group(alloc, 3, 64)?;
     images.truncate(1);
-    let Ok(mut host) = MemoryHost::new(alloc, images, script) else {
-        return Err(Fail::from("no memory"));
-    };
-    assert_eq!(rt; run_over(alloc, &words, &mut host), Some(Status::Refused));
-    assert_eq!(rt; host.said(), b"refused: disk 3 is absent\n".as_slice());
-    Ok(())
+    let refused = ("refused: disk 3 is absent\n", Status::Refused);
+    expect(alloc, &rt, "try on A", images, b"delete Data\n", refused)
 }
 
 #[test]
 fn ends_where_hearing_fails(rt: HostRuntime) -> Result<(), Fail> {
     let alloc = rt.alloc();
-    for job in ["try on A B C", "edit on A B C"] {
-        let first = vec![in alloc; 1u64]?;
-        let mut host = host_with(alloc, 3, 64, Vec::new(alloc))?.with_failures(first);
-        let status = run_over(alloc, &words_in(alloc, job)?, &mut host);
-        assert_eq!(rt; status, Some(Status::TalkFault), "{job}");
-        assert!(rt; host.said().is_empty(), "{job}");
+    for words in ["try on A B C", "edit on A B C"] {
+        let images = sample_group(alloc, 3, 64)?;
+        expect_fault(alloc, &rt, words, images, Status::TalkFault)?;
     }
     Ok(())
 }
@@ -183,26 +196,27 @@ create E cccccccc-cccc-cccc-cccc-cccccccccccc span Disk3=1";
 
 const LINES_SAID: &str = "1 ok 8\n2 refused: no volume\n3 ok 9\n4 ok 10\n5 ok 11\n";
 
+const DONE: &str = "\
+create Data bbbbbbbb-bbbb-bbbb-bbbb-bbbbbbbbbbbb span Disk1=2048
+delete Data
+";
+
+const SCRIPTS: [Replied; 4] = [
+    (FULL, FULL_SAID, Status::Refused),
+    (REFUSALS, REFUSALS_SAID, Status::Refused),
+    (LINES, LINES_SAID, Status::Refused),
+    (DONE, "1 ok 8\n2 ok 9\n", Status::Done),
+];
+
 #[test]
 fn replies_to_each_command(rt: HostRuntime) -> Result<(), Fail> {
-    let alloc = rt.alloc();
-    expect(alloc, &rt, FULL, FULL_SAID, Status::Refused)?;
-    expect(alloc, &rt, REFUSALS, REFUSALS_SAID, Status::Refused)?;
-    expect(alloc, &rt, LINES, LINES_SAID, Status::Refused)?;
-    let done = "create Data bbbbbbbb-bbbb-bbbb-bbbb-bbbbbbbbbbbb span Disk1=2048\ndelete Data\n";
-    expect(alloc, &rt, done, "1 ok 8\n2 ok 9\n", Status::Done)
+    expect_each(rt.alloc(), &rt, &SCRIPTS)
 }
 
 #[test]
 fn refuses_what_has_no_room(rt: HostRuntime) -> Result<(), Fail> {
-    let alloc = rt.alloc();
-    let words = words_in(alloc, "try on A B")?;
+    let images = sample_group(rt.alloc(), 2, 8)?;
     let script = b"create Data bbbbbbbb-bbbb-bbbb-bbbb-bbbbbbbbbbbb span Disk1=2048\n";
-    let mut host = host_with(alloc, 2, 8, script.as_slice().to_vec(alloc)?)?;
-    assert_eq!(rt; run_over(alloc, &words, &mut host), Some(Status::Refused));
-    assert_eq!(rt;
-        host.said(),
-        b"1 refused: no room: need 6 have 4\n".as_slice()
-    );
-    Ok(())
+    let refused = ("1 refused: no room: need 6 have 4\n", Status::Refused);
+    expect(rt.alloc(), &rt, "try on A B", images, script, refused)
 }

@@ -1,0 +1,11 @@
+//! Files as the outside of the program: images that are open for their disks, standard input and output.
+//!
+//! `FileHost` is the host that `ldm` runs over. It tells nothing of what is in the files: what its calls do to them
+//! is trusted.
+#![tactic(auto)]
+
+mod file_host;
+mod streams;
+
+pub use file_host::{Access, FileHost, ImageFile};
+pub use streams::{STREAMS, take_closed_streams};

@@ -1,6 +1,0 @@
-use Rattle.std.proofs.Common.{◌≡◌, ◌≤◌}
-use Rattle.ldm_frags.specs.Blocks.{count}
-use Rattle.ldm_frags.proofs.joiner.tests.fed.Given as goal
-
-abbrev pub invariant-loop-block : goal.invariant-loop-block
-invariant-loop-block l = (l.joiner.limit ≡ 8) × (count l.joiner.blocks ≤ l.block-index)
