@@ -1,4 +1,4 @@
-use ldm_bytes::{Bytes, put_u16, put_u32};
+use ldm_bytes::{Bytes, put_bytes, put_u16, put_u32};
 use ldm_frags::{FragError, FragFault, Joined, Joiner, SplitError, join, parts_of, split};
 use std::alloc::Global;
 use std::test::Fail;
@@ -131,13 +131,13 @@ fn counts_parts(rt: HostRuntime) {
 // The blocks 4 to 6, which hold that record, and the unused block 7.
 fn long_blocks(record: &[u8; 301]) -> [u8; 512] {
     let mut blocks = [0u8; 512];
-    blocks[..16].copy_from_slice(b"VBLK\0\0\0\x04\0\0\0\x04\0\0\0\x03");
-    blocks[16..128].copy_from_slice(&record[..112]);
-    blocks[128..144].copy_from_slice(b"VBLK\0\0\0\x05\0\0\0\x04\0\x01\0\x03");
-    blocks[144..256].copy_from_slice(&record[112..224]);
-    blocks[256..272].copy_from_slice(b"VBLK\0\0\0\x06\0\0\0\x04\0\x02\0\x03");
-    blocks[272..349].copy_from_slice(&record[224..]);
-    blocks[384..392].copy_from_slice(b"VBLK\0\0\0\x07");
+    put_bytes(&mut blocks, 0, b"VBLK\0\0\0\x04\0\0\0\x04\0\0\0\x03");
+    put_bytes(&mut blocks, 16, &record[..112]);
+    put_bytes(&mut blocks, 128, b"VBLK\0\0\0\x05\0\0\0\x04\0\x01\0\x03");
+    put_bytes(&mut blocks, 144, &record[112..224]);
+    put_bytes(&mut blocks, 256, b"VBLK\0\0\0\x06\0\0\0\x04\0\x02\0\x03");
+    put_bytes(&mut blocks, 272, &record[224..]);
+    put_bytes(&mut blocks, 384, b"VBLK\0\0\0\x07");
     blocks
 }
 
