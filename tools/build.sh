@@ -171,8 +171,8 @@ lanes() {
         END { print most < 1 ? 1 : most }' /proc/meminfo 2>/dev/null || echo 1
 }
 
-# Proves the crates of the plan, each once those below it are proved. That with most to come has a job for each lane. Those
-# beside it share as many among them and stand back, so that they take what it leaves.
+# Proves the crates of the plan, each once those below it are proved, and each with a job for each lane. Those beside the one
+# with most to come stand back, so that they take what it leaves.
 prove_all() {
     left=$(cut -d ' ' -f 2 "$rooms/plan" | tr '\n' ' ')
     total=$(grep -c . "$rooms/plan")
@@ -210,11 +210,11 @@ start_ready() {
     for name in $ready; do
         started=$((started + 1))
         say "crate $started of $total: $name .."
-        jobs=$(((at_once + count - 1) / count)) back=5
-        [ -n "$wide" ] || { wide=$name jobs=$at_once back=0; }
+        back=5
+        [ -n "$wide" ] || { wide=$name back=0; }
         mkdir "$rooms/$name"
         date +%s >"$rooms/$name/began"
-        prove "$name" "$jobs" "$back" >"$rooms/$name/log" 2>&1 &
+        prove "$name" "$at_once" "$back" >"$rooms/$name/log" 2>&1 &
         pids="$pids $!"
         running="$running$name "
     done
