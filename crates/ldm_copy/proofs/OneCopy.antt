@@ -13,7 +13,7 @@ use Rattle.ldm_frags.specs.Faults.{first_block_fault}
 use Rattle.ldm_frags.specs.Joins.{Joins}
 use Rattle.ldm_frags.proofs.JoinLaws.{joins_clean, one_list}
 use Rattle.ldm_records.specs.declared.types.Record.{Record}
-use Rattle.ldm_records.specs.declared.fault.RecordFault.{RecordFault}
+use Rattle.ldm_payloads.specs.declared.fault.RecordFault.{RecordFault}
 use Rattle.ldm_vmdb.specs.declared.header.VmdbFault.{VmdbFault}
 use Rattle.ldm_group.specs.Order.{place, place_of, Rising, count_at, IsLeastTwice}
 use Rattle.ldm_group.proofs.Rise.{two_places, eqb-eq}

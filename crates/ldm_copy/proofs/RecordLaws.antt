@@ -4,12 +4,12 @@ use Rattle.std.proofs.Math.Seq.{drop-cons}
 use Rattle.std.proofs.lemmas.List.{take_more, take-append-drop}
 use Rattle.ldm_frags.specs.declared.faults.Joined.{Joined}
 use Rattle.ldm_records.specs.declared.types.Record.{Record}
-use Rattle.ldm_records.specs.declared.fault.RecordFault.{RecordFault}
-use Rattle.ldm_records.specs.declared.fault.RecordFault.TheVariants.{UnknownType, Malformed}
+use Rattle.ldm_payloads.specs.declared.fault.RecordFault.{RecordFault}
+use Rattle.ldm_payloads.specs.declared.fault.RecordFault.TheVariants.{UnknownType, Malformed}
 use Rattle.ldm_records.specs.Plain.{Spells}
 use Rattle.ldm_records.specs.Views.{plain_of}
-use Rattle.ldm_records.proofs.PlainLaws.{plain_again}
-use Rattle.ldm_records.proofs.WholeLaws.{is_one, is_unknown}
+use Rattle.ldm_payloads.proofs.PlainReads.{plain_again}
+use Rattle.ldm_payloads.proofs.WholeLaws.{is_one, is_unknown}
 use Rattle.ldm_copy.specs.Records.{SpellRecords, HasFault, IsFirstFault}
 
 -- one payload more, and the record that it spells

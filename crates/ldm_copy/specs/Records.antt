@@ -3,11 +3,11 @@ use Rattle.std.specs.Prelude.{◌≡◌, ◌⊎◌, ℕ, List, [], ◌∷◌, sl
 use Rattle.ldm_frags.specs.declared.faults.Joined.{Joined}
 use Rattle.ldm_frags.specs.Joins.{Joins}
 use Rattle.ldm_records.specs.declared.types.Record.{Record}
-use Rattle.ldm_records.specs.declared.fault.RecordFault.{RecordFault}
-use Rattle.ldm_records.specs.declared.fault.RecordFault.TheVariants.{UnknownType, Malformed}
+use Rattle.ldm_payloads.specs.declared.fault.RecordFault.{RecordFault}
+use Rattle.ldm_payloads.specs.declared.fault.RecordFault.TheVariants.{UnknownType, Malformed}
 use Rattle.ldm_records.specs.Plain.{Spells}
 use Rattle.ldm_records.specs.Views.{plain_of}
-use Rattle.ldm_records.specs.Answers.{IsUnknown}
+use Rattle.ldm_payloads.specs.Answers.{IsUnknown}
 
 -- each payload spells the record at its place
 abbrev pub SpellRecords : List Joined → List Record → Type 0

@@ -6,7 +6,7 @@ use ldm_bytes::NoMemory;
 use ldm_frags::{FragError, FragFault};
 use ldm_group::Db;
 use ldm_host::Failed;
-use ldm_records::RecordFault;
+use ldm_payloads::RecordFault;
 use ldm_vmdb::{VmdbError, VmdbFault};
 use std::alloc::{AllocError, AllocFailed};
 

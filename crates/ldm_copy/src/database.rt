@@ -7,7 +7,8 @@ ghost use Rattle.ldm_copy.specs.Steps.{OpensHeader, ReadsRecord, ReadsRecords, M
 use crate::answer::{CopyError, CopyFault};
 use ldm_frags::Joined;
 use ldm_group::{Db, DbError};
-use ldm_records::{Record, RecordError, read_record};
+use ldm_payloads::{RecordError, read_record};
+use ldm_records::Record;
 use ldm_vmdb::{Header, read_header};
 use std::alloc::Global;
 

@@ -28,7 +28,7 @@ use Rattle.ldm_edits.specs.Counting.{is_done, SequenceCounts}
 use Rattle.ldm_edits.specs.Creating.{words_of, is_same_disk, is_bad_size, fresh_for, change_for, at_places, on_disks, created}
 use Rattle.ldm_edits.specs.Deleting.{without, deleted}
 use Rattle.ldm_edits.specs.Extending.{lengthened, held, component_of, refused_or, unlengthened, is_bad_length, lengthen, with_wanted, extended}
-use Rattle.ldm_edits.specs.Steps.{next_of, turn_by, turn_of, turns_of}
+use Rattle.ldm_edits.specs.Steps.{next_of, turn_by, turns_of}
 
 -- where there is a next group, its sequence is one more
 abbrev IsUp : Database → Result Database Refusal → Type 0

@@ -19,7 +19,7 @@ use Rattle.ldm_words.specs.declared.command.NewLayout.{NewLayout}
 use Rattle.ldm_words.specs.declared.command.NewLayout.TheVariants as layouts
 use Rattle.ldm_words.specs.Limits.{IsNewLayout, IsCreate}
 use Rattle.ldm_edits.specs.Asked.{asked_for, is_much}
-use Rattle.ldm_edits.specs.Made.{span_parts, column_parts}
+use Rattle.ldm_volumes.specs.Volumes.{span_parts, column_parts}
 use Rattle.ldm_edits.specs.Creating.{words_of, is_bad_size, made_for, fresh_for}
 use Rattle.ldm_edits.proofs.TakenExtents.{tile_extents, column_extents, tiles_count, columns_count}
 use Rattle.ldm_edits.proofs.MadeParts.{makes_span_parts, makes_column_parts}

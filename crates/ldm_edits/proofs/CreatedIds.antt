@@ -5,8 +5,8 @@ use Rattle.std.proofs.lemmas.List.{length-map}
 use Rattle.ldm_records.specs.declared.pieces.Striping.{Striping}
 use Rattle.ldm_records.specs.declared.types.Partition.{Partition}
 use Rattle.ldm_records.specs.declared.types.Record.{Record}
-use Rattle.ldm_records.specs.Made.{IsStriping, new_component, new_volume}
-use Rattle.ldm_records.proofs.MadeLaws.{MakesVolume, makes_volume, MakesComponent, makes_component}
+use Rattle.ldm_made.specs.Made.{IsStriping, new_component, new_volume}
+use Rattle.ldm_made.proofs.MadeLaws.{MakesVolume, makes_volume, MakesComponent, makes_component}
 use Rattle.ldm_records.specs.declared.types.Record.TheVariants as kinds
 use Rattle.ldm_group.specs.Order.{Rising, place_of, kind_of, id_of, in_order}
 use Rattle.ldm_group.specs.Looks.{max_id}
@@ -14,7 +14,7 @@ use Rattle.ldm_group.proofs.InOrder.{in_order_rises, pairs_append, member_next, 
 use Rattle.ldm_layout.specs.declared.parts.Extent.{Extent}
 use Rattle.ldm_layout.specs.Parts.{extent_of}
 use Rattle.ldm_edits.proofs.CreatedNext.{AddsTo}
-use Rattle.ldm_edits.specs.Made.{there}
+use Rattle.ldm_volumes.specs.Volumes.{there}
 use Rattle.ldm_edits.proofs.SingleLists.{records_of, single_records}
 use Rattle.ldm_edits.proofs.MadeParts.{IdsFrom, MakesParts}
 

@@ -9,7 +9,7 @@ use Rattle.ldm_records.specs.declared.types.Volume.{Volume}
 use Rattle.ldm_records.specs.declared.types.Component.{Component}
 use Rattle.ldm_records.specs.declared.types.Partition.{Partition}
 use Rattle.ldm_records.specs.declared.types.Record.{Record}
-use Rattle.ldm_records.proofs.MadeLaws.{MakesVolume, makes_volume, MakesComponent, makes_component, MakesPartition, makes_partition}
+use Rattle.ldm_made.proofs.MadeLaws.{MakesVolume, makes_volume, MakesComponent, makes_component, MakesPartition, makes_partition}
 use Rattle.ldm_records.specs.declared.types.Record.TheVariants as kinds
 use Rattle.ldm_group.specs.Order.{Rising, place_of}
 use Rattle.ldm_group.specs.Looks.{is_at, is_child, children_of, max_id}
@@ -21,7 +21,7 @@ use Rattle.ldm_rules.specs.Rules.{first_broken, lacks_component}
 use Rattle.ldm_space.specs.declared.taken.Taken.{Taken}
 use Rattle.ldm_space.specs.Free.{taken_of}
 use Rattle.ldm_edits.proofs.CreatedNext.{AddsTo, kin_new, no_component, no_partition, children_are, alone_rises}
-use Rattle.ldm_edits.specs.Made.{there, mirror_parts, mirror_made}
+use Rattle.ldm_volumes.specs.Volumes.{there, mirror_parts, mirror_made}
 use Rattle.ldm_edits.proofs.CreatedLayouts.{mirror_plexes, HasCopies, AllSized, mirror_layout}
 use Rattle.ldm_edits.proofs.CreatedIds.{IdsFollow}
 use Rattle.ldm_edits.proofs.MadeParts.{AreNumbers, numbers_head, numbers_tail, extent_is}

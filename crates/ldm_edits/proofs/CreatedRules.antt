@@ -9,8 +9,8 @@ use Rattle.ldm_records.specs.declared.types.Volume.{Volume}
 use Rattle.ldm_records.specs.declared.types.Component.{Component}
 use Rattle.ldm_records.specs.declared.types.Partition.{Partition}
 use Rattle.ldm_records.specs.declared.types.Record.{Record}
-use Rattle.ldm_records.specs.Made.{IsStriping, new_component, new_volume}
-use Rattle.ldm_records.proofs.MadeLaws.{MakesVolume, makes_volume, MakesComponent, makes_component}
+use Rattle.ldm_made.specs.Made.{IsStriping, new_component, new_volume}
+use Rattle.ldm_made.proofs.MadeLaws.{MakesVolume, makes_volume, MakesComponent, makes_component}
 use Rattle.ldm_records.specs.declared.types.Record.TheVariants as kinds
 use Rattle.ldm_group.specs.Order.{kind_of, id_of}
 use Rattle.ldm_group.specs.Looks.{is_at, children_of, max_id}
@@ -24,7 +24,7 @@ use Rattle.ldm_layout.specs.declared.shape.LayoutFault.{LayoutFault}
 use Rattle.ldm_rules.specs.Rules.{first_broken, lacks_volume, lacks_component, lacks_disk, miscounts_components, miscounts_partitions, is_empty, has_layout_fault, passes_layout, fails, is_short}
 use Rattle.ldm_space.specs.declared.taken.Taken.{Taken}
 use Rattle.ldm_space.specs.Free.{taken_of}
-use Rattle.ldm_edits.specs.Made.{there, span_parts, column_parts, span_made, stripe_made, raid5_made}
+use Rattle.ldm_volumes.specs.Volumes.{there, span_parts, column_parts, span_made, stripe_made, raid5_made}
 use Rattle.ldm_edits.proofs.PlacedRules.{all_from_map}
 use Rattle.ldm_edits.proofs.SingleLists.{records_of, single_records, single_each, only_volume, only_part}
 use Rattle.ldm_edits.proofs.TakenExtents.{tile_extents, column_extents, AreExtentsOf, tiles_of, columns_of, parts_taken}

@@ -27,7 +27,7 @@ use Rattle.ldm_space.specs.Free.{taken_of}
 use Rattle.ldm_space.specs.declared.placed.Wanted.{Wanted}
 use Rattle.ldm_space.specs.Placed.{taken_at, AreFirstFits}
 use Rattle.ldm_edits.specs.Extending.{changes}
-use Rattle.ldm_edits.specs.Made.{there}
+use Rattle.ldm_volumes.specs.Volumes.{there}
 use Rattle.ldm_edits.proofs.AskedLaws.{AreFound}
 use Rattle.ldm_edits.proofs.ExtendedFrom.{IsNewPart}
 use Rattle.ldm_edits.proofs.MadeParts.{IdsFrom, parts_rise}

@@ -9,8 +9,8 @@ use Rattle.ldm_records.specs.declared.types.Record.{Record}
 use Rattle.ldm_records.specs.declared.types.Record.TheVariants as kinds
 use Rattle.ldm_records.specs.declared.types.Volume.{Volume}
 use Rattle.ldm_records.specs.declared.types.Component.{Component}
-use Rattle.ldm_records.specs.Made.{resized, with_children}
-use Rattle.ldm_records.proofs.MadeLaws.{MakesChildren, MakesSize, makes_size, makes_children}
+use Rattle.ldm_made.specs.Made.{resized, with_children}
+use Rattle.ldm_made.proofs.MadeLaws.{MakesChildren, MakesSize, makes_size, makes_children}
 use Rattle.ldm_group.specs.Order.{Rising}
 use Rattle.ldm_group.specs.Looks.{is_child, children_of, max_id}
 use Rattle.ldm_group.specs.Database.{Database}
@@ -41,7 +41,7 @@ use Rattle.ldm_space.proofs.PlacedLaws.{placed_fit, as_many}
 use Rattle.ldm_edits.specs.Asked.{asked_for, is_much}
 use Rattle.ldm_edits.specs.Changes.{changed}
 use Rattle.ldm_edits.specs.Extending.{lengthened, held, component_in, component_of, is_bad_length}
-use Rattle.ldm_edits.specs.Made.{span_parts}
+use Rattle.ldm_volumes.specs.Volumes.{span_parts}
 use Rattle.ldm_edits.proofs.AskedLaws.{are_found}
 use Rattle.ldm_edits.proofs.ExtendedFrom.{own_plex}
 use Rattle.ldm_edits.proofs.ExtendedMade.{IsOnDisk, wanted_there, taken_sum, taken_facts, made_longer, longer_rises}

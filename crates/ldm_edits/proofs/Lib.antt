@@ -1,6 +1,4 @@
 pub mod StayLaws
-pub mod PartWalk
-pub mod CopyWalk
 pub mod AskWalk
 pub mod LeastId
 pub mod LimitTable

@@ -7,13 +7,13 @@ use Rattle.std.proofs.lemmas.List.{length-map}
 use Rattle.ldm_records.specs.declared.types.Partition.{Partition}
 use Rattle.ldm_records.specs.declared.types.Record.{Record}
 use Rattle.ldm_records.specs.declared.types.Record.TheVariants as kinds
-use Rattle.ldm_records.specs.Made.{new_partition}
-use Rattle.ldm_records.proofs.MadeLaws.{MakesPartition, makes_partition}
+use Rattle.ldm_made.specs.Made.{new_partition}
+use Rattle.ldm_made.proofs.MadeLaws.{MakesPartition, makes_partition}
 use Rattle.ldm_group.specs.Order.{Rising, place_of}
 use Rattle.ldm_layout.specs.Parts.{extent_of}
 use Rattle.ldm_layout.specs.declared.parts.Extent.{Extent}
 use Rattle.ldm_space.specs.declared.taken.Taken.{Taken}
-use Rattle.ldm_edits.specs.Made.{span_parts, column_parts, there}
+use Rattle.ldm_volumes.specs.Volumes.{span_parts, column_parts, there}
 use Rattle.ldm_edits.proofs.TakenExtents.{tile_extents, column_extents}
 
 -- what is taken says numbers of the format

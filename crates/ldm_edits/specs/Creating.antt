@@ -18,7 +18,7 @@ use Rattle.ldm_edits.specs.declared.reply.Refusal.{Refusal}
 use Rattle.ldm_edits.specs.declared.reply.Refusal.TheVariants as refusals
 use Rattle.ldm_edits.specs.Asked.{asked_for, has_twins, is_much}
 use Rattle.ldm_edits.specs.Changes.{Change, limits, changed}
-use Rattle.ldm_edits.specs.Made.{span_made, stripe_made, raid5_made, mirror_made}
+use Rattle.ldm_volumes.specs.Volumes.{span_made, stripe_made, raid5_made, mirror_made}
 
 -- the disk words in their order, each with the sectors that it is asked for
 abbrev pub words_of : NewLayout → List (List ℕ × ℕ)

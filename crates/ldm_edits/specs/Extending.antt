@@ -7,7 +7,7 @@ use Rattle.ldm_records.specs.declared.types.Record.{Record}
 use Rattle.ldm_records.specs.declared.types.Record.TheVariants as kinds
 use Rattle.ldm_records.specs.declared.types.Volume.{Volume}
 use Rattle.ldm_records.specs.declared.types.Component.{Component}
-use Rattle.ldm_records.specs.Made.{resized, with_children}
+use Rattle.ldm_made.specs.Made.{resized, with_children}
 use Rattle.ldm_label.specs.declared.Label.{Label}
 use Rattle.ldm_group.specs.Database.{Database}
 use Rattle.ldm_group.specs.Looks.{is_at, is_child, max_id}
@@ -28,7 +28,7 @@ use Rattle.ldm_edits.specs.declared.reply.Refusal.{Refusal}
 use Rattle.ldm_edits.specs.declared.reply.Refusal.TheVariants as refusals
 use Rattle.ldm_edits.specs.Asked.{asked_for, is_much}
 use Rattle.ldm_edits.specs.Changes.{Change, when, limits, changed}
-use Rattle.ldm_edits.specs.Made.{span_parts, there}
+use Rattle.ldm_volumes.specs.Volumes.{span_parts, there}
 
 -- ---- the records
 

@@ -1,6 +1,5 @@
 pub mod Changes
 pub mod Asked
-pub mod Made
 pub mod Creating
 pub mod Extending
 pub mod Deleting

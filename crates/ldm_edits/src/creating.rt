@@ -11,13 +11,13 @@ use crate::changing::change;
 use crate::error::StepError;
 use crate::leaving::Leaving;
 use crate::limits::first_new_id;
-use crate::made::{mirror, raid5, span, stripe};
 use crate::reply::Refusal;
 use ldm_bytes::NoMemory;
 use ldm_group::Db;
 use ldm_label::Labels;
 use ldm_records::Record;
 use ldm_space::{Taken, Wanted, place_all};
+use ldm_volumes::{mirror, raid5, span, stripe};
 use ldm_words::NewLayout;
 use std::alloc::Global;
 

@@ -1,6 +1,6 @@
 ghost use Rattle.std.specs.Prelude.{◌≡◌, ◌+◌, ◌^◌, ◌<◌, ◌≤◌, Contains, Some, None, Ok, find, length, option_copied, sum_by, true, is_some, IfOk};
 ghost use Rattle.ldm_records.specs.declared.types.Record.TheVariants as kinds;
-ghost use Rattle.ldm_records.specs.Made.{resized, with_children};
+ghost use Rattle.ldm_made.specs.Made.{resized, with_children};
 ghost use Rattle.ldm_group.specs.Looks.{is_child, volume_named};
 ghost use Rattle.ldm_layout.specs.Volumes.{layout_of, volume_with};
 ghost use Rattle.ldm_rules.specs.Facts.{IsSoundOn};
@@ -13,14 +13,15 @@ use crate::changing::change;
 use crate::error::StepError;
 use crate::leaving::Leaving;
 use crate::limits::first_new_id;
-use crate::made::{sectors_with, with_tiles};
 use crate::reply::Refusal;
 use ldm_bytes::NoMemory;
 use ldm_group::Db;
 use ldm_label::Labels;
 use ldm_layout::{LayoutError, Plan, Shape, plan};
-use ldm_records::{Component, Record, Volume, resized, with_children};
+use ldm_made::{resized, with_children};
+use ldm_records::{Component, Record, Volume};
 use ldm_space::{Taken, place_all};
+use ldm_volumes::{sectors_with, with_tiles};
 use ldm_words::Piece;
 use std::alloc::Global;
 

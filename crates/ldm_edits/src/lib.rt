@@ -10,7 +10,6 @@ mod extending;
 mod laws;
 mod leaving;
 mod limits;
-mod made;
 mod reply;
 mod stepping;
 

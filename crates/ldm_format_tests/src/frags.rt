@@ -1,7 +1,7 @@
+use crate::made::check;
 use ldm_bytes::{Bytes, put_bytes, put_u16, put_u32};
 use ldm_frags::{FragError, FragFault, Joined, Joiner, SplitError, join, parts_of, split};
 use std::alloc::Global;
-use std::test::Fail;
 
 // A group, a part and a number of parts.
 type Head = (u32, u16, u16);
@@ -46,40 +46,62 @@ fn fed(alloc: Global, blocks: &[u8; 1024]) -> Result<Vec<Joined>, FragError> {
     joiner.finish()
 }
 
-#[test]
-fn joins_by_part(rt: HostRuntime) -> Result<(), Fail> {
-    let blocks = blocks_of(&GROUP_9);
-    let mut want = [9u8; 336];
-    want[112..224].fill(11);
-    want[224..].fill(8);
-    let list = join(rt.alloc(), &blocks)?;
-    assert_eq!(rt; list.len(), 1);
-    assert_eq!(rt; list[0].block, 9);
-    assert_eq!(rt; list[0].payload.as_slice(), want.as_slice());
-    let list = fed(rt.alloc(), &blocks)?;
-    assert_eq!(rt; list.len(), 1);
-    assert_eq!(rt; list[0].block, 9);
-    assert_eq!(rt; list[0].payload.as_slice(), want.as_slice());
-    Ok(())
+// The payload of group 9.
+fn payload_9() -> [u8; 336] {
+    let mut payload = [9u8; 336];
+    payload[112..224].fill(11);
+    payload[224..].fill(8);
+    payload
+}
+
+fn is_group_9(joined: &Joined) -> bool {
+    joined.block == 9 && joined.payload.as_slice() == payload_9().as_slice()
+}
+
+// Whether group 9 was joined, and nothing else.
+fn has_group_9(answer: &Result<Vec<Joined>, FragError>) -> bool {
+    match answer {
+        Ok(list) => list.len() == 1 && is_group_9(&list[0]),
+        Err(_) => false,
+    }
 }
 
 #[test]
-fn first_faults(rt: HostRuntime) {
-    let changes = [
-        (11, UNUSED, FragFault::Missing(8)),
-        (11, (9, 0, 3), FragFault::Repeated(11)),
-        (11, (9, 1, 4), FragFault::Mixed(11)),
-        (5, (1, 0, 5), FragFault::Parts(5)),
-        (5, (1, 2, 2), FragFault::Part(5)),
-        (5, (1, 0, 4), FragFault::Missing(5)),
-    ];
-    for (number, head, fault) in changes {
-        let mut heads = GROUP_9;
+fn joins_by_part(rt: HostRuntime) {
+    let blocks = blocks_of(&GROUP_9);
+    assert!(rt; has_group_9(&join(rt.alloc(), &blocks)));
+    assert!(rt; has_group_9(&fed(rt.alloc(), &blocks)));
+}
+
+// Whether both ways to join answer this fault.
+fn have_fault(alloc: Global, blocks: &[u8; 1024], fault: FragFault) -> bool {
+    let want = Some(FragError::Fault(fault));
+    join(alloc, blocks).err() == want && fed(alloc, blocks).err() == want
+}
+
+// The blocks of group 9, but for one with another head.
+fn blocks_with(number: usize, head: Head) -> [u8; 1024] {
+    let mut heads = GROUP_9;
+    if number >= 4 && number < 12 {
         heads[number - 4] = head;
-        let blocks = blocks_of(&heads);
-        let want = Some(FragError::Fault(fault));
-        assert_eq!(rt; join(rt.alloc(), &blocks).err(), want);
-        assert_eq!(rt; fed(rt.alloc(), &blocks).err(), want);
+    }
+    blocks_of(&heads)
+}
+
+const CHANGES: [(usize, Head, FragFault); 6] = [
+    (11, UNUSED, FragFault::Missing(8)),
+    (11, (9, 0, 3), FragFault::Repeated(11)),
+    (11, (9, 1, 4), FragFault::Mixed(11)),
+    (5, (1, 0, 5), FragFault::Parts(5)),
+    (5, (1, 2, 2), FragFault::Part(5)),
+    (5, (1, 0, 4), FragFault::Missing(5)),
+];
+
+#[test]
+fn first_faults(rt: HostRuntime) {
+    for (number, head, fault) in CHANGES {
+        let blocks = blocks_with(number, head);
+        check(&rt, have_fault(rt.alloc(), &blocks, fault), fault);
     }
 }
 
@@ -87,28 +109,26 @@ fn first_faults(rt: HostRuntime) {
 fn missing_after_all_blocks(rt: HostRuntime) {
     let mut blocks = blocks_of(&GROUP_9);
     blocks[128 * 7] = b'X';
-    let want = Some(FragError::Fault(FragFault::NoMagic(11)));
-    assert_eq!(rt; join(rt.alloc(), &blocks).err(), want);
-    assert_eq!(rt; fed(rt.alloc(), &blocks).err(), want);
+    assert!(rt; have_fault(rt.alloc(), &blocks, FragFault::NoMagic(11)));
 }
 
-// A joiner of nine blocks, of which the eighth repeats a part.
-#[test]
-fn says_a_fault_again(rt: HostRuntime) -> Result<(), Fail> {
-    let mut heads = GROUP_9;
-    heads[7] = (9, 0, 3);
-    let blocks = blocks_of(&heads);
+// The last answers of a joiner of nine blocks, which was fed these and the first again.
+fn last_answers(alloc: Global, blocks: &[u8; 1024]) -> Result<[Option<FragError>; 3], FragError> {
     let (chunks, _) = blocks.as_chunks::<128>();
-    let mut joiner = Joiner::new(rt.alloc(), 9)?;
+    let mut joiner = Joiner::new(alloc, 9)?;
     let mut answer = Ok(());
     for block in chunks {
         answer = joiner.feed(block);
     }
-    let want = Some(FragError::Fault(FragFault::Repeated(11)));
-    assert_eq!(rt; answer.err(), want);
-    assert_eq!(rt; joiner.feed(&chunks[0]).err(), want);
-    assert_eq!(rt; joiner.finish().err(), want);
-    Ok(())
+    let again = joiner.feed(&chunks[0]);
+    Ok([answer.err(), again.err(), joiner.finish().err()])
+}
+
+#[test]
+fn says_a_fault_again(rt: HostRuntime) {
+    let answers = last_answers(rt.alloc(), &blocks_with(11, (9, 0, 3)));
+    let fault = Some(FragError::Fault(FragFault::Repeated(11)));
+    assert!(rt; answers == Ok([fault; 3]));
 }
 
 // A partition record with a name of 255 letters.
@@ -122,10 +142,9 @@ fn long_record() -> [u8; 301] {
 
 #[test]
 fn counts_parts(rt: HostRuntime) {
-    assert_eq!(rt; parts_of(1), 1);
-    assert_eq!(rt; parts_of(112), 1);
-    assert_eq!(rt; parts_of(113), 2);
-    assert_eq!(rt; parts_of(448), 4);
+    for (len, parts) in [(1, 1), (112, 1), (113, 2), (448, 4)] {
+        check(&rt, parts_of(len) == parts, len);
+    }
 }
 
 // The blocks 4 to 6, which hold that record, and the unused block 7.
@@ -141,21 +160,21 @@ fn long_blocks(record: &[u8; 301]) -> [u8; 512] {
     blocks
 }
 
-#[test]
-fn splits_a_long_record(rt: HostRuntime) -> Result<(), Fail> {
-    let record = long_record();
-    let mut payloads = Vec::new(rt.alloc());
-    payloads.push(Bytes::from_slice(rt.alloc(), &record)?)?;
-    let out = split(rt.alloc(), &payloads, 4)?;
-    assert_eq!(rt; out.as_slice(), long_blocks(&record).as_slice());
-    Ok(())
+// So many blocks with that record.
+fn split_long(alloc: Global, blocks: u8) -> Result<Bytes, SplitError> {
+    let record = Bytes::from_slice(alloc, &long_record())?;
+    let payloads = vec![in alloc; record].or(Err(SplitError::NoMemory))?;
+    split(alloc, &payloads, u32::from(blocks))
 }
 
 #[test]
-fn needs_three_blocks(rt: HostRuntime) -> Result<(), Fail> {
-    let mut payloads = Vec::new(rt.alloc());
-    payloads.push(Bytes::from_slice(rt.alloc(), &long_record())?)?;
-    let answer = split(rt.alloc(), &payloads, 2);
-    assert_eq!(rt; answer.err(), Some(SplitError::NoRoom { need: 3, have: 2 }));
-    Ok(())
+fn splits_a_long_record(rt: HostRuntime) {
+    let blocks = split_long(rt.alloc(), 4).expect(&rt, "the blocks");
+    assert!(rt; blocks.as_slice() == long_blocks(&long_record()).as_slice());
+}
+
+#[test]
+fn needs_three_blocks(rt: HostRuntime) {
+    let error = split_long(rt.alloc(), 2).err();
+    assert!(rt; error == Some(SplitError::NoRoom { need: 3, have: 2 }));
 }

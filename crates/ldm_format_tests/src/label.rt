@@ -1,9 +1,10 @@
-use crate::made::bytes_of;
+use crate::made::{bytes_of, check};
+use ldm_bytes::put_bytes;
 use ldm_host::{Host, MemoryHost};
 use ldm_label::LabelFault::*;
 use ldm_label::{Label, LabelError, LabelFault, read_label, write_label};
-use std::alloc::Global;
-use std::test::Fail;
+use std::alloc::{AllocError, Global};
+use std::process::Abort;
 
 // A usual label, which is that of the first image of the sample group.
 const USUAL: Label = Label {
@@ -32,64 +33,71 @@ fn sector_of(name: &str) -> usize {
     }
 }
 
-// Does a change SECTOR+OFFSET=BYTES, all in hexadecimal.
-fn change(alloc: Global, image: &mut [u8], text: &str) -> Result<(), Fail> {
-    let Some((place, digits)) = text.split_once('=') else {
-        return Err(Fail::from("no bytes"));
-    };
-    let Some((sector, offset)) = place.split_once('+') else {
-        return Err(Fail::from("no place"));
-    };
-    let Ok(offset) = usize::from_str_radix(offset, 16) else {
-        return Err(Fail::from("no offset"));
-    };
-    let start = offset.saturating_add(sector_of(sector).saturating_mul(512));
-    let bytes = bytes_of(alloc, digits)?;
-    let end = start.saturating_add(bytes.len());
-    if start <= end && end <= image.len() && end - start == bytes.len() {
-        image[start..end].copy_from_slice(&bytes);
+// The place and the digits of a change SECTOR+OFFSET=BYTES, whose numbers are hexadecimal.
+fn place_of(text: &str) -> Option<(usize, &str)> {
+    let (place, digits) = text.split_once('=')?;
+    let (sector, offset) = place.split_once('+')?;
+    let offset = usize::from_str_radix(offset, 16).ok()?;
+    let start = sector_of(sector).saturating_mul(512);
+    Some((start.saturating_add(offset), digits))
+}
+
+// Puts the bytes in the image, where they are within it.
+fn put(image: &mut [u8], place: usize, bytes: &[u8]) {
+    if place <= image.len() && bytes.len() <= image.len() - place {
+        put_bytes(image, place, bytes);
     }
-    Ok(())
+}
+
+// Does such a change.
+fn change(rt: &impl Abort, alloc: Global, image: &mut [u8], text: &str) {
+    let (place, digits) = place_of(text).expect(rt, "a place");
+    put(image, place, &bytes_of(rt, alloc, digits));
 }
 
 // An image of zeros but for the usual label.
-fn labelled(alloc: Global) -> Result<Vec<u8>, Fail> {
+fn labelled(alloc: Global) -> Result<Vec<u8>, AllocError> {
     let mut image = vec![in alloc; 0u8; 8192 * 512]?;
     write_label(&mut image, &USUAL);
     Ok(image)
 }
 
-// A host that has an image with the usual label, changed and cut to so many sectors. The calls
-// with these numbers fail.
-fn host_with(
-    alloc: Global,
-    changes: &str,
-    sectors: usize,
-    failing: &[u64],
-) -> Result<MemoryHost, Fail> {
-    let mut image = labelled(alloc)?;
+// An image with the usual label, changed and cut to so many sectors.
+fn image_with(rt: &impl Abort, alloc: Global, changes: &str, sectors: usize) -> Vec<u8> {
+    let mut image = labelled(alloc).expect(rt, "memory");
     for text in changes.split_whitespace() {
-        change(alloc, &mut image, text)?;
+        change(rt, alloc, &mut image, text);
     }
     image.truncate(sectors.saturating_mul(512));
-    let images = vec![in alloc; image]?;
-    let host = MemoryHost::new(alloc, images, Vec::new(alloc))?;
-    Ok(host.with_failures(Vec::from_slice(alloc, failing)?))
+    image
 }
 
-fn label_on(host: &mut MemoryHost) -> Result<Result<Label, LabelError>, Fail> {
-    if host.disks() == 0 {
-        return Err(Fail::from("no disk"));
-    }
-    Ok(read_label(host, 0))
+fn host_of(rt: &impl Abort, alloc: Global, image: Vec<u8>) -> MemoryHost {
+    let images = vec![in alloc; image].expect(rt, "memory");
+    MemoryHost::new(alloc, images, Vec::new(alloc)).expect(rt, "memory")
 }
 
-fn label_with(
+// Whether reading the label of the host's disk answers this.
+fn answers(host: MemoryHost, want: Result<Label, LabelError>) -> bool {
+    let mut host = host;
+    host.disks() != 0 && read_label(&mut host, 0) == want
+}
+
+fn has_label(rt: &impl Abort, alloc: Global, changes: &str, label: Label) -> bool {
+    let image = image_with(rt, alloc, changes, 8192);
+    answers(host_of(rt, alloc, image), Ok(label))
+}
+
+fn has_fault(
+    rt: &impl Abort,
     alloc: Global,
     changes: &str,
     sectors: usize,
-) -> Result<Result<Label, LabelError>, Fail> {
-    label_on(&mut host_with(alloc, changes, sectors, &[])?)
+    fault: LabelFault,
+) -> bool {
+    let image = image_with(rt, alloc, changes, sectors);
+    let want = Err(LabelError::Fault(fault));
+    answers(host_of(rt, alloc, image), want)
 }
 
 // The entry of an LDM disk is the fourth; copies that have a fault of their own, and tables that don't
@@ -105,18 +113,21 @@ T1+7=6b T2+2a=73 T3+49=73
 T4+0=0000000000000000 T2+24=43 T3+46=4c";
 
 #[test]
-fn usual_labels(rt: HostRuntime) -> Result<(), Fail> {
+fn usual_labels(rt: HostRuntime) {
     for row in USUAL_ROWS.lines() {
-        assert_eq!(rt; label_with(rt.alloc(), row, 8192)?, Ok(USUAL), "{row}");
+        check(&rt, has_label(&rt, rt.alloc(), row, USUAL), row);
     }
-    let other = "P1+30=41414141 P2+30=61616161 P3+30=61416141 P1+f=0c P2+f=0c P3+f=0c";
-    let want = Label {
+}
+
+#[test]
+fn another_label(rt: HostRuntime) {
+    let changes = "P1+30=41414141 P2+30=61616161 P3+30=61416141 P1+f=0c P2+f=0c P3+f=0c";
+    let label = Label {
         disk_guid: 0xAAAA_1111_1111_1111_1111_1111_1111_1111,
         minor: 12,
         ..USUAL
     };
-    assert_eq!(rt; label_with(rt.alloc(), other, 8192)?, Ok(want));
-    Ok(())
+    assert!(rt; has_label(&rt, rt.alloc(), changes, label));
 }
 
 // Changes, and the first fault. Of several faults, the earlier comes; sums reach past 2^64.
@@ -150,33 +161,54 @@ const FAULTS: [(&str, LabelFault); 24] = [
     ("T1+0=00 T2+0=00 T3+0=00 T4+56=0721", TocRange),
 ];
 
+fn check_faults(rt: &impl Abort, alloc: Global, rows: &[(&str, LabelFault)]) {
+    for row in rows {
+        let (changes, fault) = *row;
+        check(rt, has_fault(rt, alloc, changes, 8192, fault), changes);
+    }
+}
+
 #[test]
-fn first_faults(rt: HostRuntime) -> Result<(), Fail> {
-    for (changes, fault) in FAULTS {
-        let label = label_with(rt.alloc(), changes, 8192)?;
-        assert_eq!(rt; label, Err(LabelError::Fault(fault)), "{changes}");
+fn first_faults(rt: HostRuntime) {
+    check_faults(&rt, rt.alloc(), &FAULTS);
+}
+
+const CUTS: [(usize, LabelFault); 4] = [(0, Short), (6, Short), (7, Range), (8191, Range)];
+
+#[test]
+fn cut_disks(rt: HostRuntime) {
+    for (sectors, fault) in CUTS {
+        check(&rt, has_fault(&rt, rt.alloc(), "", sectors, fault), sectors);
     }
-    for (sectors, fault) in [(0, Short), (6, Short), (7, Range), (8191, Range)] {
-        let label = label_with(rt.alloc(), "", sectors)?;
-        assert_eq!(rt; label, Err(LabelError::Fault(fault)), "{sectors} sectors");
-    }
-    Ok(())
+}
+
+// Whether reading the label answers this where the call with this number fails.
+fn answers_failing(
+    rt: &impl Abort,
+    alloc: Global,
+    changes: &str,
+    call: u64,
+    want: Result<Label, LabelError>,
+) -> bool {
+    let image = image_with(rt, alloc, changes, 8192);
+    let calls = vec![in alloc; call].expect(rt, "memory");
+    answers(host_of(rt, alloc, image).with_failures(calls), want)
 }
 
 // A label takes eight reads, and nothing is read behind the first fault.
+const FAILING: [(u64, &str, Result<Label, LabelError>); 4] = [
+    (1, "", Err(LabelError::Disk)),
+    (8, "", Err(LabelError::Disk)),
+    (9, "", Ok(USUAL)),
+    (2, "M+1fe=00", Err(LabelError::Fault(NoSignature))),
+];
+
 #[test]
-fn failing_disks(rt: HostRuntime) -> Result<(), Fail> {
-    let rows = [
-        (1, "", Err(LabelError::Disk)),
-        (8, "", Err(LabelError::Disk)),
-        (9, "", Ok(USUAL)),
-        (2, "M+1fe=00", Err(LabelError::Fault(NoSignature))),
-    ];
-    for (call, changes, want) in rows {
-        let mut host = host_with(rt.alloc(), changes, 8192, &[call])?;
-        assert_eq!(rt; label_on(&mut host)?, want, "call {call}");
+fn failing_disks(rt: HostRuntime) {
+    for (call, changes, want) in FAILING {
+        let holds = answers_failing(&rt, rt.alloc(), changes, call, want);
+        check(&rt, holds, call);
     }
-    Ok(())
 }
 
 // All bytes but zeros of the written label.
@@ -197,16 +229,23 @@ T3+46='log T3+50=00000000000005da00000000000000e0
 T4+0=544f43424c4f434b T4+24='config T4+2e=000000000000001100000000000005c9
 T4+46='log T4+50=00000000000005da00000000000000e0";
 
-#[test]
-fn written_label(rt: HostRuntime) -> Result<(), Fail> {
-    let image = labelled(rt.alloc())?;
-    let mut want = vec![in rt.alloc(); 0u8; 8192 * 512]?;
+// An image with those bytes.
+fn written(rt: &impl Abort, alloc: Global) -> Vec<u8> {
+    let mut image = vec![in alloc; 0u8; 8192 * 512].expect(rt, "memory");
     for text in WRITTEN.split_whitespace() {
-        change(rt.alloc(), &mut want, text)?;
+        change(rt, alloc, &mut image, text);
     }
+    image
+}
+
+#[test]
+fn written_label(rt: HostRuntime) {
+    let image = labelled(rt.alloc()).expect(&rt, "memory");
+    let want = written(&rt, rt.alloc());
     assert!(rt; image == want);
-    let images = vec![in rt.alloc(); image]?;
-    let mut host = MemoryHost::new(rt.alloc(), images, Vec::new(rt.alloc()))?;
-    assert_eq!(rt; label_on(&mut host)?, Ok(USUAL));
-    Ok(())
+}
+
+#[test]
+fn written_label_reads_back(rt: HostRuntime) {
+    assert!(rt; has_label(&rt, rt.alloc(), "", USUAL));
 }

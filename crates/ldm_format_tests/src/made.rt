@@ -1,51 +1,62 @@
+use ldm_words::read_number;
 use std::alloc::Global;
-use std::test::Fail;
+use std::fmt::Debug;
+use std::process::Abort;
 
-fn push_hex(bytes: &mut Vec<u8>, digits: &str) -> Result<(), Fail> {
-    for pair in digits.as_bytes().chunks(2) {
-        let Ok(text) = std::str::from_utf8(pair) else {
-            return Err(Fail::from("no text"));
-        };
-        let Ok(byte) = u8::from_str_radix(text, 16) else {
-            return Err(Fail::from("no byte"));
-        };
-        bytes.push(byte)?;
-    }
-    Ok(())
+// Fails the test at this row where the row does not hold.
+pub(crate) fn check(rt: &impl Abort, holds: bool, row: impl Debug + Drop) {
+    assert!(rt; holds, "at {row:?}");
 }
 
-fn number(digits: &str) -> Result<u32, Fail> {
-    match digits.parse() {
-        Ok(number) => Ok(number),
-        Err(_) => Err(Fail::from("no number")),
+fn hex_byte(pair: &[u8]) -> Option<u8> {
+    let text = std::str::from_utf8(pair).ok()?;
+    u8::from_str_radix(text, 16).ok()
+}
+
+fn push_hex(rt: &impl Abort, bytes: &mut Vec<u8>, digits: &[u8]) {
+    for pair in digits.chunks(2) {
+        let byte = hex_byte(pair).expect(rt, "a byte");
+        bytes.push(byte).expect(rt, "memory");
     }
 }
 
-fn push_zeros(alloc: Global, bytes: &mut Vec<u8>, count: u32) -> Result<(), Fail> {
-    bytes.extend_from_slice(&vec![in alloc; 0u8; count.min(65536) as usize]?)?;
-    Ok(())
+fn number(digits: &[u8]) -> Option<u32> {
+    match read_number(digits) {
+        Some(number) if number <= 0xFFFF_FFFF => Some(number as u32),
+        _ => None,
+    }
 }
 
-fn push_word(alloc: Global, bytes: &mut Vec<u8>, word: &str) -> Result<(), Fail> {
-    if let Some(count) = word.strip_prefix("z") {
-        return push_zeros(alloc, bytes, number(count)?);
-    }
-    if let Some(len) = word.strip_prefix("l") {
-        bytes.extend_from_slice(&number(len)?.to_be_bytes())?;
-        return Ok(());
-    }
-    match word.strip_prefix("'") {
-        Some(text) => Ok(bytes.extend_from_slice(text.as_bytes())?),
-        None => push_hex(bytes, word),
+fn push_zeros(rt: &impl Abort, bytes: &mut Vec<u8>, digits: &[u8]) {
+    let count = number(digits).expect(rt, "a number").min(65536) as usize;
+    let len = bytes.len().saturating_add(count);
+    bytes.resize(len, 0).expect(rt, "memory");
+}
+
+fn push_len(rt: &impl Abort, bytes: &mut Vec<u8>, digits: &[u8]) {
+    let len = number(digits).expect(rt, "a number").to_be_bytes();
+    push_text(rt, bytes, &len);
+}
+
+fn push_text(rt: &impl Abort, bytes: &mut Vec<u8>, text: &[u8]) {
+    bytes.extend_from_slice(text).expect(rt, "memory");
+}
+
+fn push_word(rt: &impl Abort, bytes: &mut Vec<u8>, word: &[u8]) {
+    match word {
+        [b'z', count @ ..] => push_zeros(rt, bytes, count),
+        [b'l', len @ ..] => push_len(rt, bytes, len),
+        [b'\'', text @ ..] => push_text(rt, bytes, text),
+        _ => push_hex(rt, bytes, word),
     }
 }
 
 // The bytes of a text of words: `zN` is N zeros, `lN` the length N in four bytes, `'text` the text's
 // bytes, and any other word is in hexadecimal digits.
-pub(crate) fn bytes_of(alloc: Global, text: &str) -> Result<Vec<u8>, Fail> {
+pub(crate) fn bytes_of(rt: &impl Abort, alloc: Global, text: &str) -> Vec<u8> {
     let mut bytes = Vec::new(alloc);
     for word in text.split_whitespace() {
-        push_word(alloc, &mut bytes, word)?;
+        push_word(rt, &mut bytes, word.as_bytes());
     }
-    Ok(bytes)
+    bytes
 }

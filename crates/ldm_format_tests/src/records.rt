@@ -1,11 +1,10 @@
-use crate::made::bytes_of;
+use crate::made::{bytes_of, check};
 use ldm_bytes::{Bytes, NoMemory};
-use ldm_records::{
-    Record, RecordError, RecordFault, Striping, new_component, new_partition, new_volume,
-    read_record, spelled_len, spelling,
-};
+use ldm_made::{new_component, new_partition, new_volume};
+use ldm_payloads::{RecordError, RecordFault, read_record};
+use ldm_records::{Record, Striping, spelled_len, spelling};
 use std::alloc::Global;
-use std::test::Fail;
+use std::process::Abort;
 
 const DISK: &str = "00000034 l58 0102 05 'Disk1 24 '11111111-1111-1111-1111-111111111111 00 z12";
 
@@ -21,39 +20,40 @@ const LONGER: &str = "00000033 l43 0107 02 'p7 z28 0400000800 020006 0102 0909";
 const VOLUME: &str =
     "00000051 l75 0105 04 'Data 03 'gen 00 'ACTIVE z8 03 z6 0101 z16 02080a z4 07 bbbbbbbbbbbbbbbbbbbbbbbbbbbbbbbb";
 
-// The own spelling of a record.
-fn spelling_of(alloc: Global, record: Result<Record, NoMemory>) -> Result<Bytes, NoMemory> {
-    spelling(alloc, &record?)
-}
-
-// The own spelling of a copy of what the payload spells.
-fn respelled(alloc: Global, payload: &[u8]) -> Result<Bytes, RecordError> {
-    let record = read_record(alloc, payload)?;
-    Ok(spelling_of(alloc, record.clone_in(alloc))?)
-}
-
-// The length of the own spelling of what the payload spells.
-fn len_of(alloc: Global, payload: &[u8]) -> Result<usize, RecordError> {
-    let record = read_record(alloc, payload)?;
-    Ok(spelled_len(&record))
-}
-
-// That length, if the payload spells a record.
-fn read_len(alloc: Global, payload: &[u8]) -> Result<Option<usize>, Fail> {
-    match len_of(alloc, payload) {
-        Ok(len) => Ok(Some(len)),
-        Err(RecordError::Fault(RecordFault::Malformed)) => Ok(None),
-        Err(_) => Err(Fail::from("no record")),
+fn are_bytes(bytes: &Result<Bytes, NoMemory>, want: &[u8]) -> bool {
+    match bytes {
+        Ok(bytes) => bytes.as_slice() == want,
+        Err(_) => false,
     }
 }
 
-// Whether the own spelling of what the payload spells is this one, and as long as is said.
-fn is_spelled(alloc: Global, payload: &str, own: &str) -> Result<bool, Fail> {
-    let payload = bytes_of(alloc, payload)?;
-    let own = bytes_of(alloc, own)?;
-    let len = read_len(alloc, &payload)?;
-    let again = respelled(alloc, &payload)?;
-    Ok(len == Some(own.len()) && again.as_slice() == own.as_slice())
+fn is_own(alloc: Global, record: &Result<Record, NoMemory>, own: &[u8]) -> bool {
+    match record {
+        Ok(record) => are_bytes(&spelling(alloc, record), own),
+        Err(_) => false,
+    }
+}
+
+// Whether the own spelling of a record is this one.
+fn spells(alloc: Global, record: Result<Record, NoMemory>, own: &[u8]) -> bool {
+    let spells = is_own(alloc, &record, own);
+    drop(record);
+    spells
+}
+
+fn clone_spells(alloc: Global, record: &Result<Record, RecordError>, own: &[u8]) -> bool {
+    match record {
+        Ok(record) => spells(alloc, record.clone_in(alloc), own),
+        Err(_) => false,
+    }
+}
+
+// Whether the own spelling of a copy of what the payload spells is this one.
+fn copy_spells(alloc: Global, payload: &[u8], own: &[u8]) -> bool {
+    let record = read_record(alloc, payload);
+    let spells = clone_spells(alloc, &record, own);
+    drop(record);
+    spells
 }
 
 // Numbers of a record: the id, and a few of its type; of a disk the last four bytes of the GUID.
@@ -66,58 +66,85 @@ fn numbers(record: &Record) -> [u64; 4] {
     }
 }
 
-// Those of what the payload spells.
-fn numbers_of(alloc: Global, payload: &[u8]) -> Result<[u64; 4], RecordError> {
-    let record = read_record(alloc, payload)?;
-    Ok(numbers(&record))
-}
+// A few numbers, and the length of the own spelling.
+type Seen = ([u64; 4], usize);
 
-#[test]
-fn values(rt: HostRuntime) -> Result<(), Fail> {
-    let alloc = rt.alloc();
-    let rows = [
-        (PARTITION, [7, 2048, 6, 2]),
-        (LONGER, [7, 2048, 6, 2]),
-        (VOLUME, [5, 1, 2058, 7]),
-        (DISK, [2, 0x1111_1111, 0, 0]),
-    ];
-    for (payload, want) in rows {
-        let numbers = numbers_of(alloc, &bytes_of(alloc, payload)?)?;
-        assert_eq!(rt; numbers, want, "{payload}");
+fn seen_of(record: &Result<Record, RecordError>) -> Result<Seen, RecordError> {
+    match record {
+        Ok(record) => Ok((numbers(record), spelled_len(record))),
+        Err(error) => Err(*error),
     }
-    assert!(rt; is_spelled(alloc, LONGER, PARTITION)?);
-    Ok(())
 }
 
-// Whether the own spelling of a record is this one.
-fn spells(alloc: Global, record: Result<Record, NoMemory>, own: &str) -> Result<bool, Fail> {
-    let spelling = spelling_of(alloc, record)?;
-    Ok(spelling.as_slice() == bytes_of(alloc, own)?.as_slice())
+// Those of what the payload spells.
+fn read(alloc: Global, payload: &[u8]) -> Result<Seen, RecordError> {
+    let record = read_record(alloc, payload);
+    let seen = seen_of(&record);
+    drop(record);
+    seen
+}
+
+fn len_of(alloc: Global, payload: &[u8]) -> Result<usize, RecordError> {
+    let (_, len) = read(alloc, payload)?;
+    Ok(len)
+}
+
+// Whether the own spelling of what the payload spells is this one, and as long as is said.
+fn is_spelled(rt: &impl Abort, alloc: Global, payload: &str, own: &str) -> bool {
+    let payload = bytes_of(rt, alloc, payload);
+    let own = bytes_of(rt, alloc, own);
+    len_of(alloc, &payload) == Ok(own.len()) && copy_spells(alloc, &payload, &own)
+}
+
+fn numbers_of(alloc: Global, payload: &[u8]) -> Result<[u64; 4], RecordError> {
+    let (numbers, _) = read(alloc, payload)?;
+    Ok(numbers)
+}
+
+const NUMBERS: [(&str, [u64; 4]); 4] = [
+    (PARTITION, [7, 2048, 6, 2]),
+    (LONGER, [7, 2048, 6, 2]),
+    (VOLUME, [5, 1, 2058, 7]),
+    (DISK, [2, 0x1111_1111, 0, 0]),
+];
+
+#[test]
+fn values(rt: HostRuntime) {
+    for (payload, want) in NUMBERS {
+        let numbers = numbers_of(rt.alloc(), &bytes_of(&rt, rt.alloc(), payload));
+        check(&rt, numbers == Ok(want), payload);
+    }
 }
 
 #[test]
-fn new_volumes(rt: HostRuntime) -> Result<(), Fail> {
+fn longer_numbers_and_filling(rt: HostRuntime) {
+    assert!(rt; is_spelled(&rt, rt.alloc(), LONGER, PARTITION));
+}
+
+#[test]
+fn new_volumes(rt: HostRuntime) {
+    let own = bytes_of(&rt, rt.alloc(), VOLUME);
     let volume = new_volume(rt.alloc(), 5, b"Data", VOLUME_GUID, false, 1, 2058);
-    assert!(rt; spells(rt.alloc(), volume, VOLUME)?);
-    Ok(())
+    assert!(rt; spells(rt.alloc(), volume, &own));
+}
+
+const STRIPING: Striping = Striping {
+    chunk: 4,
+    columns: 2,
+};
+
+#[test]
+fn new_components(rt: HostRuntime) {
+    let own = bytes_of(&rt, rt.alloc(), COMPONENT);
+    let component = new_component(rt.alloc(), 6, 5, 1, 2, Some(STRIPING));
+    assert!(rt; spells(rt.alloc(), component, &own));
 }
 
 #[test]
-fn new_components(rt: HostRuntime) -> Result<(), Fail> {
-    let striping = Some(Striping {
-        chunk: 4,
-        columns: 2,
-    });
-    let component = new_component(rt.alloc(), 6, 5, 1, 2, striping);
-    assert!(rt; spells(rt.alloc(), component, COMPONENT)?);
-    Ok(())
-}
-
-#[test]
-fn new_partitions(rt: HostRuntime) -> Result<(), Fail> {
+fn new_partitions(rt: HostRuntime) {
+    let own = bytes_of(&rt, rt.alloc(), PARTITION);
     let partition = new_partition(rt.alloc(), 7, 0, 0, 2048, 6, 2, None);
-    assert!(rt; spells(rt.alloc(), partition, PARTITION)?);
-    Ok(())
+    assert!(rt; spells(rt.alloc(), partition, &own));
 }
 
 // Marks, flags of no field and tails come back, in each type and with each optional field.
@@ -131,16 +158,20 @@ beef1835 l28 021234 01 'A 02 'G1 z12 01 'B 01 'C 'tail
 beef1845 l57 021234 01 'A z44 01 'B 01 'C 0202 'tl";
 
 #[test]
-fn carried(rt: HostRuntime) -> Result<(), Fail> {
-    let alloc = rt.alloc();
-    for row in [DISK, PARTITION, VOLUME] {
-        assert!(rt; is_spelled(alloc, row, row)?, "{row}");
-    }
+fn carried(rt: HostRuntime) {
     for row in CARRIED.lines().skip(1) {
-        assert!(rt; is_spelled(alloc, row, row)?, "{row}");
+        check(&rt, is_spelled(&rt, rt.alloc(), row, row), row);
     }
-    Ok(())
 }
+
+#[test]
+fn own_spellings(rt: HostRuntime) {
+    for row in [DISK, PARTITION, VOLUME] {
+        check(&rt, is_spelled(&rt, rt.alloc(), row, row), row);
+    }
+}
+
+const MALFORMED: RecordError = RecordError::Fault(RecordFault::Malformed);
 
 // A payload, and the length of its own spelling where it spells a record.
 const PAYLOADS: [(&str, Option<usize>); 29] = [
@@ -189,34 +220,33 @@ const PAYLOADS: [(&str, Option<usize>); 29] = [
     ("00000045 l48 0105 z45", None),
 ];
 
-#[test]
-fn payloads(rt: HostRuntime) -> Result<(), Fail> {
-    let alloc = rt.alloc();
-    for (payload, want) in PAYLOADS {
-        let len = read_len(alloc, &bytes_of(alloc, payload)?)?;
-        assert_eq!(rt; len, want, "{payload}");
+fn check_lens(rt: &impl Abort, alloc: Global, rows: &[(&str, Option<usize>)]) {
+    for row in rows {
+        let (payload, want) = *row;
+        let len = len_of(alloc, &bytes_of(rt, alloc, payload));
+        check(rt, len == want.ok_or(MALFORMED), payload);
     }
-    Ok(())
 }
 
-// Why bytes spell no record.
-fn error_of(alloc: Global, payload: &[u8]) -> Option<RecordError> {
-    read_record(alloc, payload).err()
+#[test]
+fn payloads(rt: HostRuntime) {
+    check_lens(&rt, rt.alloc(), &PAYLOADS);
 }
 
 // An unknown type byte is looked at where it is there and the payload has its eight bytes.
+const TYPES: [(u8, RecordFault); 4] = [
+    (0x51, RecordFault::Malformed),
+    (0x36, RecordFault::UnknownType(0x36)),
+    (0x45, RecordFault::Malformed),
+    (0, RecordFault::UnknownType(0)),
+];
+
 #[test]
-fn types(rt: HostRuntime) -> Result<(), Fail> {
-    let malformed = RecordError::Fault(RecordFault::Malformed);
-    for (kind, known) in [(0x51, true), (0x36, false), (0x45, true), (0, false)] {
+fn types(rt: HostRuntime) {
+    for (kind, fault) in TYPES {
         let bytes = [0, 0, 0, kind, 0, 0, 0, 0];
-        let fault = if known {
-            malformed
-        } else {
-            RecordError::Fault(RecordFault::UnknownType(kind))
-        };
-        assert_eq!(rt; error_of(rt.alloc(), &bytes), Some(fault));
-        assert_eq!(rt; error_of(rt.alloc(), &bytes[..7]), Some(malformed));
+        let whole = len_of(rt.alloc(), &bytes) == Err(RecordError::Fault(fault));
+        check(&rt, whole, kind);
+        check(&rt, len_of(rt.alloc(), &bytes[..7]) == Err(MALFORMED), kind);
     }
-    Ok(())
 }

@@ -8,11 +8,19 @@ use std::alloc::Global;
 use std::marker::Model;
 
 /// A group's header and its records, in rising order of kind and id.
-#[derive(Drop)]
 pub struct Db {
     header: Header,
-    // In a box: so a function that lets a database go has one step for its records and their maps.
     records: Box<Catalog>,
+}
+
+// By hand, so that a function that lets a database go has one step for all that it has.
+impl Drop for Db {
+    fn drop(self) {
+        let Db {
+            header: _,
+            records: _,
+        } = self;
+    }
 }
 
 impl Model for Db {

@@ -7,7 +7,7 @@ ghost use Rattle.ldm_label.specs.LabelOf.{Fits};
 ghost use Rattle.ldm_copy.specs.Answers.{FitsHeader};
 ghost use Rattle.ldm_copy.specs.Copy.{config_area, IsOpen};
 
-use crate::made::AREA;
+use crate::made::put;
 use ldm_bytes::{put_bytes, put_u16, put_u32};
 use ldm_copy::{CopyState, body_of, read_copy, rewrite};
 use ldm_group::Db;
@@ -70,11 +70,8 @@ fn host_of(alloc: Global, images: Vec<Vec<u8>>) -> Result<MemoryHost, Fail>
 fn images_at(alloc: Global, sequence: u8) -> Result<Vec<Vec<u8>>, Fail> {
     let mut images = sample_images(alloc, 2, 64)?;
     if let Some(image) = images.get_mut(1) {
-        for place in [AREA + 0x7C, AREA + 0x84] {
-            if let Some(byte) = image.get_mut(place) {
-                *byte = sequence;
-            }
-        }
+        put(image, 0x7C, &[sequence]);
+        put(image, 0x84, &[sequence]);
     }
     Ok(images)
 }
@@ -89,13 +86,13 @@ fn newer(alloc: Global) -> Result<Db, Fail>
 }
 
 // A host whose second copy, of sequence 7, is rewritten with this database, stopped after so many of the calls.
-fn stopped(alloc: Global, db: &Db, calls: u8) -> Result<MemoryHost, Fail>
+fn stopped(alloc: Global, db: &Db, calls: u64) -> Result<MemoryHost, Fail>
     requires { FitsHeader db.now }
 {
     let mut host = host_of(alloc, images_at(alloc, 7)?)?;
     let (label, _) = opened(alloc, &mut host)?;
     // A label takes eight reads, and a copy one for each of its 16 sectors.
-    let mut host = host.stop_after(24 + u64::from(calls));
+    let mut host = host.stop_after(calls.saturating_add(24));
     rewrites(alloc, &mut host, &label, db)?;
     Ok(host)
 }
@@ -144,13 +141,19 @@ fn readings(alloc: Global, host: &MemoryHost) -> Result<String, Fail> {
     Ok(read)
 }
 
+// What reads of it, stopped after so many of the calls.
+fn left_after(alloc: Global, calls: u64) -> Result<String, Fail> {
+    let db = newer(alloc)?;
+    readings(alloc, &stopped(alloc, &db, calls)?)
+}
+
 #[test]
 fn what_a_stop_leaves(rt: HostRuntime) -> Result<(), Fail> {
-    let alloc = rt.alloc();
-    let db = newer(alloc)?;
-    for (calls, want) in (0u8..7).zip(READINGS) {
-        let read = readings(alloc, &stopped(alloc, &db, calls)?)?;
-        assert_eq!(rt; read.as_str(), want, "{calls}");
+    let mut calls: u64 = 0;
+    for want in &READINGS {
+        let read = left_after(rt.alloc(), calls)?;
+        assert_eq!(rt; read.as_str(), *want, "{calls}");
+        calls = calls.saturating_add(1);
     }
     Ok(())
 }
@@ -188,10 +191,7 @@ fn long_images(alloc: Global) -> Result<Vec<Vec<u8>>, Fail> {
     let mut images = sample_images(alloc, 2, 64)?;
     if let Some(image) = images.get_mut(1) {
         for part in 0u8..4 {
-            let at = AREA + 128 * (8 + usize::from(part));
-            if at + 128 <= image.len() {
-                image[at..at + 128].copy_from_slice(&long_part(part));
-            }
+            put(image, 128 * (8 + usize::from(part)), &long_part(part));
         }
     }
     Ok(images)

@@ -36,7 +36,7 @@ fn word_of(fault: LayoutFault) -> &'static str {
 
 // The first fault of the group of these records.
 fn first_fault(alloc: Global, records: &str) -> Result<&'static str, Fail> {
-    let db = database(alloc, 64, records)??;
+    let db = database(alloc, 64, records)?;
     match faults(alloc, &db)?.first() {
         Some(found) => Ok(word_of(found.fault)),
         None => Ok("None"),
@@ -48,7 +48,7 @@ fn faults_at_their_edges(rt: HostRuntime) -> Result<(), Fail> {
     for row in ROWS.lines() {
         let (want, records) = row.split_once(' ').unwrap_or((row, ""));
         let found = first_fault(rt.alloc(), records)?;
-        assert_eq!(rt; (found, records), (want, records));
+        assert_eq!(rt; found, want, "{records}");
     }
     Ok(())
 }

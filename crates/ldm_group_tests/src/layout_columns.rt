@@ -33,7 +33,7 @@ fn has_volume(db: &Db, id: u64) -> bool
 
 // The plan of the volume 5 of these records.
 fn plan_of(rt: &impl Abort, alloc: Global, records: &str) -> Result<Plan, Fail> {
-    let db = database(alloc, 64, records)??;
+    let db = database(alloc, 64, records)?;
     assert!(rt; all_end(db.as_slice()) && has_volume(&db, 5));
     Ok(plan(alloc, &db, 5)?)
 }
@@ -43,31 +43,35 @@ fn plan_of(rt: &impl Abort, alloc: Global, records: &str) -> Result<Plan, Fail> 
 const RAID5: &str =
     "3.5.0.0.24 4.6.0.0.5.3.4.3 5.7.0.0.12.6.4.0.3 5.8.0.0.12.6.2 5.9.0.0.12.6.3.0.2";
 
-// A sector, its column and that of its parity, and the sector at which both lie there.
+// A sector, its disk and that of its parity, and the sector at which both lie there.
 const PLACES: [(u64, u64, u64, u64); 6] = [
-    (0, 0, 2, 0),
-    (4, 1, 2, 0),
-    (8, 2, 1, 4),
-    (12, 0, 1, 4),
-    (16, 1, 0, 8),
-    (20, 2, 0, 8),
+    (0, 2, 4, 0),
+    (4, 3, 4, 0),
+    (8, 4, 3, 4),
+    (12, 2, 3, 4),
+    (16, 3, 2, 8),
+    (20, 4, 2, 8),
 ];
+
+// Whether the sector and its parity lie there.
+fn lies_at(plan: &Plan, row: &(u64, u64, u64, u64)) -> bool {
+    let (sector, disk, parity, at) = *row;
+    if sector >= plan.size() || plan.copies() == 0 {
+        return false;
+    }
+    let place = plan.place(sector, 0);
+    let other = plan.parity(sector);
+    place.disk == disk
+        && place.sector == at
+        && matches!(other, Some(p) if p.disk == parity && p.sector == at)
+}
 
 #[test]
 fn parity_goes_round(rt: HostRuntime) -> Result<(), Fail> {
     let plan = plan_of(&rt, rt.alloc(), RAID5)?;
     assert!(rt; plan.shape() == Shape::Raid5 && plan.size() == 24 && plan.copies() == 1);
-    for (sector, column, parity, at) in PLACES {
-        assert!(rt; sector < plan.size() && 0 < plan.copies());
-        let place = plan.place(sector, 0);
-        assert!(rt;
-            place.disk == 2 + column && place.sector == at,
-            "sector {sector}"
-        );
-        let parity_is = plan
-            .parity(sector)
-            .is_some_and(|p| p.disk == 2 + parity && p.sector == at);
-        assert!(rt; parity_is, "parity of {sector}");
+    for row in &PLACES {
+        assert!(rt; lies_at(&plan, row), "sector {}", row.0);
     }
     Ok(())
 }

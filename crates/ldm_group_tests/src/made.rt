@@ -1,7 +1,8 @@
 use ldm_bytes::{put_bytes, put_u16, put_u32, put_u64};
 use ldm_group::{Db, DbError, id_of, kind_of};
 use ldm_host::MemoryHost;
-use ldm_records::{Record, read_record};
+use ldm_payloads::read_record;
+use ldm_records::Record;
 use ldm_vectors::sample_images;
 use ldm_vmdb::{Header, VmdbError, read_header};
 use std::alloc::Global;
@@ -109,9 +110,15 @@ fn records_of(alloc: Global, text: &str) -> Result<Vec<Record>, Fail> {
 }
 
 // The database of the records of a text.
-pub(crate) fn database(alloc: Global, last: u32, text: &str) -> Result<Result<Db, DbError>, Fail> {
+pub(crate) fn database(alloc: Global, last: u32, text: &str) -> Result<Db, Fail> {
     let records = records_of(alloc, text)?;
-    Ok(Db::new(alloc, header(alloc, last)?, records))
+    Ok(Db::new(alloc, header(alloc, last)?, records)?)
+}
+
+// Why there is no database of the records of a text, if there is none.
+pub(crate) fn database_error(alloc: Global, text: &str) -> Result<Option<DbError>, Fail> {
+    let records = records_of(alloc, text)?;
+    Ok(Db::new(alloc, header(alloc, 64)?, records).err())
 }
 
 // The kinds and ids of the records.
@@ -124,7 +131,7 @@ pub(crate) fn kinds_of(alloc: Global, db: &Db) -> Result<Vec<(u8, u64)>, Fail> {
 }
 
 // Where the config area begins, in bytes: at sector 17 of the database, which begins at sector 6144.
-pub(crate) const AREA: usize = 512 * (6144 + 17);
+const AREA: usize = 512 * (6144 + 17);
 
 // Puts bytes at a place of the config area, if they lie in the image.
 pub(crate) fn put(image: &mut [u8], place: usize, bytes: &[u8]) {

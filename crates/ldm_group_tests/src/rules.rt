@@ -92,7 +92,7 @@ const ROWS: [(u8, u64, &str); 38] = [
 
 // The rule that the group of these records breaks, and the id, or two zeros.
 fn broken_by(alloc: Global, labels: &Labels, records: &str) -> Result<(u8, u64), Fail> {
-    let db = database(alloc, 64, records)??;
+    let db = database(alloc, 64, records)?;
     match check(alloc, &db, labels) {
         Ok(()) => Ok((0, 0)),
         Err(RuleError::Fault(fault)) => Ok((fault.rule, fault.id)),
@@ -105,7 +105,7 @@ fn the_first_broken_rule_at_its_least_id(rt: HostRuntime) -> Result<(), Fail> {
     let labels = labels(rt.alloc())?;
     for &(rule, id, records) in &ROWS {
         let broken = broken_by(rt.alloc(), &labels, records)?;
-        assert_eq!(rt; (broken, records), ((rule, id), records));
+        assert_eq!(rt; broken, (rule, id), "{records}");
     }
     Ok(())
 }

@@ -17,7 +17,7 @@ const RECORDS: &str =
 fn group(alloc: Global) -> Result<Db, Fail>
     ensures { IfOk result (λ db. All EndsInRange db.records) }
 {
-    let db = database(alloc, 64, RECORDS)??;
+    let db = database(alloc, 64, RECORDS)?;
     if check(alloc, &db, &labels(alloc)?).is_err() {
         return Err(Fail::from("a broken rule"));
     }
@@ -67,8 +67,8 @@ fn places_at_the_first_fits(rt: HostRuntime) -> Result<(), Fail> {
     let Ok(five) = starts(rt.alloc(), &all[..5])? else {
         return Err(Fail::from("no fit"));
     };
-    assert_eq!(rt; five.as_slice(), [10, 15, 30, 40, 46].as_slice());
-    assert_eq!(rt; starts(rt.alloc(), &all)?.err(), Some(5));
+    assert!(rt; five.as_slice() == [10, 15, 30, 40, 46].as_slice());
+    assert!(rt; starts(rt.alloc(), &all)?.err() == Some(5));
     Ok(())
 }
 
@@ -76,6 +76,9 @@ fn places_at_the_first_fits(rt: HostRuntime) -> Result<(), Fail> {
 fn map(alloc: Global) -> Result<FreeMap, Fail> {
     Ok(FreeMap::of(alloc, &group(alloc)?, 2, 50)?)
 }
+
+// The gaps of the map.
+const GAPS: [(u64, u64); 3] = [(10, 10), (30, 5), (40, 10)];
 
 // The start and length of each gap.
 fn gaps_of(alloc: Global, map: &FreeMap) -> Result<Vec<(u64, u64)>, Fail> {
@@ -86,26 +89,30 @@ fn gaps_of(alloc: Global, map: &FreeMap) -> Result<Vec<(u64, u64)>, Fail> {
     Ok(gaps)
 }
 
-// What is taken of the disk in turn.
-fn taken(map: &mut FreeMap) -> [Option<u64>; 7] {
-    [
-        map.take(5),
-        map.take(5),
-        map.take(5),
-        map.take(6),
-        map.take(5),
-        map.take(4),
-        map.take(1),
-    ]
+// What is taken of the disk in turn, and where it starts, if it fits.
+const TAKEN: [(u64, Option<u64>); 7] = [
+    (5, Some(10)),
+    (5, Some(15)),
+    (5, Some(30)),
+    (6, Some(40)),
+    (5, None),
+    (4, Some(46)),
+    (1, None),
+];
+
+// Whether a taking of so many sectors starts there.
+fn takes(map: &mut FreeMap, size: u64, start: Option<u64>) -> bool {
+    0 < size && map.take(size) == start
 }
 
 #[test]
 fn takes_from_the_first_gaps(rt: HostRuntime) -> Result<(), Fail> {
     let mut map = map(rt.alloc())?;
     let gaps = gaps_of(rt.alloc(), &map)?;
-    assert_eq!(rt; gaps.as_slice(), [(10, 10), (30, 5), (40, 10)].as_slice());
-    let starts = [Some(10), Some(15), Some(30), Some(40), None, Some(46), None];
-    assert_eq!(rt; taken(&mut map), starts);
+    assert!(rt; gaps.as_slice() == GAPS.as_slice());
+    for (size, start) in &TAKEN {
+        assert!(rt; takes(&mut map, *size, *start), "{size}");
+    }
     assert!(rt; map.gaps().is_empty());
     Ok(())
 }

@@ -9,13 +9,14 @@ use ldm_bytes::{Bytes, put_bytes};
 use ldm_edits::{Outcome, Refusal, Reply, step};
 use ldm_found::{Found, find_group};
 use ldm_group::Db;
+use ldm_group_text::reply_text;
 use ldm_host::{Host, MemoryHost};
 use ldm_label::Labels;
 use ldm_records::Record;
-use ldm_text::reply_text;
 use ldm_vectors::sample_images;
 use ldm_words::read_line;
-use std::alloc::Global;
+use std::alloc::{AllocError, Global};
+use std::process::Abort;
 use std::test::Fail;
 
 // Puts the last VBLK sequence; where they aren't 0, 2^64 - 1 as the committed sequence, and an id from
@@ -156,14 +157,8 @@ fn all_numbers(alloc: Global, db: &Db) -> Result<Vec<Numbers>, Fail> {
 }
 
 // A line of a script, where a star stands for a GUID.
-fn line_of(alloc: Global, line: &str) -> Result<String, Fail> {
-    let (head, tail) = line.split_once('*').unwrap_or((line, ""));
-    let mut text = String::from_str(alloc, head)?;
-    if head.len() < line.len() {
-        text.push_str("cccccccc-cccc-cccc-cccc-cccccccccccc")?;
-    }
-    text.push_str(tail)?;
-    Ok(text)
+fn line_of(alloc: Global, line: &str) -> Result<String, AllocError> {
+    line.replace(alloc, "*", "cccccccc-cccc-cccc-cccc-cccccccccccc")
 }
 
 // The group after the rows of a script, each a line and its reply; and the rows with the replies that come.
@@ -429,29 +424,27 @@ fn answers(alloc: Global, case: &Case) -> Result<(String, Vec<Numbers>), Fail> {
     Ok((String::from_utf8(said)?, all_numbers(alloc, &db)?))
 }
 
-#[test]
-fn what_commands_do(rt: HostRuntime) -> Result<(), Fail> {
-    for case in &DONE {
-        let (said, numbers) = answers(rt.alloc(), case)?;
-        assert_eq!(rt; (said.as_str(), numbers.as_slice()), (case.3, case.4));
+// Each case has the replies and the numbers that it should.
+fn hold(rt: &impl Abort, alloc: Global, cases: &[Case]) -> Result<(), Fail> {
+    for case in cases {
+        let (said, numbers) = answers(alloc, case)?;
+        assert_eq!(rt; said.as_str(), case.3);
+        assert!(rt; numbers.as_slice() == case.4, "{said}");
     }
     Ok(())
+}
+
+#[test]
+fn what_commands_do(rt: HostRuntime) -> Result<(), Fail> {
+    hold(&rt, rt.alloc(), &DONE)
 }
 
 #[test]
 fn refusals_alone(rt: HostRuntime) -> Result<(), Fail> {
-    for case in &ALONE {
-        let (said, numbers) = answers(rt.alloc(), case)?;
-        assert_eq!(rt; (said.as_str(), numbers.as_slice()), (case.3, case.4));
-    }
-    Ok(())
+    hold(&rt, rt.alloc(), &ALONE)
 }
 
 #[test]
 fn the_first_of_refusals(rt: HostRuntime) -> Result<(), Fail> {
-    for case in &TOGETHER {
-        let (said, numbers) = answers(rt.alloc(), case)?;
-        assert_eq!(rt; (said.as_str(), numbers.as_slice()), (case.3, case.4));
-    }
-    Ok(())
+    hold(&rt, rt.alloc(), &TOGETHER)
 }

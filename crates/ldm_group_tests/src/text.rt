@@ -21,7 +21,7 @@ const TEXTS: [(LabelFault, &str); 12] = [
 fn says_each_fault_of_a_label(rt: HostRuntime) -> Result<(), Fail> {
     for (fault, want) in &TEXTS {
         let text = label_fault_text(rt.alloc(), *fault)?;
-        assert_eq!(rt; text.as_slice(), want.as_bytes());
+        assert!(rt; text.as_slice() == want.as_bytes(), "{want}");
     }
     Ok(())
 }

@@ -246,30 +246,8 @@ pub(crate) fn push_simple(alloc: Global, payloads: &mut Vec<Payload>) -> Result<
     )
 }
 
-pub(crate) fn push_spanned(alloc: Global, payloads: &mut Vec<Payload>) -> Result<(), NoMemory> {
-    push_volume(
-        alloc,
-        payloads,
-        &Volume {
-            id: 1031,
-            name: b"Volume2",
-            children: 1,
-            size: 1500,
-            guid: 0x66,
-            hint: b"",
-        },
-    )?;
-    push_component(
-        alloc,
-        payloads,
-        &Component {
-            id: 1032,
-            name: b"Volume2-01",
-            children: 2,
-            parent: 1031,
-            striping: b"",
-        },
-    )?;
+// The partitions of the spanned volume.
+fn push_tiles(alloc: Global, payloads: &mut Vec<Payload>) -> Result<(), NoMemory> {
     push_partition(
         alloc,
         payloads,
@@ -300,16 +278,16 @@ pub(crate) fn push_spanned(alloc: Global, payloads: &mut Vec<Payload>) -> Result
     )
 }
 
-pub(crate) fn push_striped(alloc: Global, payloads: &mut Vec<Payload>) -> Result<(), NoMemory> {
+pub(crate) fn push_spanned(alloc: Global, payloads: &mut Vec<Payload>) -> Result<(), NoMemory> {
     push_volume(
         alloc,
         payloads,
         &Volume {
-            id: 1035,
-            name: b"Stripe1",
+            id: 1031,
+            name: b"Volume2",
             children: 1,
-            size: 1024,
-            guid: 0x77,
+            size: 1500,
+            guid: 0x66,
             hint: b"",
         },
     )?;
@@ -317,13 +295,18 @@ pub(crate) fn push_striped(alloc: Global, payloads: &mut Vec<Payload>) -> Result
         alloc,
         payloads,
         &Component {
-            id: 1036,
-            name: b"Stripe1-01",
+            id: 1032,
+            name: b"Volume2-01",
             children: 2,
-            parent: 1035,
-            striping: &[1, 128, 1, 2],
+            parent: 1031,
+            striping: b"",
         },
     )?;
+    push_tiles(alloc, payloads)
+}
+
+// The columns of the striped volume.
+fn push_columns(alloc: Global, payloads: &mut Vec<Payload>) -> Result<(), NoMemory> {
     push_partition(
         alloc,
         payloads,
@@ -350,6 +333,62 @@ pub(crate) fn push_striped(alloc: Global, payloads: &mut Vec<Payload>) -> Result
             offset: 0,
             parent: 1036,
             index: &[1, 1],
+        },
+    )
+}
+
+pub(crate) fn push_striped(alloc: Global, payloads: &mut Vec<Payload>) -> Result<(), NoMemory> {
+    push_volume(
+        alloc,
+        payloads,
+        &Volume {
+            id: 1035,
+            name: b"Stripe1",
+            children: 1,
+            size: 1024,
+            guid: 0x77,
+            hint: b"",
+        },
+    )?;
+    push_component(
+        alloc,
+        payloads,
+        &Component {
+            id: 1036,
+            name: b"Stripe1-01",
+            children: 2,
+            parent: 1035,
+            striping: &[1, 128, 1, 2],
+        },
+    )?;
+    push_columns(alloc, payloads)
+}
+
+// The second component of the mirrored volume, and its partition.
+fn push_second_copy(alloc: Global, payloads: &mut Vec<Payload>) -> Result<(), NoMemory> {
+    push_component(
+        alloc,
+        payloads,
+        &Component {
+            id: 1042,
+            name: b"Mirror1-02",
+            children: 1,
+            parent: 1039,
+            striping: b"",
+        },
+    )?;
+    push_partition(
+        alloc,
+        payloads,
+        &Partition {
+            id: 1043,
+            name: b"Disk3-02",
+            disk: 1027,
+            start: 512,
+            size: 700,
+            offset: 0,
+            parent: 1042,
+            index: b"",
         },
     )
 }
@@ -392,29 +431,5 @@ pub(crate) fn push_mirrored(alloc: Global, payloads: &mut Vec<Payload>) -> Resul
             index: b"",
         },
     )?;
-    push_component(
-        alloc,
-        payloads,
-        &Component {
-            id: 1042,
-            name: b"Mirror1-02",
-            children: 1,
-            parent: 1039,
-            striping: b"",
-        },
-    )?;
-    push_partition(
-        alloc,
-        payloads,
-        &Partition {
-            id: 1043,
-            name: b"Disk3-02",
-            disk: 1027,
-            start: 512,
-            size: 700,
-            offset: 0,
-            parent: 1042,
-            index: b"",
-        },
-    )
+    push_second_copy(alloc, payloads)
 }

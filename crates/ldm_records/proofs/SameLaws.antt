@@ -6,7 +6,7 @@ use Rattle.ldm_records.specs.declared.types.Record.{Record}
 use Rattle.ldm_records.specs.Values.{Value, Absent}
 use Rattle.ldm_records.specs.FieldViews.{value_of, values_of}
 use Rattle.ldm_records.specs.Plain.{Plain}
-use Rattle.ldm_records.specs.Steps.{made}
+use Rattle.ldm_records.specs.Plain.{made}
 use Rattle.ldm_records.specs.Views.{plain_of}
 use Rattle.ldm_records.proofs.OneRecord.{one_record}
 

@@ -13,6 +13,10 @@ pub record Plain : Type 0 where
   pub fields : List Value
   pub tail : List ℕ
 
+-- a head's mark, flags and type, and fields and a tail
+abbrev pub made : ℕ → ℕ → ℕ → List Value × List ℕ → Plain
+made mark flags type x = record { mark = mark; flags = flags; type = type; fields = x.0; tail = x.1 }
+
 -- mark, flags, type and length
 abbrev pub head_bytes : Plain → ℕ → List ℕ
 head_bytes p len = big_bytes 2 p.mark ++ p.flags ∷ p.type ∷ big_bytes 4 len

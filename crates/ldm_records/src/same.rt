@@ -1,6 +1,6 @@
 ghost use Rattle.std.specs.Prelude.{◌≡◌, ◌↔◌, ℕ, IsTrue};
 ghost use Rattle.ldm_records.specs.FieldViews.{value_of, values_of};
-ghost use Rattle.ldm_records.specs.Steps.{made};
+ghost use Rattle.ldm_records.specs.Plain.{made};
 ghost use Rattle.ldm_records.specs.Views.{plain_volume, plain_component, plain_partition, plain_disk, plain_group, plain_of};
 
 use crate::field::Field;

@@ -222,13 +222,25 @@ impl GroupRec {
 
 /// A record of the database. Each optional field is there exactly where its flag is set, each text
 /// has at most 255 bytes, and the own spelling's length fits its four bytes.
-#[derive(Drop)]
 pub enum Record {
     Volume(Volume),
     Component(Component),
     Partition(Partition),
     Disk(Disk),
     Group(GroupRec),
+}
+
+// By hand, so that a function that lets a record go has one step for all that it has.
+impl Drop for Record {
+    fn drop(self) {
+        match self {
+            Record::Volume(_) => {}
+            Record::Component(_) => {}
+            Record::Partition(_) => {}
+            Record::Disk(_) => {}
+            Record::Group(_) => {}
+        }
+    }
 }
 
 impl Record {

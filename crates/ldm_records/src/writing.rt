@@ -2,7 +2,7 @@ ghost use Rattle.std.specs.Prelude.{◌≡◌, ◌+◌, ◌<◌, ◌^◌, ◌++�
 ghost use Rattle.byteorder.specs.Endian.{big_bytes};
 ghost use Rattle.ldm_records.specs.Values.{Number, GuidText, own_value, own_values, value_len, values_len, IsShort, AreShort};
 ghost use Rattle.ldm_records.specs.FieldViews.{value_of, values_of};
-ghost use Rattle.ldm_records.specs.Steps.{made};
+ghost use Rattle.ldm_records.specs.Plain.{made};
 ghost use Rattle.ldm_records.specs.Plain.{IsRecord, Spells, own_spelling};
 ghost use Rattle.ldm_records.specs.Views.{plain_volume, plain_component, plain_partition, plain_disk, plain_group, plain_of};
 

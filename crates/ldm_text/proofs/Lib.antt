@@ -1,3 +1,1 @@
-pub mod ShowLaws
 pub mod VolumeLaws
-pub mod MapLaws

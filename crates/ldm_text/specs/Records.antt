@@ -12,8 +12,8 @@ use Rattle.ldm_records.specs.declared.pieces.DiskForm.{DiskForm}
 use Rattle.ldm_records.specs.declared.pieces.DiskForm.TheVariants as disk_forms
 use Rattle.ldm_records.specs.declared.pieces.GroupForm.{GroupForm}
 use Rattle.ldm_records.specs.declared.pieces.GroupForm.TheVariants as group_forms
-use Rattle.ldm_records.specs.declared.fault.RecordFault.{RecordFault}
-use Rattle.ldm_records.specs.declared.fault.RecordFault.TheVariants.{UnknownType, Malformed}
+use Rattle.ldm_payloads.specs.declared.fault.RecordFault.{RecordFault}
+use Rattle.ldm_payloads.specs.declared.fault.RecordFault.TheVariants.{UnknownType, Malformed}
 use Rattle.ldm_group.specs.Order.{id_of}
 use Rattle.ldm_group.specs.Room.{own_len}
 use Rattle.ldm_copy.specs.declared.answer.CopyState.{CopyState}

@@ -6,7 +6,7 @@ use crate::naming::push_hex_byte;
 use ldm_bytes::{Bytes, NoMemory};
 use ldm_copy::CopyFault;
 use ldm_frags::FragFault;
-use ldm_records::RecordFault;
+use ldm_payloads::RecordFault;
 use ldm_vmdb::VmdbFault;
 use std::alloc::Global;
 

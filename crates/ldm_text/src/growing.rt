@@ -7,7 +7,7 @@ use std::marker::Model;
 
 /// A text that grows at its end. Contracts see it as its bytes.
 #[derive(Drop)]
-pub(crate) struct Text {
+pub struct Text {
     alloc: Global,
     bytes: Vec<u8>,
 }
@@ -19,7 +19,7 @@ impl Model for Text {
 }
 
 impl Text {
-    pub(crate) fn new(alloc: Global) -> Text
+    pub fn new(alloc: Global) -> Text
         ensures { result ≡ [] }
     {
         Text {
@@ -28,7 +28,7 @@ impl Text {
         }
     }
 
-    pub(crate) fn push(&mut self, text: &[u8]) -> Result<(), NoMemory>
+    pub fn push(&mut self, text: &[u8]) -> Result<(), NoMemory>
         ensures { OnOk result (self.new ≡ self.old ++ text.now) }
     {
         self.bytes.extend_from_slice(text)?;
@@ -36,7 +36,7 @@ impl Text {
     }
 
     /// A number in decimal.
-    pub(crate) fn push_number(&mut self, number: u64) -> Result<(), NoMemory>
+    pub fn push_number(&mut self, number: u64) -> Result<(), NoMemory>
         ensures { OnOk result (self.new ≡ self.old ++ decimal number) }
     {
         let text = format!(in self.alloc; "{number}")?;
@@ -44,7 +44,7 @@ impl Text {
     }
 
     /// The sum of two numbers in decimal.
-    pub(crate) fn push_sum(&mut self, a: u64, b: u64) -> Result<(), NoMemory>
+    pub fn push_sum(&mut self, a: u64, b: u64) -> Result<(), NoMemory>
         ensures { OnOk result (self.new ≡ self.old ++ decimal (a + b)) }
     {
         let sum = u128::from(a) + u128::from(b);
@@ -53,7 +53,7 @@ impl Text {
     }
 
     /// A GUID text in lower case.
-    pub(crate) fn push_guid(&mut self, guid: u128) -> Result<(), NoMemory>
+    pub fn push_guid(&mut self, guid: u128) -> Result<(), NoMemory>
         ensures { OnOk result (self.new ≡ self.old ++ own_guid guid) }
     {
         let mut text = [0u8; 36];
@@ -61,13 +61,13 @@ impl Text {
         self.push(&text)
     }
 
-    pub(crate) fn as_slice(&self) -> &[u8]
+    pub fn as_slice(&self) -> &[u8]
         ensures { result.now ≡ self.now }
     {
         self.bytes.as_slice()
     }
 
-    pub(crate) fn into_bytes(self) -> Bytes
+    pub fn into_bytes(self) -> Bytes
         ensures { result ≡ self }
     {
         Bytes::from_vec(self.bytes)

@@ -1,27 +1,19 @@
-//! The texts that the program says, each exact.
+//! The texts that the program says of a disk and of a copy, each exact, and what all texts are made of.
 #![tactic(auto)]
 
-mod check;
 mod copy_fault;
 mod growing;
 mod label;
 mod lines;
-mod map;
-mod mapped;
 mod naming;
-mod opening;
 mod records;
 mod refusal;
-mod reply;
-mod show;
 mod volumes;
 
-pub use check::check_text;
 pub use copy_fault::copy_fault_text;
+pub use growing::Text;
 pub use label::{label_fault_text, label_text};
-pub use map::map_text;
-pub use opening::fault_text;
+pub use naming::{push_name, push_named, push_number};
 pub use records::records_text;
 pub use refusal::{image_fault_text, refusal_text};
-pub use reply::reply_text;
-pub use show::show_text;
+pub use volumes::push_all_volumes;

@@ -45,7 +45,7 @@ pub(crate) fn push_esc(text: &mut Text, name: &[u8]) -> Result<(), NoMemory>
 }
 
 /// A number behind a word.
-pub(crate) fn push_number(text: &mut Text, word: &[u8], number: u64) -> Result<(), NoMemory>
+pub fn push_number(text: &mut Text, word: &[u8], number: u64) -> Result<(), NoMemory>
     ensures { OnOk result (text.new ≡ text.old ++ (word.now ++ decimal number)) }
 {
     text.push(word)?;
@@ -53,7 +53,7 @@ pub(crate) fn push_number(text: &mut Text, word: &[u8], number: u64) -> Result<(
 }
 
 /// A name behind a word.
-pub(crate) fn push_name(text: &mut Text, word: &[u8], name: &[u8]) -> Result<(), NoMemory>
+pub fn push_name(text: &mut Text, word: &[u8], name: &[u8]) -> Result<(), NoMemory>
     ensures { OnOk result (text.new ≡ text.old ++ (word.now ++ esc name.now)) }
 {
     text.push(word)?;
@@ -61,12 +61,7 @@ pub(crate) fn push_name(text: &mut Text, word: &[u8], name: &[u8]) -> Result<(),
 }
 
 /// A name behind a word, and then a GUID.
-pub(crate) fn push_named(
-    text: &mut Text,
-    word: &[u8],
-    name: &[u8],
-    guid: u128,
-) -> Result<(), NoMemory>
+pub fn push_named(text: &mut Text, word: &[u8], name: &[u8], guid: u128) -> Result<(), NoMemory>
     ensures { OnOk result (text.new ≡ text.old ++ ((word.now ++ esc name.now) ++ (codes " " ++ own_guid guid))) }
 {
     push_name(text, word, name)?;

@@ -83,11 +83,7 @@ fn push_volumes(
 }
 
 /// The texts of all volumes. What they have is put together once, by parent.
-pub(crate) fn push_all_volumes(
-    alloc: Global,
-    text: &mut Text,
-    records: &[Record],
-) -> Result<(), NoMemory>
+pub fn push_all_volumes(alloc: Global, text: &mut Text, records: &[Record]) -> Result<(), NoMemory>
     ensures { OnOk result (text.new ≡ text.old ++ text_of_all_volumes records.now) }
 {
     let parts = Parts::of(alloc, records)?;

@@ -1,22 +1,15 @@
 //! Looks at the disks of a Windows dynamic disk group, and edits its volumes: `ldm JOB on IMAGE...`.
 //!
-//! The top call is `run`. Its contract is the theorem of the program; `main` and the `FileHost` that it makes are
-//! the trusted edge.
+//! The jobs are those of `run`, whose contract is the theorem of the program; `main` and the `FileHost` that it makes
+//! are the trusted edge.
 #![tactic(auto)]
 
 ghost use Rattle.std.specs.Prelude.{◌≡◌, ◌≢◌, ◌⊎◌, IfOk, IfErr, length, vec_len};
 
-mod editing;
-mod mapping;
-mod replying;
-mod run;
-mod sample;
-mod script;
-
 use ldm_bytes::NoMemory;
 use ldm_files::{Access, FileHost, ImageFile, take_closed_streams};
+use ldm_run::{Status, run};
 use ldm_words::{Job, WordsError, read_words};
-use run::{Status, run};
 use std::alloc::Global;
 use std::io::{ErrorKind, Read, Write};
 use std::process::ExitCode;
@@ -154,14 +147,4 @@ fn main(rt: HostRuntime) -> ExitCode {
 }
 
 #[cfg(test)]
-mod edit_tests;
-#[cfg(test)]
-mod file_tests;
-#[cfg(test)]
-mod group_tests;
-#[cfg(test)]
-mod stop_tests;
-#[cfg(test)]
 mod tests;
-#[cfg(test)]
-mod try_tests;

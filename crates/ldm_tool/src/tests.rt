@@ -1,307 +1,309 @@
+//! The program over files, and how it ends.
+ghost use Rattle.std.specs.Prelude.{◌<◌, ◌≤◌, ◌+◌, ◌*◌, length, slice_index, IsTrue};
+
 use super::*;
-use ldm_host::{Host, MemoryHost};
+use ldm_host::{Failed, Host};
+use ldm_images::usual_images;
 use ldm_vectors::sample_images;
-use std::process::Abort;
+use std::fs;
+use std::fs::File;
+use std::path::PathBuf;
 use std::test::Fail;
 
-// Runs the words where the host has just the images that they name.
-pub(crate) fn run_over<H: Host>(alloc: Global, words: &[String], host: &mut H) -> Option<Status> {
-    match read_words(alloc, words) {
-        Ok((_, count)) => {
-            if count == host.disks() {
-                Some(run(alloc, words, host))
-            } else {
-                None
-            }
-        }
-        Err(WordsError::Usage) => Some(run(alloc, words, host)),
-        Err(WordsError::NoMemory) => None,
-    }
+// A new folder of its own, for files of this name.
+fn folder_for(rt: &HostRuntime, name: &str) -> Result<PathBuf, Fail> {
+    let mut folder = env::temp_dir(rt)?;
+    let id = std::process::id(rt.process());
+    folder.push(format!(in rt.alloc(); "ldm-{name}-{id}")?)?;
+    fs::create_dir(rt, &folder)?;
+    Ok(folder)
 }
 
-pub(crate) fn words_in(alloc: Global, line: &str) -> Result<Vec<String>, Fail> {
-    let mut words = Vec::new(alloc);
-    for word in line.split(' ') {
-        words.push(String::from_str(alloc, word)?)?;
+fn path_in(rt: &HostRuntime, folder: &PathBuf, name: &str) -> Result<String, Fail> {
+    let Some(folder) = folder.to_str() else {
+        return Err(Fail::from("no name"));
+    };
+    Ok(format!(in rt.alloc(); "{folder}/{name}")?)
+}
+
+// A job on the files of these names in the folder.
+fn words_on(
+    rt: &HostRuntime,
+    job: &str,
+    folder: &PathBuf,
+    names: &[&str],
+) -> Result<Vec<String>, Fail> {
+    let mut words = Vec::new(rt.alloc());
+    for word in job.split(' ') {
+        words.push(String::from_str(rt.alloc(), word)?)?;
+    }
+    words.push(String::from_str(rt.alloc(), "on")?)?;
+    for name in names {
+        words.push(path_in(rt, folder, name)?)?;
     }
     Ok(words)
 }
 
-// The images of the sample group of so many disks and with this `last`.
-pub(crate) fn sample_group(alloc: Global, disks: u8, last: u32) -> Result<Vec<Vec<u8>>, Fail> {
-    Ok(sample_images(alloc, disks.clamp(1, 3), last.clamp(8, 5924))?)
-}
+const NAMES: [&str; 3] = ["a.img", "b.img", "c.img"];
 
-// The letters of the images that the words name.
-pub(crate) fn letters_of(words: &str) -> Result<&str, Fail> {
-    match words.split_once(" on ") {
-        Some((_, letters)) => Ok(letters),
-        None => Err(Fail::from("no images")),
+// A folder with these images.
+fn folder_with(rt: &HostRuntime, name: &str, images: &[Vec<u8>]) -> Result<PathBuf, Fail> {
+    let folder = folder_for(rt, name)?;
+    for (name, image) in NAMES.iter().zip(images.iter()) {
+        fs::write(rt, path_in(rt, &folder, name)?.as_str(), image)?;
     }
+    Ok(folder)
 }
 
-pub(crate) fn place_of(letter: &str) -> usize {
-    match letter {
-        "A" => 0,
-        "B" => 1,
-        _ => 2,
-    }
+// A folder with the images of the usual group.
+fn usual_folder(rt: &HostRuntime, name: &str) -> Result<PathBuf, Fail> {
+    folder_with(rt, name, &usual_images(rt.alloc())?)
 }
 
-// The images of a group that the words name by their letters.
-pub(crate) fn named_images(
-    alloc: Global,
-    group: &[Vec<u8>],
-    words: &str,
-) -> Result<Vec<Vec<u8>>, Fail> {
-    let mut images = Vec::new(alloc);
-    for letter in letters_of(words)?.split(' ') {
-        if let Some(image) = group.get(place_of(letter)) {
-            images.push(image.as_slice().to_vec(alloc)?)?;
-        }
-    }
-    Ok(images)
+// Runs a job on the files of these names with this input, and answers how it ends and what is said.
+fn run_on(
+    rt: &HostRuntime,
+    job: &str,
+    folder: &PathBuf,
+    names: &[&str],
+    input: &[u8],
+) -> Result<(Result<Status, Stop>, Vec<u8>), Fail> {
+    let words = words_on(rt, job, folder, names)?;
+    let mut said = Vec::new(rt.alloc());
+    let done = run_words(rt, &words, input, &mut said);
+    Ok((done, said))
 }
 
-// Runs the words over these images and this script, and answers how the run ends and what is said.
-pub(crate) fn answer_of(
-    alloc: Global,
-    words: &str,
-    images: Vec<Vec<u8>>,
-    script: &[u8],
-) -> Result<(Option<Status>, Vec<u8>), Fail> {
-    let mut host = MemoryHost::new(alloc, images, script.to_vec(alloc)?)?;
-    let status = run_over(alloc, &words_in(alloc, words)?, &mut host);
-    Ok((status, host.said().to_vec(alloc)?))
-}
+// The front of what is said of the usual group.
+const IN_ORDER: &[u8] = b"\
+group Dg0 aaaaaaaa-aaaa-aaaa-aaaa-aaaaaaaaaaaa sequence 7 blocks 20 of 5920
+disk 1025 Disk1 11111111-1111-1111-1111-111111111111 image 1 free 3881
+disk 1026 Disk2 22222222-2222-2222-2222-222222222222 image 2 free 4569
+disk 1027 Disk3 33333333-3333-3333-3333-333333333333 image 0 free 4869
+";
 
-// Compares how such a run ends, and all that is said.
-pub(crate) fn expect(
-    alloc: Global,
-    rt: &impl Abort,
-    words: &str,
-    images: Vec<Vec<u8>>,
-    script: &[u8],
-    (text, status): (&str, Status),
-) -> Result<(), Fail> {
-    let (ended, said) = answer_of(alloc, words, images, script)?;
+#[test]
+fn takes_the_images_in_the_order_of_the_words(rt: HostRuntime) -> Result<(), Fail> {
+    let folder = usual_folder(&rt, "order")?;
+    let (done, said) = run_on(&rt, "show", &folder, &["c.img", "a.img", "b.img"], b"")?;
     assert_eq!(rt;
-        (ended, said.as_slice()),
-        (Some(status), text.as_bytes()),
-        "{words}: {text}"
+        (done, said.get(..IN_ORDER.len())),
+        (Ok(Status::Done), Some(IN_ORDER))
     );
+    fs::remove_dir_all(&rt, &folder)?;
     Ok(())
 }
 
-// Compares how a run ends whose first call fails. Nothing is said then.
-pub(crate) fn expect_fault(
-    alloc: Global,
-    rt: &impl Abort,
-    words: &str,
-    images: Vec<Vec<u8>>,
-    status: Status,
-) -> Result<(), Fail> {
-    let first = vec![in alloc; 1u64]?;
-    let mut host = MemoryHost::new(alloc, images, Vec::new(alloc))?.with_failures(first);
-    let ended = run_over(alloc, &words_in(alloc, words)?, &mut host);
-    assert_eq!(rt;
-        (ended, host.said()),
-        (Some(status), b"".as_slice()),
-        "{words}"
-    );
-    Ok(())
-}
+// A script, the replies to it, and the group that it leaves.
+const SCRIPT: &[u8] = b"\
+create Data bbbbbbbb-bbbb-bbbb-bbbb-bbbbbbbbbbbb span Disk1=2048
+delete Nope
+extend Data Disk2=100
+";
 
-pub(crate) fn put(image: &mut [u8], place: usize, bytes: &[u8]) {
-    let end = place.saturating_add(bytes.len());
-    if end <= image.len() && place <= end {
-        image[place..end].copy_from_slice(bytes);
-    }
-}
+const REPLIES: &[u8] = b"1 ok 8\n2 refused: no volume\n3 ok 9\n";
 
-// The image of the last disk of the sample group of so many, with these bytes at these places.
-fn image_with(alloc: Global, disks: u8, changes: &[(usize, &[u8])]) -> Result<Vec<Vec<u8>>, Fail> {
-    let Some(mut image) = sample_group(alloc, disks, 64)?.pop() else {
-        return Err(Fail::from("no image"));
-    };
-    for (place, bytes) in changes {
-        put(&mut image, *place, bytes);
-    }
-    let mut images = Vec::new(alloc);
-    images.push(image)?;
-    Ok(images)
-}
+const EDITED: &[u8] = b"\
+group Dg0 aaaaaaaa-aaaa-aaaa-aaaa-aaaaaaaaaaaa sequence 9 blocks 8 of 60
+disk 2 Disk1 11111111-1111-1111-1111-111111111111 image 0 free 4033
+disk 3 Disk2 22222222-2222-2222-2222-222222222222 image 1 free 5981
+disk 4 Disk3 33333333-3333-3333-3333-333333333333 image 2 free 6081
+volume 5 Data span 2148 bbbbbbbb-bbbb-bbbb-bbbb-bbbbbbbbbbbb
+  component 6 c6 basic
+    partition 7 p7 disk 2 start 0 size 2048 offset 0
+    partition 8 p8 disk 3 start 0 size 100 offset 2048
+";
 
-const LABEL: &str =
-    "disk 11111111-1111-1111-1111-111111111111 version 2.11 data 63+6081 database 6144+2048\narea 17+1481 log 1498+224\n";
+const EQUAL: &[u8] = b"\
+image 0 sequence 9
+image 1 sequence 9
+image 2 sequence 9
+ok: editable
+";
 
-const RECORDS: &str =
-    "vmdb Dg0 aaaaaaaa-aaaa-aaaa-aaaa-aaaaaaaaaaaa sequence 7 last 64\ndgr3 1 Dg0 63\ndsk3 2 Disk1 66\n";
+// A job on files, its input, what is said of it, and how it ends.
+type Row = (
+    &'static str,
+    &'static [u8],
+    &'static [u8],
+    Result<Status, Stop>,
+);
 
-// Changes of an image, what is said of it, and the status.
-type Case = (&'static [(usize, &'static [u8])], &'static str, Status);
-
-fn expect_cases(
-    alloc: Global,
-    rt: &impl Abort,
-    words: &str,
-    disks: u8,
-    cases: &[Case],
-) -> Result<(), Fail> {
-    for (changes, text, status) in cases {
-        let images = image_with(alloc, disks, changes)?;
-        expect(alloc, rt, words, images, b"", (text, *status))?;
-    }
-    Ok(())
-}
-
-const LABELS: [Case; 9] = [
-    (&[], LABEL, Status::Done),
-    (&[(0x1C2, b"\x00"), (0x1F2, b"\x42")], LABEL, Status::Done),
-    (
-        &[(0x1FE, b"\x00")],
-        "refused: image 0: no signature\n",
-        Status::Refused,
-    ),
-    (
-        &[(0x1C2, b"\x07")],
-        "refused: image 0: no 0x42 entry\n",
-        Status::Refused,
-    ),
-    (&[(512 * 8191, b"\x00\x00\x00\x00")], LABEL, Status::Done),
-    (
-        &[(512 * 8000 + 0x30, b"99999999-9999-9999-9999-999999999999")],
-        "refused: image 0: PRIVHEAD 2 differs\n",
-        Status::Refused,
-    ),
-    (
-        &[
-            (512 * 6145, b"\x00"),
-            (512 * 6146, b"\x00"),
-            (512 * 8189, b"\x00"),
-        ],
-        LABEL,
-        Status::Done,
-    ),
-    (
-        &[
-            (512 * 6145, b"\x00"),
-            (512 * 6146, b"\x00"),
-            (512 * 8189, b"\x00"),
-            (512 * 8190, b"\x00"),
-        ],
-        "refused: image 0: no TOCBLOCK\n",
-        Status::Refused,
-    ),
-    (
-        &[(512 * 6 + 0x0F, b"\x0c")],
-        "refused: image 0: PRIVHEAD 2 differs\n",
-        Status::Refused,
-    ),
+const EDITS: [Row; 4] = [
+    ("try", SCRIPT, REPLIES, Ok(Status::Refused)),
+    ("edit", SCRIPT, REPLIES, Ok(Status::Refused)),
+    ("show", b"", EDITED, Ok(Status::Done)),
+    ("check", b"", EQUAL, Ok(Status::Done)),
 ];
 
 #[test]
-fn says_the_label_or_its_fault(rt: HostRuntime) -> Result<(), Fail> {
-    expect_cases(rt.alloc(), &rt, "disk on A", 1, &LABELS)
-}
-
-// The config area of the image begins at this byte.
-const AREA: usize = 512 * 6161;
-
-const COPIES: [Case; 7] = [
-    (&[], RECORDS, Status::Done),
-    (&[(AREA, b"\x00")], "closed\n", Status::Done),
-    (
-        &[(AREA + 0x11, b"\x02")],
-        "refused: image 0: VMDB not settled\n",
-        Status::Refused,
-    ),
-    (
-        &[(AREA + 128 * 8, b"VBLL")],
-        "refused: image 0: block 8: no VBLK\n",
-        Status::Refused,
-    ),
-    (
-        &[
-            (AREA + 128 * 8 + 0x0F, b"\x01"),
-            (AREA + 128 * 8 + 0x13, b"\x36"),
-        ],
-        "refused: image 0: block 8: type 0x36\n",
-        Status::Refused,
-    ),
-    (
-        &[
-            (AREA + 128 * 8 + 0x0F, b"\x01"),
-            (AREA + 128 * 8 + 0x13, b"\x33\x00\x00\x01\xf4"),
-        ],
-        "refused: image 0: block 8: malformed\n",
-        Status::Refused,
-    ),
-    (
-        &[(0x1FE, b"\x00")],
-        "refused: image 0: no signature\n",
-        Status::Refused,
-    ),
-];
-
-#[test]
-fn says_the_records_or_the_fault_of_the_copy(rt: HostRuntime) -> Result<(), Fail> {
-    expect_cases(rt.alloc(), &rt, "records on A", 1, &COPIES)
-}
-
-const THREE_DISKS: &str =
-    "vmdb Dg0 aaaaaaaa-aaaa-aaaa-aaaa-aaaaaaaaaaaa sequence 7 last 64\ndgr3 1 Dg0 63\ndsk3 2 Disk1 66\ndsk3 3 Disk2 66\ndsk3 4 Disk3 66\n";
-
-const IDS: [Case; 2] = [
-    (&[], THREE_DISKS, Status::Done),
-    // The id of the second disk record.
-    (
-        &[(AREA + 128 * 6 + 0x19, b"\x02")],
-        "refused: image 0: kind 2 id 2 twice\n",
-        Status::Refused,
-    ),
-];
-
-#[test]
-fn refuses_an_id_that_two_disks_have(rt: HostRuntime) -> Result<(), Fail> {
-    expect_cases(rt.alloc(), &rt, "records on C", 3, &IDS)
-}
-
-// The size of an image of zeros, and its refusal.
-const NO_DISKS: [(usize, &str); 3] = [
-    (8192 * 512, "refused: image 0: no signature\n"),
-    (3071, "refused: image 0: too short\n"),
-    (0, "refused: image 0: too short\n"),
-];
-
-fn refuse_zeros(alloc: Global, rt: &impl Abort, size: usize, text: &str) -> Result<(), Fail> {
-    let mut images = Vec::new(alloc);
-    images.push(vec![in alloc; 0u8; size]?)?;
-    let mut host = MemoryHost::new(alloc, images, Vec::new(alloc))?;
-    let status = run_over(alloc, &words_in(alloc, "disk on A")?, &mut host);
-    assert_eq!(rt;
-        (status, host.said()),
-        (Some(Status::Refused), text.as_bytes()),
-        "{size}"
-    );
-    assert_eq!(rt; host.disks(), 1);
-    assert_eq!(rt; host.handed(0), 0, "{size}");
-    Ok(())
-}
-
-#[test]
-fn refuses_what_is_no_disk(rt: HostRuntime) -> Result<(), Fail> {
-    for (size, text) in NO_DISKS {
-        refuse_zeros(rt.alloc(), &rt, size, text)?;
+fn edits_files(rt: HostRuntime) -> Result<(), Fail> {
+    let folder = folder_with(&rt, "edit", &sample_images(rt.alloc(), 3, 64)?)?;
+    for (job, input, text, end) in EDITS {
+        let (done, said) = run_on(&rt, job, &folder, &NAMES, input)?;
+        assert_eq!(rt; (done, said.as_slice()), (end, text), "{job}");
     }
+    fs::remove_dir_all(&rt, &folder)?;
     Ok(())
 }
 
 #[test]
-fn says_nothing_without_a_reading_or_at_a_fault(rt: HostRuntime) -> Result<(), Fail> {
+fn ends_with_a_talk_fault_where_nothing_can_be_said(rt: HostRuntime) -> Result<(), Fail> {
+    let folder = usual_folder(&rt, "closed")?;
+    let words = words_on(&rt, "disk", &folder, &["a.img"])?;
+    let input: &[u8] = b"";
+    // As standard output is where the program was started without one.
+    let null = File::open(&rt, "/dev/null")?;
+    assert_eq!(rt; run_words(&rt, &words, input, null), Ok(Status::TalkFault));
+    fs::remove_dir_all(&rt, &folder)?;
+    Ok(())
+}
+
+#[test]
+fn opens_nothing_but_files_and_block_devices(rt: HostRuntime) -> Result<(), Fail> {
+    let folder = folder_for(&rt, "kinds")?;
+    for name in [".", "missing", "../../../../../../../../dev/null"] {
+        let (done, said) = run_on(&rt, "disk", &folder, &[name], b"")?;
+        assert_eq!(rt;
+            (done, said.as_slice()),
+            (Err(Stop::CannotOpen), b"".as_slice()),
+            "{name}"
+        );
+    }
+    fs::remove_dir_all(&rt, &folder)?;
+    Ok(())
+}
+
+// Opens a file of these bytes, for writing too.
+fn file_of(
+    rt: &HostRuntime,
+    folder: &PathBuf,
+    name: &str,
+    bytes: &[u8],
+) -> Result<ImageFile, Fail> {
+    let path = path_in(rt, folder, name)?;
+    fs::write(rt, path.as_str(), bytes)?;
+    let file = File::options()
+        .read(true)
+        .write(true)
+        .open(rt, path.as_str())?;
+    Ok(ImageFile::of(file)?)
+}
+
+fn has<H: Host>(host: &H, disk: usize, at: u64, count: usize) -> bool
+    ensures { IsTrue result → (disk < length (H.seen host.now).sizes) × (at + count ≤ 512 * slice_index (H.seen host.now).sizes disk) }
+{
+    if disk >= host.disks() {
+        return false;
+    }
+    let size = host.sectors(disk) * 512;
+    if at > size {
+        return false;
+    }
+    count as u64 <= size - at
+}
+
+// The five bytes of a disk at a place.
+fn read<H: Host>(host: &mut H, disk: usize, at: u64) -> Result<[u8; 5], Failed> {
+    let mut buf = [0u8; 5];
+    if !has(host, disk, at, buf.len()) {
+        return Err(Failed);
+    }
+    host.read_at(disk, at, &mut buf)?;
+    Ok(buf)
+}
+
+fn write<H: Host>(host: &mut H, disk: usize, at: u64, bytes: &[u8]) -> Result<(), Failed> {
+    if has(host, disk, at, bytes.len()) {
+        host.write_at(disk, at, bytes)
+    } else {
+        Err(Failed)
+    }
+}
+
+fn sync<H: Host>(host: &mut H, disk: usize) -> Result<(), Failed> {
+    if disk < host.disks() {
+        host.sync(disk)
+    } else {
+        Err(Failed)
+    }
+}
+
+// A host over two files, the first of them once more, for reading alone, and the null device.
+fn host_in(rt: &HostRuntime, folder: &PathBuf) -> Result<FileHost<&'static [u8], Vec<u8>>, Fail> {
     let alloc = rt.alloc();
-    let images = image_with(alloc, 1, &[])?;
-    expect(alloc, &rt, "frob on A", images, b"", ("", Status::Usage))?;
-    let images = image_with(alloc, 1, &[])?;
-    expect_fault(alloc, &rt, "disk on A", images, Status::DiskFault)
+    let mut images = Vec::new(alloc);
+    images.push(file_of(rt, folder, "a", &[b'a'; 1024])?)?;
+    images.push(file_of(rt, folder, "b", &[b'b'; 1535])?)?;
+    for path in [path_in(rt, folder, "a")?.as_str(), "/dev/null"] {
+        images.push(ImageFile::of(File::open(rt, path)?)?)?;
+    }
+    Ok(FileHost::new(alloc, images, b"abc".as_slice(), Vec::new(alloc))?)
+}
+
+#[test]
+fn handles_each_file_for_its_disk(rt: HostRuntime) -> Result<(), Fail> {
+    let folder = folder_for(&rt, "disks")?;
+    let mut host = host_in(&rt, &folder)?;
+    assert_eq!(rt; write(&mut host, 1, 510, b"xyz"), Ok(()));
+    // The last byte of the second sector is there, and no third one is.
+    for (disk, at, bytes) in [(1, 509, b"bxyzb"), (0, 509, b"aaaaa"), (1, 1019, b"bbbbb")] {
+        assert_eq!(rt; read(&mut host, disk, at), Ok(*bytes), "{at}");
+    }
+    assert!(rt; !has(&host, 1, 1020, 5));
+    // The third image is open for reading alone, and the null device syncs nothing.
+    assert_eq!(rt;
+        (
+            write(&mut host, 2, 0, b"x"),
+            sync(&mut host, 1),
+            sync(&mut host, 3)
+        ),
+        (Err(Failed), Ok(()), Err(Failed))
+    );
+    // What is no longer there can't be read.
+    fs::write(&rt, path_in(&rt, &folder, "a")?.as_str(), b"short")?;
+    assert_eq!(rt; read(&mut host, 0, 509), Err(Failed));
+    fs::remove_dir_all(&rt, &folder)?;
+    Ok(())
+}
+
+// What a host over no files hears next of an input: how many bytes, and the buffer after it.
+fn hear<H: Host>(host: &mut H, buf: &mut [u8; 2]) -> (Result<usize, Failed>, [u8; 2]) {
+    let count = host.hear(buf);
+    (count, *buf)
+}
+
+#[test]
+fn hears_the_input_to_its_end(rt: HostRuntime) -> Result<(), Fail> {
+    let alloc = rt.alloc();
+    let mut buf = [0u8; 2];
+    let mut host = FileHost::new(alloc, Vec::new(alloc), b"abc".as_slice(), Vec::new(alloc))?;
+    for (count, heard) in [(2, b"ab"), (1, b"cb"), (0, b"cb")] {
+        assert_eq!(rt; hear(&mut host, &mut buf), (Ok(count), *heard));
+    }
+    // A folder is no input.
+    let folder = File::open(&rt, ".")?;
+    let mut host = FileHost::new(alloc, Vec::new(alloc), folder, Vec::new(alloc))?;
+    assert_eq!(rt; host.hear(&mut buf), Err(Failed));
+    Ok(())
+}
+
+// How the program ends, the line for it and the exit status.
+const ENDINGS: [(Result<Status, Stop>, &str, u8); 9] = [
+    (Ok(Status::Done), "", 0),
+    (Ok(Status::Refused), "", 1),
+    (Ok(Status::Usage), "ldm: usage: ldm JOB on IMAGE...\n", 2),
+    (Err(Stop::Usage), "ldm: usage: ldm JOB on IMAGE...\n", 2),
+    (Ok(Status::DiskFault), "ldm: disk fault\n", 3),
+    (Err(Stop::CannotOpen), "ldm: cannot open\n", 3),
+    (Ok(Status::NoMemory), "ldm: no memory\n", 4),
+    (Err(Stop::NoMemory), "ldm: no memory\n", 4),
+    (Ok(Status::TalkFault), "ldm: talk fault\n", 5),
+];
+
+#[test]
+fn ends_with_a_status_and_a_line(rt: HostRuntime) {
+    for (done, line, status) in ENDINGS {
+        assert_eq!(rt; ending(done), (line, status));
+    }
 }

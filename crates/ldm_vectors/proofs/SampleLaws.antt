@@ -13,8 +13,8 @@ use Rattle.ldm_records.specs.declared.types.Record.{Record}
 use Rattle.ldm_records.specs.declared.types.Record.TheVariants as kinds
 use Rattle.ldm_records.specs.declared.types.Disk.{Disk}
 use Rattle.ldm_records.specs.declared.types.GroupRec.{GroupRec}
-use Rattle.ldm_records.specs.Made.{new_group}
-use Rattle.ldm_records.proofs.MadeLaws.{number_len, makes_disk, makes_group}
+use Rattle.ldm_made.specs.Made.{new_group}
+use Rattle.ldm_made.proofs.MadeLaws.{number_len, makes_disk, makes_group}
 use Rattle.ldm_vmdb.specs.declared.header.Header.{Header}
 use Rattle.ldm_vmdb.specs.Made.{IsNewHeader}
 use Rattle.ldm_frags.specs.Written.{parts_of}

@@ -3,7 +3,7 @@ use Rattle.std.specs.Prelude.{◌≡◌, ◌⊎◌, ℕ, ◌+◌, ◌*◌, ◌/�
 use Rattle.std.specs.List.{filter_map, range_with_len}
 use Rattle.ldm_host.specs.Seen.{image}
 use Rattle.ldm_records.specs.declared.types.Record.{Record}
-use Rattle.ldm_records.specs.Made.{new_disk, new_group}
+use Rattle.ldm_made.specs.Made.{new_disk, new_group}
 use Rattle.ldm_vmdb.specs.Made.{IsNewHeader}
 use Rattle.ldm_label.specs.declared.Label.{Label}
 use Rattle.ldm_label.specs.Written.{HasLabel, IsOutsideLabel}

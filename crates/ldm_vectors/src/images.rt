@@ -11,7 +11,8 @@ use ldm_found::new_groups_open;
 use ldm_group::{Db, DbError};
 use ldm_images::{guid_with, sample_label, zeros};
 use ldm_label::{write_label, written_label_reads_back};
-use ldm_records::{Record, new_disk, new_group};
+use ldm_made::{new_disk, new_group};
+use ldm_records::Record;
 use ldm_vmdb::Header;
 use std::alloc::Global;
 

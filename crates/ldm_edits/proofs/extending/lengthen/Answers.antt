@@ -4,7 +4,7 @@ use Rattle.std.proofs.lemmas.List.{length-map}
 use Rattle.ldm_records.specs.declared.types.Record.{Record}
 use Rattle.ldm_records.specs.declared.types.Volume.{Volume}
 use Rattle.ldm_records.specs.declared.types.Component.{Component}
-use Rattle.ldm_records.specs.Made.{resized, with_children}
+use Rattle.ldm_made.specs.Made.{resized, with_children}
 use Rattle.ldm_group.specs.Order.{Rising, in_order}
 use Rattle.ldm_group.specs.Looks.{max_id}
 use Rattle.ldm_group.specs.Database.{Database}

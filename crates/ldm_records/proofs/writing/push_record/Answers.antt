@@ -1,6 +1,6 @@
 use Rattle.std.proofs.Common.{ap, ◌+◌, length, ℕ}
 use Rattle.ldm_records.specs.FieldViews.{values_of}
-use Rattle.ldm_records.specs.Steps.{made}
+use Rattle.ldm_records.specs.Plain.{made}
 use Rattle.ldm_records.proofs.FieldLaws.{record_written}
 use Rattle.ldm_records.proofs.writing.push_record.Goals as goal
 

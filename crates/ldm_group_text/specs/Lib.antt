@@ -1,0 +1,5 @@
+pub mod Opening
+pub mod Check
+pub mod Show
+pub mod Map
+pub mod Reply

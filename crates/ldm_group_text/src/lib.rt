@@ -1,0 +1,15 @@
+//! The texts that the program says of a group and of what is done to it, each exact.
+#![tactic(auto)]
+
+mod check;
+mod map;
+mod mapped;
+mod opening;
+mod reply;
+mod show;
+
+pub use check::check_text;
+pub use map::map_text;
+pub use opening::fault_text;
+pub use reply::reply_text;
+pub use show::show_text;

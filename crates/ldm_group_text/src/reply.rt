@@ -1,0 +1,61 @@
+ghost use Rattle.std.specs.Prelude.{◌≡◌, ◌++◌, OnOk, IfOk};
+ghost use Rattle.ldm_group_text.specs.Reply.{text_of_reason, text_of_reply};
+
+use ldm_bytes::{Bytes, NoMemory};
+use ldm_edits::{Refusal, Reply};
+use ldm_text::{Text, push_number};
+use std::alloc::Global;
+
+// record ID too long
+fn push_too_long(text: &mut Text, id: u64) -> Result<(), NoMemory>
+    ensures { OnOk result (text.new ≡ text.old ++ text_of_reason (Refusal.TooLong id)) }
+{
+    push_number(text, b"record ", id)?;
+    text.push(b" too long")
+}
+
+// no room: need NEED have HAVE
+fn push_no_room(text: &mut Text, need: u64, have: u64) -> Result<(), NoMemory>
+    ensures { OnOk result (text.new ≡ text.old ++ text_of_reason (Refusal.NoRoom need have)) }
+{
+    push_number(text, b"no room: need ", need)?;
+    push_number(text, b" have ", have)
+}
+
+// Why a command is refused.
+fn push_reason(text: &mut Text, refusal: &Refusal) -> Result<(), NoMemory>
+    ensures { OnOk result (text.new ≡ text.old ++ text_of_reason refusal.now) }
+{
+    match *refusal {
+        Refusal::BadLine => text.push(b"bad line"),
+        Refusal::NameTaken => text.push(b"name taken"),
+        Refusal::NoVolume => text.push(b"no volume"),
+        Refusal::NotSpan => text.push(b"not a span"),
+        Refusal::ExtraSize => text.push(b"second size"),
+        Refusal::NoDisk(place) => push_number(text, b"no disk ", place as u64),
+        Refusal::SameDisk => text.push(b"same disk twice"),
+        Refusal::BadSize => text.push(b"bad size"),
+        Refusal::NoSpace(place) => push_number(text, b"no space ", place as u64),
+        Refusal::IdsSpent => text.push(b"ids spent"),
+        Refusal::TooLong(id) => push_too_long(text, id),
+        Refusal::NoRoom { need, have } => push_no_room(text, need, have),
+        Refusal::SequenceSpent => text.push(b"sequence spent"),
+    }
+}
+
+/// The text of the reply to the line of this number.
+pub fn reply_text(alloc: Global, line: u64, reply: &Reply) -> Result<Bytes, NoMemory>
+    ensures { IfOk result (λ text. text ≡ text_of_reply (line, reply.now)) }
+{
+    let mut text = Text::new(alloc);
+    text.push_number(line)?;
+    match reply {
+        Reply::Done(seq) => push_number(&mut text, b" ok ", *seq)?,
+        Reply::Refused(refusal) => {
+            text.push(b" refused: ")?;
+            push_reason(&mut text, refusal)?;
+        }
+    }
+    text.push(b"\n")?;
+    Ok(text.into_bytes())
+}

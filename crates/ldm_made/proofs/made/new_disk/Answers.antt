@@ -1,0 +1,24 @@
+use Rattle.std.proofs.Common.{◌∙◌, ap, length, arith}
+use Rattle.std.specs.Prelude.{replicate}
+use Rattle.ldm_records.specs.declared.pieces.DiskForm.TheVariants.{V3}
+use Rattle.ldm_records.specs.Forms.{disk_values}
+use Rattle.ldm_made.proofs.MadeLaws.{number_len, disk_is}
+use Rattle.ldm_made.proofs.made.new_disk.Goals as goal
+
+pub invariant_of-result : goal.invariant_of-result
+invariant_of-result c =
+    let name = ap length c.in_ok-name.ensures in
+    let alt = ap length (c.from_vec-alt.ensures ∙ c.new.ensures.items) in
+    let tail = ap length (c.from_vec-tail.ensures ∙ c.new-2.ensures.items) in
+    record {
+      alt_short = omega (arith, alt);
+      short = omega (arith, name, c.requires, alt, tail, number_len c.args.id c.ranges.id.fits);
+    }
+
+pub returns : goal.returns
+returns c =
+    let name = c.in_ok-name.ensures in
+    let alt = c.from_vec-alt.ensures ∙ c.new.ensures.items in
+    let tail = c.from_vec-tail.ensures ∙ c.new-2.ensures.items in
+    disk_is c.args.id c.args.name.now c.args.guid c.ranges.id.fits c.requires _
+    (λ i. record { mark = 0; flags = 0; type = 0x34; fields = disk_values c.args.id (name i) c.args.guid (V3 (alt i) (replicate 12 0)); tail = tail i })

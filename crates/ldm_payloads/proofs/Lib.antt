@@ -1,0 +1,4 @@
+pub mod ValueReads
+pub mod PlainReads
+pub mod OpeningLaws
+pub mod WholeLaws

@@ -1,0 +1,18 @@
+use Rattle.std.proofs.Common.{rules, sym, ◌∙◌}
+use Rattle.ldm_records.specs.Table.{partition_kinds}
+use Rattle.ldm_payloads.specs.FieldViews.{partition_seen}
+use Rattle.ldm_payloads.proofs.OpeningLaws.{rest_none, rest_is, rest_gives}
+use Rattle.ldm_payloads.proofs.partition.partition_of.Goals as goal
+
+pub returns-in_default : goal.returns-in_default
+returns-in_default c = rest_none c.args.opening.now 0x33 (partition_kinds c.args.opening.now.flags) c.args.rest.now c.in_default.ensures.gives
+
+pub returns-in_err-head : goal.returns-in_err-head
+returns-in_err-head c =
+    let gives = c.in_err-head.ensures.gives 0x33 (partition_seen c.in-Some.fields) (sym c.own_len.ensures.len) in
+    rest_gives c.args.opening.now 0x33 (partition_kinds c.args.opening.now.flags) c.args.rest.now _ c.from_residual.result c.in-Some.ensures.gives (search rules)
+
+pub returns : goal.returns
+returns c =
+    rest_is c.args.opening.now 0x33 (partition_kinds c.args.opening.now.flags) c.args.rest.now _ c.in-Some.ensures.gives
+    ∙ c.in_ok-head.ensures.gives 0x33 (partition_seen c.in-Some.fields) (sym c.own_len.ensures.len)

@@ -1,0 +1,154 @@
+-- How a job ends that does lines to the group which the disks hold.
+use Rattle.std.proofs.Common.{◌≡◌, ◌≢◌, ◌⊎◌, inl, inr, ⊎_elim, ℕ, ◌+◌, true, false, List, length, sym, ap, subst, ◌∙◌, arith, Option, Some, None, Ok, Err}
+use Rattle.std.specs.Prelude.{count_by, min, drop, ◌==◌}
+use Rattle.ldm_host.specs.Seen.{Seen, Leaves}
+use Rattle.ldm_host.specs.Moves.{Later, Quiet, Settles}
+use Rattle.ldm_host.proofs.Relations.{later_trans, moments_trans}
+use Rattle.ldm_label.specs.declared.Label.{Label}
+use Rattle.ldm_group.specs.Database.{Database}
+use Rattle.ldm_words.specs.declared.command.Command.{Command}
+use Rattle.ldm_edits.specs.Steps.{group_after, replies_to}
+use Rattle.ldm_found.specs.declared.fault.OpenFault.{OpenFault}
+use Rattle.ldm_found.specs.declared.found.Found.{Found}
+use Rattle.ldm_found.specs.Labels.{AreSameOutside}
+use Rattle.ldm_found.specs.Opening.{IsGroupIn}
+use Rattle.ldm_found.proofs.FoundLaws.{holds_group, one_image}
+use Rattle.ldm_found.proofs.GroupLaws.{one_group}
+use Rattle.ldm_store.specs.Kept.{IsCurrent, AlwaysKept}
+use Rattle.ldm_store.specs.Turning.{AllHave, AllSettled}
+use Rattle.ldm_store.specs.Sessions.{Opened, IsOpenedFrom, RestsOn}
+use Rattle.ldm_store.proofs.SettleLaws.{same_found}
+use Rattle.ldm_group_text.specs.Opening.{text_of_open_fault}
+use Rattle.ldm_text.specs.Texts.{text_of_refusal}
+use Rattle.ldm_run.specs.declared.running.Status.{Status}
+use Rattle.ldm_run.specs.declared.running.Status.TheVariants.{Refused, DiskFault}
+use Rattle.ldm_run.specs.Said.{Answer, SaysNothing}
+use Rattle.ldm_run.specs.Scripts.{replies_from, unless_blocked, try_answer}
+use Rattle.ldm_run.specs.Answer.{IsGroupAnswer}
+use Rattle.ldm_run.specs.Kinds.{NothingPending}
+use Rattle.ldm_run.specs.Stops.{answered, Reopens, EveryStopReopens}
+use Rattle.ldm_run.specs.Written.{HoldsNone}
+use Rattle.ldm_run.specs.Runs.{OnlyReads}
+use Rattle.ldm_run.specs.Editing.{DoesLines, DoesGroup}
+use Rattle.ldm_run.proofs.Saying.{answers_as}
+use Rattle.ldm_run.proofs.DoingLaws.{Counts}
+use Rattle.ldm_run.proofs.EditState.{Failing, causes_since, lines_sooner}
+use Rattle.ldm_run.proofs.OpenLaws.{outside_trans, reopens_first}
+
+-- nothing is pending on a disk that has a label
+pub settled_all : (old : Seen) (found : Found) → length old.content ≡ length old.sizes → IsGroupIn old.content (Ok found) → NothingPending old → AllSettled found.labels old
+settled_all old found one_each is nothing disk lt = nothing disk (let same = one_image old.content found (holds_group old.content found is) in omega (arith, lt, same, one_each))
+
+-- a group that may be edited is one
+not_none : {A : Type 0} (images : List (List ℕ)) (found : Found) → IsGroupIn images (Ok found) → found.blocked ≡ None → HoldsNone images → A
+not_none images found is editable (inl fault) = absurd (let e : Ok found ≡ Err fault.0 = one_group images (Ok found) (Err fault.0) is fault.1 in cc)
+not_none images found is editable (inr other) =
+    let same = same_found images other.0 found other.2 is in
+    absurd (let e : Some other.1 ≡ None = sym other.3 ∙ ap (λ (f : Found). f.blocked) same ∙ editable in cc)
+
+-- what reopens since a later moment reopens since a sooner one, where nothing was said between
+pub reopens_sooner : (labels : List Label) (group : Database) (lines : List (Option Command)) (old mid : Seen) (images : List (List ℕ)) (said : List ℕ) → AreSameOutside labels old.content mid.content → mid.said ≡ old.said
+    → Reopens labels group lines mid images said → Reopens labels group lines old images said
+reopens_sooner labels group lines old mid images said outside same is =
+    let counted : answered lines mid said ≡ answered lines old said = ap (λ (l : List ℕ). min (count_by (λ (b : ℕ). b == 0x0A) (drop (length l) said)) (length lines)) same in
+    record {
+      prefix = is.prefix;
+      few = is.few;
+      opens = is.opens;
+      places = is.places;
+      outside = outside_trans labels old.content mid.content images outside is.outside;
+      each_answered = subst (λ (n : ℕ). (is.prefix ≡ n) ⊎ (is.prefix ≡ n + 1)) counted is.each_answered;
+    }
+
+-- the session of a group that was found
+abbrev pub session_of : Found → Opened
+session_of found = record { db = found.db; labels = found.labels }
+
+session_found : (images : List (List ℕ)) (session : Opened) (found : Found) → IsOpenedFrom images session → IsGroupIn images (Ok found) → session ≡ session_of found
+session_found images session found opened is =
+    let same = same_found images opened.found found opened.is is in
+    (λ i. record { db = opened.db i; labels = opened.labels i }) ∙ ap session_of same
+
+-- ---- a group that is opened, and then its lines
+
+module _ {tells : Type 0} {old mid new : Seen} {session : Opened} {lines : List (Option Command)} {status : Status} (opened : tells → IsOpenedFrom old.content session)
+    (kept : tells → (found : Found) → IsGroupIn old.content (Ok found) → found.blocked ≡ None → NothingPending old → AlwaysKept found.labels found.db found.db old mid)
+    (rests : RestsOn session mid) (later : Later old mid) (quiet : Quiet old mid) (stays : tells → Leaves mid mid.content) (counts : Counts mid) (does : DoesLines tells session lines mid new status) where
+  is_answer : tells → (answer : Answer) → answer ≡ replies_from 1 (replies_to session.labels session.db lines) → IsGroupAnswer (try_answer lines) old.content answer
+  is_answer told answer is =
+      let from = opened told in
+      let same = session_found old.content session from.found from from.is in (
+        Ok from.found,
+        from.is,
+        is ∙ ap (λ (s : Opened). replies_from 1 (replies_to s.labels s.db lines)) same
+            ∙ ap (λ (blocked : Option OpenFault). unless_blocked blocked (replies_from 1 (replies_to from.found.labels from.found.db lines))) (sym from.editable),
+      )
+
+  every_stop : tells → NothingPending old → EveryStopReopens lines old new
+  every_stop told nothing found is editable =
+      let always = kept told found is editable nothing in
+      let outside = (always mid.content mid.said (counts old.clock mid.content later.clock (stays told))).outside in
+      let same = session_found old.content session found (opened told) is in
+      moments_trans old mid new (Reopens found.labels found.db lines old) later does.later
+      (λ images said left. reopens_first old found lines images said is editable (always images said left))
+      (λ images said left. reopens_sooner found.labels found.db lines old mid images said outside quiet.said (subst (λ (s : Opened). Reopens s.labels s.db lines mid images said) same (does.stops told images said left)))
+
+  pub grouped : DoesGroup tells lines old new status
+  grouped = record {
+    input = record { input = does.input.input ∙ quiet.input; heard = does.input.heard ∙ quiet.heard };
+    no_usage = does.no_usage;
+    causes = causes_since old mid new status later does.causes;
+    answers = λ told. answers_as old mid new _ (IsGroupAnswer (try_answer lines) old.content) status quiet.said (is_answer told) (does.answers told);
+    whole_lines = λ told is. lines_sooner old mid new quiet.said (does.whole_lines told is);
+    stops = every_stop;
+    disks = record {
+      later = later_trans old mid new later does.later;
+      done = λ told has short found is editable. record {
+        current = subst (λ (s : Opened). AllHave s.labels new.content (IsCurrent (group_after s.labels s.db lines))) (session_found old.content session found (opened told) is) (does.current told has);
+        settled = λ disk lt. does.settled has disk (let sizes = ap length does.later.sizes in omega (arith, lt, sizes, rests.lie.one_label));
+      };
+      unwritten = λ told ne none. ⊎_elim (λ long. absurd (let e : false ≡ true = long in cc)) (λ none. let from = opened told in not_none old.content from.found from.is from.editable none) none;
+    };
+  }
+
+-- ---- no group is opened
+
+-- a disk or memory failed
+pub unopened : {tells : Type 0} {old new : Seen} {status : Status} (lines : List (Option Command)) → Failing old new status → Later old new → Quiet old new → (status ≢ DiskFault → new.wrote ≡ old.wrote)
+    → (tells → (found : Found) → IsGroupIn old.content (Ok found) → found.blocked ≡ None → NothingPending old → AlwaysKept found.labels found.db found.db old new) → DoesGroup tells lines old new status
+unopened {tells} {old} {new} {status} lines fails later quiet wrote kept = record {
+  input = record { input = quiet.input; heard = quiet.heard };
+  no_usage = fails.no_usage;
+  causes = fails.causes;
+  answers = λ told. record { whole = λ has. absurd (fails.none has); since = later.said; front = inl quiet.said };
+  whole_lines = λ told is. inl quiet.said;
+  stops = λ told nothing found is editable images said left. reopens_first old found lines images said is editable (kept told found is editable nothing images said left);
+  disks = record { later = later; done = λ told has. absurd (fails.none has); unwritten = λ told ne none. wrote ne };
+}
+
+-- it has a fault, or is blocked
+pub refused_group : {tells talks : Type 0} {old mid new : Seen} {status : Status} {fault : OpenFault} (lines : List (Option Command)) → Settles old mid
+    → OnlyReads talks mid new (λ answer. answer ≡ (text_of_refusal (text_of_open_fault fault), Refused)) status → (tells → talks)
+    → (tells → IsGroupIn old.content (Err fault) ⊎ ((found : Found) × IsGroupIn old.content (Ok found) × (found.blocked ≡ Some fault))) → DoesGroup tells lines old new status
+refused_group {tells} {talks} {old} {mid} {new} {status} {fault} lines settles reads both faulty = record {
+  input = record { input = reads.input.input ∙ settles.quiet.input; heard = reads.input.heard ∙ settles.quiet.heard };
+  no_usage = reads.no_usage;
+  causes = causes_since old mid new status settles.later reads.causes;
+  answers = λ told. answers_as old mid new _ (IsGroupAnswer (try_answer lines) old.content) status settles.quiet.said (is_answer told) (reads.answers (both told));
+  whole_lines = λ told is. inl (reads.silent (subst (λ (s : Status). SaysNothing s) (sym is) tt) ∙ settles.quiet.said);
+  stops = λ told nothing found is editable. not_none old.content found is editable (none told);
+  disks = record {
+    later = later_trans old mid new settles.later reads.still.later;
+    done = λ told has short found is editable. not_none old.content found is editable (none told);
+    unwritten = λ told ne holds. reads.still.wrote ∙ settles.wrote;
+  };
+}
+  where
+    none : tells → HoldsNone old.content
+    none told = ⊎_elim (λ is. inl (fault, is)) (λ found. inr (found.0, fault, found.1, found.2)) (faulty told)
+
+    is_answer : tells → (answer : Answer) → answer ≡ (text_of_refusal (text_of_open_fault fault), Refused) → IsGroupAnswer (try_answer lines) old.content answer
+    is_answer told answer is = ⊎_elim
+        (λ err. (Err fault, err, is))
+        (λ found. (Ok found.0, found.1, is ∙ ap (λ (blocked : Option OpenFault). unless_blocked blocked (replies_from 1 (replies_to found.0.labels found.0.db lines))) (sym found.2)))
+        (faulty told)

@@ -1,0 +1,167 @@
+-- How an edit ends, which hears a script first.
+use Rattle.std.proofs.Common.{◌≡◌, ◌≢◌, inl, inr, ⊎_elim, ℕ, ◌<◌, ◌≤◌, Bool, true, false, List, [], ◌++◌, length, codes, refl, sym, ap, subst, ◌∙◌, arith, Option, Some, None, Ok}
+use Rattle.std.proofs.lemmas.Bool.{lt-ltb, le-ltb}
+use Rattle.ldm_host.specs.Seen.{Seen, Leaves, image}
+use Rattle.ldm_host.specs.Moves.{Begins, Still}
+use Rattle.ldm_host.specs.StoryLaws.{begins_both}
+use Rattle.ldm_host.proofs.Relations.{later_trans, moments_trans, still_trans}
+use Rattle.ldm_words.specs.declared.command.Command.{Command}
+use Rattle.ldm_words.specs.declared.job.Job.{Job}
+use Rattle.ldm_words.specs.declared.job.Job.TheVariants.{Disk, Records, Show, Check, Map, Try, Edit, One, Sample}
+use Rattle.ldm_found.specs.declared.found.Found.{Found}
+use Rattle.ldm_found.specs.Opening.{IsGroupIn}
+use Rattle.ldm_found.proofs.FoundLaws.{holds_group, one_image}
+use Rattle.ldm_store.specs.Kept.{IsKept}
+use Rattle.ldm_store.proofs.HealLaws.{still_kept}
+use Rattle.ldm_store.proofs.HasLaws.{outside_is, outside_itself}
+use Rattle.ldm_found.specs.Labels.{AreSameOutside}
+use Rattle.ldm_run.specs.declared.running.Status.{Status}
+use Rattle.ldm_run.specs.declared.running.Status.TheVariants.{DiskFault}
+use Rattle.ldm_run.specs.Said.{refused}
+use Rattle.ldm_run.specs.Scripts.{is_long, commands_in}
+use Rattle.ldm_run.specs.Answer.{IsAnswerToScript}
+use Rattle.ldm_run.specs.Kinds.{NothingPending}
+use Rattle.ldm_run.specs.Heard.{Takes, TalkFails}
+use Rattle.ldm_run.specs.Stops.{lines_unless, Reopens, EveryStopReopens, JobStops}
+use Rattle.ldm_run.specs.Written.{HoldsNone, HoldsAfter}
+use Rattle.ldm_run.specs.Runs.{OnlyReads, StopsAfter}
+use Rattle.ldm_run.specs.Editing.{DoesGroup, HearsAndEdits}
+use Rattle.ldm_run.proofs.Saying.{answers_as, causes_sooner}
+use Rattle.ldm_run.proofs.ReplyLaws.{fails}
+use Rattle.ldm_run.proofs.ScriptLaws.{long_answer, whole_answer}
+use Rattle.ldm_run.proofs.OpenLaws.{reopens_first}
+use Rattle.ldm_run.proofs.EditState.{lines_sooner}
+use Rattle.ldm_run.proofs.GroupEnds.{settled_all, reopens_sooner}
+
+module _ {old mid : Seen} (still : Still old mid) (one_each : length old.content ≡ length old.sizes) where
+  -- what a stop leaves while no disk is changed, and nothing was pending
+  kept_still : NothingPending old → (found : Found) → IsGroupIn old.content (Ok found) → (images : List (List ℕ)) → Leaves old images → IsKept found.labels found.db found.db old images old.said
+  kept_still nothing found is images left =
+      still_kept found old (holds_group old.content found is) (sym one_each ∙ one_image old.content found (holds_group old.content found is)) (settled_all old found one_each is nothing) images old.said left refl
+
+  silent_reopens : mid.said ≡ old.said → (lines : List (Option Command)) → NothingPending old → EveryStopReopens lines old mid
+  silent_reopens silent lines nothing found is editable images said left =
+      let m = still.moments images said left in
+      let same : said ≡ old.said = begins_both old.said said m.1 (subst (λ (l : List ℕ). Begins said l) silent m.2) in
+      subst (λ (l : List ℕ). Reopens found.labels found.db lines old images l) (sym same) (reopens_first old found lines images old.said is editable (kept_still nothing found is images m.0))
+
+  -- where there is no line, whatever was said
+  pub no_line_reopens : NothingPending old → EveryStopReopens [] old mid
+  no_line_reopens nothing found is editable images said left =
+      let m = still.moments images said left in
+      let first = reopens_first old found [] images old.said is editable (kept_still nothing found is images m.0) in
+      record { prefix = first.prefix; few = first.few; opens = first.opens; places = first.places; outside = first.outside; each_answered = let few = first.few in inl (omega (arith, few)) }
+
+-- where no call was made
+module _ {tells : Type 0} {host : Seen} (still : Still host host) (one_each : tells → length host.content ≡ length host.sizes) where
+  job_stops : (job : Job) → JobStops tells job host host
+  job_stops Disk = tt
+  job_stops Records = tt
+  job_stops Show = tt
+  job_stops Check = tt
+  job_stops (Map name first count) = tt
+  job_stops Try = tt
+  job_stops Edit = λ told nothing. silent_reopens still (one_each told) refl _ nothing
+  job_stops (One command) = λ told nothing. silent_reopens still (one_each told) refl _ nothing
+  job_stops (Sample seed) = tt
+
+  pub stops_unchanged : (reading : Option (Job × ℕ)) → StopsAfter tells reading host host
+  stops_unchanged None = tt
+  stops_unchanged (Some reading) = job_stops reading.0
+
+-- memory or the talk failed before the script was heard
+pub unheard_edit : {tells talks : Type 0} {old new : Seen} {status : Status} → TalkFails old new status → (talks → (taken : List ℕ) × Takes old new taken) → new.said ≡ old.said → Still old new
+    → (tells → length old.content ≡ length old.sizes) → HearsAndEdits tells talks old new status
+unheard_edit {tells} {talks} {old} {new} {status} failed takes silent still one_each =
+    let end = fails old new status failed in
+    record {
+      no_usage = end.no_usage;
+      causes = end.causes;
+      answers = λ told. record { whole = λ is. absurd (end.none is); since = still.later.said; front = inl silent };
+      whole_lines = λ told is. inl silent;
+      stops = λ told nothing. silent_reopens still (one_each told) silent _ nothing;
+      disks = record { later = still.later; done = λ told has. absurd (end.none has); unwritten = λ told ne none. still.wrote };
+      input = λ told. record { taken = (takes told).0; takes = (takes told).1; whole = λ is. absurd (end.none is); no_disk = λ long. end.no_disk };
+    }
+
+-- the script is too long
+pub long_edit : {tells talks : Type 0} {old mid new : Seen} {status : Status} → OnlyReads talks mid new (λ answer. answer ≡ refused (codes "script too long")) status
+    → (talks → (taken : List ℕ) × Takes old mid taken) → mid.said ≡ old.said → Still old mid → (tells → talks) → (tells → length old.content ≡ length old.sizes)
+    → (talks → 1048576 < length old.input) → status ≢ DiskFault → HearsAndEdits tells talks old new status
+long_edit {tells} {talks} {old} {mid} {new} {status} reads takes silent still both one_each long no_disk = record {
+  no_usage = reads.no_usage;
+  causes = causes_sooner old mid new status still reads.causes;
+  answers = λ told. answers_as old mid new _ (IsAnswerToScript (is_long old.input) old.input old.content) status silent (λ answer e. long_answer old.input old.content answer (long (both told)) e) (reads.answers (both told));
+  whole_lines = λ told is. absurd (no_disk is);
+  stops = λ told nothing. subst (λ (b : Bool). EveryStopReopens (lines_unless b old.input) old new) (sym (is_true told)) (no_line_reopens (still_trans old mid new still reads.still) (one_each told) nothing);
+  disks = record {
+    later = later_trans old mid new still.later reads.still.later;
+    done = λ told has short. absurd (let e : true ≡ false = sym (is_true told) ∙ short in cc);
+    unwritten = λ told ne none. reads.still.wrote ∙ still.wrote;
+  };
+  input = λ told. record {
+    taken = (takes told).0;
+    takes = record {
+      input = (takes told).1.input ∙ ap (λ (l : List ℕ). (takes told).0 ++ l) (sym reads.input.input);
+      heard = reads.input.heard ∙ (takes told).1.heard;
+      few = (takes told).1.few;
+    };
+    whole = λ is. inr (long told);
+    no_disk = λ is. no_disk;
+  };
+}
+  where
+    is_true : tells → is_long old.input ≡ true
+    is_true told = lt-ltb 1048576 (length old.input) (long (both told))
+
+-- the script was heard, and its lines are done
+pub script_edit : {tells talks : Type 0} {old mid new : Seen} {script : List ℕ} {status : Status} → DoesGroup tells (commands_in script) mid new status
+    → (talks → (taken : List ℕ) × Takes old mid taken) → mid.said ≡ old.said → Still old mid → (tells → talks) → (tells → length old.content ≡ length old.sizes)
+    → (talks → (script ≡ old.input) × (mid.input ≡ [])) → length script ≤ 1048576 → HearsAndEdits tells talks old new status
+script_edit {tells} {talks} {old} {mid} {new} {script} {status} does takes silent still both one_each heard short = record {
+  no_usage = does.no_usage;
+  causes = causes_sooner old mid new status still does.causes;
+  answers = λ told. answers_as old mid new _ (IsAnswerToScript (is_long old.input) old.input old.content) status silent
+      (λ answer e. whole_answer script old.input mid.content old.content answer (heard (both told)).0 short still.content e) (does.answers told);
+  whole_lines = λ told is. lines_sooner old mid new silent (does.whole_lines told is);
+  stops = λ told nothing. subst (λ (lines : List (Option Command)). EveryStopReopens lines old new) (lines_are told) (every_stop told nothing);
+  disks = record {
+    later = later_trans old mid new still.later does.disks.later;
+    done = λ told has small found is editable. subst (λ (lines : List (Option Command)). HoldsAfter found lines new) (lines_are told)
+        (does.disks.done told has refl found (subst (λ (l : List (List ℕ)). IsGroupIn l (Ok found)) (sym still.content) is) editable);
+    unwritten = λ told ne none. ⊎_elim
+        (λ long. absurd (let e : false ≡ true = sym (is_false told) ∙ long in cc))
+        (λ none. does.disks.unwritten told ne (inr (subst HoldsNone (sym still.content) none)) ∙ still.wrote)
+        none;
+  };
+  input = λ told. record {
+    taken = (takes told).0;
+    takes = record {
+      input = (takes told).1.input ∙ ap (λ (l : List ℕ). (takes told).0 ++ l) (sym does.input.input);
+      heard = does.input.heard ∙ (takes told).1.heard;
+      few = (takes told).1.few;
+    };
+    whole = λ is. inl (does.input.input ∙ (heard told).1);
+    no_disk = λ long. absurd (let same = ap length (heard told).0 in omega (arith, long, short, same));
+  };
+}
+  where
+    is_false : tells → is_long old.input ≡ false
+    is_false told = le-ltb 1048576 (length old.input) (subst (λ (l : List ℕ). length l ≤ 1048576) (heard (both told)).0 short)
+
+    lines_are : tells → commands_in script ≡ lines_unless (is_long old.input) old.input
+    lines_are told = ap commands_in (heard (both told)).0 ∙ ap (λ (b : Bool). lines_unless b old.input) (sym (is_false told))
+
+    every_stop : tells → NothingPending old → EveryStopReopens (commands_in script) old new
+    every_stop told nothing found is editable =
+        moments_trans old mid new (Reopens found.labels found.db (commands_in script) old) still.later does.disks.later
+        (silent_reopens still (one_each told) silent (commands_in script) nothing found is editable)
+        (λ images said left. reopens_sooner found.labels found.db (commands_in script) old mid images said same silent
+        (does.stops told now found (subst (λ (l : List (List ℕ)). IsGroupIn l (Ok found)) (sym still.content) is) editable images said left))
+      where
+        same : AreSameOutside found.labels old.content mid.content
+        same disk label at = outside_is label (image old.content disk) (image old.content disk) (image mid.content disk) (outside_itself label (image old.content disk)) (ap (λ (l : List (List ℕ)). image l disk) still.content)
+
+        now : NothingPending mid
+        now disk lt x left =
+            nothing disk (subst (λ (l : List ℕ). disk < length l) still.later.sizes lt) x ((still.left disk x).0 left) ∙ ap (λ (l : List (List ℕ)). image l disk) (sym still.content)

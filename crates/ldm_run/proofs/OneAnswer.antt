@@ -1,0 +1,47 @@
+-- There is one answer to the words.
+use Rattle.std.proofs.Common.{◌≡◌, ℕ, Bool, true, false, List, [], ◌∷◌, sym, ap, ◌∙◌, Option, Some, None, Result, Ok, Err}
+use Rattle.ldm_host.specs.Seen.{image}
+use Rattle.ldm_label.specs.declared.Label.{Label}
+use Rattle.ldm_label.specs.declared.LabelFault.{LabelFault}
+use Rattle.ldm_label.specs.LabelOf.{label_of}
+use Rattle.ldm_copy.specs.Copy.{config_area}
+use Rattle.ldm_copy.proofs.OneCopy.{one_copy}
+use Rattle.ldm_words.specs.declared.job.Job.{Job}
+use Rattle.ldm_words.specs.declared.job.Job.TheVariants.{Disk, Records, Show, Check, Map, Try, Edit, One, Sample}
+use Rattle.ldm_words.specs.Jobs.{job_of}
+use Rattle.ldm_found.specs.declared.found.Found.{Found}
+use Rattle.ldm_found.proofs.GroupLaws.{one_group}
+use Rattle.ldm_run.specs.Said.{Answer}
+use Rattle.ldm_run.specs.Mapping.{map_answer}
+use Rattle.ldm_run.specs.Scripts.{is_long, commands_in, try_answer}
+use Rattle.ldm_run.proofs.SampleLaws.{one_sample}
+use Rattle.ldm_run.specs.Answer.{copy_answer, group_answer, show_answer, check_answer, IsRecordsAnswer, IsGroupAnswer, IsAnswerToScript, IsJobAnswer, IsReadingAnswer, IsAnswerTo}
+
+one_records : (label : Result Label LabelFault) (bytes : List ℕ) (a b : Answer) → IsRecordsAnswer label bytes a → IsRecordsAnswer label bytes b → a ≡ b
+one_records (Ok label) bytes a b x y = x.2 ∙ ap copy_answer (one_copy (config_area label bytes) label.area_sectors x.0 y.0 x.1 y.1) ∙ sym y.2
+one_records (Err fault) bytes a b x y = x ∙ sym y
+
+one_of_group : (answer_of : Found → Answer) (images : List (List ℕ)) (a b : Answer) → IsGroupAnswer answer_of images a → IsGroupAnswer answer_of images b → a ≡ b
+one_of_group answer_of images a b x y = x.2 ∙ ap (group_answer answer_of) (one_group images x.0 y.0 x.1 y.1) ∙ sym y.2
+
+one_of_script : (long : Bool) (script : List ℕ) (images : List (List ℕ)) (a b : Answer) → IsAnswerToScript long script images a → IsAnswerToScript long script images b → a ≡ b
+one_of_script true script images a b x y = x ∙ sym y
+one_of_script false script images a b x y = one_of_group (try_answer (commands_in script)) images a b x y
+
+one_job : (job : Job) (images : List (List ℕ)) (input : List ℕ) (a b : Answer) → IsJobAnswer job images input a → IsJobAnswer job images input b → a ≡ b
+one_job Disk images input a b x y = x ∙ sym y
+one_job Records images input a b x y = one_records (label_of (image images 0)) (image images 0) a b x y
+one_job Show images input a b x y = one_of_group show_answer images a b x y
+one_job Check images input a b x y = one_of_group check_answer images a b x y
+one_job (Map name first count) images input a b x y = one_of_group (map_answer name first count) images a b x y
+one_job Try images input a b x y = one_of_script (is_long input) input images a b x y
+one_job Edit images input a b x y = one_of_script (is_long input) input images a b x y
+one_job (One command) images input a b x y = one_of_group (try_answer (Some command ∷ [])) images a b x y
+one_job (Sample seed) images input a b x y = one_sample seed a b x y
+
+one_reading : (reading : Option (Job × ℕ)) (images : List (List ℕ)) (input : List ℕ) (a b : Answer) → IsReadingAnswer reading images input a → IsReadingAnswer reading images input b → a ≡ b
+one_reading None images input a b x y = x ∙ sym y
+one_reading (Some reading) images input a b x y = one_job reading.0 images input a b x y
+
+pub one_answer : (words images : List (List ℕ)) (input : List ℕ) (a b : Answer) → IsAnswerTo words images input a → IsAnswerTo words images input b → a ≡ b
+one_answer words images input a b x y = one_reading (job_of words) images input a b x y

@@ -1,0 +1,14 @@
+use Rattle.std.proofs.Common.{List, ℕ, refl, ap, ◌∙◌, Ok}
+use Rattle.ldm_run.specs.Mapping.{map_answer}
+use Rattle.ldm_run.proofs.Saying.{reads_first}
+use Rattle.ldm_run.proofs.running.map.Goals as goal
+
+pub returns-in-Err : goal.returns-in-Err
+returns-in-Err g c = c.in-Err.ensures.fault (map_answer c.args.name.now c.args.first c.args.count)
+
+pub returns : goal.returns
+returns g c =
+    let found = c.in-Ok.found in
+    let is = c.in-Ok-mapped.ensures.is ∙ ap (λ (name : List ℕ). map_answer name c.args.first c.args.count found) c.as_slice.ensures in
+    reads_first (c.say_made.ensures.says c.in-Ok-mapped.text refl) c.in-Ok.ensures.quiet c.in-Ok.ensures.still g.met.H.Host.tells_both
+    (λ tells answer e. (Ok found, c.in-Ok.ensures.found tells, e ∙ is))

@@ -1,0 +1,89 @@
+-- What becomes of the host while lines are done to a group, each on all disks and then answered.
+use Rattle.std.specs.Prelude.{◌≡◌, ◌≢◌, ◌⊎◌, ℕ, Bool, false, List, ◌++◌, Option}
+use Rattle.ldm_host.specs.Seen.{Seen}
+use Rattle.ldm_host.specs.Moves.{Rose, Begins, Later}
+use Rattle.ldm_words.specs.declared.command.Command.{Command}
+use Rattle.ldm_words.specs.declared.job.Job.TheVariants.{Edit}
+use Rattle.ldm_edits.specs.Steps.{Turn, turn_of, group_after, replies_to}
+use Rattle.ldm_found.specs.Labels.{AreSameOutside}
+use Rattle.ldm_store.specs.Kept.{IsCurrent, Opens}
+use Rattle.ldm_store.specs.Turning.{AllSettled, AllHave}
+use Rattle.ldm_store.specs.Sessions.{Opened}
+use Rattle.ldm_group_text.specs.Reply.{text_of_reply}
+use Rattle.ldm_run.specs.declared.running.Status.{Status}
+use Rattle.ldm_run.specs.declared.running.Status.TheVariants.{Usage, DiskFault, NoMemory, TalkFault}
+use Rattle.ldm_run.specs.Said.{HasAnswer}
+use Rattle.ldm_run.specs.Scripts.{is_refused, replies_from, try_answer}
+use Rattle.ldm_run.specs.Answer.{IsGroupAnswer, IsJobAnswer}
+use Rattle.ldm_run.specs.Kinds.{SameInput, SaysLines, NothingPending}
+use Rattle.ldm_run.specs.Stops.{Reopens, EveryStopReopens, JobStops}
+use Rattle.ldm_run.specs.Written.{EditsDisks, JobDisks}
+use Rattle.ldm_run.specs.Heard.{HearsScript}
+use Rattle.ldm_run.specs.Runs.{Answers, Causes}
+
+-- a disk or the talk failed, or memory did
+abbrev pub EditFails : Seen → Seen → Status → Type 0
+EditFails old new DiskFault = Rose old.disk_faults new.disk_faults
+EditFails old new TalkFault = Rose old.talk_faults new.talk_faults
+EditFails old new NoMemory = Unit {0}
+EditFails old new _ = ⊥
+
+-- ---- one line
+
+-- what a line makes of a session's group, and the reply to it
+abbrev pub turn_on : Opened → Option Command → Turn
+turn_on session line = turn_of session.labels (record { db = session.db }) line
+
+-- While a line is done: the images open as the group before it or the one after it, and nothing more was said.
+pub record IsDoing (session : Opened) (line : Option Command) (start : Seen) (images : List (List ℕ)) (said : List ℕ) : Type 0 where
+  pub outside : AreSameOutside session.labels start.content images
+  pub opens : Opens images session.db ⊎ Opens images (turn_on session line).state.db
+  pub said_is : said ≡ start.said
+
+-- While it is answered: as the group after it, and a part of the reply was said.
+pub record IsAnswering (session : Opened) (line : Option Command) (number : ℕ) (start : Seen) (images : List (List ℕ)) (said : List ℕ) : Type 0 where
+  pub outside : AreSameOutside session.labels start.content images
+  pub opens : Opens images (turn_on session line).state.db
+  pub since : Begins start.said said
+  pub front : Begins said (start.said ++ text_of_reply (number, (turn_on session line).reply))
+
+-- the session after a line that was answered, and whether it was refused
+pub record IsAnswered (session : Opened) (line : Option Command) (after : Opened) (refused : Bool) : Type 0 where
+  pub db : after.db ≡ (turn_on session line).state.db
+  pub labels_stay : after.labels ≡ session.labels
+  pub refused_is : refused ≡ is_refused (turn_on session line).reply
+
+-- ---- all lines
+
+-- What is done to the group of a session whose copies are open, with these lines.
+pub record DoesLines (tells : Type 0) (session : Opened) (lines : List (Option Command)) (old new : Seen) (status : Status) : Type 0 where
+  pub later : Later old new
+  pub input : SameInput old new
+  pub no_usage : status ≢ Usage
+  pub causes : Causes old new status
+  pub answers : tells → Answers old new (λ answer. answer ≡ replies_from 1 (replies_to session.labels session.db lines)) status
+  -- what was said before a disk fails is whole lines
+  pub whole_lines : tells → status ≡ DiskFault → SaysLines old new
+  pub stops : tells → (images : List (List ℕ)) (said : List ℕ) → new.left_since old.clock images said → Reopens session.labels session.db lines old images said
+  pub current : tells → HasAnswer status → AllHave session.labels new.content (IsCurrent (group_after session.labels session.db lines))
+  pub settled : HasAnswer status → AllSettled session.labels new
+
+-- What is done to the group that the disks hold, with these lines.
+pub record DoesGroup (tells : Type 0) (lines : List (Option Command)) (old new : Seen) (status : Status) : Type 0 where
+  pub input : SameInput old new
+  pub no_usage : status ≢ Usage
+  pub causes : Causes old new status
+  pub answers : tells → Answers old new (IsGroupAnswer (try_answer lines) old.content) status
+  pub whole_lines : tells → status ≡ DiskFault → SaysLines old new
+  pub stops : tells → NothingPending old → EveryStopReopens lines old new
+  pub disks : EditsDisks tells false lines old new status
+
+-- What an edit does, which hears a script first.
+pub record HearsAndEdits (tells talks : Type 0) (old new : Seen) (status : Status) : Type 0 where
+  pub no_usage : status ≢ Usage
+  pub causes : Causes old new status
+  pub answers : tells → Answers old new (IsJobAnswer Edit old.content old.input) status
+  pub whole_lines : tells → status ≡ DiskFault → SaysLines old new
+  pub stops : JobStops tells Edit old new
+  pub disks : JobDisks tells Edit old new status
+  pub input : talks → HearsScript old new status

@@ -1,0 +1,69 @@
+-- What a job asks of the disks, and what it leaves of the input and of what was said. This goes by its kind.
+use Rattle.std.specs.Prelude.{◌≡◌, ◌⊎◌, ℕ, ◌<◌, List, [], ◌∷◌, ◌++◌, length}
+use Rattle.ldm_host.specs.Seen.{Seen}
+use Rattle.ldm_host.specs.Moves.{Settled}
+use Rattle.ldm_words.specs.declared.job.Job.{Job}
+use Rattle.ldm_words.specs.declared.job.Job.TheVariants.{Disk, Records, Show, Check, Map, Try, Edit, One, Sample}
+use Rattle.ldm_run.specs.declared.running.Status.{Status}
+use Rattle.ldm_run.specs.declared.running.Status.TheVariants.{DiskFault}
+use Rattle.ldm_run.specs.Said.{SaysNothing}
+use Rattle.ldm_run.specs.Heard.{HearsScript}
+
+-- the kinds of jobs, by what they do with the disks and the talk
+pub data Kind : Type 0 where
+  -- it reads the disks, if it needs any, and then says its answer
+  Reads : Kind
+  -- it hears a script, reads the disks, and then says a reply to each line
+  Hears : Kind
+  -- it hears a script, and does each line to the disks and then says the reply
+  Edits : Kind
+  -- it does one command to the disks, and then says the reply
+  Does : Kind
+
+abbrev pub kind_of : Job → Kind
+kind_of Disk = Reads
+kind_of Records = Reads
+kind_of Show = Reads
+kind_of Check = Reads
+kind_of (Map name first count) = Reads
+kind_of Try = Hears
+kind_of Edit = Edits
+kind_of (One command) = Does
+kind_of (Sample seed) = Reads
+
+-- the input is left as it was
+pub record SameInput (old new : Seen) : Type 0 where
+  pub input : new.input ≡ old.input
+  pub heard : new.heard ≡ old.heard
+
+-- a stop now leaves of each disk what a read gives
+abbrev pub NothingPending : Seen → Type 0
+NothingPending host = (disk : ℕ) → disk < length host.sizes → Settled host disk
+
+-- What a job asks of the disks for its answer to be that of their content: nothing, where it only reads. One that writes
+-- asks that nothing is pending.
+abbrev pub JobPremise : Kind → Seen → Type 0
+JobPremise Reads host = Unit {0}
+JobPremise Hears host = Unit {0}
+JobPremise Edits host = NothingPending host
+JobPremise Does host = NothingPending host
+
+-- What is left of the input, also where the host tells it: all of it, by a job that hears no script. One that hears a
+-- script says it of a host that tells the talk.
+abbrev pub JobInput : Type 0 → Kind → Seen → Seen → Status → Type 0
+JobInput tells Reads old new status = SameInput old new
+JobInput tells Hears old new status = tells → HearsScript old new status
+JobInput tells Edits old new status = tells → HearsScript old new status
+JobInput tells Does old new status = SameInput old new
+
+-- just whole lines were said since the old state
+abbrev pub SaysLines : Seen → Seen → Type 0
+SaysLines old new = (new.said ≡ old.said) ⊎ ((front : List ℕ) × (new.said ≡ old.said ++ (front ++ 0x0A ∷ [])))
+
+-- What was said before a fault came, also where the host tells it: nothing, by a job that only reads. A job that hears a
+-- script says nothing before the disks are read. One that writes says no part of a reply before a disk fails.
+abbrev pub JobSays : Type 0 → Kind → Seen → Seen → Status → Type 0
+JobSays tells Reads old new status = SaysNothing status → new.said ≡ old.said
+JobSays tells Hears old new status = status ≡ DiskFault → new.said ≡ old.said
+JobSays tells Edits old new status = tells → status ≡ DiskFault → SaysLines old new
+JobSays tells Does old new status = status ≡ DiskFault → new.said ≡ old.said

@@ -1,0 +1,219 @@
+//! Does lines to the group of the disks, each on all disks and then answered.
+ghost use Rattle.std.specs.Prelude.{if◌then◌else◌, ◌≡◌, ◌≤◌, ◌<◌, ◌⊎◌, ◌++◌, List, ℕ, length, IfOk, IfErr, IfSome, OnOk, IsErrOf, ◌∷◌, [], Option, Some, None, Ok};
+ghost use Rattle.ldm_host.specs.Moves.{Later, Quiet, Begins};
+ghost use Rattle.ldm_words.specs.declared.command.Command.{Command as Line};
+ghost use Rattle.ldm_words.specs.Limits.{IsCommand};
+ghost use Rattle.ldm_found.specs.declared.found.Found.{Found};
+ghost use Rattle.ldm_found.specs.Opening.{IsGroupIn};
+ghost use Rattle.ldm_store.specs.Kept.{AlwaysKept};
+ghost use Rattle.ldm_store.specs.Sessions.{RestsOn, HoldsGroup, IsTurnOf, IsOpenedFrom};
+ghost use Rattle.ldm_group_text.specs.Reply.{text_of_reply};
+ghost use Rattle.ldm_run.specs.Kinds.{SameInput, NothingPending};
+ghost use Rattle.ldm_run.specs.Scripts.{command_in, commands_in};
+ghost use Rattle.ldm_run.specs.Editing.{EditFails, turn_on, IsDoing, IsAnswering, IsAnswered, DoesLines, DoesGroup};
+
+use crate::replying::is_refused;
+use crate::running::{Status, refuse_opening};
+use ldm_bytes::NoMemory;
+use ldm_edits::{Refusal, Reply};
+use ldm_found::OpenError;
+use ldm_group_text::reply_text;
+use ldm_host::Host;
+use ldm_store::{ApplyError, Session, settle};
+use ldm_words::{Command, LineError, front_line, read_line};
+use std::alloc::Global;
+
+// Does a command on all disks.
+fn apply_command<H: Host>(
+    alloc: Global,
+    host: &mut H,
+    session: Session,
+    command: &Command,
+) -> Result<(Session, Reply), Status>
+    requires rests { RestsOn session (H.seen host.old) }
+    requires holds { H.tells_disks → HoldsGroup session (H.seen host.old).content }
+    requires limits { IsCommand command.now }
+    ensures any_moment { H.tells_disks → (images : List (List ℕ)) (said : List ℕ) → (H.seen host.new).left_since (H.seen host.old).clock images said
+        → IsDoing session (Some command.now) (H.seen host.old) images said }
+    ensures turn { IfOk result (λ answer. IsTurnOf (turn_on session (Some command.now)) session.labels answer.0 answer.1) }
+    ensures rests { IfOk result (λ answer. RestsOn answer.0 (H.seen host.new)) }
+    ensures holds { H.tells_disks → IfOk result (λ answer. HoldsGroup answer.0 (H.seen host.new).content) }
+    ensures fault { IfErr result (EditFails (H.seen host.old) (H.seen host.new)) }
+    ensures later { Later (H.seen host.old) (H.seen host.new) }
+    ensures quiet { Quiet (H.seen host.old) (H.seen host.new) }
+{
+    match session.apply(alloc, host, command) {
+        Ok(answer) => Ok(answer),
+        Err(ApplyError::Disk) => Err(Status::DiskFault),
+        Err(ApplyError::NoMemory(_)) => Err(Status::NoMemory),
+    }
+}
+
+// Does a line on all disks. A line without a reading changes nothing.
+fn apply_line<H: Host>(
+    alloc: Global,
+    host: &mut H,
+    session: Session,
+    line: Option<Command>,
+) -> Result<(Session, Reply), Status>
+    requires rests { RestsOn session (H.seen host.old) }
+    requires holds { H.tells_disks → HoldsGroup session (H.seen host.old).content }
+    requires limits { IfSome line IsCommand }
+    ensures any_moment { H.tells_disks → (images : List (List ℕ)) (said : List ℕ) → (H.seen host.new).left_since (H.seen host.old).clock images said
+        → IsDoing session line (H.seen host.old) images said }
+    ensures turn { IfOk result (λ answer. IsTurnOf (turn_on session line) session.labels answer.0 answer.1) }
+    ensures rests { IfOk result (λ answer. RestsOn answer.0 (H.seen host.new)) }
+    ensures holds { H.tells_disks → IfOk result (λ answer. HoldsGroup answer.0 (H.seen host.new).content) }
+    ensures fault { IfErr result (EditFails (H.seen host.old) (H.seen host.new)) }
+    ensures later { Later (H.seen host.old) (H.seen host.new) }
+    ensures quiet { Quiet (H.seen host.old) (H.seen host.new) }
+{
+    match line {
+        Some(command) => apply_command(alloc, host, session, &command),
+        None => Ok((session, Reply::Refused(Refusal::BadLine))),
+    }
+}
+
+// Does a line on all disks and says the reply. It answers the session, and whether the line was refused.
+fn edit_line<H: Host>(
+    alloc: Global,
+    host: &mut H,
+    session: Session,
+    number: u64,
+    line: Option<Command>,
+) -> Result<(Session, bool), Status>
+    requires rests { RestsOn session (H.seen host.old) }
+    requires holds { H.tells_disks → HoldsGroup session (H.seen host.old).content }
+    requires limits { IfSome line IsCommand }
+    ensures any_moment { H.tells_disks → (images : List (List ℕ)) (said : List ℕ) → (H.seen host.new).left_since (H.seen host.old).clock images said
+        → IsDoing session line (H.seen host.old) images said ⊎ IsAnswering session line number (H.seen host.old) images said }
+    ensures turn { IfOk result (λ answer. IsAnswered session line answer.0 answer.1) }
+    ensures rests { IfOk result (λ answer. RestsOn answer.0 (H.seen host.new)) }
+    ensures holds { H.tells_disks → IfOk result (λ answer. HoldsGroup answer.0 (H.seen host.new).content) }
+    ensures said { H.tells_disks → OnOk result ((H.seen host.new).said ≡ (H.seen host.old).said ++ text_of_reply (number, (turn_on session line).reply)) }
+    ensures front { H.tells_disks → Begins (H.seen host.new).said ((H.seen host.old).said ++ text_of_reply (number, (turn_on session line).reply)) }
+    ensures silent { IfErr result (λ status. status ≡ Status.DiskFault → (H.seen host.new).said ≡ (H.seen host.old).said) }
+    ensures fault { IfErr result (EditFails (H.seen host.old) (H.seen host.new)) }
+    ensures later { Later (H.seen host.old) (H.seen host.new) }
+    ensures input { SameInput (H.seen host.old) (H.seen host.new) }
+{
+    let (session, reply) = apply_line(alloc, host, session, line)?;
+    let Ok(text) = reply_text(alloc, number, &reply) else {
+        return Err(Status::NoMemory);
+    };
+    let Ok(()) = host.say(text.as_slice()) else {
+        return Err(Status::TalkFault);
+    };
+    Ok((session, is_refused(&reply)))
+}
+
+// Done where no line was refused.
+fn status_of(refused: bool) -> Status
+    ensures { result ≡ if refused then Status.Refused else Status.Done }
+{
+    if refused {
+        Status::Refused
+    } else {
+        Status::Done
+    }
+}
+
+// What a line says: a command, or nothing where it has no reading.
+fn command_in(alloc: Global, line: &[u8]) -> Result<Option<Command>, NoMemory>
+    ensures is { IfOk result (λ command. command ≡ command_in line.now) }
+    ensures limits { IfOk result (λ command. IfSome command IsCommand) }
+{
+    match read_line(alloc, line) {
+        Ok(command) => Ok(Some(command)),
+        Err(LineError::BadLine) => Ok(None),
+        Err(LineError::NoMemory) => Err(NoMemory),
+    }
+}
+
+// Does the lines of a script, each after the reply to the one before.
+fn edit_each<H: Host>(alloc: Global, host: &mut H, first: Session, script: &[u8]) -> Status
+    requires rests { RestsOn first (H.seen host.old) }
+    requires holds { H.tells_disks → HoldsGroup first (H.seen host.old).content }
+    requires short { length script.now ≤ 1048576 }
+    ensures { DoesLines H.tells_disks first (commands_in script.now) (H.seen host.old) (H.seen host.new) result }
+{
+    let mut session = first;
+    let mut rest = script;
+    let mut number: u64 = 1;
+    let mut refused = false;
+    'editing: while let Some((front, after)) = front_line(rest) {
+        let Ok(line) = command_in(alloc, front) else {
+            return Status::NoMemory;
+        };
+        let (next, was_refused) = match edit_line(alloc, host, session, number, line) {
+            Ok(answer) => answer,
+            Err(status) => return status,
+        };
+        session = next;
+        rest = after;
+        number += 1;
+        refused |= was_refused;
+    }
+    status_of(refused)
+}
+
+// The group that the disks hold, made ready to be edited; or how the run ends where there is none.
+fn open_session<H: Host>(alloc: Global, host: &mut H) -> Result<Session, Status>
+    requires { 0 < length (H.seen host.old).sizes }
+    ensures opened { H.tells_disks → IfOk result (λ session. IsOpenedFrom (H.seen host.old).content session) }
+    ensures kept { H.tells_disks → OnOk result ((found : Found) → IsGroupIn (H.seen host.old).content (Ok found) → found.blocked ≡ None
+        → NothingPending (H.seen host.old) → AlwaysKept found.labels found.db found.db (H.seen host.old) (H.seen host.new)) }
+    ensures rests { IfOk result (λ session. RestsOn session (H.seen host.new)) }
+    ensures holds { H.tells_disks → IfOk result (λ session. HoldsGroup session (H.seen host.new).content) }
+    ensures later { OnOk result (Later (H.seen host.old) (H.seen host.new)) }
+    ensures quiet { OnOk result (Quiet (H.seen host.old) (H.seen host.new)) }
+    ensures silent { IfErr result (λ status. status ≡ Status.DiskFault → (H.seen host.new).said ≡ (H.seen host.old).said) }
+    ensures fault { IfErr result (λ status. (lines : List (Option Line)) → DoesGroup H.tells_disks lines (H.seen host.old) (H.seen host.new) status) }
+{
+    match settle(alloc, host) {
+        Ok(session) => Ok(session),
+        Err(OpenError::Disk) => Err(Status::DiskFault),
+        Err(OpenError::NoMemory) => Err(Status::NoMemory),
+        Err(OpenError::Fault(fault)) => Err(refuse_opening(alloc, host, &fault)),
+    }
+}
+
+/// Does the lines of a script to the group that the disks hold.
+pub(crate) fn edit_script<H: Host>(alloc: Global, host: &mut H, script: &[u8]) -> Status
+    requires images { 0 < length (H.seen host.old).sizes }
+    requires short { length script.now ≤ 1048576 }
+    ensures { DoesGroup H.tells_disks (commands_in script.now) (H.seen host.old) (H.seen host.new) result }
+{
+    match open_session(alloc, host) {
+        Err(status) => status,
+        Ok(session) => edit_each(alloc, host, session, script),
+    }
+}
+
+// Does one command, and says the reply.
+fn edit_alone<H: Host>(alloc: Global, host: &mut H, session: Session, command: Command) -> Status
+    requires rests { RestsOn session (H.seen host.old) }
+    requires holds { H.tells_disks → HoldsGroup session (H.seen host.old).content }
+    requires limits { IsCommand command }
+    ensures does { DoesLines H.tells_disks session (Some command ∷ []) (H.seen host.old) (H.seen host.new) result }
+    ensures silent { result ≡ Status.DiskFault → (H.seen host.new).said ≡ (H.seen host.old).said }
+{
+    let (_, refused) = match edit_line(alloc, host, session, 1, Some(command)) {
+        Ok(answer) => answer,
+        Err(status) => return status,
+    };
+    status_of(refused)
+}
+
+/// Does one command to the group that the disks hold.
+pub(crate) fn edit_one<H: Host>(alloc: Global, host: &mut H, command: Command) -> Status
+    requires images { 0 < length (H.seen host.old).sizes }
+    requires limits { IsCommand command }
+    ensures does { DoesGroup H.tells_disks (Some command ∷ []) (H.seen host.old) (H.seen host.new) result }
+    ensures silent { result ≡ Status.DiskFault → (H.seen host.new).said ≡ (H.seen host.old).said }
+{
+    match open_session(alloc, host) {
+        Err(status) => status,
+        Ok(session) => edit_alone(alloc, host, session, command),
+    }
+}

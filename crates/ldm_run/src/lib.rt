@@ -1,0 +1,14 @@
+//! The jobs of `ldm`, run over the disks of a host.
+//!
+//! The top call is `run`. Its contract is the theorem of the program.
+#![tactic(auto)]
+
+mod editing;
+mod mapping;
+mod replying;
+mod running;
+mod sample;
+mod script;
+
+pub use running::{Status, run};
+pub use sample::sample_host;

@@ -1,0 +1,60 @@
+//! What is said of the sectors of a volume.
+ghost use Rattle.std.specs.Prelude.{◌≡◌, IfOk, Contains, Some, Ok};
+ghost use Rattle.ldm_records.specs.declared.types.Record.TheVariants as kinds;
+ghost use Rattle.ldm_layout.specs.Volumes.{layout_of, volume_with};
+ghost use Rattle.ldm_found.specs.Facts.{IsSoundGroup};
+ghost use Rattle.ldm_run.specs.Said.{HasAnswer};
+ghost use Rattle.ldm_run.specs.Mapping.{is_bad_range, map_answer};
+
+use crate::running::Status;
+use ldm_bytes::{Bytes, NoMemory};
+use ldm_found::Found;
+use ldm_group_text::map_text;
+use ldm_layout::{LayoutError, Plan, plan};
+use ldm_records::Volume;
+use ldm_text::refusal_text;
+use std::alloc::Global;
+
+fn is_bad_range(size: u64, first: u64, count: u64) -> bool
+    ensures { result ≡ is_bad_range size first count }
+{
+    count == 0 || count > 4096 || size < first || size - first < count
+}
+
+// The layout of a volume of the group, which is there since the group is sound.
+fn plan_of(alloc: Global, found: &Found, volume: &Volume) -> Result<Plan, NoMemory>
+    requires sound { IsSoundGroup found.now }
+    requires there { Contains found.now.db.records (kinds.Volume volume.now) }
+    requires again { volume_with volume.now.head.id found.now.db.records ≡ Some volume.now }
+    ensures is { IfOk result (λ plan. layout_of found.now.db.records volume.now ≡ Ok plan) }
+    ensures size { IfOk result (λ plan. plan.size ≡ volume.now.size) }
+{
+    match plan(alloc, &found.db, volume.head.id) {
+        Ok(plan) => Ok(plan),
+        Err(LayoutError::NoMemory) => Err(NoMemory),
+        Err(LayoutError::Fault(_)) => unreachable!(),
+    }
+}
+
+/// What `map` answers on a group: the lines of so many sectors of the volume of this name, or the line of
+/// the refusal.
+pub(crate) fn mapped(
+    alloc: Global,
+    found: &Found,
+    name: &[u8],
+    first: u64,
+    count: u64,
+) -> Result<(Bytes, Status), NoMemory>
+    requires { IsSoundGroup found.now }
+    ensures is { IfOk result (λ answer. (answer.0, answer.1) ≡ map_answer name.now first count found.now) }
+    ensures status { IfOk result (λ answer. HasAnswer answer.1) }
+{
+    let Some(volume) = found.db.volume_named(name) else {
+        return Ok((refusal_text(alloc, b"no volume")?, Status::Refused));
+    };
+    if is_bad_range(volume.size, first, count) {
+        return Ok((refusal_text(alloc, b"bad range")?, Status::Refused));
+    }
+    let plan = plan_of(alloc, found, volume)?;
+    Ok((map_text(alloc, found, &plan, first, count)?, Status::Done))
+}

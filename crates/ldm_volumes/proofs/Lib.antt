@@ -1,0 +1,2 @@
+pub mod PartWalk
+pub mod CopyWalk
