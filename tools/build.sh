@@ -127,16 +127,16 @@ move_kept() {
     ) 8<"$here/crates/$1"
 }
 
-# Proves crate $1 in a folder of its own, and leaves the status there. $2: how many jobs it has. $3: by how much it stands back.
+# Proves crate $1 in a folder of its own, and leaves the status there. $2: how many jobs it has.
 prove() {
     child='' status=1
     trap '[ -z "$child" ] || kill "$child"; exit 1' TERM
     make_room "$1" && cd "$rooms/$1/crates/$1" && {
         # (a program is run with no words: what it says and its status tell nothing of the build)
         if [ -f src/main.rt ]; then
-            nice -n "$3" rt run --jobs "$2" -- </dev/null &
+            rt run --jobs "$2" -- </dev/null &
         else
-            nice -n "$3" rt lib --jobs "$2" &
+            rt lib --jobs "$2" &
         fi
         child=$!
         wait "$child"
@@ -171,8 +171,8 @@ lanes() {
         END { print most < 1 ? 1 : most }' /proc/meminfo 2>/dev/null || echo 1
 }
 
-# Proves the crates of the plan, each once those below it are proved, and each with a job for each lane. Those with less to
-# come than another stand back, the more the less it is.
+# Proves the crates of the plan, each once those below it are proved, those with most to come first, and each with a job for
+# each lane.
 prove_all() {
     left=$(cut -d ' ' -f 2 "$rooms/plan" | tr '\n' ' ')
     total=$(grep -c . "$rooms/plan")
@@ -212,17 +212,10 @@ start_ready() {
         say "crate $started of $total: $name .."
         mkdir "$rooms/$name"
         date +%s >"$rooms/$name/began"
-        prove "$name" "$at_once" "$(back_of "$name")" >"$rooms/$name/log" 2>&1 &
+        prove "$name" "$at_once" >"$rooms/$name/log" 2>&1 &
         pids="$pids $!"
         running="$running$name "
     done
-}
-
-# By how much crate $1 stands back: by how much less it has to come than the crate that isn't proved with most.
-back_of() {
-    awk -v name="$1" -v proved="$proved" '
-        !most && !index(proved, " " $2 " ") { most = $1 }
-        $2 == name { back = int((most - $1) / 300); print (back > 15 ? 15 : back) }' "$rooms/plan"
 }
 
 are_proved() {
