@@ -32,9 +32,9 @@ kit_line() {
     { cat "$(dirname "$kit")/../KIT-ID" 2>/dev/null || rt version 2>/dev/null; } | head -n 1
 }
 
-# The crates that $crate stands on and itself, by crates.txt below $1. For each a line: how long it is from this crate on to
-# the program, its name, and the names of all crates below it. $2 has the lines of code of each crate: the time that a crate
-# takes goes by its lines, and some more that each crate takes. Those with most to come are first.
+# The crates that $crate stands on and itself, by crates.txt below $1. For each a line: the lines of code from this crate on to
+# the program, by which the time that a crate takes goes best, its name, and the names of all crates below it. $2 has the lines
+# of each crate. Those with most to come are first.
 plan_of() {
     sed 's/#.*//; s/[:,]/ /g; /^ *$/d' "$1/crates.txt" | awk -v top="$crate" '
         function need(name, count, words, i) {
@@ -58,7 +58,7 @@ plan_of() {
                 count = split(uses[other], words)
                 for (i = 1; i <= count; i++) if (words[i] == name && behind(other) > most) most = behind(other)
             }
-            known[name] = size[name] + 250 + most
+            known[name] = size[name] + most
             return known[name]
         }
         $1 == "=" { size[$2] = $3; next }
@@ -127,16 +127,16 @@ move_kept() {
     ) 8<"$here/crates/$1"
 }
 
-# Proves crate $1 in a folder of its own, and leaves the status there. $2: how many jobs it has.
+# Proves crate $1 in a folder of its own, and leaves the status there. $2: how many jobs it has. $3: by how much it stands back.
 prove() {
     child='' status=1
     trap '[ -z "$child" ] || kill "$child"; exit 1' TERM
     make_room "$1" && cd "$rooms/$1/crates/$1" && {
         # (a program is run with no words: what it says and its status tell nothing of the build)
         if [ -f src/main.rt ]; then
-            rt run --jobs "$2" -- </dev/null &
+            nice -n "$3" rt run --jobs "$2" -- </dev/null &
         else
-            rt lib --jobs "$2" &
+            nice -n "$3" rt lib --jobs "$2" &
         fi
         child=$!
         wait "$child"
@@ -171,15 +171,15 @@ lanes() {
         END { print most < 1 ? 1 : most }' /proc/meminfo 2>/dev/null || echo 1
 }
 
-# Proves the crates of the plan, each once those below it are proved, those with most to come first, and each with a job for
-# each lane.
+# Proves the crates of the plan, each once those below it are proved, and each with a job for each lane. Those beside the one
+# with most to come stand back, so that they take what it leaves.
 prove_all() {
     left=$(cut -d ' ' -f 2 "$rooms/plan" | tr '\n' ' ')
     total=$(grep -c . "$rooms/plan")
     at_once=$(lanes)
     began=$(date +%s)
     spoke=$began
-    running='' proved=' ' started=0 ended=0
+    running='' proved=' ' wide='' started=0 ended=0
     while [ -n "$left$running" ]; do
         start_ready
         sleep 1
@@ -210,9 +210,11 @@ start_ready() {
     for name in $ready; do
         started=$((started + 1))
         say "crate $started of $total: $name .."
+        back=5
+        [ -n "$wide" ] || { wide=$name back=0; }
         mkdir "$rooms/$name"
         date +%s >"$rooms/$name/began"
-        prove "$name" "$at_once" >"$rooms/$name/log" 2>&1 &
+        prove "$name" "$at_once" "$back" >"$rooms/$name/log" 2>&1 &
         pids="$pids $!"
         running="$running$name "
     done
@@ -242,6 +244,7 @@ end_of() {
     say "$1 proved in $took s; $ended of $total in $((now - began)) s"
     proved="$proved$1 "
     running=$(echo " $running" | sed "s/ $1 / /; s/^ *//")
+    [ "$wide" != "$1" ] || wide=''
 }
 
 # Ends what is still at work, keeps what was proved, and removes the folders of the build.
