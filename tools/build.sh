@@ -9,6 +9,9 @@
 
 NOT_BUILT=70
 
+# The most crates below one that is proved by several processes.
+FEW_BELOW=5
+
 say() {
     echo "$me: $*" >&2
 }
@@ -171,15 +174,15 @@ lanes() {
         END { print most < 1 ? 1 : most }' /proc/meminfo 2>/dev/null || echo 1
 }
 
-# Proves the crates of the plan, each once those below it are proved, and each with a job for each lane. Those beside the one
-# with most to come stand back, so that they take what it leaves.
+# Proves the crates of the plan, each once those below it are proved. Each is proved by one process of the kit, for each more reads
+# all crates below it once more. Only the one with most to come is split, where it has few below it, and the others stand back then.
 prove_all() {
     left=$(cut -d ' ' -f 2 "$rooms/plan" | tr '\n' ' ')
     total=$(grep -c . "$rooms/plan")
     at_once=$(lanes)
     began=$(date +%s)
     spoke=$began
-    running='' proved=' ' wide='' started=0 ended=0
+    running='' proved=' ' started=0 ended=0
     while [ -n "$left$running" ]; do
         start_ready
         sleep 1
@@ -210,14 +213,25 @@ start_ready() {
     for name in $ready; do
         started=$((started + 1))
         say "crate $started of $total: $name .."
-        back=5
-        [ -n "$wide" ] || { wide=$name back=0; }
+        jobs=1 back=5
+        if is_first "$name"; then
+            back=0
+            [ "$(below "$name" | wc -w)" -gt "$FEW_BELOW" ] || jobs=$at_once
+        fi
         mkdir "$rooms/$name"
         date +%s >"$rooms/$name/began"
-        prove "$name" "$at_once" "$back" >"$rooms/$name/log" 2>&1 &
+        prove "$name" "$jobs" "$back" >"$rooms/$name/log" 2>&1 &
         pids="$pids $!"
         running="$running$name "
     done
+}
+
+# Whether no crate that isn't proved has more to come than crate $1.
+is_first() {
+    while read -r _ name_of _; do
+        case $proved in *" $name_of "*) ;; *) break ;; esac
+    done <"$rooms/plan"
+    [ "$name_of" = "$1" ]
 }
 
 are_proved() {
@@ -244,7 +258,6 @@ end_of() {
     say "$1 proved in $took s; $ended of $total in $((now - began)) s"
     proved="$proved$1 "
     running=$(echo " $running" | sed "s/ $1 / /; s/^ *//")
-    [ "$wide" != "$1" ] || wide=''
 }
 
 # Ends what is still at work, keeps what was proved, and removes the folders of the build.

@@ -20,7 +20,7 @@ impl<T: Drop> From<AllocFailed<T>> for NoMemory {
 }
 
 /// A list of bytes. Contracts see it as that list.
-#[derive(Debug, Drop)]
+#[derive(Drop)]
 pub struct Bytes {
     items: Vec<u8>,
 }

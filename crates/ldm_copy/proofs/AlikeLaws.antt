@@ -37,23 +37,23 @@ same_part x y f g m n k within same =
 
 -- ---- chunks
 
--- the next chunk of two images that are the same so far
-pub next_same : (x y : List ℕ) (f g k i size : ℕ) → 8 * i < k → size ≡ 512 * min 8 (k - 8 * i) → sectors_from f (min (8 * i) k) x ≡ sectors_from g (min (8 * i) k) y
-    → slice_range x (512 * (f + 8 * i)) (512 * (f + 8 * i) + size) ≡ slice_range y (512 * (g + 8 * i)) (512 * (g + 8 * i) + size)
-    → sectors_from f (min (8 * (i + 1)) k) x ≡ sectors_from g (min (8 * (i + 1)) k) y
-next_same x y f g k i size lt is before next =
-    let n : ℕ = min 8 (k - 8 * i) in
-    let done : min (8 * i) k ≡ 8 * i = omega arith in
-    let more : min (8 * (i + 1)) k ≡ 8 * i + min 8 (k - 8 * i) = omega arith in
-    same_more x y f g (8 * i) n (min (8 * (i + 1)) k) more (subst (λ (j : ℕ). sectors_from f j x ≡ sectors_from g j y) done before)
-    (sym (chunk_is x (f + 8 * i) n size is) ∙ next ∙ chunk_is y (g + 8 * i) n size is)
+-- the bytes of a few sectors
+pub few_same : (r : Result Bool Failed) (x y : List ℕ) (f g n size : ℕ) → size ≡ 512 * n
+    → IfOk r (λ same. IsTrue same ↔ (slice_range x (512 * f) (512 * f + size) ≡ slice_range y (512 * g) (512 * g + size)))
+    → IfOk r (λ same. IsTrue same ↔ (sectors_from f n x ≡ sectors_from g n y))
+few_same (Err failed) x y f g n size is same = tt
+few_same (Ok answer) x y f g n size is same = (
+  λ yes. sym (chunk_is x f n size is) ∙ same.0 yes ∙ chunk_is y g n size is,
+  λ sectors. same.1 (chunk_is x f n size is ∙ sectors ∙ sym (chunk_is y g n size is)),
+)
 
--- a chunk of two images that are the same
-pub chunk_same : (x y : List ℕ) (f g k i size : ℕ) → 8 * i < k → size ≡ 512 * min 8 (k - 8 * i) → sectors_from f k x ≡ sectors_from g k y
-    → slice_range x (512 * (f + 8 * i)) (512 * (f + 8 * i) + size) ≡ slice_range y (512 * (g + 8 * i)) (512 * (g + 8 * i) + size)
-chunk_same x y f g k i size lt is same =
-    let n : ℕ = min 8 (k - 8 * i) in
-    chunk_is x (f + 8 * i) n size is ∙ same_part x y f g (8 * i) n k (omega arith) same ∙ sym (chunk_is y (g + 8 * i) n size is)
+-- the next chunk of two images that are the same so far
+pub next_same : (x y : List ℕ) (f g k i n : ℕ) → 8 * i < k → n ≡ min 8 (k - 8 * i) → sectors_from f (min (8 * i) k) x ≡ sectors_from g (min (8 * i) k) y
+    → sectors_from (f + 8 * i) n x ≡ sectors_from (g + 8 * i) n y → sectors_from f (min (8 * (i + 1)) k) x ≡ sectors_from g (min (8 * (i + 1)) k) y
+next_same x y f g k i n lt is before next =
+    let done : min (8 * i) k ≡ 8 * i = omega arith in
+    let more : min (8 * (i + 1)) k ≡ 8 * i + n = omega arith in
+    same_more x y f g (8 * i) n (min (8 * (i + 1)) k) more (subst (λ (j : ℕ). sectors_from f j x ≡ sectors_from g j y) done before) next
 
 -- ---- the bytes in use, by their places on the disk
 

@@ -1,11 +1,13 @@
 -- The copy on a disk, by what was read of it.
-use Rattle.std.proofs.Common.{◌≡◌, ◌≢◌, ℕ, ◌+◌, ◌-◌, ◌*◌, ◌/◌, ◌<◌, ◌≤◌, List, [], ◌++◌, length, take, drop, slice_range, Some, None, Result, Ok, Err, IsErrAnd, refl, ap, sym, subst, ◌∙◌, arith}
+use Rattle.std.proofs.Common.{◌≡◌, ◌≢◌, ℕ, ◌+◌, ◌-◌, ◌*◌, ◌/◌, ◌<◌, ◌≤◌, List, [], ◌++◌, length, take, drop, slice_range, Option, Some, None, Result, Ok, Err, IfOk, IsErrAnd, refl, ap, sym, subst, ◌∙◌, arith}
 use Rattle.std.proofs.lemmas.List.{length-append}
+use Rattle.std.proofs.lemmas.Result.{err_from_is_err_and}
 use Rattle.ldm_label.specs.declared.Label.{Label}
 use Rattle.ldm_vmdb.specs.declared.header.Header.{Header}
 use Rattle.ldm_frags.specs.declared.faults.FragError.{FragError}
 use Rattle.ldm_frags.specs.declared.faults.FragError.TheVariants as frag_errors
 use Rattle.ldm_frags.specs.Answers as frag_answers
+use Rattle.ldm_frags.specs.Blocks.{count}
 use Rattle.ldm_frags.specs.Answers.{IsFault}
 use Rattle.ldm_frags.specs.Faults.{first_block_fault}
 use Rattle.ldm_frags.specs.Fed.{Fed, IsFed}
@@ -13,6 +15,7 @@ use Rattle.ldm_frags.specs.Joins.{Joins}
 use Rattle.ldm_frags.specs.declared.faults.Joined.{Joined}
 use Rattle.std.specs.Global.{Vec}
 use Rattle.ldm_group.specs.Database.{Database}
+use Rattle.ldm_group.specs.Room.{HasRoom}
 use Rattle.ldm_copy.specs.declared.answer.CopyState.{CopyState}
 use Rattle.ldm_copy.specs.declared.answer.CopyState.TheVariants.{Valid}
 use Rattle.ldm_copy.specs.declared.answer.CopyFault.TheVariants.{Vmdb, Frag, BadRecord, SameId}
@@ -21,9 +24,10 @@ use Rattle.ldm_copy.specs.declared.answer.CopyError.TheVariants.{Fault, Disk, No
 use Rattle.ldm_copy.specs.Alike.{sectors_from}
 use Rattle.ldm_copy.specs.Errors.{of_frag}
 use Rattle.ldm_copy.specs.Copy.{config_area, header_sector, blocks_in_use, IsOpen, IsCopyOf}
-use Rattle.ldm_copy.specs.Answers.{IsAnswer}
-use Rattle.ldm_copy.specs.Steps.{OpensHeader, JoinsBlocks, IsRead, MakesDatabase}
+use Rattle.ldm_copy.specs.Answers.{IsAnswer, FitsArea}
+use Rattle.ldm_copy.specs.Steps.{OpensHeader, ReadsHeader, JoinsBlocks, IsRead, MakesDatabase, ReadsDatabase}
 use Rattle.ldm_copy.proofs.AnswerLaws.{closed_is, header_failed, database_failed, database_is, passed}
+use Rattle.ldm_copy.proofs.SoundLaws.{fits_area_of}
 use Rattle.ldm_copy.proofs.AreaLaws.{split, chunk_is, header_there, behind_header, blocks_there}
 
 -- a fault of the blocks is one of the copy
@@ -78,50 +82,83 @@ module _ (told : Type 0) (image : List ℕ) (from : ℕ) where
         ap (λ (x : List ℕ). x ++ rest) (there tells ∙ sym (split image from k 1)) ∙ sym (split image from (k + 1) m) ∙ ap (λ (j : ℕ). sectors_from from j image) (omega arith) in
         block_fault (sectors_from from n image) e (subst (λ (x : List ℕ). IsFault e (first_block_fault x)) whole (first read.bytes rest read.passes))
 
-module _ (disk : List ℕ) (label : Label) (some : label.area_sectors ≢ 0) where
+-- ---- the header and the database of a disk
+
+pub header_read : (first : List ℕ) (sectors : ℕ) (r : Result (Option Header) CopyError) → OpensHeader first sectors r → ReadsHeader first sectors r
+header_read first sectors (Ok header) h = h
+header_read first sectors (Err (Fault f)) h = h
+header_read first sectors (Err Disk) h = tt
+header_read first sectors (Err NoMemory) h = tt
+
+pub database_read : (header : Header) (blocks : List ℕ) (r : Result Database CopyError) → MakesDatabase header blocks r → ReadsDatabase header blocks r
+database_read header blocks (Ok db) h = h
+database_read header blocks (Err (Fault f)) h = h
+database_read header blocks (Err Disk) h = tt
+database_read header blocks (Err NoMemory) h = tt
+
+not_joined : (header : Header) (blocks : List ℕ) (e : CopyError) → JoinsBlocks blocks (Err e) → ReadsDatabase header blocks (Err e)
+not_joined header blocks (Fault (Vmdb f)) h = absurd h
+not_joined header blocks (Fault (Frag f)) h = h
+not_joined header blocks (Fault (BadRecord b f)) h = absurd h
+not_joined header blocks (Fault (SameId k i)) h = absurd h
+not_joined header blocks Disk h = tt
+not_joined header blocks NoMemory h = tt
+
+pub joining_failed : (header : Header) (blocks : List ℕ) (r : Result Database CopyError) (e : CopyError) → IsErrAnd r (λ x. x ≡ e) → JoinsBlocks blocks (Err e) → ReadsDatabase header blocks r
+joining_failed header blocks r e same h = let p = err_from_is_err_and r same in rw (p.1, p.2) (not_joined header blocks e h)
+
+-- the database of these blocks fits each area that its last VBLK sequence lies in
+pub database_fits : (sectors : ℕ) (header : Header) (blocks : List ℕ) (r : Result Database CopyError) → MakesDatabase header blocks r → header.last ≤ 4 * sectors
+    → length blocks ≡ 512 * (header.last / 4 - 1) → IfOk r (λ db. HasRoom (count blocks) db.records) → IfOk r (λ db. FitsArea db sectors)
+database_fits sectors header blocks (Err e) made last size room = tt
+database_fits sectors header blocks (Ok db) made last size room = fits_area_of sectors header blocks db made.2.header_is last (omega arith) room
+
+module _ (disk : List ℕ) (label : Label) (some : label.area_sectors ≢ 0) (start : ℕ) (start_is : start ≡ label.config_start + label.area_start) where
   abbrev area : List ℕ
   area = config_area label disk
 
   -- the first sector of the area, and its blocks up to a last VBLK sequence
-  abbrev pub IsFirst : List ℕ → Type 0
-  IsFirst first = first ≡ slice_range disk (512 * (label.config_start + label.area_start)) (512 * (label.config_start + label.area_start) + 512)
+  abbrev first_sector : List ℕ
+  first_sector = sectors_from start 1 disk
 
-  abbrev pub AreBlocks : List ℕ → ℕ → Type 0
-  AreBlocks blocks last = blocks ≡ sectors_from (label.config_start + label.area_start + 1) (last / 4 - 1) disk
+  abbrev pub blocks_to : ℕ → List ℕ
+  blocks_to last = sectors_from (start + 1) (last / 4 - 1) disk
 
-  header_is : (first : List ℕ) → IsFirst first → first ≡ header_sector area
-  header_is first is = is ∙ header_there disk (label.config_start + label.area_start) label.area_sectors (omega arith)
+  header_is : first_sector ≡ header_sector area
+  header_is =
+      ap (λ (k : ℕ). sectors_from k 1 disk) start_is ∙ sym (chunk_is disk (label.config_start + label.area_start) 1 512 refl)
+      ∙ header_there disk (label.config_start + label.area_start) label.area_sectors (omega arith)
 
-  pub closed_found : (first : List ℕ) → IsFirst first → OpensHeader first label.area_sectors (Ok None) → IsOpen area → ⊥
-  closed_found first is h = closed_is area label.area_sectors (subst (λ (s : List ℕ). OpensHeader s label.area_sectors (Ok None)) (header_is first is) h)
+  opened_at : (header found : Option Header) → header ≡ found → ReadsHeader first_sector label.area_sectors (Ok header) → OpensHeader (header_sector area) label.area_sectors (Ok found)
+  opened_at header found is h =
+      subst (λ (s : List ℕ). OpensHeader s label.area_sectors (Ok found)) header_is (subst (λ (o : Option Header). OpensHeader first_sector label.area_sectors (Ok o)) is h)
 
-  pub header_found : (first : List ℕ) (r : Result CopyState CopyError) (e : CopyError) → IsFirst first → OpensHeader first label.area_sectors (Err e) → IsErrAnd r (λ x. x ≡ e)
-      → IsAnswer area label.area_sectors r
-  header_found first r e is h same =
-      passed area label.area_sectors r e same (header_failed area label.area_sectors e (subst (λ (s : List ℕ). OpensHeader s label.area_sectors (Err e)) (header_is first is) h))
+  pub closed_found : (found : Option Header) → found ≡ None → ReadsHeader first_sector label.area_sectors (Ok found) → IsOpen area → ⊥
+  closed_found found is h = closed_is area label.area_sectors (opened_at found None is h)
 
-  module _ (first blocks : List ℕ) (header : Header) (is : IsFirst first) (are : AreBlocks blocks header.last) (small : header.last ≤ 4 * label.area_sectors)
-      (opened : OpensHeader first label.area_sectors (Ok (Some header))) where
+  pub header_found : (r : Result CopyState CopyError) (e : CopyError) → ReadsHeader first_sector label.area_sectors (Err e) → IsErrAnd r (λ x. x ≡ e) → IsAnswer area label.area_sectors r
+  header_found r (Fault f) h same =
+      passed area label.area_sectors r (Fault f) same
+      (header_failed area label.area_sectors (Fault f) (subst (λ (s : List ℕ). OpensHeader s label.area_sectors (Err (Fault f))) header_is h))
+  header_found r Disk h same = passed area label.area_sectors r Disk same tt
+  header_found r NoMemory h same = passed area label.area_sectors r NoMemory same tt
+
+  module _ (found : Option Header) (header : Header) (is : found ≡ Some header) (small : header.last ≤ 4 * label.area_sectors)
+      (opened : ReadsHeader first_sector label.area_sectors (Ok found)) where
     opened_there : OpensHeader (header_sector area) label.area_sectors (Ok (Some header))
-    opened_there = subst (λ (s : List ℕ). OpensHeader s label.area_sectors (Ok (Some header))) (header_is first is) opened
+    opened_there = opened_at found (Some header) is opened
 
-    blocks_are : blocks ≡ blocks_in_use area
+    blocks_are : blocks_to header.last ≡ blocks_in_use area
     blocks_are =
-        are ∙ behind_header disk (label.config_start + label.area_start) (header.last / 4) ∙ blocks_there disk (label.config_start + label.area_start) label.area_sectors (header.last / 4) (omega arith) (omega arith)
+        ap (λ (k : ℕ). sectors_from (k + 1) (header.last / 4 - 1) disk) start_is ∙ behind_header disk (label.config_start + label.area_start) (header.last / 4) ∙ blocks_there disk (label.config_start + label.area_start) label.area_sectors (header.last / 4) (omega arith) (omega arith)
         ∙ ap (λ (last : ℕ). slice_range area 512 (512 * (last / 4))) opened_there.2.last_is
 
-    pub fault_found : (r : Result CopyState CopyError) (e : CopyError) → MakesDatabase header blocks (Err e) → IsErrAnd r (λ x. x ≡ e) → IsAnswer area label.area_sectors r
-    fault_found r e makes same =
-        passed area label.area_sectors r e same
-        (database_failed area label.area_sectors header e opened_there (subst (λ (b : List ℕ). MakesDatabase header b (Err e)) blocks_are makes))
+    pub fault_found : (r : Result CopyState CopyError) (e : CopyError) → ReadsDatabase header (blocks_to header.last) (Err e) → IsErrAnd r (λ x. x ≡ e) → IsAnswer area label.area_sectors r
+    fault_found r (Fault f) made same =
+        passed area label.area_sectors r (Fault f) same
+        (database_failed area label.area_sectors header (Fault f) opened_there (subst (λ (b : List ℕ). MakesDatabase header b (Err (Fault f))) blocks_are made))
+    fault_found r Disk made same = passed area label.area_sectors r Disk same tt
+    fault_found r NoMemory made same = passed area label.area_sectors r NoMemory same tt
 
-    pub joining_failed : (r : Result CopyState CopyError) (e : CopyError) → JoinsBlocks blocks (Err e) → IsErrAnd r (λ x. x ≡ e) → IsAnswer area label.area_sectors r
-    joining_failed r (Fault (Vmdb f)) h same = absurd h
-    joining_failed r (Fault (Frag f)) h same = fault_found r (Fault (Frag f)) h same
-    joining_failed r (Fault (BadRecord b f)) h same = absurd h
-    joining_failed r (Fault (SameId k i)) h same = absurd h
-    joining_failed r Disk h same = passed area label.area_sectors r Disk same tt
-    joining_failed r NoMemory h same = passed area label.area_sectors r NoMemory same tt
-
-    pub database_found : (db : Database) → MakesDatabase header blocks (Ok db) → IsCopyOf area label.area_sectors (Ok (Valid db))
-    database_found db makes = database_is area label.area_sectors header db opened_there (subst (λ (b : List ℕ). MakesDatabase header b (Ok db)) blocks_are makes)
+    pub database_found : (db : Database) → ReadsDatabase header (blocks_to header.last) (Ok db) → IsCopyOf area label.area_sectors (Ok (Valid db))
+    database_found db made = database_is area label.area_sectors header db opened_there (subst (λ (b : List ℕ). MakesDatabase header b (Ok db)) blocks_are made)

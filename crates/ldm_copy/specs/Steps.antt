@@ -25,6 +25,13 @@ OpensHeader first sectors (Err (Fault (Vmdb fault))) = (slice_index first 0 ≡ 
 OpensHeader first sectors (Err NoMemory) = Unit {0}
 OpensHeader first sectors (Err _) = ⊥
 
+-- the header of the copy that begins with this sector of a disk, or nothing of a closed one
+abbrev pub ReadsHeader : List ℕ → ℕ → Result (Option Header) CopyError → Type 0
+ReadsHeader first sectors (Ok header) = OpensHeader first sectors (Ok header)
+ReadsHeader first sectors (Err (Fault fault)) = OpensHeader first sectors (Err (Fault fault))
+ReadsHeader first sectors (Err Disk) = Unit {0}
+ReadsHeader first sectors (Err NoMemory) = Unit {0}
+
 -- the records that blocks hold, joined, or the first fault of a block
 abbrev pub JoinsBlocks : List ℕ → Result (Vec Joined) CopyError → Type 0
 JoinsBlocks blocks (Ok list) = Joins blocks list.items
@@ -62,3 +69,10 @@ MakesDatabase header blocks (Err (Fault (BadRecord block fault))) = HoldBadRecor
 MakesDatabase header blocks (Err (Fault (SameId kind id))) = (id < 2 ^ 64) × ((records : List Record) × HoldRecords blocks records × IsLeastTwice records kind id)
 MakesDatabase header blocks (Err NoMemory) = Unit {0}
 MakesDatabase header blocks (Err _) = ⊥
+
+-- the database of a header and blocks of a disk, or the first fault
+abbrev pub ReadsDatabase : Header → List ℕ → Result Database CopyError → Type 0
+ReadsDatabase header blocks (Ok db) = MakesDatabase header blocks (Ok db)
+ReadsDatabase header blocks (Err (Fault fault)) = MakesDatabase header blocks (Err (Fault fault))
+ReadsDatabase header blocks (Err Disk) = Unit {0}
+ReadsDatabase header blocks (Err NoMemory) = Unit {0}

@@ -12,8 +12,8 @@ use ldm_label::Label;
 // How many sectors of each disk are held at a time.
 const CHUNK: u64 = 8;
 
-// The first sector of the config area on a disk.
-fn area_start<H: Host>(host: &H, disk: usize, label: &Label) -> u64
+/// The first sector of the config area on a disk.
+pub(crate) fn area_start<H: Host>(host: &H, disk: usize, label: &Label) -> u64
     requires disk { disk < length (H.seen host.now).sizes }
     requires fits { Fits label.now (slice_index (H.seen host.now).sizes disk) }
     ensures is { result ≡ label.now.config_start + label.now.area_start }
@@ -52,6 +52,44 @@ fn is_chunk_same<H: Host>(
     Ok(*bytes == *other_bytes)
 }
 
+// Whether a few sectors of two disks, from these on, are the same.
+fn are_few_same<H: Host>(
+    host: &mut H,
+    disk: usize,
+    from: u64,
+    other: usize,
+    other_from: u64,
+    sectors: u64,
+) -> Result<bool, Failed>
+    requires few { sectors ≤ 8 }
+    requires disk { disk < length (H.seen host.old).sizes }
+    requires inside { from + sectors ≤ slice_index (H.seen host.old).sizes disk }
+    requires small { from < 2 ^ 55 }
+    requires other { other < length (H.seen host.old).sizes }
+    requires other_inside { other_from + sectors ≤ slice_index (H.seen host.old).sizes other }
+    requires other_small { other_from < 2 ^ 55 }
+    ensures is { H.tells_disks → IfOk result (λ same. IsTrue same ↔ (sectors_from from sectors (image (H.seen host.old).content disk)
+        ≡ sectors_from other_from sectors (image (H.seen host.old).content other))) }
+    ensures still { Still (H.seen host.old) (H.seen host.new) }
+    ensures quiet { Quiet (H.seen host.old) (H.seen host.new) }
+    ensures cause { IsErr result → Rose (H.seen host.old).disk_faults (H.seen host.new).disk_faults }
+{
+    let mut bytes = [0u8; 4096];
+    let mut other_bytes = [0u8; 4096];
+    let size = 512 * sectors as usize;
+    let mine = &mut bytes[..size];
+    let others = &mut other_bytes[..size];
+    is_chunk_same(
+        host,
+        disk,
+        512 * from,
+        other,
+        512 * other_from,
+        mine,
+        others,
+    )
+}
+
 // Whether so many sectors of two disks, from these on, are the same.
 fn is_same<H: Host>(
     host: &mut H,
@@ -73,16 +111,10 @@ fn is_same<H: Host>(
     ensures quiet { Quiet (H.seen host.old) (H.seen host.new) }
     ensures cause { IsErr result → Rose (H.seen host.old).disk_faults (H.seen host.new).disk_faults }
 {
-    let mut bytes = [0u8; 4096];
-    let mut other_bytes = [0u8; 4096];
     for chunk in 0..sectors.div_ceil(CHUNK) {
         let done = CHUNK * chunk;
-        let size = 512 * CHUNK.min(sectors - done) as usize;
-        let at = 512 * (from + done);
-        let other_at = 512 * (other_from + done);
-        let mine = &mut bytes[..size];
-        let others = &mut other_bytes[..size];
-        if !is_chunk_same(host, disk, at, other, other_at, mine, others)? {
+        let few = CHUNK.min(sectors - done);
+        if !are_few_same(host, disk, from + done, other, other_from + done, few)? {
             return Ok(false);
         }
     }

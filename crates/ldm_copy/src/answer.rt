@@ -20,7 +20,7 @@ pub enum CopyState {
 }
 
 /// What is wrong with an open copy. The faults are looked for in this order.
-#[derive(Clone, Copy, Debug, PartialEq, Eq)]
+#[derive(Clone, Copy, PartialEq, Eq)]
 pub enum CopyFault {
     /// The header sector has this fault.
     Vmdb(VmdbFault),
@@ -34,7 +34,7 @@ pub enum CopyFault {
 }
 
 /// Why there is no copy to be had.
-#[derive(Clone, Copy, Debug, PartialEq, Eq)]
+#[derive(Clone, Copy, PartialEq, Eq)]
 pub enum CopyError {
     /// The copy has this fault. It is the first.
     Fault(CopyFault),

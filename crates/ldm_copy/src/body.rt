@@ -1,8 +1,9 @@
-ghost use Rattle.std.specs.Prelude.{◌≡◌, ◌≤◌, ◌*◌, length, drop, All, IfOk};
+ghost use Rattle.std.specs.Prelude.{◌≡◌, ◌≤◌, ◌*◌, ◌++◌, length, All, IfOk, OnOk};
 ghost use Rattle.ldm_frags.specs.Written.{IsSized, Holds, in_order};
 ghost use Rattle.ldm_frags.specs.Written as written;
 ghost use Rattle.ldm_records.specs.Plain.{IsRecord};
 ghost use Rattle.ldm_records.specs.Views.{plain_of};
+ghost use Rattle.ldm_group.specs.Room.{IsFitting, need_of};
 ghost use Rattle.ldm_copy.specs.Answers.{FitsHeader};
 ghost use Rattle.ldm_copy.specs.Body.{IsBodyOf, IsMadeOf, count_of, counts_of, spellings};
 
@@ -92,6 +93,29 @@ fn blocks_of(alloc: Global, payloads: &Vec<Bytes>, blocks: u32) -> Result<Bytes,
     }
 }
 
+// So many blocks that hold the records one after the other, each in its own spelling, which they have room for.
+fn blocks_with(alloc: Global, records: &[Record], blocks: u32) -> Result<Bytes, NoMemory>
+    requires each { All IsFitting records.now }
+    requires few { blocks ≤ 8192 }
+    requires room { need_of records.now ≤ blocks }
+    ensures size { IfOk result (λ out. length out ≡ 128 * blocks) }
+    ensures holds { IfOk result (λ out. Holds out (in_order 4 (spellings records.now))) }
+    ensures sound { OnOk result (All (λ r. IsRecord (plain_of r)) records.now) }
+{
+    let payloads = spellings(alloc, records)?;
+    blocks_of(alloc, &payloads, blocks)
+}
+
+// The sector, and the blocks behind it.
+fn joined(alloc: Global, sector: &[u8; 512], blocks: &[u8]) -> Result<Bytes, NoMemory>
+    ensures { IfOk result (λ bytes. bytes ≡ sector.now ++ blocks.now) }
+{
+    let mut bytes = Vec::new(alloc);
+    bytes.extend_from_slice(sector)?;
+    bytes.extend_from_slice(blocks)?;
+    Ok(Bytes::from_vec(bytes))
+}
+
 /// The body of the database, with its own sequence: its header, the records in their order without gaps,
 /// and then unused blocks.
 pub fn body_of(alloc: Global, db: &Db) -> Result<Body, NoMemory>
@@ -102,15 +126,11 @@ pub fn body_of(alloc: Global, db: &Db) -> Result<Body, NoMemory>
     ensures made { IfOk result (λ body. IsMadeOf db.now body) }
 {
     let records = db.as_slice();
-    let payloads = spellings(alloc, records)?;
-    let blocks = blocks_of(alloc, &payloads, db.room() as u32)?;
-    let mut sector = [0u8; 512];
     let header = db.header();
+    let mut sector = [0u8; 512];
     write_header(header, header.seq, counts_of(records), &mut sector);
-    let mut bytes = Vec::new(alloc);
-    bytes.extend_from_slice(&sector)?;
-    bytes.extend_from_slice(blocks.as_slice())?;
+    let blocks = blocks_with(alloc, records, db.room() as u32)?;
     Ok(Body {
-        bytes: Bytes::from_vec(bytes),
+        bytes: joined(alloc, &sector, blocks.as_slice())?,
     })
 }

@@ -1,4 +1,4 @@
-ghost use Rattle.std.specs.Prelude.{◌≡◌, ◌+◌, ◌*◌, ◌^◌, ◌<◌, ◌≤◌, [], Result, Err, length, slice_index, IfOk, IfErr, OnOk, IsErrOf};
+ghost use Rattle.std.specs.Prelude.{◌≡◌, ◌+◌, ◌-◌, ◌*◌, ◌/◌, ◌^◌, ◌<◌, ◌≤◌, ℕ, [], Result, Err, length, slice_index, IfOk, IfErr, IfSome, OnOk, IsErrOf};
 ghost use Rattle.ldm_host.specs.Moves.{Rose, Still, Quiet};
 ghost use Rattle.ldm_host.specs.Seen.{image};
 ghost use Rattle.ldm_label.specs.LabelOf.{Fits};
@@ -7,15 +7,18 @@ ghost use Rattle.ldm_frags.specs.Joins.{Joins};
 ghost use Rattle.ldm_copy.specs.declared.answer.CopyState.{CopyState};
 ghost use Rattle.ldm_copy.specs.declared.answer.CopyFault.{CopyFault};
 ghost use Rattle.ldm_copy.specs.Copy.{config_area, IsCopyOf};
-ghost use Rattle.ldm_copy.specs.Answers.{IsAnswer, Answers, IsSoundState};
+ghost use Rattle.ldm_copy.specs.Answers.{IsAnswer, Answers, FitsArea, IsSoundState};
 ghost use Rattle.ldm_copy.specs.Alike.{sectors_from};
-ghost use Rattle.ldm_copy.specs.Steps.{JoinsBlocks, IsRead};
+ghost use Rattle.ldm_copy.specs.Steps.{ReadsHeader, JoinsBlocks, IsRead, ReadsDatabase};
 
+use crate::alike::area_start;
 use crate::answer::{CopyError, CopyState};
 use crate::database::{database_of, open_header};
 use ldm_frags::{Joined, Joiner};
+use ldm_group::Db;
 use ldm_host::Host;
 use ldm_label::{Label, read_sector};
+use ldm_vmdb::Header;
 use std::alloc::Global;
 
 // Feeds a new joiner the blocks in so many sectors of the disk, from this one on.
@@ -67,6 +70,76 @@ fn join_sectors<H: Host>(
     Ok(joiner.finish()?)
 }
 
+// The header of the copy whose area begins with this sector of the disk. None where the copy is closed.
+fn header_at<H: Host>(
+    alloc: Global,
+    host: &mut H,
+    disk: usize,
+    start: u64,
+    area_sectors: u64,
+) -> Result<Option<Header>, CopyError>
+    requires disk { disk < length (H.seen host.old).sizes }
+    requires inside { start < slice_index (H.seen host.old).sizes disk }
+    requires few { start < 2 ^ 55 }
+    ensures opens { H.tells_disks → ReadsHeader (sectors_from start 1 (image (H.seen host.old).content disk)) area_sectors result }
+    ensures last { IfOk result (λ header. IfSome header (λ h. h.last ≤ 4 * area_sectors)) }
+    ensures still { Still (H.seen host.old) (H.seen host.new) }
+    ensures quiet { Quiet (H.seen host.old) (H.seen host.new) }
+    ensures cause { IsErrOf result CopyError.Disk → Rose (H.seen host.old).disk_faults (H.seen host.new).disk_faults }
+{
+    let first = read_sector(host, disk, start)?;
+    open_header(alloc, &first, area_sectors)
+}
+
+// The database with this header, whose blocks in use begin with this sector of the disk.
+fn database_at<H: Host>(
+    alloc: Global,
+    host: &mut H,
+    disk: usize,
+    from: u64,
+    header: Header,
+) -> Result<Db, CopyError>
+    requires disk { disk < length (H.seen host.old).sizes }
+    requires inside { from + (header.last / 4 - 1) ≤ slice_index (H.seen host.old).sizes disk }
+    requires few { from + (header.last / 4 - 1) < 2 ^ 55 }
+    requires small { header.last ≤ 8192 }
+    ensures reads { H.tells_disks → ReadsDatabase header (sectors_from from (header.last / 4 - 1) (image (H.seen host.old).content disk)) result }
+    ensures fits { (sectors : ℕ) → header.last ≤ 4 * sectors → IfOk result (λ db. FitsArea db sectors) }
+    ensures still { Still (H.seen host.old) (H.seen host.new) }
+    ensures quiet { Quiet (H.seen host.old) (H.seen host.new) }
+    ensures cause { IsErrOf result CopyError.Disk → Rose (H.seen host.old).disk_faults (H.seen host.new).disk_faults }
+{
+    let sectors = (u64::from(header.last) / 4).saturating_sub(1);
+    let list = join_sectors(alloc, host, disk, from, sectors)?;
+    database_of(alloc, header, &list)
+}
+
+// The copy in the config area of a disk, or its first fault.
+fn copy_at<H: Host>(
+    alloc: Global,
+    host: &mut H,
+    disk: usize,
+    label: &Label,
+) -> Result<CopyState, CopyError>
+    requires disk { disk < length (H.seen host.old).sizes }
+    requires fits { Fits label.now (slice_index (H.seen host.old).sizes disk) }
+    ensures found { H.tells_disks → IsAnswer
+        (config_area label.now (image (H.seen host.old).content disk)) label.now.area_sectors result }
+    ensures sound { IfOk result (λ state. IsSoundState label.now.area_sectors state) }
+    ensures still { Still (H.seen host.old) (H.seen host.new) }
+    ensures quiet { Quiet (H.seen host.old) (H.seen host.new) }
+    ensures cause { IsErrOf result CopyError.Disk → Rose (H.seen host.old).disk_faults (H.seen host.new).disk_faults }
+{
+    let start = area_start(host, disk, label);
+    match header_at(alloc, host, disk, start, label.area_sectors)? {
+        None => Ok(CopyState::Closed),
+        Some(header) => {
+            let db = database_at(alloc, host, disk, start + 1, header)?;
+            Ok(CopyState::Valid(db))
+        }
+    }
+}
+
 /// The copy in the config area of a disk, or its first fault. `Disk` comes only where a call of the disk
 /// failed.
 ///
@@ -99,17 +172,5 @@ pub fn read_copy<H: Host>(
     ensures quiet { Quiet (H.seen host.old) (H.seen host.new) }
     ensures cause { IsErrOf result CopyError.Disk → Rose (H.seen host.old).disk_faults (H.seen host.new).disk_faults }
 {
-    let sectors = host.sectors(disk);
-    // The label fits, so the area lies on the disk, and its places fit their type.
-    prove!(label.config_start + 2048 <= sectors);
-    let start = label.config_start + label.area_start;
-    let first = read_sector(host, disk, start)?;
-    match open_header(alloc, &first, label.area_sectors)? {
-        None => Ok(CopyState::Closed),
-        Some(header) => {
-            let sectors = (u64::from(header.last) / 4).saturating_sub(1);
-            let list = join_sectors(alloc, host, disk, start + 1, sectors)?;
-            Ok(CopyState::Valid(database_of(alloc, header, &list)?))
-        }
-    }
+    copy_at(alloc, host, disk, label)
 }

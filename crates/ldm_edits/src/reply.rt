@@ -1,5 +1,5 @@
 /// Why a command is refused, in the order in which the reasons are looked for.
-#[derive(Clone, Copy, Debug, PartialEq, Eq)]
+#[derive(Clone, Copy, PartialEq, Eq)]
 pub enum Refusal {
     /// The line has no reading.
     BadLine,
@@ -30,7 +30,7 @@ pub enum Refusal {
 }
 
 /// The reply to a line of a script.
-#[derive(Clone, Copy, Debug, PartialEq, Eq)]
+#[derive(Clone, Copy, PartialEq, Eq)]
 pub enum Reply {
     /// It was done, and the committed sequence is this.
     Done(u64),

@@ -1,5 +1,6 @@
 //! A host over files, standard input and standard output.
-ghost use Rattle.std.specs.Prelude.{◌≡◌, ◌≤◌, ◌<◌, ◌^◌, ◌≤ℤ◌, length, map, IfOk};
+ghost use Rattle.std.specs.Prelude.{◌≡◌, ◌≤◌, ◌<◌, ◌+◌, ◌-◌, ◌^◌, ◌≤ℤ◌, length, map, min, set, slice_index, IfOk, IsErr, is_ok};
+ghost use Rattle.ldm_host.specs.Moves.{Rose};
 ghost use Rattle.std.specs.Fd.{file_raw_fd};
 ghost use Rattle.ldm_files.specs.declared.streams.TheConstants.{STREAMS};
 
@@ -13,7 +14,7 @@ use std::os::fd::AsRawFd;
 use std::os::unix::fs::{FileExt, FileTypeExt, MetadataExt};
 
 /// What a job does with its images.
-#[derive(Clone, Copy, Debug, PartialEq, Eq)]
+#[derive(Clone, Copy, PartialEq, Eq)]
 pub enum Access {
     /// They are read alone.
     Read,
@@ -22,7 +23,7 @@ pub enum Access {
 }
 
 /// A file by the device that it is on, and its number there.
-#[derive(Clone, Copy, Debug, PartialEq, Eq)]
+#[derive(Clone, Copy, PartialEq, Eq)]
 struct FileId {
     device: u64,
     number: u64,
@@ -124,6 +125,27 @@ impl<I, O> FileHost<I, O> {
     }
 }
 
+// Counts bytes that were handed, up to the counter's last value.
+fn hand(wrote: &mut Vec<u64>, disk: usize, n: usize)
+    requires { disk < length wrote.old.items }
+    ensures { wrote.new.items ≡ set wrote.old.items disk (min (slice_index wrote.old.items disk + n) (2 ^ 64 - 1)) }
+{
+    wrote[disk] = wrote[disk].saturating_add(n as u64);
+}
+
+// Ends a call, and counts that it failed.
+fn ended(ok: bool, faults: &mut u64) -> Result<(), Failed>
+    ensures ok { is_ok result ≡ ok }
+    ensures rises { faults.old ≤ faults.new }
+    ensures cause { IsErr result → Rose faults.old faults.new }
+{
+    if ok {
+        return Ok(());
+    }
+    *faults = faults.saturating_add(1);
+    Err(Failed)
+}
+
 // Reads what comes next of the input.
 fn read_some<I: Read>(input: &mut I, buf: &mut [u8]) -> Result<usize, Failed>
     ensures { IfOk result (λ n. n ≤ length buf.old) }
@@ -141,12 +163,9 @@ fn read_some<I: Read>(input: &mut I, buf: &mut [u8]) -> Result<usize, Failed>
     Err(Failed)
 }
 
-// Writes all bytes to the output.
-fn write_out<O: Write>(output: &mut O, bytes: &[u8]) -> Result<(), Failed> {
-    output
-        .write_all(bytes)
-        .and_then(|()| output.flush())
-        .map_err(|_| Failed)
+// Writes all bytes to the output, and says whether it could.
+fn write_out<O: Write>(output: &mut O, bytes: &[u8]) -> bool {
+    output.write_all(bytes).is_ok() && output.flush().is_ok()
 }
 
 impl<I: Read, O: Write> Host for FileHost<I, O> {
@@ -187,49 +206,28 @@ impl<I: Read, O: Write> Host for FileHost<I, O> {
     }
 
     fn read_at(&mut self, disk: usize, at: u64, buf: &mut [u8]) -> Result<(), Failed> {
-        match self.images[disk].file.read_exact_at(buf, at) {
-            Ok(()) => Ok(()),
-            Err(_) => {
-                self.disk_faults = self.disk_faults.saturating_add(1);
-                Err(Failed)
-            }
-        }
+        let done = self.images[disk].file.read_exact_at(buf, at);
+        ended(done.is_ok(), &mut self.disk_faults)
     }
 
     fn write_at(&mut self, disk: usize, at: u64, bytes: &[u8]) -> Result<(), Failed> {
-        self.wrote[disk] = self.wrote[disk].saturating_add(bytes.len() as u64);
-        match self.images[disk].file.write_all_at(bytes, at) {
-            Ok(()) => Ok(()),
-            Err(_) => {
-                self.disk_faults = self.disk_faults.saturating_add(1);
-                Err(Failed)
-            }
-        }
+        hand(&mut self.wrote, disk, bytes.len());
+        let done = self.images[disk].file.write_all_at(bytes, at);
+        ended(done.is_ok(), &mut self.disk_faults)
     }
 
     fn sync(&mut self, disk: usize) -> Result<(), Failed> {
-        match self.images[disk].file.sync_all() {
-            Ok(()) => Ok(()),
-            Err(_) => {
-                self.disk_faults = self.disk_faults.saturating_add(1);
-                Err(Failed)
-            }
-        }
+        let done = self.images[disk].file.sync_all();
+        ended(done.is_ok(), &mut self.disk_faults)
     }
 
     fn hear(&mut self, buf: &mut [u8]) -> Result<usize, Failed> {
         let done = read_some(&mut self.input, buf);
-        if done.is_err() {
-            self.talk_faults = self.talk_faults.saturating_add(1);
-        }
-        done
+        ended(done.is_ok(), &mut self.talk_faults).and(done)
     }
 
     fn say(&mut self, bytes: &[u8]) -> Result<(), Failed> {
         let done = write_out(&mut self.output, bytes);
-        if done.is_err() {
-            self.talk_faults = self.talk_faults.saturating_add(1);
-        }
-        done
+        ended(done, &mut self.talk_faults)
     }
 }

@@ -3,7 +3,8 @@ use Rattle.std.proofs.Common.{◌≡◌, ℕ, List, [], ◌∷◌, Option, Some,
 use Rattle.std.specs.Prelude.{zip, map, IfOk, IsErrAnd}
 use Rattle.std.specs.Option.{option_map}
 use Rattle.std.proofs.lemmas.Option.{none-some}
-use Rattle.ldm_bytes.specs.Tables.{first_of}
+use Rattle.std.proofs.lemmas.Result.{err_from_is_err_and}
+use Rattle.ldm_bytes.specs.Tables.{first_of, unless}
 use Rattle.ldm_group.specs.Database.{Database}
 use Rattle.ldm_label.specs.declared.Label.{Label}
 use Rattle.ldm_label.specs.declared.LabelFault.{LabelFault}
@@ -23,10 +24,10 @@ use Rattle.ldm_rules.specs.Table.{first_broken_rule, IsSound}
 use Rattle.ldm_found.specs.Gathers.{Gathers}
 use Rattle.ldm_found.specs.Labels.{IsLabelOf, AreApart, stranger}
 use Rattle.ldm_found.specs.Copies.{IsCopyIn, newest, Disagrees, note_of}
-use Rattle.ldm_found.specs.Opening.{group_faults, group_at, IsNewestGroup, IsGroupOfCopies, IsGroupOfDisks, IsGroupOfLabels, IsGroupIn}
+use Rattle.ldm_found.specs.Opening.{group_faults, found_with, group_at, IsNewestGroup, IsGroupOfCopies, IsGroupOfDisks, IsGroupOfLabels, IsGroupIn}
 use Rattle.ldm_found.specs.Facts.{LieOn}
 use Rattle.ldm_found.specs.Answers.{FindsIn}
-use Rattle.ldm_found.specs.Steps.{ReadsCopies, IsNewestOf, group_from, Gives}
+use Rattle.ldm_found.specs.Steps.{ReadsCopies, IsNewestOf, ChecksGroup, newest_faults, group_from, Gives}
 use Rattle.ldm_found.proofs.GatherLaws.{gathers_one}
 use Rattle.ldm_found.proofs.FirstLaws.{first_one}
 use Rattle.ldm_found.proofs.DiskLaws.{one_twins}
@@ -107,6 +108,36 @@ no_rule None (Some b) none = absurd (none-some _ (sym none))
 pub sound_of : (db : Database) (labels : List Label) → first_of (group_faults db labels) ≡ None → IsSound db.records labels
 unfolding group_faults
 sound_of db labels none = no_rule (stranger db.records labels) (first_broken_rule db.records labels) none
+
+-- ---- the group of the newest copy, by its faults
+
+no_split : (image : ℕ) (other : Option ℕ) (more : List (Option OpenFault)) → first_of (option_map (faults.Split image) other ∷ more) ≡ None → first_of more ≡ None
+no_split image None more none = none
+no_split image (Some at) more none = absurd (none-some _ (sym none))
+
+pub newest_sound : (n : Newest) (labels : List Label) → first_of (newest_faults n labels) ≡ None → IsSound n.db.records labels
+newest_sound n labels none = sound_of n.db labels (no_split n.image n.other (group_faults n.db labels) none)
+
+group_by : (image : ℕ) (db : Database) (other : Option ℕ) (labels : List Label) (notes : List Note)
+    → group_at image db other labels notes ≡ unless (first_of (option_map (faults.Split image) other ∷ group_faults db labels)) (found_with db labels notes)
+group_by image db None labels notes = refl
+group_by image db (Some other) labels notes = refl
+
+module _ (n : Newest) (labels : List Label) (notes : List Note) where
+  group_with : (fault : Option OpenFault) → first_of (newest_faults n labels) ≡ fault → group_at n.image n.db n.other labels notes ≡ unless fault (found_with n.db labels notes)
+  group_with fault is = group_by n.image n.db n.other labels notes ∙ ap (λ (o : Option OpenFault). unless o (found_with n.db labels notes)) is
+
+  failed : (e : OpenError) → ChecksGroup (Err e) (first_of (newest_faults n labels)) → Gives (Err e) (group_at n.image n.db n.other labels notes)
+  failed (Fault fault) is = group_with (Some fault) is
+  failed Disk is = absurd is
+  failed NoMemory is = tt
+
+  pub newest_failed : (r : Result Found OpenError) (e : OpenError) → IsErrAnd r (λ x. x ≡ e) → ChecksGroup (Err e) (first_of (newest_faults n labels))
+      → Gives r (group_at n.image n.db n.other labels notes)
+  newest_failed r e same is = let p = err_from_is_err_and r same in rw (p.1, p.2) (failed e is)
+
+  pub newest_found : (found : Found) → found ≡ found_with n.db labels notes → first_of (newest_faults n labels) ≡ None → Gives (Ok found) (group_at n.image n.db n.other labels notes)
+  newest_found found same none = group_with None none ∙ ap (λ (f : Found). Ok f) (sym same)
 
 pub lies_on : (r : Result Found OpenError) (labels : List Label) (sizes : List ℕ) → IfOk r (λ found. found.labels ≡ labels) → LieOn labels sizes → IfOk r (λ found. LieOn found.labels sizes)
 lies_on (Err e) labels sizes same lie = tt

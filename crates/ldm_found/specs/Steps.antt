@@ -1,5 +1,6 @@
 -- What the steps of finding a group answer.
 use Rattle.std.specs.Prelude.{◌≡◌, ℕ, ◌<◌, List, [], ◌∷◌, ◌++◌, map, zip, Option, Some, None, Result, Ok, Err}
+use Rattle.std.specs.Option.{option_map}
 use Rattle.ldm_copy.specs.Answers.{FitsHeader}
 use Rattle.ldm_label.specs.declared.Label.{Label}
 use Rattle.ldm_copy.specs.declared.answer.CopyState.{CopyState}
@@ -15,7 +16,7 @@ use Rattle.ldm_found.specs.declared.copies.Copies.{Copies}
 use Rattle.ldm_found.specs.Gathers.{Gathers, IsFirst}
 use Rattle.ldm_found.specs.Labels.{IsLabelOf, AreApart}
 use Rattle.ldm_found.specs.Copies.{IsCopyIn, newest, Disagrees, note_of}
-use Rattle.ldm_found.specs.Opening.{group_at, IsGroupIn, IsGroupOfDisks}
+use Rattle.ldm_found.specs.Opening.{group_faults, group_at, IsGroupIn, IsGroupOfDisks}
 
 -- ---- labels
 
@@ -91,6 +92,10 @@ ChecksGroup (Ok _) fault = fault ≡ None
 ChecksGroup (Err (Fault first)) fault = fault ≡ Some first
 ChecksGroup (Err Disk) fault = ⊥
 ChecksGroup (Err NoMemory) fault = Unit {0}
+
+-- what is at fault with the newest copy: another group at its sequence, and then what its database says
+abbrev pub newest_faults : Newest → List Label → List (Option OpenFault)
+newest_faults n labels = option_map (faults.Split n.image) n.other ∷ group_faults n.db labels
 
 -- the group of the newest copy
 abbrev pub group_from : Option Newest → List Label → List Note → Result Found OpenFault

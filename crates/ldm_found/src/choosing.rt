@@ -4,9 +4,9 @@ ghost use Rattle.ldm_group.specs.Partitions.{EndsInRange};
 ghost use Rattle.ldm_copy.specs.Answers.{FitsHeader};
 ghost use Rattle.ldm_rules.specs.Disjoint.{AllLaidOut};
 ghost use Rattle.ldm_found.specs.Labels.{AreApart, stranger};
-ghost use Rattle.ldm_found.specs.Opening.{group_faults};
+ghost use Rattle.ldm_found.specs.Opening.{group_at, group_faults};
 ghost use Rattle.ldm_found.specs.Facts.{IsSoundGroup};
-ghost use Rattle.ldm_found.specs.Steps.{ChecksGroup, Gives, group_from};
+ghost use Rattle.ldm_found.specs.Steps.{ChecksGroup, Gives, newest_faults, group_from};
 
 use crate::copies::Newest;
 use crate::editing::blocked;
@@ -45,6 +45,38 @@ fn check_group(alloc: Global, db: &Db, labels: &Labels) -> Result<(), OpenError>
     }
 }
 
+// The same, and that no other image has another group at the sequence of the newest copy.
+fn check_newest(alloc: Global, newest: &Newest, labels: &Labels) -> Result<(), OpenError>
+    ensures is { ChecksGroup result (first_of (newest_faults newest.now labels.now)) }
+    ensures own { OnOk result (stranger newest.now.db.records labels.now ≡ None) }
+    ensures ends { OnOk result (All EndsInRange newest.now.db.records) }
+    ensures laid_out { OnOk result (AllLaidOut newest.now.db.records) }
+{
+    if let Some(other) = newest.other {
+        return Err(OpenError::Fault(OpenFault::Split(newest.image, other)));
+    }
+    check_group(alloc, &newest.db, labels)
+}
+
+// The group of this newest copy.
+fn group_of(alloc: Global, newest: Newest, labels: Labels, notes: Notes) -> Result<Found, OpenError>
+    requires room { FitsHeader newest.db }
+    requires apart { AreApart labels }
+    requires one_note { length notes ≡ length labels }
+    ensures is { Gives result (group_at newest.image newest.db newest.other labels notes) }
+    ensures sound { IfOk result (λ found. IsSoundGroup found) }
+    ensures same { IfOk result (λ found. found.labels ≡ labels) }
+{
+    check_newest(alloc, &newest, &labels)?;
+    let blocked = blocked(&newest.db, labels.as_slice());
+    Ok(Found {
+        db: newest.db,
+        labels,
+        notes,
+        blocked,
+    })
+}
+
 /// The group of the newest copy, on disks with these labels.
 pub fn choose(
     alloc: Global,
@@ -59,18 +91,8 @@ pub fn choose(
     ensures sound { IfOk result (λ found. IsSoundGroup found) }
     ensures same { IfOk result (λ found. found.labels ≡ labels) }
 {
-    let Some(newest) = newest else {
-        return Err(OpenError::Fault(OpenFault::NoCopy));
-    };
-    if let Some(other) = newest.other {
-        return Err(OpenError::Fault(OpenFault::Split(newest.image, other)));
+    match newest {
+        Some(newest) => group_of(alloc, newest, labels, notes),
+        None => Err(OpenError::Fault(OpenFault::NoCopy)),
     }
-    check_group(alloc, &newest.db, &labels)?;
-    let blocked = blocked(&newest.db, labels.as_slice());
-    Ok(Found {
-        db: newest.db,
-        labels,
-        notes,
-        blocked,
-    })
 }

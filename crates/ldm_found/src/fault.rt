@@ -12,7 +12,7 @@ use std::alloc::AllocFailed;
 ///
 /// The faults up to `Rule` say why there is no group, in the order in which they are looked for. From
 /// `Absent` on they say why a group that was found may not be edited, again in their order.
-#[derive(Clone, Copy, Debug, PartialEq, Eq)]
+#[derive(Clone, Copy, PartialEq, Eq)]
 pub enum OpenFault {
     /// The image has no label.
     Label(usize, LabelFault),
@@ -40,7 +40,7 @@ pub enum OpenFault {
 }
 
 /// Why there is no group to be had.
-#[derive(Clone, Copy, Debug, PartialEq, Eq)]
+#[derive(Clone, Copy, PartialEq, Eq)]
 pub enum OpenError {
     /// The images have this fault. It is the first.
     Fault(OpenFault),

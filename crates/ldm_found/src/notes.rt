@@ -4,7 +4,7 @@ ghost use Rattle.ldm_found.specs.declared.notes.Note.{Note};
 use std::marker::Model;
 
 /// What an image's copy of the database is.
-#[derive(Clone, Copy, Debug, PartialEq, Eq)]
+#[derive(Clone, Copy, PartialEq, Eq)]
 pub enum Note {
     Closed,
     /// It is open, and has this sequence.

@@ -5,7 +5,7 @@ use std::alloc::AllocError;
 
 /// Why blocks hold no list of records. Each names a block by its number, which for the first block
 /// of a list is 4.
-#[derive(Clone, Copy, Debug, PartialEq, Eq)]
+#[derive(Clone, Copy, PartialEq, Eq)]
 pub enum FragFault {
     /// The block doesn't begin with `VBLK`.
     NoMagic(u32),
@@ -22,7 +22,7 @@ pub enum FragFault {
 }
 
 /// Why blocks were not joined.
-#[derive(Clone, Copy, Debug, PartialEq, Eq)]
+#[derive(Clone, Copy, PartialEq, Eq)]
 pub enum FragError {
     /// The blocks have a fault. This is the first.
     Fault(FragFault),
@@ -50,7 +50,7 @@ pub struct Joined {
 }
 
 /// Why payloads were not split.
-#[derive(Clone, Copy, Debug, PartialEq, Eq)]
+#[derive(Clone, Copy, PartialEq, Eq)]
 pub enum SplitError {
     /// The payloads need more blocks than there are.
     NoRoom {

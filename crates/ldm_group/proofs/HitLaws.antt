@@ -1,5 +1,5 @@
 -- What a look-up finds, one record after the other.
-use Rattle.std.proofs.Common.{◌≡◌, ℕ, ◌+◌, ◌<◌, ◌≤◌, ◌==◌, ◌||◌, inl, inr, Bool, true, false, cond, List, [], ◌∷◌, length, take, get_or, slice_get, find, refl, ap, sym, subst, ◌∙◌, arith, Option, Some, None, count_by, not, bytes_eq}
+use Rattle.std.proofs.Common.{◌≡◌, ℕ, ◌+◌, ◌<◌, ◌≤◌, ◌==◌, ◌||◌, inl, inr, Bool, true, false, cond, List, [], ◌∷◌, length, take, get_or, slice_get, find, refl, ap, sym, subst, ◌∙◌, arith, Option, Some, None, count_by, not, bytes_eq, Result, Ok, Err, OnOk}
 use Rattle.std.specs.Option.{option_map}
 use Rattle.std.specs.List.{position_or_len}
 use Rattle.std.specs.Prelude.{nat_lt}
@@ -17,6 +17,11 @@ use Rattle.ldm_records.specs.declared.types.Record.{Record}
 use Rattle.ldm_group.specs.declared.index.Hits.{Hits}
 use Rattle.ldm_group.specs.Hits.{hits, count_in, one_more}
 use Rattle.ldm_group.proofs.Rise.{tested, one_place}
+
+-- what a call that succeeds leaves
+pub where_ok : {A E P Q : Type 0} (r : Result A E) → (P → Q) → OnOk r P → OnOk r Q
+where_ok (Ok x) f p = f p
+where_ok (Err e) f p = tt
 
 -- ---- one record more
 
@@ -57,12 +62,7 @@ module _ (records : List Record) (at : ℕ) (r : Record) (lt : at < length recor
   -- ---- one key more: what the map has at each key, before and after
 
   module _ {Q : Type 0} (same : Q → Q → Bool) (test : Q → Record → Bool) where
-    -- the record has no key
-    pub skipped : (f : Q → Option Hits) → ((q : Q) → test q r ≡ false) → ((q : Q) → f q ≡ hits (test q) (take at records)) → (q : Q) → f q ≡ hits (test q) (take (at + 1) records)
-    skipped f fails before q =
-        before q ∙ sym (hits_more (test q) ∙ ap (λ (b : Bool). cond b (Some (one_more (hits (test q) (take at records)) at)) (hits (test q) (take at records))) (fails q))
-
-    -- it has this one
+    -- the record has this key
     module _ (f g : Q → Option Hits) (key : Q) (exact : (q : Q) → same key q ≡ true → key ≡ q)
         (put : (q : Q) → g q ≡ cond (same key q) (Some (one_more (f key) at)) (f q)) where
       noted_here : (q : Q) → same key q ≡ true → g q ≡ Some (one_more (f q) at)

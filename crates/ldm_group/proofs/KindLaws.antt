@@ -4,10 +4,9 @@ use Rattle.std.proofs.lemmas.Bool.{eqb-true}
 use Rattle.ldm_records.specs.declared.types.Record.{Record}
 use Rattle.ldm_records.specs.declared.types.Record.TheVariants as kinds
 use Rattle.ldm_records.specs.declared.types.Volume.{Volume}
-use Rattle.ldm_records.specs.declared.types.Disk.{Disk}
 use Rattle.ldm_records.specs.declared.types.Component.{Component}
 use Rattle.ldm_records.specs.declared.types.Partition.{Partition}
-use Rattle.ldm_group.specs.Looks.{is_at, is_volume_named, is_disk_named, is_disk_with, is_child}
+use Rattle.ldm_group.specs.Looks.{is_at, is_volume_named, is_child}
 
 pub at_volume : (id : ℕ) (r : Record) → is_at 3 id r ≡ true → (v : Volume) × (r ≡ kinds.Volume v) × (v.head.id ≡ id)
 at_volume id (kinds.Volume v) h = (v, refl, eqb-true v.head.id id h)
@@ -47,32 +46,3 @@ named_volume name (kinds.Group g) h = absurd cc
 named_volume name (kinds.Disk g) h = absurd cc
 named_volume name (kinds.Component g) h = absurd cc
 named_volume name (kinds.Partition g) h = absurd cc
-
--- and what isn't of its kind passes none
-pub no_volume_named : (name : List ℕ) (r : Record) → ((v : Volume) → r ≡ kinds.Volume v → ⊥) → is_volume_named name r ≡ false
-no_volume_named name (kinds.Volume v) other = absurd (other v refl)
-no_volume_named name (kinds.Group g) other = refl
-no_volume_named name (kinds.Disk d) other = refl
-no_volume_named name (kinds.Component c) other = refl
-no_volume_named name (kinds.Partition p) other = refl
-
-pub no_disk_named : (name : List ℕ) (r : Record) → ((d : Disk) → r ≡ kinds.Disk d → ⊥) → is_disk_named name r ≡ false
-no_disk_named name (kinds.Disk d) other = absurd (other d refl)
-no_disk_named name (kinds.Group g) other = refl
-no_disk_named name (kinds.Volume v) other = refl
-no_disk_named name (kinds.Component c) other = refl
-no_disk_named name (kinds.Partition p) other = refl
-
-pub no_disk_with : (guid : ℕ) (r : Record) → ((d : Disk) → r ≡ kinds.Disk d → ⊥) → is_disk_with guid r ≡ false
-no_disk_with guid (kinds.Disk d) other = absurd (other d refl)
-no_disk_with guid (kinds.Group g) other = refl
-no_disk_with guid (kinds.Volume v) other = refl
-no_disk_with guid (kinds.Component c) other = refl
-no_disk_with guid (kinds.Partition p) other = refl
-
-pub no_child : (kind id : ℕ) (r : Record) → ((c : Component) → r ≡ kinds.Component c → ⊥) → ((p : Partition) → r ≡ kinds.Partition p → ⊥) → is_child kind id r ≡ false
-no_child kind id (kinds.Component c) other another = absurd (other c refl)
-no_child kind id (kinds.Partition p) other another = absurd (another p refl)
-no_child kind id (kinds.Group g) other another = refl
-no_child kind id (kinds.Disk d) other another = refl
-no_child kind id (kinds.Volume v) other another = refl

@@ -9,3 +9,4 @@ pub mod EqualLaws
 pub mod InOrder
 pub mod HitLaws
 pub mod KeyLaws
+pub mod UsedLaws

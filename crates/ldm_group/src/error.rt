@@ -2,7 +2,7 @@ use ldm_bytes::NoMemory;
 use std::alloc::AllocError;
 
 /// Why records make no database.
-#[derive(Clone, Copy, Debug, PartialEq, Eq)]
+#[derive(Clone, Copy, PartialEq, Eq)]
 pub enum DbError {
     /// Two records of this kind have this id. It is the least kind, and then the least id.
     SameId { kind: u8, id: u64 },

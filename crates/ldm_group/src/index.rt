@@ -1,13 +1,13 @@
-ghost use Rattle.std.specs.Prelude.{◌≡◌, ◌+◌, ◌<◌, ◌^◌, ℕ, List, Some, nat_eq, IfOk, OnOk};
-ghost use Rattle.indexmap.specs.IndexMap.{get, Updates};
+ghost use Rattle.std.specs.Prelude.{◌≡◌, ◌+◌, ◌<◌, ◌^◌, ℕ, List, Some, if◌then◌else◌, bytes_eq, nat_eq, length, take, OnOk};
+ghost use Rattle.std.specs.HashMap.{get, Updates};
 ghost use Rattle.ldm_group.specs.Hits.{hits, count_in, one_more, at_name, at_object};
 ghost use Rattle.ldm_group.specs.Looks.{is_at, is_child, is_disk_named, is_disk_with, is_volume_named};
 
 use crate::order::{id_of, kind_of};
-use indexmap::IndexMap;
 use ldm_bytes::NoMemory;
 use ldm_records::Record;
 use std::alloc::Global;
+use std::collections::HashMap;
 use std::hash::Hash;
 
 /// The records that have one key.
@@ -35,164 +35,196 @@ impl ObjectId {
 }
 
 /// What records are looked up by.
-#[derive(Drop)]
 pub struct Index {
     /// All records, by kind and id.
-    ids: IndexMap<ObjectId, Hits>,
+    ids: HashMap<ObjectId, Hits>,
     /// Volumes by their names.
-    volumes: IndexMap<Vec<u8>, Hits>,
+    volumes: HashMap<Vec<u8>, Hits>,
     /// Disks by their names.
-    disks: IndexMap<Vec<u8>, Hits>,
+    disks: HashMap<Vec<u8>, Hits>,
     /// Disks by their GUIDs.
-    guids: IndexMap<u128, Hits>,
+    guids: HashMap<u128, Hits>,
     /// Components by their volumes, and partitions by their components and by their disks.
-    children: IndexMap<ObjectId, Hits>,
+    children: HashMap<ObjectId, Hits>,
+}
+
+// By hand, so that a function that lets an index go has one step for all its maps.
+impl Drop for Index {
+    fn drop(self) {
+        let Index {
+            ids: _,
+            volumes: _,
+            disks: _,
+            guids: _,
+            children: _,
+        } = self;
+    }
+}
+
+// With one more record, at this place.
+fn one_more(found: Option<Hits>, at: usize) -> Hits
+    requires { count_in found + 1 < 2 ^ 64 }
+    ensures { result ≡ one_more found at }
+{
+    match found {
+        Some(hits) => Hits {
+            first: hits.first,
+            count: hits.count + 1,
+        },
+        None => Hits {
+            first: at,
+            count: 1,
+        },
+    }
 }
 
 // One more record, at this place, has the key.
-fn note<K: Eq + Hash + Drop>(map: &mut IndexMap<K, Hits>, key: K, at: usize) -> Result<(), NoMemory>
+fn note<K: Eq + Hash + Drop>(map: &mut HashMap<K, Hits>, key: K, at: usize) -> Result<(), NoMemory>
     requires { count_in (get K.eq map.old key) + 1 < 2 ^ 64 }
     ensures { OnOk result (Updates K.eq map.old map.new key (Some (one_more (get K.eq map.old key) at))) }
 {
-    let hits = map.entry(key)?.or_insert(Hits {
-        first: at,
-        count: 0,
-    });
-    hits.count += 1;
+    let hits = one_more(map.get(&key).copied(), at);
+    map.insert(key, hits)?;
     Ok(())
 }
 
-fn ids_of(alloc: Global, records: &[Record]) -> Result<IndexMap<ObjectId, Hits>, NoMemory>
-    ensures { IfOk result (λ m. (kind id : ℕ) → at_object m kind id ≡ hits (is_at kind id) records.now) }
+// The same of a name.
+fn note_name(
+    names: &mut HashMap<Vec<u8>, Hits>,
+    alloc: Global,
+    name: &[u8],
+    at: usize,
+) -> Result<(), NoMemory>
+    requires { count_in (at_name names.old name.now) + 1 < 2 ^ 64 }
+    ensures { OnOk result ((q : List ℕ) → at_name names.new q ≡ (if bytes_eq name.now q then Some (one_more (at_name names.old name.now) at) else at_name names.old q)) }
 {
-    let mut ids = IndexMap::with_capacity(alloc, records.len())?;
-    for (at, r) in records.iter().enumerate() {
-        note(&mut ids, ObjectId::new(kind_of(r), id_of(r)), at)?;
-    }
-    Ok(ids)
+    note(names, Vec::from_slice(alloc, name)?, at)
 }
 
-fn volumes_of(alloc: Global, records: &[Record]) -> Result<IndexMap<Vec<u8>, Hits>, NoMemory>
-    ensures { IfOk result (λ m. (name : List ℕ) → at_name m name ≡ hits (is_volume_named name) records.now) }
+// The record at a place, into a map that has those before it.
+fn note_id(ids: &mut HashMap<ObjectId, Hits>, records: &[Record], at: usize) -> Result<(), NoMemory>
+    requires within { at < length records.now }
+    requires before { (kind id : ℕ) → at_object ids.old kind id ≡ hits (is_at kind id) (take at records.now) }
+    ensures { OnOk result ((kind id : ℕ) → at_object ids.new kind id ≡ hits (is_at kind id) (take (at + 1) records.now)) }
 {
-    let mut volumes = IndexMap::new(alloc);
-    for (at, r) in records.iter().enumerate() {
-        if let Record::Volume(v) = r {
-            let name = Vec::from_slice(alloc, v.head.name.as_slice())?;
-            note(&mut volumes, name, at)?;
+    let r = &records[at];
+    note(ids, ObjectId::new(kind_of(r), id_of(r)), at)
+}
+
+fn note_volume(
+    volumes: &mut HashMap<Vec<u8>, Hits>,
+    alloc: Global,
+    records: &[Record],
+    at: usize,
+) -> Result<(), NoMemory>
+    requires within { at < length records.now }
+    requires before { (name : List ℕ) → at_name volumes.old name ≡ hits (is_volume_named name) (take at records.now) }
+    ensures { OnOk result ((name : List ℕ) → at_name volumes.new name ≡ hits (is_volume_named name) (take (at + 1) records.now)) }
+{
+    match &records[at] {
+        Record::Volume(v) => note_name(volumes, alloc, v.head.name.as_slice(), at),
+        _ => Ok(()),
+    }
+}
+
+fn note_disk(
+    disks: &mut HashMap<Vec<u8>, Hits>,
+    alloc: Global,
+    records: &[Record],
+    at: usize,
+) -> Result<(), NoMemory>
+    requires within { at < length records.now }
+    requires before { (name : List ℕ) → at_name disks.old name ≡ hits (is_disk_named name) (take at records.now) }
+    ensures { OnOk result ((name : List ℕ) → at_name disks.new name ≡ hits (is_disk_named name) (take (at + 1) records.now)) }
+{
+    match &records[at] {
+        Record::Disk(d) => note_name(disks, alloc, d.head.name.as_slice(), at),
+        _ => Ok(()),
+    }
+}
+
+fn note_guid(guids: &mut HashMap<u128, Hits>, records: &[Record], at: usize) -> Result<(), NoMemory>
+    requires within { at < length records.now }
+    requires before { (guid : ℕ) → get nat_eq guids.old guid ≡ hits (is_disk_with guid) (take at records.now) }
+    ensures { OnOk result ((guid : ℕ) → get nat_eq guids.new guid ≡ hits (is_disk_with guid) (take (at + 1) records.now)) }
+{
+    match &records[at] {
+        Record::Disk(d) => note(guids, d.guid, at),
+        _ => Ok(()),
+    }
+}
+
+fn note_child(
+    children: &mut HashMap<ObjectId, Hits>,
+    records: &[Record],
+    at: usize,
+) -> Result<(), NoMemory>
+    requires within { at < length records.now }
+    requires before { (kind id : ℕ) → at_object children.old kind id ≡ hits (is_child kind id) (take at records.now) }
+    ensures { OnOk result ((kind id : ℕ) → at_object children.new kind id ≡ hits (is_child kind id) (take (at + 1) records.now)) }
+{
+    match &records[at] {
+        Record::Component(c) => note(children, ObjectId::new(3, c.parent), at),
+        Record::Partition(p) => {
+            note(children, ObjectId::new(4, p.parent), at)?;
+            note(children, ObjectId::new(2, p.disk), at)
         }
-    }
-    Ok(volumes)
-}
-
-fn disks_of(alloc: Global, records: &[Record]) -> Result<IndexMap<Vec<u8>, Hits>, NoMemory>
-    ensures { IfOk result (λ m. (name : List ℕ) → at_name m name ≡ hits (is_disk_named name) records.now) }
-{
-    let mut disks = IndexMap::new(alloc);
-    for (at, r) in records.iter().enumerate() {
-        if let Record::Disk(d) = r {
-            let name = Vec::from_slice(alloc, d.head.name.as_slice())?;
-            note(&mut disks, name, at)?;
-        }
-    }
-    Ok(disks)
-}
-
-fn guids_of(alloc: Global, records: &[Record]) -> Result<IndexMap<u128, Hits>, NoMemory>
-    ensures { IfOk result (λ m. (guid : ℕ) → get nat_eq m guid ≡ hits (is_disk_with guid) records.now) }
-{
-    let mut guids = IndexMap::new(alloc);
-    for (at, r) in records.iter().enumerate() {
-        if let Record::Disk(d) = r {
-            note(&mut guids, d.guid, at)?;
-        }
-    }
-    Ok(guids)
-}
-
-fn children_of(alloc: Global, records: &[Record]) -> Result<IndexMap<ObjectId, Hits>, NoMemory>
-    ensures { IfOk result (λ m. (kind id : ℕ) → at_object m kind id ≡ hits (is_child kind id) records.now) }
-{
-    let mut children = IndexMap::with_capacity(alloc, records.len())?;
-    for (at, r) in records.iter().enumerate() {
-        match r {
-            Record::Component(c) => {
-                note(&mut children, ObjectId::new(3, c.parent), at)?;
-            }
-            Record::Partition(p) => {
-                note(&mut children, ObjectId::new(4, p.parent), at)?;
-                note(&mut children, ObjectId::new(2, p.disk), at)?;
-            }
-            _ => {}
-        }
-    }
-    Ok(children)
-}
-
-// The maps by objects.
-#[derive(Drop)]
-struct Objects {
-    ids: IndexMap<ObjectId, Hits>,
-    children: IndexMap<ObjectId, Hits>,
-}
-
-impl Objects {
-    fn of(alloc: Global, records: &[Record]) -> Result<Objects, NoMemory>
-        ensures ids { IfOk result (λ objects. (kind id : ℕ) → at_object objects.ids kind id ≡ hits (is_at kind id) records.now) }
-        ensures children { IfOk result (λ objects. (kind id : ℕ) → at_object objects.children kind id ≡ hits (is_child kind id) records.now) }
-    {
-        let ids = ids_of(alloc, records)?;
-        Ok(Objects {
-            ids,
-            children: children_of(alloc, records)?,
-        })
-    }
-}
-
-// The maps by names and GUIDs.
-#[derive(Drop)]
-struct Names {
-    volumes: IndexMap<Vec<u8>, Hits>,
-    disks: IndexMap<Vec<u8>, Hits>,
-    guids: IndexMap<u128, Hits>,
-}
-
-impl Names {
-    fn of(alloc: Global, records: &[Record]) -> Result<Names, NoMemory>
-        ensures volumes { IfOk result (λ names. (name : List ℕ) → at_name names.volumes name ≡ hits (is_volume_named name) records.now) }
-        ensures disks { IfOk result (λ names. (name : List ℕ) → at_name names.disks name ≡ hits (is_disk_named name) records.now) }
-        ensures guids { IfOk result (λ names. (guid : ℕ) → get nat_eq names.guids guid ≡ hits (is_disk_with guid) records.now) }
-    {
-        let volumes = volumes_of(alloc, records)?;
-        let disks = disks_of(alloc, records)?;
-        Ok(Names {
-            volumes,
-            disks,
-            guids: guids_of(alloc, records)?,
-        })
+        _ => Ok(()),
     }
 }
 
 impl Index {
-    ghost use Rattle.std.specs.Prelude.{◌≡◌, List, IfOk};
+    ghost use Rattle.std.specs.Prelude.{◌≡◌, ◌+◌, ◌<◌, List, [], length, take, IfOk, OnOk};
     ghost use Rattle.ldm_records.specs.declared.types.Record.{Record};
     ghost use Rattle.ldm_group.specs.Hits.{hits};
     ghost use Rattle.ldm_group.specs.Index.{IsIndexOf};
     ghost use Rattle.ldm_group.specs.Looks.{is_at, is_child, is_disk_named, is_disk_with, is_volume_named};
 
+    // The index of no records, with room for so many.
+    fn with_room(alloc: Global, records: usize) -> Result<Index, NoMemory>
+        ensures { IfOk result (λ index. IsIndexOf index []) }
+    {
+        let ids = HashMap::with_capacity(alloc, records)?;
+        let children = HashMap::with_capacity(alloc, records)?;
+        Ok(Index {
+            ids,
+            volumes: HashMap::new(alloc),
+            disks: HashMap::new(alloc),
+            guids: HashMap::new(alloc),
+            children,
+        })
+    }
+
+    // The record at a place, into the index of those before it.
+    fn note(&mut self, alloc: Global, records: &[Record], at: usize) -> Result<(), NoMemory>
+        requires within { at < length records.now }
+        requires before { IsIndexOf self.old (take at records.now) }
+        ensures { OnOk result (IsIndexOf self.new (take (at + 1) records.now)) }
+    {
+        note_id(&mut self.ids, records, at)?;
+        note_volume(&mut self.volumes, alloc, records, at)?;
+        note_disk(&mut self.disks, alloc, records, at)?;
+        note_guid(&mut self.guids, records, at)?;
+        note_child(&mut self.children, records, at)
+    }
+
+    fn note_all(&mut self, alloc: Global, records: &[Record]) -> Result<(), NoMemory>
+        requires { IsIndexOf self.old [] }
+        ensures { OnOk result (IsIndexOf self.new records.now) }
+    {
+        for at in 0..records.len() {
+            self.note(alloc, records, at)?;
+        }
+        Ok(())
+    }
+
     /// The index of these records.
     pub fn of(alloc: Global, records: &[Record]) -> Result<Index, NoMemory>
         ensures { IfOk result (λ index. IsIndexOf index records.now) }
     {
-        let objects = Objects::of(alloc, records)?;
-        let names = Names::of(alloc, records)?;
-        Ok(Index {
-            ids: objects.ids,
-            volumes: names.volumes,
-            disks: names.disks,
-            guids: names.guids,
-            children: objects.children,
-        })
+        let mut index = Index::with_room(alloc, records.len())?;
+        index.note_all(alloc, records)?;
+        Ok(index)
     }
 
     /// The record of this kind and id.

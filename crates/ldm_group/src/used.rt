@@ -15,7 +15,8 @@ pub fn used_sectors(alloc: Global, records: &[Record]) -> Result<HashMap<u64, u1
     let mut used = HashMap::new(alloc);
     for r in records {
         if let Record::Partition(p) = r {
-            *used.entry(p.disk)?.or_insert(0) += u128::from(p.size);
+            let sectors = used_of(&used, p.disk) + u128::from(p.size);
+            used.insert(p.disk, sectors)?;
         }
     }
     Ok(used)

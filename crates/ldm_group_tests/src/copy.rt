@@ -124,9 +124,9 @@ const FAULTS: [(CopyFault, [Change; 2]); 6] = [
 
 #[test]
 fn first_faults(rt: HostRuntime) -> Result<(), Fail> {
-    for (fault, changes) in &FAULTS {
+    for (row, (fault, changes)) in FAULTS.iter().enumerate() {
         let error = error_with(rt.alloc(), changes, &[])?;
-        assert!(rt; error == Some(CopyError::Fault(*fault)), "{fault:?}");
+        assert!(rt; error == Some(CopyError::Fault(*fault)), "row {row}");
     }
     Ok(())
 }

@@ -4,12 +4,12 @@ use ldm_host::MemoryHost;
 use ldm_payloads::read_record;
 use ldm_records::Record;
 use ldm_vectors::sample_images;
-use ldm_vmdb::{Header, VmdbError, read_header};
+use ldm_vmdb::{Header, read_header};
 use std::alloc::Global;
 use std::test::Fail;
 
 // The header of a group `Dg0` at sequence 0.
-fn header(alloc: Global, last: u32) -> Result<Header, VmdbError> {
+fn header(alloc: Global, last: u32) -> Result<Header, Fail> {
     let mut sector = [0u8; 512];
     put_bytes(&mut sector, 0, b"VMDB");
     put_u32(&mut sector, 0x04, last);
@@ -20,7 +20,7 @@ fn header(alloc: Global, last: u32) -> Result<Header, VmdbError> {
     put_u16(&mut sector, 0x14, 10);
     put_bytes(&mut sector, 0x16, b"Dg0");
     put_bytes(&mut sector, 0x35, b"aaaaaaaa-aaaa-aaaa-aaaa-aaaaaaaaaaaa");
-    read_header(alloc, &sector, 1481)
+    read_header(alloc, &sector, 1481).map_err(|_| Fail::from("no header"))
 }
 
 // A start of 255 stands for 2^64 - 1, and 254 for 2^64 - 2.
@@ -104,7 +104,8 @@ pub(crate) fn row_of(word: &str) -> Row {
 fn records_of(alloc: Global, text: &str) -> Result<Vec<Record>, Fail> {
     let mut records = Vec::new(alloc);
     for word in text.split_whitespace() {
-        records.push(read_record(alloc, &payload_of(&row_of(word)))?)?;
+        let record = read_record(alloc, &payload_of(&row_of(word)));
+        records.push(record.map_err(|_| Fail::from("no record"))?)?;
     }
     Ok(records)
 }
@@ -112,7 +113,7 @@ fn records_of(alloc: Global, text: &str) -> Result<Vec<Record>, Fail> {
 // The database of the records of a text.
 pub(crate) fn database(alloc: Global, last: u32, text: &str) -> Result<Db, Fail> {
     let records = records_of(alloc, text)?;
-    Ok(Db::new(alloc, header(alloc, last)?, records)?)
+    Db::new(alloc, header(alloc, last)?, records).map_err(|_| Fail::from("no database"))
 }
 
 // Why there is no database of the records of a text, if there is none.

@@ -1,38 +1,18 @@
 -- How a call ends, from what its steps did.
-use Rattle.std.proofs.Common.{◌≡◌, ℕ, List, Bool, true, false, not, ◌||◌, ◌&&◌, IsTrue, IsFalse, if◌then◌else◌, is_err, OnOk, OnErr, Result, Ok, Err, refl, sym, ◌∙◌, ap, subst}
+use Rattle.std.proofs.Common.{◌≡◌, inl, inr, ℕ, ◌-◌, ◌^◌, Bool, true, false, not, ◌||◌, ◌&&◌, ◌↔◌, IsTrue, IsFalse, if◌then◌else◌, is_ok, IfOk, IsErr, OnOk, OnErr, Result, Ok, Err, refl, sym, ◌∙◌, ap, subst, arith}
+use Rattle.std.specs.Result.{result_and}
+use Rattle.std.proofs.lemmas.Bool.{cases_lt}
 use Rattle.ldm_host.specs.Seen.{Seen}
-use Rattle.ldm_host.specs.Moves.{Still, Quiet}
+use Rattle.ldm_host.specs.Moves.{Rose}
 use Rattle.ldm_host.specs.Acts.{Act}
 use Rattle.ldm_host.specs.declared.memory.MemoryHost.{MemoryHost}
 use Rattle.ldm_host.specs.declared.outcome.Outcome.{Outcome}
 use Rattle.ldm_host.specs.declared.outcome.Outcome.TheVariants.{Whole, Half, Nothing}
 use Rattle.ldm_host.specs.Plan.{Plan, next, next_plan, is_past, is_chosen, outcome_of}
-use Rattle.ldm_host.specs.Memory.{memory_seen, plan_of, CountsFault}
-use Rattle.ldm_host.specs.Ending.{Ends, Pends, TakesNothing, TakesHalf, takes_half, is_talk, is_read}
-use Rattle.ldm_host.proofs.Relations.{iff_trans, quiet_trans}
-
--- a call that changes no disk and nothing of the talk takes nothing
-pub nothing_of : (a b : Seen) → Still a b → Quiet a b → TakesNothing a b
-nothing_of a b still quiet = record { content = still.content; left = still.left; quiet = quiet }
-
-pub nothing_still : (a b c : Seen) → TakesNothing a b → Still b c → Quiet b c → TakesNothing a c
-nothing_still a b c first still quiet = record {
-  content = still.content ∙ first.content;
-  left = λ disk x. iff_trans (a.may_leave disk x) (b.may_leave disk x) (c.may_leave disk x) (first.left disk x) (still.left disk x);
-  quiet = quiet_trans a b c first.quiet quiet;
-}
-
--- a write, and then calls that change no disk
-pub pends_still : (disk at : ℕ) (bytes : List ℕ) (a b c : Seen) → Pends (Act.Write disk at bytes) a b → Still b c → Pends (Act.Write disk at bytes) a c
-pends_still disk at bytes a b c pending still before after was torn are = (still.left disk after).1 (pending before after was torn are)
-
-pub on_ok : {T E : Type 0} (P : Type 0) (r : Result T E) → OnOk r P → IsFalse (is_err r) → P
-on_ok P (Ok x) is found = is
-on_ok P (Err e) is found = absurd (cc found)
-
-pub on_err : {T E : Type 0} (P : Type 0) (r : Result T E) → OnErr r P → IsTrue (is_err r) → P
-on_err P (Ok x) is failed = absurd (cc failed)
-on_err P (Err e) is failed = is
+use Rattle.ldm_host.specs.Memory.{memory_seen, plan_of}
+use Rattle.ldm_host.specs.Ending.{Ends, Pends, TakesNothing, TakesHalf, is_talk, is_read}
+use Rattle.ldm_host.specs.Steps.{is_whole}
+use Rattle.ldm_host.proofs.Done.{Took}
 
 -- the plan with this number of the last call
 abbrev numbered : MemoryHost → ℕ → Plan
@@ -42,137 +22,102 @@ pub plan_is : (m : MemoryHost) (now : ℕ) → now ≡ next m.number → numbere
 plan_is m now is = ap (λ (n : ℕ). numbered m n) is
 
 -- the outcome of a call, by the plan before it
-pub outcome_is : (m : MemoryHost) (given : List ℕ) (now : ℕ) (outcome : Outcome) → outcome ≡ outcome_of (record { number = now; chosen = given; stop = m.stop })
-    → given ≡ m.chosen.items → now ≡ next m.number → outcome_of (next_plan (plan_of m)) ≡ outcome
-outcome_is m given now outcome is same count =
-    sym (is ∙ ap (λ (l : List ℕ). outcome_of (record { number = now; chosen = l; stop = m.stop })) same ∙ ap (λ (n : ℕ). outcome_of (numbered m n)) count)
+pub outcome_is : (m : MemoryHost) (now : ℕ) (outcome : Outcome) → outcome ≡ outcome_of (numbered m now) → now ≡ next m.number → outcome_of (next_plan (plan_of m)) ≡ outcome
+outcome_is m now outcome is count = sym (is ∙ ap (λ (n : ℕ). outcome_of (numbered m n)) count)
 
 -- an outcome, by its two tests
 abbrev pick : Bool → Bool → Outcome
 pick past chosen = if past then Nothing else if chosen then Half else Whole
 
-whole : (past chosen : Bool) → pick past chosen ≡ Whole → (past ≡ false) × (chosen ≡ false)
-whole true chosen is = absurd (cc is)
-whole false true is = absurd (cc is)
-whole false false is = (refl, refl)
+pub on_ok : {T E : Type 0} (P : Type 0) (r : Result T E) → (is_ok r ≡ true → P) → OnOk r P
+on_ok P (Ok x) is = is refl
+on_ok P (Err e) is = tt
 
-halved : (past chosen : Bool) → pick past chosen ≡ Half → (past ≡ false) × (chosen ≡ true)
-halved true chosen is = absurd (cc is)
-halved false true is = (refl, refl)
-halved false false is = absurd (cc is)
+pub on_err : {T E : Type 0} (P : Type 0) (r : Result T E) → (is_ok r ≡ false → P) → OnErr r P
+on_err P (Ok x) is = tt
+on_err P (Err e) is = is refl
 
-past_stop : (past chosen : Bool) → pick past chosen ≡ Nothing → past ≡ true
-past_stop true chosen is = refl
-past_stop false true is = absurd (cc is)
-past_stop false false is = absurd (cc is)
+pub from_err : {T E : Type 0} (P : Type 0) (r : Result T E) → OnErr r P → is_ok r ≡ false → P
+from_err P (Ok x) is failed = absurd (cc failed)
+from_err P (Err e) is failed = is
 
-not_whole : (past chosen dry : Bool) → (pick past chosen ≡ Whole → ⊥) → IsTrue (past || chosen || dry)
-not_whole true chosen dry is = refl
-not_whole false true dry is = refl
-not_whole false false dry is = absurd (is refl)
+pub is_failed : {T E : Type 0} (r : Result T E) → IsErr r → is_ok r ≡ false
+is_failed (Ok x) failed = absurd (cc failed)
+is_failed (Err e) failed = refl
 
-some_dry : (past chosen : Bool) → IsTrue (past || chosen || true)
-some_dry true chosen = refl
-some_dry false true = refl
-some_dry false false = refl
+-- a call fails where it was to fail, or found no memory
+fails : (past chosen found : Bool) → IsFalse (is_whole (pick past chosen) && found) ↔ IsTrue (past || chosen || not found)
+fails true chosen found = (λ f. refl, λ t. refl)
+fails false true found = (λ f. refl, λ t. refl)
+fails false false true = (λ f. absurd (cc f), λ t. absurd (cc t))
+fails false false false = (λ f. refl, λ t. refl)
 
-none_past : (chosen dry : Bool) → chosen && not (true || dry) ≡ false
-none_past true dry = refl
-none_past false dry = refl
+-- what it took, by the tests of its outcome
+record Parts (act : Act) (ok half : Bool) (old new : Seen) : Type 0 where
+  pending : IsTrue (ok || half) → Pends act old new
+  took_half : IsFalse ok → IsTrue half → TakesHalf act old new
+  took_nothing : IsFalse ok → IsFalse half → TakesNothing old new
 
-not_both : (b : Bool) → IsTrue b → IsFalse b → ⊥
-not_both b one other = cc (one, other)
+parts : (act : Act) (old new : Seen) (past chosen found : Bool) → Took act (pick past chosen) found old new → Parts act (is_whole (pick past chosen) && found) (chosen && not (past || not found)) old new
+parts act old new true true true took = record { pending = λ t. absurd (cc t); took_half = λ f t. absurd (cc t); took_nothing = λ f n. took }
+parts act old new true false true took = record { pending = λ t. absurd (cc t); took_half = λ f t. absurd (cc t); took_nothing = λ f n. took }
+parts act old new true true false took = record { pending = λ t. absurd (cc t); took_half = λ f t. absurd (cc t); took_nothing = λ f n. took }
+parts act old new true false false took = record { pending = λ t. absurd (cc t); took_half = λ f t. absurd (cc t); took_nothing = λ f n. took }
+parts act old new false true true took = record { pending = λ t. took.1; took_half = λ f t. took.0; took_nothing = λ f n. absurd (cc n) }
+parts act old new false true false took = record { pending = λ t. absurd (cc t); took_half = λ f t. absurd (cc t); took_nothing = λ f n. took }
+parts act old new false false true took = record { pending = λ t. took; took_half = λ f t. absurd (cc f); took_nothing = λ f n. absurd (cc f) }
+parts act old new false false false took = record { pending = λ t. absurd (cc t); took_half = λ f t. absurd (cc t); took_nothing = λ f n. took }
 
-not_true : (b : Bool) → IsTrue (not b) → IsFalse b
-not_true true is = absurd (cc is)
-not_true false is = refl
+-- a count of failures of the other kind stays
+pub kept_count : (ok : Bool) (count : ℕ) → count ≡ (if ok || true then count else next count)
+kept_count true count = refl
+kept_count false count = refl
 
-not_false : (b : Bool) → IsFalse (not b) → IsTrue b
-not_false true is = refl
-not_false false is = absurd (cc is)
+pub failed_count : (ok : Bool) (old new : ℕ) → new ≡ (if ok then old else next old) → new ≡ (if ok || false then old else next old)
+failed_count true old new is = is
+failed_count false old new is = is
 
-module _ (act : Act) (old new : MemoryHost) (plan : plan_of new ≡ next_plan (plan_of old)) where
-  abbrev called : Plan
-  called = next_plan (plan_of old)
+pub rose : (ok : Bool) (old new : ℕ) → new ≡ (if ok then old else next old) → ok ≡ false → Rose old new
+rose true old new is failed = absurd (cc failed)
+rose false old new is failed = elim (cases_lt old (2 ^ 64 - 1)) [ inl lt ↦ inl (omega arith) | inr ge ↦ inr (omega arith) ]
 
-  pub ends_ok : outcome_of called ≡ Whole → new.disk_faults ≡ old.disk_faults → new.talk_faults ≡ old.talk_faults → new.dry ≡ old.dry → Pends act (memory_seen old) (memory_seen new) → Ends act old new true
-  ends_ok is disk talk dry pending = record {
-    ran_dry = false;
+module _ (act : Act) (m new : MemoryHost) (outcome : Outcome) (found ok : Bool) (plan : plan_of new ≡ next_plan (plan_of m)) where
+  abbrev p : Plan
+  p = plan_of new
+
+  pub ends : outcome_of (next_plan (plan_of m)) ≡ outcome → ok ≡ is_whole outcome && found → (IsTrue (is_read act) → IsTrue found)
+      → new.disk_faults ≡ (if ok || is_talk act then m.disk_faults else next m.disk_faults) → new.talk_faults ≡ (if ok || not (is_talk act) then m.talk_faults else next m.talk_faults)
+      → new.dry ≡ (if not found then next m.dry else m.dry) → Took act outcome found (memory_seen m) (memory_seen new) → Ends act m new ok
+  ends is ok_is read disk talk dry took = record {
+    ran_dry = not found;
     plan = plan;
-    fails = (λ failed. absurd (cc failed), λ why. absurd (none (subst (λ (p : Plan). IsTrue (is_past p || is_chosen p || false)) plan why)));
+    fails = subst (λ (b : Bool). IsFalse b ↔ IsTrue (is_past p || is_chosen p || not found)) (sym ok_by) (fails (is_past p) (is_chosen p) found);
     dry = dry;
-    read = λ is. refl;
+    read = λ reads. ap not (read reads);
     disk_faults = disk;
     talk_faults = talk;
-    pending = λ is. pending;
-    took_half = λ failed. absurd (cc failed);
-    took_nothing = λ failed. absurd (cc failed);
+    pending = by_parts.pending;
+    took_half = by_parts.took_half;
+    took_nothing = by_parts.took_nothing;
   }
     where
-      neither : (past chosen : Bool) → (past ≡ false) × (chosen ≡ false) → IsTrue (past || chosen || false) → ⊥
-      neither true chosen is why = cc is.0
-      neither false true is why = cc is.1
-      neither false false is why = cc why
+      picked : pick (is_past p) (is_chosen p) ≡ outcome
+      picked = subst (λ (q : Plan). outcome_of q ≡ outcome) (sym plan) is
 
-      none : IsTrue (is_past called || is_chosen called || false) → ⊥
-      none = neither (is_past called) (is_chosen called) (whole (is_past called) (is_chosen called) is)
+      ok_by : ok ≡ is_whole (pick (is_past p) (is_chosen p)) && found
+      ok_by = ok_is ∙ ap (λ (o : Outcome). is_whole o && found) (sym picked)
 
-module _ (act : Act) (old mid new : MemoryHost) (ran_dry : Bool) (plan : plan_of mid ≡ next_plan (plan_of old))
-    (disk : mid.disk_faults ≡ old.disk_faults) (talk : mid.talk_faults ≡ old.talk_faults) (dry : mid.dry ≡ old.dry)
-    (fault : CountsFault (is_talk act) ran_dry mid new) (read : IsTrue (is_read act) → IsFalse ran_dry) where
-  abbrev call : Plan
-  call = next_plan (plan_of old)
+      by_parts : Parts act ok (is_chosen p && not (is_past p || not found)) (memory_seen m) (memory_seen new)
+      by_parts = subst (λ (b : Bool). Parts act b (is_chosen p && not (is_past p || not found)) (memory_seen m) (memory_seen new)) (sym ok_by)
+          (parts act (memory_seen m) (memory_seen new) (is_past p) (is_chosen p) found (subst (λ (o : Outcome). Took act o found (memory_seen m) (memory_seen new)) (sym picked) took))
 
-  counted : plan_of new ≡ call
-  counted = fault.plan ∙ plan
+-- the result of a step, where the call didn't fail
+pub and_ok : {T U E : Type 0} (r : Result U E) (step : Result T E) (outcome : Outcome) → is_ok r ≡ is_whole outcome && is_ok step → is_ok (result_and r step) ≡ is_ok r
+and_ok (Err e) step outcome ok = refl
+and_ok (Ok x) step Whole ok = sym ok
+and_ok (Ok x) step Half ok = absurd (cc ok)
+and_ok (Ok x) step Nothing ok = absurd (cc ok)
 
-  ends : IsTrue (is_past call || is_chosen call || ran_dry) → (IsTrue (takes_half call ran_dry) → TakesHalf act (memory_seen old) (memory_seen new) × Pends act (memory_seen old) (memory_seen new))
-      → (IsFalse (takes_half call ran_dry) → TakesNothing (memory_seen old) (memory_seen new)) → Ends act old new false
-  ends why half nothing = record {
-    ran_dry = ran_dry;
-    plan = counted;
-    fails = (λ failed. subst (λ (p : Plan). IsTrue (is_past p || is_chosen p || ran_dry)) (sym counted) why, λ cause. refl);
-    dry = fault.dry_is ∙ ap (λ (n : ℕ). if ran_dry then next n else n) dry;
-    read = read;
-    disk_faults = fault.disk_faults ∙ ap (λ (n : ℕ). if is_talk act then n else next n) disk;
-    talk_faults = fault.talk_faults ∙ ap (λ (n : ℕ). if not (is_talk act) then n else next n) talk;
-    pending = λ is. (half (subst (λ (p : Plan). IsTrue (takes_half p ran_dry)) counted is)).1;
-    took_half = λ failed is. (half (subst (λ (p : Plan). IsTrue (takes_half p ran_dry)) counted is)).0;
-    took_nothing = λ failed is. nothing (subst (λ (p : Plan). IsFalse (takes_half p ran_dry)) counted is);
-  }
-
-  -- a call that found no memory, and wasn't to fail
-  pub ends_dry : outcome_of call ≡ Whole → IsTrue ran_dry → TakesNothing (memory_seen old) (memory_seen new) → Ends act old new false
-  ends_dry is ran nothing = ends
-      (subst (λ (b : Bool). IsTrue (is_past call || is_chosen call || b)) (sym ran) (some_dry (is_past call) (is_chosen call)))
-      (λ half. absurd (not_both (takes_half call ran_dry) half (ap (λ (b : Bool). b && not (is_past call || ran_dry)) (whole (is_past call) (is_chosen call) is).1)))
-      (λ other. nothing)
-
-  -- a call that was chosen to fail, and takes half where it finds memory
-  pub ends_half : outcome_of call ≡ Half → (IsFalse ran_dry → TakesHalf act (memory_seen old) (memory_seen new) × Pends act (memory_seen old) (memory_seen new)) → (IsTrue ran_dry → TakesNothing (memory_seen old) (memory_seen new))
-      → Ends act old new false
-  ends_half is half nothing = ends
-      (subst (λ (b : Bool). IsTrue (is_past call || b || ran_dry)) (sym tests.1) (subst (λ (b : Bool). IsTrue (b || true || ran_dry)) (sym tests.0) refl))
-      (λ is. half (not_true ran_dry (sym here ∙ is)))
-      (λ is. nothing (not_false ran_dry (sym here ∙ is)))
-    where
-      tests : (is_past call ≡ false) × (is_chosen call ≡ true)
-      tests = halved (is_past call) (is_chosen call) is
-
-      here : takes_half call ran_dry ≡ not ran_dry
-      here = ap (λ (b : Bool). b && not (is_past call || ran_dry)) tests.1 ∙ ap (λ (b : Bool). not (b || ran_dry)) tests.0
-
-  -- a call past the stop
-  pub ends_past : outcome_of call ≡ Nothing → TakesNothing (memory_seen old) (memory_seen new) → Ends act old new false
-  ends_past is nothing = ends
-      (subst (λ (b : Bool). IsTrue (b || is_chosen call || ran_dry)) (sym past) refl)
-      (λ half. absurd (not_both (takes_half call ran_dry) half (ap (λ (b : Bool). is_chosen call && not (b || ran_dry)) past ∙ none_past (is_chosen call) ran_dry)))
-      (λ other. nothing)
-    where
-      past : is_past call ≡ true
-      past = past_stop (is_past call) (is_chosen call) is
-
-  -- a call that was to fail, and takes nothing anyway
-  pub ends_nothing : (outcome_of call ≡ Whole → ⊥) → (TakesNothing (memory_seen old) (memory_seen new) → TakesHalf act (memory_seen old) (memory_seen new) × Pends act (memory_seen old) (memory_seen new))
-      → TakesNothing (memory_seen old) (memory_seen new) → Ends act old new false
-  ends_nothing is same nothing = ends (not_whole (is_past call) (is_chosen call) ran_dry is) (λ half. same nothing) (λ other. nothing)
+pub if_both : {T U E : Type 0} (P : T → Type 0) (r : Result U E) (step : Result T E) → (is_ok r ≡ true → IfOk step P) → IfOk (result_and r step) P
+if_both P (Ok x) step is = is refl
+if_both P (Err e) step is = tt

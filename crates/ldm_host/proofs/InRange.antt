@@ -4,8 +4,8 @@ use Rattle.std.proofs.lemmas.List.{length-map}
 use Rattle.std.specs.declared.alloc.Global.{Global}
 use Rattle.ldm_host.specs.Seen.{image}
 use Rattle.ldm_host.specs.Images.{items_of}
-use Rattle.ldm_host.specs.Story.{Disk, contents, sizes_of}
-use Rattle.ldm_host.specs.StoryLaws.{size_at, one_each}
+use Rattle.ldm_host.specs.Story.{Disk, contents, disk_at, sizes_of}
+use Rattle.ldm_host.specs.StoryLaws.{image_at, size_at, one_each}
 
 module _ (now : List (Vec ℕ Global)) (disks : List Disk) (is : items_of now ≡ contents disks) (disk : ℕ) (lt : disk < length (sizes_of disks)) where
   pub image_is : image (items_of now) disk ≡ image (contents disks) disk
@@ -19,3 +19,6 @@ module _ (now : List (Vec ℕ Global)) (disks : List Disk) (is : items_of now �
 
   pub fits : (at n : ℕ) → at + n ≤ 512 * slice_index (sizes_of disks) disk → at + n ≤ length (image (items_of now) disk)
   fits at n le = omega (arith, le, size_is)
+
+pub fits_disk : (disks : List Disk) (disk at n : ℕ) → at + n ≤ 512 * slice_index (sizes_of disks) disk → at + n ≤ length (disk_at disks disk).content
+fits_disk disks disk at n le = omega (arith, le, size_at disks disk, ap length (image_at disks disk))

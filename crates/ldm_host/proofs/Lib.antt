@@ -12,5 +12,7 @@ mod Ranges
 mod StillKept
 pub mod Endings
 mod EachStep
+mod Added
+mod Done
 mod Fresh
 mod Vectors

@@ -4,7 +4,7 @@ use Rattle.std.proofs.lemmas.List.{get_or-set_same, get_or-set_other, length-set
 use Rattle.std.proofs.lemmas.Bool.{cases_eq}
 use Rattle.ldm_host.specs.Seen.{Seen, Leaves, image}
 use Rattle.ldm_host.specs.StoryLaws.{begins_itself, begins_both}
-use Rattle.ldm_host.specs.Moves.{Rose, Begins, Torn, TornAt, Later, Quiet, Still, Writes, Syncs, Settled, Settles, Ticks}
+use Rattle.ldm_host.specs.Moves.{Rose, Begins, Torn, TornAt, Later, Quiet, Still, Writes, Syncs, Settled, Settles}
 
 pub rose_later : (a b c : ℕ) → Rose a b → b ≤ c → Rose a c
 rose_later a b c (inl less) le = inl (omega arith)
@@ -183,31 +183,6 @@ writes_syncs disk at n a b c in_range first second = record {
   moments = moments_trans a b c (λ images said. (before : List (List ℕ)) × Leaves a before × TornAt disk at n before images × (said ≡ a.said)) first.later second.later
       first.moments
       (λ images said left. let m = second.moments images said left in let from = torn_from disk at n a b in_range first.later.sizes first.left (λ other x ne. (first.left_others other x ne).0) images m.0 in (from.0, from.1, from.2, m.1 ∙ first.quiet.said));
-}
-
--- calls that change no disk and nothing of the talk, behind other calls
-pub ticks_still : (a b c : Seen) → Ticks a b → Still b c → Quiet b c → Ticks a c
-ticks_still a b c first second quiet = record {
-  rises = ⊎_elim
-      (λ less. inl (omega (arith, less, second.later.clock)))
-      (λ same. inr ((λ disk x. iff_trans (a.may_leave disk x) (b.may_leave disk x) (c.may_leave disk x) (same.0 disk x) (second.left disk x)), quiet.input ∙ same.1, quiet.said ∙ same.2))
-      first.rises;
-}
-
-pub writes_still : (disk at n : ℕ) (a b c : Seen) → disk < length a.sizes → Writes disk at n a b → Still b c → Quiet b c → Writes disk at n a c
-writes_still disk at n a b c in_range first second quiet = writes_syncs disk at n a b c in_range first (still_syncs disk b c second quiet)
-
-pub syncs_still : (disk : ℕ) (a b c : Seen) → Syncs disk a b → Still b c → Quiet b c → Syncs disk a c
-syncs_still disk a b c first second quiet = record {
-  later = later_trans a b c first.later second.later;
-  quiet = quiet_trans a b c first.quiet quiet;
-  content = second.content ∙ first.content;
-  wrote = second.wrote ∙ first.wrote;
-  left = λ x left. first.left x ((second.left disk x).0 left);
-  left_others = λ other x ne. iff_trans (a.may_leave other x) (b.may_leave other x) (c.may_leave other x) (first.left_others other x ne) (second.left other x);
-  moments = moments_trans a b c (λ images said. Leaves a images × (said ≡ a.said)) first.later second.later
-      first.moments
-      (λ images said left. let m = second.moments images said left in (leaves_syncs disk a b images first m.0, begins_both b.said said m.1 (subst (λ (l : List ℕ). Begins said l) quiet.said m.2) ∙ first.quiet.said));
 }
 
 pub leaves_settles : (a b : Seen) (images : List (List ℕ)) → Settles a b → Leaves b images → Leaves a images

@@ -9,5 +9,6 @@ pub mod StoryLaws
 pub mod Kept
 pub mod Memory
 pub mod Ending
+pub mod Steps
 pub mod Left
 pub mod Laws

@@ -6,7 +6,7 @@ ghost use Rattle.ldm_host.specs.Moves.{Rose, Still, Quiet, Writes, Syncs, Settle
 ghost use Rattle.ldm_host.specs.Acts.{Act};
 
 /// A call of a host failed.
-#[derive(Clone, Copy, Debug, PartialEq, Eq)]
+#[derive(Clone, Copy, PartialEq, Eq)]
 pub struct Failed;
 
 /// The disks of a group, standard input and standard output.

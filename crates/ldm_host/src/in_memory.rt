@@ -1,5 +1,6 @@
 // A host in memory is a host that tells everything.
-use crate::outcome::{Outcome, next_outcome, read_bytes};
+use crate::outcome::{hand, next_outcome, read_in};
+use crate::steps::{end_call, hear_part, say_part, sync_part, write_part};
 use crate::{Failed, Host, MemoryHost};
 
 impl Host for MemoryHost {
@@ -45,65 +46,41 @@ impl Host for MemoryHost {
     }
 
     fn read_at(&mut self, disk: usize, at: u64, buf: &mut [u8]) -> Result<(), Failed> {
-        match next_outcome(&self.chosen, self.stop, &mut self.number) {
-            Outcome::Whole => {
-                read_bytes(&self.held[disk], at as usize, buf);
-                Ok(())
-            }
-            _ => Err(self.count_disk(false)),
-        }
+        let outcome = next_outcome(&self.chosen, self.stop, &mut self.number);
+        read_in(&self.held, outcome, disk, at as usize, buf);
+        end_call(outcome, true, &mut self.disk_faults, &mut self.dry)
     }
 
     fn write_at(&mut self, disk: usize, at: u64, bytes: &[u8]) -> Result<(), Failed> {
-        match next_outcome(&self.chosen, self.stop, &mut self.number) {
-            Outcome::Whole => match self.take_bytes(disk, at as usize, bytes, bytes.len()) {
-                Ok(()) => Ok(()),
-                Err(_) => Err(self.count_disk(true)),
-            },
-            Outcome::Half => {
-                let dry = self
-                    .take_bytes(disk, at as usize, &bytes[..bytes.len() / 2], bytes.len())
-                    .is_err();
-                Err(self.count_disk(dry))
-            }
-            Outcome::Nothing => {
-                let dry = self.pass_bytes(disk, at as usize, bytes.len()).is_err();
-                Err(self.count_disk(dry))
-            }
-        }
+        let outcome = next_outcome(&self.chosen, self.stop, &mut self.number);
+        hand(&mut self.handed, disk, bytes.len());
+        let found = write_part(
+            &mut self.calls,
+            &mut self.held,
+            self.alloc,
+            outcome,
+            disk,
+            at as usize,
+            bytes,
+        );
+        end_call(outcome, found, &mut self.disk_faults, &mut self.dry)
     }
 
     fn sync(&mut self, disk: usize) -> Result<(), Failed> {
-        match next_outcome(&self.chosen, self.stop, &mut self.number) {
-            Outcome::Whole => match self.keep_sync(disk) {
-                Ok(()) => Ok(()),
-                Err(_) => Err(self.count_disk(true)),
-            },
-            _ => Err(self.fail_disk()),
-        }
+        let outcome = next_outcome(&self.chosen, self.stop, &mut self.number);
+        let found = sync_part(&mut self.calls, outcome, disk);
+        end_call(outcome, found, &mut self.disk_faults, &mut self.dry)
     }
 
     fn hear(&mut self, buf: &mut [u8]) -> Result<usize, Failed> {
-        match next_outcome(&self.chosen, self.stop, &mut self.number) {
-            Outcome::Whole => match self.hear_bytes(buf) {
-                Ok(count) => Ok(count),
-                Err(_) => Err(self.count_talk(true)),
-            },
-            _ => Err(self.fail_talk()),
-        }
+        let outcome = next_outcome(&self.chosen, self.stop, &mut self.number);
+        let heard = hear_part(&mut self.calls, &mut self.heard, &self.script, outcome, buf);
+        end_call(outcome, heard.is_ok(), &mut self.talk_faults, &mut self.dry).and(heard)
     }
 
     fn say(&mut self, bytes: &[u8]) -> Result<(), Failed> {
-        match next_outcome(&self.chosen, self.stop, &mut self.number) {
-            Outcome::Whole => match self.say_bytes(bytes) {
-                Ok(()) => Ok(()),
-                Err(_) => Err(self.count_talk(true)),
-            },
-            Outcome::Half => {
-                let dry = self.say_bytes(&bytes[..bytes.len() / 2]).is_err();
-                Err(self.count_talk(dry))
-            }
-            Outcome::Nothing => Err(self.fail_talk()),
-        }
+        let outcome = next_outcome(&self.chosen, self.stop, &mut self.number);
+        let found = say_part(&mut self.calls, &mut self.said, self.alloc, outcome, bytes);
+        end_call(outcome, found, &mut self.talk_faults, &mut self.dry)
     }
 }

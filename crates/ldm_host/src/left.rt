@@ -11,7 +11,7 @@ ghost use Rattle.ldm_host.specs.Story.{fresh_state, run, disk_at};
 
 use crate::MemoryHost;
 use crate::call::Call;
-use crate::made::copy_of;
+use crate::made::{copy_of, push_made};
 use crate::outcome::put_at;
 use ldm_bytes::NoMemory;
 use std::alloc::{AllocError, Global};
@@ -33,10 +33,10 @@ fn last_sync(calls: &[Call], disk: usize) -> usize
 {
     let mut count = 0;
     for (place, call) in calls.iter().enumerate() {
-        if let Call::Sync { disk: synced } = call {
-            if *synced == disk {
-                count = place + 1;
-            }
+        if let Call::Sync { disk: synced } = call
+            && *synced == disk
+        {
+            count = place + 1;
         }
     }
     count
@@ -53,10 +53,9 @@ fn take_again(image: &mut Vec<u8>, call: &Call, disk: usize)
         bytes,
         ..
     } = call
+        && *written == disk
     {
-        if *written == disk {
-            put_at(image, *at, bytes);
-        }
+        put_at(image, *at, bytes);
     }
 }
 
@@ -71,10 +70,9 @@ fn fill_range(image: &mut Vec<u8>, call: &Call, disk: usize, byte: u8)
         asked,
         ..
     } = call
+        && *written == disk
     {
-        if *written == disk {
-            image[*at..*at + *asked].fill(byte);
-        }
+        image[*at..*at + *asked].fill(byte);
     }
 }
 
@@ -87,7 +85,7 @@ impl MemoryHost {
     {
         let mut images = Vec::new(alloc);
         for disk in 0..self.held.len() {
-            images.push(self.left_on(alloc, disk, filling)?)?;
+            push_made(&mut images, self.left_on(alloc, disk, filling))?;
         }
         Ok(images)
     }

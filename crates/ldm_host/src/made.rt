@@ -1,5 +1,6 @@
 // How a host in memory is made and looked at.
-ghost use Rattle.std.specs.Prelude.{◌≡◌, ◌<◌, List, [], ℕ, length, replicate, slice_index, IfOk};
+ghost use Rattle.std.specs.Prelude.{◌≡◌, ◌<◌, ◌++◌, ◌∷◌, List, [], ℕ, length, replicate, slice_index, IfOk, OnOk, Ok, Vec};
+ghost use Rattle.std.specs.declared.alloc.Global.{Global};
 ghost use Rattle.ldm_bytes.specs.Numbers.{IsBytes};
 ghost use Rattle.ldm_host.specs.Images.{items_of};
 ghost use Rattle.ldm_host.specs.Memory.{memory_seen, story_of, counts_of, plan_of};
@@ -19,6 +20,16 @@ pub(crate) fn copy_of(alloc: Global, image: &[u8]) -> Result<Vec<u8>, AllocError
     image.to_vec(alloc)
 }
 
+// Puts an image that was made behind the others.
+pub(crate) fn push_made(
+    images: &mut Vec<Vec<u8>>,
+    made: Result<Vec<u8>, AllocError>,
+) -> Result<(), AllocError>
+    ensures { OnOk result ((image : Vec ℕ Global) × (made ≡ Ok image) × (images.new.items ≡ images.old.items ++ image ∷ [])) }
+{
+    images.push(made?).ok().ok_or(AllocError)
+}
+
 // A copy of each image.
 fn copies(alloc: Global, images: &[Vec<u8>]) -> Result<Vec<Vec<u8>>, AllocError>
     ensures is { IfOk result (λ all. items_of all.items ≡ items_of images.now) }
@@ -26,10 +37,7 @@ fn copies(alloc: Global, images: &[Vec<u8>]) -> Result<Vec<Vec<u8>>, AllocError>
 {
     let mut all = Vec::new(alloc);
     for image in images {
-        let copy = copy_of(alloc, image)?;
-        if all.push(copy).is_err() {
-            return Err(AllocError);
-        }
+        push_made(&mut all, copy_of(alloc, image))?;
     }
     Ok(all)
 }
@@ -57,24 +65,28 @@ impl MemoryHost {
         ensures wrote { IfOk result (λ host. (counts_of host).wrote ≡ replicate (length images.items) 0) }
         ensures plan { IfOk result (λ host. plan_of host ≡ no_failures) }
     {
-        let first = copies(alloc, &images)?;
-        let handed = zeros(alloc, images.len())?;
-        Ok(MemoryHost {
-            alloc,
-            first,
-            script,
-            calls: Vec::new(alloc),
-            held: images,
-            said: Vec::new(alloc),
-            heard: 0,
-            handed,
-            chosen: Vec::new(alloc),
-            stop: u64::MAX,
-            number: 0,
-            disk_faults: 0,
-            talk_faults: 0,
-            dry: 0,
-        })
+        if let Ok(first) = copies(alloc, &images)
+            && let Ok(handed) = zeros(alloc, images.len())
+        {
+            Ok(MemoryHost {
+                alloc,
+                first,
+                script,
+                calls: Vec::new(alloc),
+                held: images,
+                said: Vec::new(alloc),
+                heard: 0,
+                handed,
+                chosen: Vec::new(alloc),
+                stop: u64::MAX,
+                number: 0,
+                disk_faults: 0,
+                talk_faults: 0,
+                dry: 0,
+            })
+        } else {
+            Err(NoMemory)
+        }
     }
 
     /// The calls with these numbers fail. All calls of `read_at`, `write_at`, `sync`, `hear` and `say`

@@ -1,6 +1,7 @@
 // How a call ends, and what its bytes do.
 ghost use Rattle.std.specs.Prelude.{◌≡◌, ◌≤◌, ◌<◌, ◌+◌, ◌-◌, ◌^◌, length, min, set, slice_index, slice_range};
 ghost use Rattle.ldm_bytes.specs.Places.{put};
+ghost use Rattle.ldm_host.specs.declared.outcome.Outcome.TheVariants.{Whole};
 ghost use Rattle.ldm_host.specs.Images.{items_of};
 ghost use Rattle.ldm_host.specs.Plan.{next, outcome_of};
 ghost use Rattle.ldm_host.specs.Seen.{image};
@@ -17,9 +18,9 @@ pub enum Outcome {
 }
 
 /// Counts a call, and says how it ends.
-pub fn next_outcome(chosen: &[u64], stop: u64, number: &mut u64) -> Outcome
+pub fn next_outcome(chosen: &Vec<u64>, stop: u64, number: &mut u64) -> Outcome
     ensures number { number.new ≡ next number.old }
-    ensures outcome { result ≡ outcome_of (record { number = number.new; chosen = chosen.now; stop = stop }) }
+    ensures outcome { result ≡ outcome_of (record { number = number.new; chosen = chosen.now.items; stop = stop }) }
 {
     *number = number.saturating_add(1);
     if *number > stop {
@@ -56,10 +57,13 @@ pub fn hand(handed: &mut Vec<u64>, disk: usize, n: usize)
     handed[disk] = handed[disk].saturating_add(n as u64);
 }
 
-/// Reads bytes at a place.
-pub fn read_bytes(source: &Vec<u8>, at: usize, buf: &mut [u8])
-    requires { at + length buf.old ≤ length source.now.items }
-    ensures { buf.new ≡ slice_range source.now.items at (at + length buf.old) }
+/// Reads bytes at a place of one image, where the outcome is whole.
+pub fn read_in(images: &Vec<Vec<u8>>, outcome: Outcome, disk: usize, at: usize, buf: &mut [u8])
+    requires disk { disk < length images.now.items }
+    requires range { at + length buf.old ≤ length (image (items_of images.now.items) disk) }
+    ensures { outcome ≡ Whole → buf.new ≡ slice_range (image (items_of images.now.items) disk) at (at + length buf.old) }
 {
-    buf.copy_from_slice(&source[at..at + buf.len()]);
+    if let Outcome::Whole = outcome {
+        buf.copy_from_slice(&images[disk][at..at + buf.len()]);
+    }
 }

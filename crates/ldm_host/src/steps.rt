@@ -1,171 +1,201 @@
 // What the calls of a host in memory do, one by one.
-ghost use Rattle.std.specs.Prelude.{◌≡◌, ◌≤◌, ◌<◌, ◌+◌, ◌-◌, ◌^◌, ◌++◌, ℕ, List, length, set, slice_index, take, min, OnOk, OnErr, IfOk, Bool, true, false};
-ghost use Rattle.ldm_bytes.specs.Numbers.{IsBytes};
-ghost use Rattle.ldm_bytes.specs.Places.{put};
-ghost use Rattle.ldm_host.specs.Ending.{TakesNothing};
+ghost use Rattle.std.specs.Prelude.{◌≡◌, ◌≤◌, ◌<◌, ◌+◌, ◌&&◌, length, IfOk, OnErr, is_ok, not, if◌then◌else◌};
+ghost use Rattle.ldm_host.specs.declared.outcome.Outcome.TheVariants.{Whole};
 ghost use Rattle.ldm_host.specs.Images.{items_of};
-ghost use Rattle.ldm_host.specs.Memory.{memory_seen, SameCounts, CountsFault};
-ghost use Rattle.ldm_host.specs.Moves.{Writes, Still, Quiet, Syncs, Settled, SameLeft, Ticks, Torn, Rose};
+ghost use Rattle.ldm_host.specs.Plan.{next};
 ghost use Rattle.ldm_host.specs.Seen.{image};
+ghost use Rattle.ldm_host.specs.Steps.{Adds, IsHear, IsSay, IsSayOf, IsSync, IsWrite, IsWriteOf, Moved, held_after, is_whole, placed, said_after, said_more};
 
+use crate::Failed;
 use crate::call::Call;
-use crate::outcome::{hand, put_in};
-use crate::{Failed, MemoryHost};
-use std::alloc::AllocError;
+use crate::outcome::{Outcome, put_in};
+use std::alloc::Global;
 
-impl MemoryHost {
-    // Counts the bytes asked of a disk as handed, and takes those at their front.
-    pub(crate) fn take_bytes(
-        &mut self,
-        disk: usize,
-        at: usize,
-        taken: &[u8],
-        asked: usize,
-    ) -> Result<(), AllocError>
-        requires disk { disk < length self.old.held.items }
-        requires range { at + asked ≤ length (image (items_of self.old.held.items) disk) }
-        requires short { length taken.now ≤ asked }
-        ensures writes { Writes disk at asked (memory_seen self.old) (memory_seen self.new) }
-        ensures wrote { (memory_seen self.new).wrote ≡ set (memory_seen self.old).wrote disk (min (slice_index (memory_seen self.old).wrote disk + asked) (2 ^ 64 - 1)) }
-        ensures untaken { OnErr result (TakesNothing (memory_seen self.old) (memory_seen self.new)) }
-        ensures pending { OnOk result ((before after : List ℕ) → (memory_seen self.old).may_leave disk before → Torn at asked before after → IsBytes after → (memory_seen self.new).may_leave disk after) }
-        ensures placed { OnOk result ((memory_seen self.new).content ≡ set (memory_seen self.old).content disk (put (image (memory_seen self.old).content disk) at taken.now)) }
-        ensures ticks { Ticks (memory_seen self.old) (memory_seen self.new) }
-        ensures plan { SameCounts self.old self.new }
-    {
-        hand(&mut self.handed, disk, asked);
-        let bytes = taken.to_vec(self.alloc)?;
-        self.calls.push(Call::Write {
-            disk,
-            at,
-            bytes,
-            asked,
-        })?;
-        put_in(&mut self.held, disk, at, taken);
-        Ok(())
+// Each of these says whether it found memory.
+
+// Keeps a call in the list.
+fn keep(calls: &mut Vec<Call>, call: Call) -> bool
+    ensures { Adds result (λ kept. kept ≡ call) calls.old.items calls.new.items }
+{
+    calls.push(call).is_ok()
+}
+
+// Keeps a write that took these bytes.
+fn keep_write(
+    calls: &mut Vec<Call>,
+    alloc: Global,
+    disk: usize,
+    at: usize,
+    taken: &[u8],
+    asked: usize,
+) -> bool
+    ensures { Adds result (IsWriteOf disk at taken.now asked) calls.old.items calls.new.items }
+{
+    match taken.to_vec(alloc) {
+        Ok(bytes) => keep(
+            calls,
+            Call::Write {
+                disk,
+                at,
+                bytes,
+                asked,
+            },
+        ),
+        Err(_) => false,
     }
+}
 
-    // Counts the bytes asked of a disk as handed, and takes none.
-    pub(crate) fn pass_bytes(
-        &mut self,
-        disk: usize,
-        at: usize,
-        asked: usize,
-    ) -> Result<(), AllocError>
-        requires { disk < length self.old.held.items }
-        ensures writes { Writes disk at asked (memory_seen self.old) (memory_seen self.new) }
-        ensures wrote { (memory_seen self.new).wrote ≡ set (memory_seen self.old).wrote disk (min (slice_index (memory_seen self.old).wrote disk + asked) (2 ^ 64 - 1)) }
-        ensures untaken { TakesNothing (memory_seen self.old) (memory_seen self.new) }
-        ensures ticks { Ticks (memory_seen self.old) (memory_seen self.new) }
-        ensures plan { SameCounts self.old self.new }
-    {
-        hand(&mut self.handed, disk, asked);
-        self.calls.push(Call::Nothing)?;
-        Ok(())
+// Takes the bytes at the front of a range.
+fn take_bytes(
+    calls: &mut Vec<Call>,
+    held: &mut Vec<Vec<u8>>,
+    alloc: Global,
+    disk: usize,
+    at: usize,
+    taken: &[u8],
+    asked: usize,
+) -> bool
+    requires disk { disk < length held.old.items }
+    requires range { at + asked ≤ length (image (items_of held.old.items) disk) }
+    requires short { length taken.now ≤ asked }
+    ensures calls { Adds result (IsWriteOf disk at taken.now asked) calls.old.items calls.new.items }
+    ensures held { items_of held.new.items ≡ placed result disk at taken.now (items_of held.old.items) }
+{
+    if keep_write(calls, alloc, disk, at, taken, asked) {
+        put_in(held, disk, at, taken);
+        true
+    } else {
+        false
     }
+}
 
-    // Keeps a sync in the list of calls.
-    pub(crate) fn keep_sync(&mut self, disk: usize) -> Result<(), AllocError>
-        requires { disk < length self.old.held.items }
-        ensures syncs { Syncs disk (memory_seen self.old) (memory_seen self.new) }
-        ensures settled { OnOk result (Settled (memory_seen self.new) disk) }
-        ensures pending { OnErr result (SameLeft (memory_seen self.old) (memory_seen self.new)) }
-        ensures ticks { Ticks (memory_seen self.old) (memory_seen self.new) }
-        ensures plan { SameCounts self.old self.new }
-    {
-        self.calls.push(Call::Sync { disk })?;
-        Ok(())
+/// Takes so many of the bytes as the outcome says.
+pub fn write_part(
+    calls: &mut Vec<Call>,
+    held: &mut Vec<Vec<u8>>,
+    alloc: Global,
+    outcome: Outcome,
+    disk: usize,
+    at: usize,
+    bytes: &[u8],
+) -> bool
+    requires disk { disk < length held.old.items }
+    requires range { at + length bytes.now ≤ length (image (items_of held.old.items) disk) }
+    ensures calls { Adds result (IsWrite outcome disk at bytes.now) calls.old.items calls.new.items }
+    ensures held { items_of held.new.items ≡ held_after outcome result disk at bytes.now (items_of held.old.items) }
+{
+    let asked = bytes.len();
+    match outcome {
+        Outcome::Whole => take_bytes(calls, held, alloc, disk, at, bytes, asked),
+        Outcome::Half => take_bytes(calls, held, alloc, disk, at, &bytes[..asked / 2], asked),
+        Outcome::Nothing => keep(calls, Call::Nothing),
     }
+}
 
-    // Appends the bytes to what was said.
-    pub(crate) fn say_bytes(&mut self, bytes: &[u8]) -> Result<(), AllocError>
-        ensures still { Still (memory_seen self.old) (memory_seen self.new) }
-        ensures said { OnOk result ((memory_seen self.new).said ≡ (memory_seen self.old).said ++ bytes.now) }
-        ensures unsaid { OnErr result ((memory_seen self.new).said ≡ (memory_seen self.old).said) }
-        ensures heard { (memory_seen self.new).heard ≡ (memory_seen self.old).heard }
-        ensures input { (memory_seen self.new).input ≡ (memory_seen self.old).input }
-        ensures ticks { Ticks (memory_seen self.old) (memory_seen self.new) }
-        ensures plan { SameCounts self.old self.new }
-    {
-        self.said.reserve(bytes.len())?;
-        let copy = bytes.to_vec(self.alloc)?;
-        self.calls.push(Call::Say { bytes: copy })?;
-        let _ = self.said.extend_from_slice(bytes);
-        Ok(())
+/// Keeps a sync, where the outcome is whole.
+pub fn sync_part(calls: &mut Vec<Call>, outcome: Outcome, disk: usize) -> bool
+    ensures { Adds result (IsSync outcome disk) calls.old.items calls.new.items }
+{
+    match outcome {
+        Outcome::Whole => keep(calls, Call::Sync { disk }),
+        _ => keep(calls, Call::Nothing),
     }
+}
 
-    // Counts a call of a disk that fails, and found no memory where dry.
-    pub(crate) fn count_disk(&mut self, dry: bool) -> Failed
-        ensures still { Still (memory_seen self.old) (memory_seen self.new) }
-        ensures quiet { Quiet (memory_seen self.old) (memory_seen self.new) }
-        ensures rose { Rose (memory_seen self.old).disk_faults (memory_seen self.new).disk_faults }
-        ensures clock { (memory_seen self.new).clock ≡ (memory_seen self.old).clock }
-        ensures plan { CountsFault false dry self.old self.new }
-    {
-        if dry {
-            self.dry = self.dry.saturating_add(1);
+// Keeps that these bytes were said.
+fn keep_said(calls: &mut Vec<Call>, alloc: Global, said: &[u8]) -> bool
+    ensures { Adds result (IsSayOf said.now) calls.old.items calls.new.items }
+{
+    match said.to_vec(alloc) {
+        Ok(bytes) => keep(calls, Call::Say { bytes }),
+        Err(_) => false,
+    }
+}
+
+// Appends the bytes to what was said.
+fn say_bytes(calls: &mut Vec<Call>, said: &mut Vec<u8>, alloc: Global, bytes: &[u8]) -> bool
+    ensures calls { Adds result (IsSayOf bytes.now) calls.old.items calls.new.items }
+    ensures said { said.new.items ≡ said_more result bytes.now said.old.items }
+{
+    if said.reserve(bytes.len()).is_ok() && keep_said(calls, alloc, bytes) {
+        let _ = said.extend_from_slice(bytes);
+        true
+    } else {
+        false
+    }
+}
+
+/// Appends so many of the bytes to what was said as the outcome says.
+pub fn say_part(
+    calls: &mut Vec<Call>,
+    said: &mut Vec<u8>,
+    alloc: Global,
+    outcome: Outcome,
+    bytes: &[u8],
+) -> bool
+    ensures calls { Adds result (IsSay outcome bytes.now) calls.old.items calls.new.items }
+    ensures said { said.new.items ≡ said_after outcome result bytes.now said.old.items }
+{
+    match outcome {
+        Outcome::Whole => say_bytes(calls, said, alloc, bytes),
+        Outcome::Half => say_bytes(calls, said, alloc, &bytes[..bytes.len() / 2]),
+        Outcome::Nothing => keep(calls, Call::Nothing),
+    }
+}
+
+/// Moves what comes next of the script to the front of the buffer, where the outcome is whole. It fails
+/// where it finds no memory.
+pub fn hear_part(
+    calls: &mut Vec<Call>,
+    heard: &mut usize,
+    script: &Vec<u8>,
+    outcome: Outcome,
+    buf: &mut [u8],
+) -> Result<usize, Failed>
+    requires some { 0 < length buf.old }
+    requires fits { heard.old ≤ length script.now.items }
+    ensures count { IfOk result (λ n. n ≤ length buf.old) }
+    ensures taken { outcome ≡ Whole → IfOk result (λ n. Moved script.now.items heard.old heard.new n buf.new) }
+    ensures calls { Adds (is_ok result) (IsHear outcome heard.old heard.new) calls.old.items calls.new.items }
+    ensures fits { heard.new ≤ length script.now.items }
+    ensures stays { OnErr result (heard.new ≡ heard.old) }
+{
+    let Outcome::Whole = outcome else {
+        return if keep(calls, Call::Nothing) {
+            Ok(0)
+        } else {
+            Err(Failed)
+        };
+    };
+    let count = (script.len() - *heard).min(buf.len());
+    if !keep(calls, Call::Hear { count }) {
+        return Err(Failed);
+    }
+    buf[..count].copy_from_slice(&script[*heard..*heard + count]);
+    *heard += count;
+    Ok(count)
+}
+
+/// Ends a call, and counts that it failed, or found no memory.
+pub fn end_call(
+    outcome: Outcome,
+    found: bool,
+    faults: &mut u64,
+    dry: &mut u64,
+) -> Result<(), Failed>
+    ensures ok { is_ok result ≡ is_whole outcome && found }
+    ensures faults { faults.new ≡ (if is_ok result then faults.old else next faults.old) }
+    ensures rises { faults.old ≤ faults.new }
+    ensures dry { dry.new ≡ (if not found then next dry.old else dry.old) }
+{
+    if !found {
+        *dry = dry.saturating_add(1);
+    }
+    match outcome {
+        Outcome::Whole if found => Ok(()),
+        _ => {
+            *faults = faults.saturating_add(1);
+            Err(Failed)
         }
-        self.disk_faults = self.disk_faults.saturating_add(1);
-        Failed
-    }
-
-    // Moves what comes next of the script to the front of the buffer.
-    pub(crate) fn hear_bytes(&mut self, buf: &mut [u8]) -> Result<usize, AllocError>
-        requires { 0 < length buf.old }
-        ensures count { IfOk result (λ n. n ≤ length buf.old) }
-        ensures taken { IfOk result (λ n. ((memory_seen self.old).input ≡ take n buf.new ++ (memory_seen self.new).input)
-            × ((memory_seen self.new).heard ≡ (memory_seen self.old).heard ++ take n buf.new)
-            × (n ≡ 0 → length (memory_seen self.old).input ≡ 0)) }
-        ensures nothing { OnErr result (Quiet (memory_seen self.old) (memory_seen self.new)) }
-        ensures silent { (memory_seen self.new).said ≡ (memory_seen self.old).said }
-        ensures still { Still (memory_seen self.old) (memory_seen self.new) }
-        ensures ticks { Ticks (memory_seen self.old) (memory_seen self.new) }
-        ensures plan { SameCounts self.old self.new }
-    {
-        let left = self.script.len() - self.heard;
-        let count = left.min(buf.len());
-        self.calls.push(Call::Hear { count })?;
-        buf[..count].copy_from_slice(&self.script[self.heard..self.heard + count]);
-        self.heard += count;
-        Ok(count)
-    }
-
-    // Counts a call of the talk that fails, and found no memory where dry.
-    pub(crate) fn count_talk(&mut self, dry: bool) -> Failed
-        ensures still { Still (memory_seen self.old) (memory_seen self.new) }
-        ensures quiet { Quiet (memory_seen self.old) (memory_seen self.new) }
-        ensures rose { Rose (memory_seen self.old).talk_faults (memory_seen self.new).talk_faults }
-        ensures clock { (memory_seen self.new).clock ≡ (memory_seen self.old).clock }
-        ensures plan { CountsFault true dry self.old self.new }
-    {
-        if dry {
-            self.dry = self.dry.saturating_add(1);
-        }
-        self.talk_faults = self.talk_faults.saturating_add(1);
-        Failed
-    }
-
-    // Fails a call of a disk that takes nothing.
-    pub(crate) fn fail_disk(&mut self) -> Failed
-        ensures still { Still (memory_seen self.old) (memory_seen self.new) }
-        ensures quiet { Quiet (memory_seen self.old) (memory_seen self.new) }
-        ensures ticks { Ticks (memory_seen self.old) (memory_seen self.new) }
-        ensures rose { Rose (memory_seen self.old).disk_faults (memory_seen self.new).disk_faults }
-        ensures plan { (dry : Bool) × CountsFault false dry self.old self.new }
-    {
-        let dry = self.calls.push(Call::Nothing).is_err();
-        self.count_disk(dry)
-    }
-
-    // Fails a call of the talk that takes nothing.
-    pub(crate) fn fail_talk(&mut self) -> Failed
-        ensures still { Still (memory_seen self.old) (memory_seen self.new) }
-        ensures quiet { Quiet (memory_seen self.old) (memory_seen self.new) }
-        ensures ticks { Ticks (memory_seen self.old) (memory_seen self.new) }
-        ensures rose { Rose (memory_seen self.old).talk_faults (memory_seen self.new).talk_faults }
-        ensures plan { (dry : Bool) × CountsFault true dry self.old self.new }
-    {
-        let dry = self.calls.push(Call::Nothing).is_err();
-        self.count_talk(dry)
     }
 }

@@ -1,4 +1,5 @@
 pub mod FitLaws
+pub mod HeaderLaws
 pub mod AnswerLaws
 pub mod CopyLaws
 pub mod TocLaws

@@ -5,6 +5,7 @@ ghost use Rattle.ldm_label.specs.LabelOf.{header_faults, differs};
 ghost use Rattle.ldm_label.specs.Parts.{HeaderFits};
 
 use crate::LabelFault;
+use crate::sectors::has_text;
 use ldm_bytes::{get_u16, get_u64, read_guid};
 
 /// The values of a private header. Starts and sizes are in sectors of the disk.
@@ -21,7 +22,7 @@ pub struct PrivateHeader {
 fn begins_privhead(head: &[u8; 512]) -> bool
     ensures { result ≡ is_privhead head.now }
 {
-    &head[..8] == b"PRIVHEAD".as_slice()
+    has_text(head, 0, b"PRIVHEAD")
 }
 
 #[tactic(auto, unfolding(crate::specs::Fields::has_version))]

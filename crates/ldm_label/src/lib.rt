@@ -26,7 +26,7 @@ pub use writing::{LabelSectors, label_sectors, write_label};
 
 /// What the label of a disk says. `minor` is the version's: 11 or 12. Data and database are in sectors
 /// of the disk, the areas in sectors of the database.
-#[derive(Clone, Copy, Debug, PartialEq, Eq)]
+#[derive(Clone, Copy, PartialEq, Eq)]
 pub struct Label {
     pub disk_guid: u128,
     pub minor: u16,
@@ -40,7 +40,7 @@ pub struct Label {
 }
 
 /// A reason why a disk has no label, in the order in which they are looked for.
-#[derive(Clone, Copy, Debug, PartialEq, Eq)]
+#[derive(Clone, Copy, PartialEq, Eq)]
 pub enum LabelFault {
     /// The image has fewer than 7 sectors.
     Short,
@@ -70,7 +70,7 @@ pub enum LabelFault {
 }
 
 /// Why a label can't be had.
-#[derive(Clone, Copy, Debug, PartialEq, Eq)]
+#[derive(Clone, Copy, PartialEq, Eq)]
 pub enum LabelError {
     /// The disk has this fault.
     Fault(LabelFault),

@@ -1,9 +1,18 @@
-ghost use Rattle.std.specs.Prelude.{◌≡◌, ◌+◌, ◌*◌, ◌^◌, ◌<◌, List, ℕ, length, slice_index, IfOk, IsErr};
+ghost use Rattle.std.specs.Prelude.{◌≡◌, ◌+◌, ◌*◌, ◌^◌, ◌<◌, ◌≤◌, List, ℕ, length, slice_index, slice_range, IfOk, IsErr};
+ghost use Rattle.std.specs.Str.{bytes_eq};
 ghost use Rattle.ldm_host.specs.Moves.{Rose, Still, Quiet};
 ghost use Rattle.ldm_host.specs.Seen.{image};
 ghost use Rattle.ldm_label.specs.Fields.{sector};
 
 use ldm_host::{Failed, Host};
+
+/// The text stands at that place of a sector.
+pub fn has_text(sector: &[u8; 512], at: usize, text: &[u8]) -> bool
+    requires { at + length text.now ≤ 512 }
+    ensures { result ≡ bytes_eq (slice_range sector.now at (at + length text.now)) text.now }
+{
+    &sector[at..at + text.len()] == text
+}
 
 /// The bytes of a sector of a disk, in one call of the disk. It takes no memory.
 pub fn read_sector<H: Host>(host: &mut H, disk: usize, at: u64) -> Result<[u8; 512], Failed>

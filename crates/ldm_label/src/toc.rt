@@ -3,6 +3,7 @@ ghost use Rattle.ldm_label.specs.Fields.{parses, toc_of, is_out_of_database, sam
 ghost use Rattle.ldm_label.specs.Parts.{joined, in_database, TocFits};
 
 use crate::LabelFault;
+use crate::sectors::has_text;
 use ldm_bytes::get_u64;
 
 /// The values of a table of contents. Starts and sizes are in sectors of the database.
@@ -18,9 +19,9 @@ pub struct Toc {
 fn has_names(toc: &[u8; 512]) -> bool
     ensures { result ≡ parses toc.now }
 {
-    &toc[..8] == b"TOCBLOCK".as_slice()
-        && &toc[0x24..0x2B] == b"config\0".as_slice()
-        && &toc[0x46..0x4A] == b"log\0".as_slice()
+    has_text(toc, 0, b"TOCBLOCK")
+        && has_text(toc, 0x24, b"config\0")
+        && has_text(toc, 0x46, b"log\0")
 }
 
 impl Toc {

@@ -20,7 +20,7 @@ pub struct Place {
 }
 
 /// Why a volume has no layout. Where there are more than one, the first counts.
-#[derive(Clone, Copy, Debug)]
+#[derive(Clone, Copy)]
 pub enum LayoutFault {
     /// Its components make no shape.
     Unknown,
@@ -35,7 +35,7 @@ pub enum LayoutFault {
 }
 
 /// Why no layout was made.
-#[derive(Clone, Copy, Debug)]
+#[derive(Clone, Copy)]
 pub enum LayoutError {
     Fault(LayoutFault),
     NoMemory,

@@ -1,4 +1,4 @@
-ghost use Rattle.std.specs.Prelude.{◌≡◌, ◌≤◌, ◌<◌, ◌^◌, length, unwrap_or, Some, IfOk};
+ghost use Rattle.std.specs.Prelude.{◌≡◌, ◌≤◌, ◌<◌, ◌^◌, [], length, unwrap_or, Some, IfOk};
 ghost use Rattle.ldm_bytes.specs.Guid.{own_guid};
 ghost use Rattle.ldm_made.specs.Made.{new_partition, part_name, index_flags, IsStriping, new_component, component_name, striping_flags, active, new_volume, volume_kind, volume_fixed21, new_disk, new_group};
 
@@ -24,8 +24,8 @@ pub fn new_volume(
 {
     let name = Bytes::from_slice(alloc, name)?;
     let kind = volume_kind(alloc, raid)?;
-    let second = Bytes::from_vec(Vec::new(alloc));
-    let tail = Bytes::from_vec(Vec::new(alloc));
+    let second = empty(alloc);
+    let tail = empty(alloc);
     let fixed21 = volume_fixed21(raid);
     let guid = guid.to_be_bytes();
     let head = Head {
@@ -51,6 +51,12 @@ pub fn new_volume(
         hint: None,
         tail,
     }))
+}
+
+fn empty(alloc: Global) -> Bytes
+    ensures { result ≡ [] }
+{
+    Bytes::from_vec(Vec::new(alloc))
 }
 
 fn volume_kind(alloc: Global, raid: bool) -> Result<Bytes, NoMemory>
@@ -87,7 +93,7 @@ pub fn new_component(
 {
     let name = component_name(alloc, id)?;
     let state = active(alloc)?;
-    let tail = Bytes::from_vec(Vec::new(alloc));
+    let tail = empty(alloc);
     let flags = striping_flags(&striping);
     let head = Head {
         mark: 0,
@@ -147,7 +153,7 @@ pub fn new_partition(
     ensures { IfOk result (λ r. new_partition id start offset size parent disk index ≡ Some r) }
 {
     let name = part_name(alloc, id)?;
-    let tail = Bytes::from_vec(Vec::new(alloc));
+    let tail = empty(alloc);
     let flags = index_flags(index);
     let head = Head {
         mark: 0,
@@ -190,8 +196,8 @@ pub fn new_disk(alloc: Global, id: u64, name: &[u8], guid: u128) -> Result<Recor
     ensures { IfOk result (λ r. new_disk id name.now guid ≡ Some r) }
 {
     let name = Bytes::from_slice(alloc, name)?;
-    let alt = Bytes::from_vec(Vec::new(alloc));
-    let tail = Bytes::from_vec(Vec::new(alloc));
+    let alt = empty(alloc);
+    let tail = empty(alloc);
     let head = Head {
         mark: 0,
         flags: 0,
@@ -217,7 +223,7 @@ pub fn new_group(alloc: Global, id: u64, name: &[u8], guid: u128) -> Result<Reco
 {
     let name = Bytes::from_slice(alloc, name)?;
     let guid = guid_text(alloc, guid)?;
-    let tail = Bytes::from_vec(Vec::new(alloc));
+    let tail = empty(alloc);
     let head = Head {
         mark: 0,
         flags: 0,

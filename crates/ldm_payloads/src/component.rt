@@ -86,7 +86,9 @@ pub fn component_of(
         return Err(RecordError::Fault(RecordFault::Malformed));
     };
     let (head, tail) = ends_of(alloc, opening, own_len(&fields), fields.tail)?;
-    let state = Bytes::from_slice(alloc, fields.state)?;
+    let Ok(state) = Bytes::from_slice(alloc, fields.state) else {
+        return Err(RecordError::NoMemory);
+    };
     Ok(Record::Component(Component {
         head,
         state,

@@ -80,7 +80,9 @@ pub fn disk3_of(alloc: Global, opening: &Opening<'_>, rest: &[u8]) -> Result<Rec
     };
     let len = 37 + (fields.alt.len() + 1) + 12;
     let (head, tail) = ends_of(alloc, opening, len, fields.tail)?;
-    let alt = Bytes::from_slice(alloc, fields.alt)?;
+    let Ok(alt) = Bytes::from_slice(alloc, fields.alt) else {
+        return Err(RecordError::NoMemory);
+    };
     Ok(Record::Disk(Disk {
         head,
         guid: fields.guid,

@@ -4,7 +4,7 @@ ghost use Rattle.ldm_payloads.specs.declared.fault.RecordError.TheVariants as er
 use ldm_bytes::NoMemory;
 
 /// Why a payload is no record.
-#[derive(Clone, Copy, Debug, PartialEq, Eq)]
+#[derive(Clone, Copy, PartialEq, Eq)]
 pub enum RecordFault {
     /// The type byte is none of the seven.
     UnknownType(u8),
@@ -13,7 +13,7 @@ pub enum RecordFault {
 }
 
 /// Why no record was read.
-#[derive(Clone, Copy, Debug, PartialEq, Eq)]
+#[derive(Clone, Copy, PartialEq, Eq)]
 pub enum RecordError {
     Fault(RecordFault),
     NoMemory,

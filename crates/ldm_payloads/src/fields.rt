@@ -195,16 +195,20 @@ pub fn ids_len(ids: Option<IdsText<'_>>) -> usize
 pub fn both_bytes(alloc: Global, first: &[u8], second: &[u8]) -> Result<(Bytes, Bytes), NoMemory>
     ensures { IfOk result (λ x. (x.0 ≡ first.now) × (x.1 ≡ second.now)) }
 {
-    let first = Bytes::from_slice(alloc, first)?;
-    let second = Bytes::from_slice(alloc, second)?;
-    Ok((first, second))
+    if let Ok(first) = Bytes::from_slice(alloc, first)
+        && let Ok(second) = Bytes::from_slice(alloc, second)
+    {
+        Ok((first, second))
+    } else {
+        Err(NoMemory)
+    }
 }
 
 pub fn bytes_when(alloc: Global, text: Option<&[u8]>) -> Result<Option<Bytes>, NoMemory>
     ensures { IfOk result (λ o. o ≡ seen text.entry) }
 {
     match text {
-        Some(text) => Ok(Some(Bytes::from_slice(alloc, text)?)),
+        Some(text) => Bytes::from_slice(alloc, text).map(Some),
         None => Ok(None),
     }
 }

@@ -83,17 +83,21 @@ pub fn group3_of(alloc: Global, opening: &Opening<'_>, rest: &[u8]) -> Result<Re
     };
     let len = (fields.guid.len() + 1) + 12 + ids_len(fields.ids);
     let (head, tail) = ends_of(alloc, opening, len, fields.tail)?;
-    let guid = Bytes::from_slice(alloc, fields.guid)?;
-    let ids = ids_of(alloc, fields.ids)?;
-    Ok(Record::Group(GroupRec {
-        head,
-        form: GroupForm::V3 {
-            guid,
-            fixed12: fields.fixed12,
-        },
-        ids,
-        tail,
-    }))
+    if let Ok(guid) = Bytes::from_slice(alloc, fields.guid)
+        && let Ok(ids) = ids_of(alloc, fields.ids)
+    {
+        Ok(Record::Group(GroupRec {
+            head,
+            form: GroupForm::V3 {
+                guid,
+                fixed12: fields.fixed12,
+            },
+            ids,
+            tail,
+        }))
+    } else {
+        Err(RecordError::NoMemory)
+    }
 }
 
 /// The group of version 4 whose fields after the name stand in the rest. Its own spelling has the room.
@@ -105,7 +109,9 @@ pub fn group4_of(alloc: Global, opening: &Opening<'_>, rest: &[u8]) -> Result<Re
     };
     let len = 44 + ids_len(fields.ids);
     let (head, tail) = ends_of(alloc, opening, len, fields.tail)?;
-    let ids = ids_of(alloc, fields.ids)?;
+    let Ok(ids) = ids_of(alloc, fields.ids) else {
+        return Err(RecordError::NoMemory);
+    };
     Ok(Record::Group(GroupRec {
         head,
         form: GroupForm::V4 {

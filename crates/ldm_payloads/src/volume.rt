@@ -106,10 +106,14 @@ fn more_texts(alloc: Global, more: &VolumeMore<'_>) -> Result<MoreTexts, NoMemor
     ensures id2 { IfOk result (λ t. t.id2 ≡ seen more.now.id2) }
     ensures hint { IfOk result (λ t. t.hint ≡ seen more.now.hint) }
 {
-    let id1 = bytes_when(alloc, more.id1)?;
-    let id2 = bytes_when(alloc, more.id2)?;
-    let hint = bytes_when(alloc, more.hint)?;
-    Ok(MoreTexts { id1, id2, hint })
+    if let Ok(id1) = bytes_when(alloc, more.id1)
+        && let Ok(id2) = bytes_when(alloc, more.id2)
+        && let Ok(hint) = bytes_when(alloc, more.hint)
+    {
+        Ok(MoreTexts { id1, id2, hint })
+    } else {
+        Err(NoMemory)
+    }
 }
 
 /// The volume whose fields after the name stand in the rest. Its own spelling has the room.
@@ -123,23 +127,27 @@ pub fn volume_of(alloc: Global, opening: &Opening<'_>, rest: &[u8]) -> Result<Re
         return Err(RecordError::Fault(RecordFault::Malformed));
     };
     let (head, tail) = ends_of(alloc, opening, own_len(&main, &more), more.tail)?;
-    let (kind, second) = both_bytes(alloc, main.kind, main.second)?;
-    let texts = more_texts(alloc, &more)?;
-    Ok(Record::Volume(Volume {
-        head,
-        kind,
-        second,
-        fixed21: main.fixed21,
-        children: main.children,
-        fixed16: main.fixed16,
-        size: main.size,
-        fixed4: main.fixed4,
-        part_type: main.part_type,
-        guid: main.guid,
-        id1: texts.id1,
-        id2: texts.id2,
-        size2: more.size2,
-        hint: texts.hint,
-        tail,
-    }))
+    if let Ok((kind, second)) = both_bytes(alloc, main.kind, main.second)
+        && let Ok(texts) = more_texts(alloc, &more)
+    {
+        Ok(Record::Volume(Volume {
+            head,
+            kind,
+            second,
+            fixed21: main.fixed21,
+            children: main.children,
+            fixed16: main.fixed16,
+            size: main.size,
+            fixed4: main.fixed4,
+            part_type: main.part_type,
+            guid: main.guid,
+            id1: texts.id1,
+            id2: texts.id2,
+            size2: more.size2,
+            hint: texts.hint,
+            tail,
+        }))
+    } else {
+        Err(RecordError::NoMemory)
+    }
 }

@@ -12,7 +12,7 @@ number_kind NumberKind v h = h
 number_kind (When true k) v h = number_kind k v h
 number_kind _ v h = absurd h
 
-text_kind : (k : Kind) (t : List ℕ) → HasKind k (Text t) → length t ≤ 255
+pub text_kind : (k : Kind) (t : List ℕ) → HasKind k (Text t) → length t ≤ 255
 text_kind TextKind t h = h
 text_kind (When true k) t h = text_kind k t h
 text_kind _ t h = absurd h

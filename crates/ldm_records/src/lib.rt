@@ -4,8 +4,10 @@
 //! stripe sizes are in sectors.
 #![tactic(auto)]
 
+mod cloning;
 mod field;
 mod listing;
+mod outline;
 mod pieces;
 mod same;
 mod types;

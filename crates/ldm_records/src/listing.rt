@@ -3,6 +3,7 @@ ghost use Rattle.ldm_records.specs.Values.{Number, Text, GuidText, Wide, Fixed};
 ghost use Rattle.ldm_records.specs.FieldViews.{value_of, values_of};
 ghost use Rattle.ldm_records.specs.Fields.{number_option, text_option};
 ghost use Rattle.ldm_records.specs.Forms.{chunk_value, columns_value, first_value, second_value};
+ghost use Rattle.ldm_records.specs.Outlines.{filled};
 ghost use Rattle.ldm_records.specs.Plain.{IsRecord};
 ghost use Rattle.ldm_records.specs.Views.{plain_volume, plain_component, plain_partition, plain_disk, plain_group, plain_of};
 
@@ -68,7 +69,7 @@ fn second_field(ids: &Option<TwoIds>) -> Field<'_>
     }
 }
 
-// The fields of each type in the order of the table.
+// The fields of each type in the order of the table, and then absent ones.
 
 pub fn volume_fields(v: &Volume) -> [Field<'_>; 15]
     ensures { values_of result ≡ (plain_volume v.now).fields }
@@ -92,8 +93,8 @@ pub fn volume_fields(v: &Volume) -> [Field<'_>; 15]
     ]
 }
 
-pub fn component_fields(c: &Component) -> [Field<'_>; 11]
-    ensures { values_of result ≡ (plain_component c.now).fields }
+pub fn component_fields(c: &Component) -> [Field<'_>; 15]
+    ensures { values_of result ≡ filled (plain_component c.now).fields }
 {
     [
         Field::Number(c.head.id),
@@ -107,11 +108,15 @@ pub fn component_fields(c: &Component) -> [Field<'_>; 11]
         Field::Fixed(slice::from_ref(&c.fixed1)),
         chunk_field(c.striping),
         columns_field(c.striping),
+        Field::Absent,
+        Field::Absent,
+        Field::Absent,
+        Field::Absent,
     ]
 }
 
-pub fn partition_fields(p: &Partition) -> [Field<'_>; 9]
-    ensures { values_of result ≡ (plain_partition p.now).fields }
+pub fn partition_fields(p: &Partition) -> [Field<'_>; 15]
+    ensures { values_of result ≡ filled (plain_partition p.now).fields }
 {
     [
         Field::Number(p.head.id),
@@ -123,13 +128,19 @@ pub fn partition_fields(p: &Partition) -> [Field<'_>; 9]
         Field::Number(p.parent),
         Field::Number(p.disk),
         number_field(p.index),
+        Field::Absent,
+        Field::Absent,
+        Field::Absent,
+        Field::Absent,
+        Field::Absent,
+        Field::Absent,
     ]
 }
 
-pub fn disk3_fields<'a>(d: &'a Disk, alt: &'a Bytes, fixed12: &'a [u8; 12]) -> [Field<'a>; 5]
+pub fn disk3_fields<'a>(d: &'a Disk, alt: &'a Bytes, fixed12: &'a [u8; 12]) -> [Field<'a>; 15]
     ensures { values_of result
-        ≡ Number d.now.head.id ∷ Text d.now.head.name ∷ GuidText d.now.guid ∷ Text alt.now
-        ∷ Fixed fixed12.now ∷ [] }
+        ≡ filled (Number d.now.head.id ∷ Text d.now.head.name ∷ GuidText d.now.guid ∷ Text alt.now
+        ∷ Fixed fixed12.now ∷ []) }
 {
     [
         Field::Number(d.head.id),
@@ -137,25 +148,46 @@ pub fn disk3_fields<'a>(d: &'a Disk, alt: &'a Bytes, fixed12: &'a [u8; 12]) -> [
         Field::Guid(d.guid),
         Field::Text(alt.as_slice()),
         Field::Fixed(fixed12),
+        Field::Absent,
+        Field::Absent,
+        Field::Absent,
+        Field::Absent,
+        Field::Absent,
+        Field::Absent,
+        Field::Absent,
+        Field::Absent,
+        Field::Absent,
+        Field::Absent,
     ]
 }
 
-pub fn disk4_fields<'a>(d: &'a Disk, fixed29: &'a [u8; 29]) -> [Field<'a>; 4]
+pub fn disk4_fields<'a>(d: &'a Disk, fixed29: &'a [u8; 29]) -> [Field<'a>; 15]
     ensures { values_of result
-        ≡ Number d.now.head.id ∷ Text d.now.head.name ∷ Wide 16 d.now.guid ∷ Fixed fixed29.now ∷ [] }
+        ≡ filled (Number d.now.head.id ∷ Text d.now.head.name ∷ Wide 16 d.now.guid ∷ Fixed fixed29.now ∷ []) }
 {
     [
         Field::Number(d.head.id),
         Field::Text(d.head.name.as_slice()),
         Field::Wide16(d.guid),
         Field::Fixed(fixed29),
+        Field::Absent,
+        Field::Absent,
+        Field::Absent,
+        Field::Absent,
+        Field::Absent,
+        Field::Absent,
+        Field::Absent,
+        Field::Absent,
+        Field::Absent,
+        Field::Absent,
+        Field::Absent,
     ]
 }
 
-pub fn group3_fields<'a>(g: &'a GroupRec, guid: &'a Bytes, fixed12: &'a [u8; 12]) -> [Field<'a>; 6]
+pub fn group3_fields<'a>(g: &'a GroupRec, guid: &'a Bytes, fixed12: &'a [u8; 12]) -> [Field<'a>; 15]
     ensures { values_of result
-        ≡ Number g.now.head.id ∷ Text g.now.head.name ∷ Text guid.now ∷ Fixed fixed12.now
-        ∷ first_value g.now.ids ∷ second_value g.now.ids ∷ [] }
+        ≡ filled (Number g.now.head.id ∷ Text g.now.head.name ∷ Text guid.now ∷ Fixed fixed12.now
+        ∷ first_value g.now.ids ∷ second_value g.now.ids ∷ []) }
 {
     [
         Field::Number(g.head.id),
@@ -164,13 +196,22 @@ pub fn group3_fields<'a>(g: &'a GroupRec, guid: &'a Bytes, fixed12: &'a [u8; 12]
         Field::Fixed(fixed12),
         first_field(&g.ids),
         second_field(&g.ids),
+        Field::Absent,
+        Field::Absent,
+        Field::Absent,
+        Field::Absent,
+        Field::Absent,
+        Field::Absent,
+        Field::Absent,
+        Field::Absent,
+        Field::Absent,
     ]
 }
 
-pub fn group4_fields<'a>(g: &'a GroupRec, fixed44: &'a [u8; 44]) -> [Field<'a>; 5]
+pub fn group4_fields<'a>(g: &'a GroupRec, fixed44: &'a [u8; 44]) -> [Field<'a>; 15]
     ensures { values_of result
-        ≡ Number g.now.head.id ∷ Text g.now.head.name ∷ Fixed fixed44.now
-        ∷ first_value g.now.ids ∷ second_value g.now.ids ∷ [] }
+        ≡ filled (Number g.now.head.id ∷ Text g.now.head.name ∷ Fixed fixed44.now
+        ∷ first_value g.now.ids ∷ second_value g.now.ids ∷ []) }
 {
     [
         Field::Number(g.head.id),
@@ -178,6 +219,16 @@ pub fn group4_fields<'a>(g: &'a GroupRec, fixed44: &'a [u8; 44]) -> [Field<'a>; 
         Field::Fixed(fixed44),
         first_field(&g.ids),
         second_field(&g.ids),
+        Field::Absent,
+        Field::Absent,
+        Field::Absent,
+        Field::Absent,
+        Field::Absent,
+        Field::Absent,
+        Field::Absent,
+        Field::Absent,
+        Field::Absent,
+        Field::Absent,
     ]
 }
 

@@ -1,5 +1,6 @@
 ghost use Rattle.std.specs.Prelude.{◌≡◌, ◌≤◌, length, IfOk};
 
+use crate::cloning::both_clone;
 use ldm_bytes::{Bytes, NoMemory};
 use std::alloc::Global;
 
@@ -50,8 +51,7 @@ impl TwoIds {
     pub fn clone_in(&self, alloc: Global) -> Result<TwoIds, NoMemory>
         ensures { IfOk result (λ t. t ≡ self.now) }
     {
-        let first = self.first.clone_in(alloc)?;
-        let second = self.second.clone_in(alloc)?;
+        let (first, second) = both_clone(&self.first, &self.second, alloc)?;
         Ok(TwoIds { first, second })
     }
 }

@@ -4,6 +4,7 @@ ghost use Rattle.ldm_records.specs.Table.{has_flag};
 ghost use Rattle.ldm_records.specs.Fields.{volume_values, component_values, partition_values};
 ghost use Rattle.ldm_records.specs.Forms.{chunk_value, columns_value, first_value, second_value, alt_of, disk_values, guid_text_of, group_values};
 
+use crate::cloning::{both_clone, ends_clone, ids_clone, texts_clone};
 use crate::pieces::{DiskForm, GroupForm, Head, Striping, TwoIds};
 use ldm_bytes::{Bytes, NoMemory};
 use std::alloc::Global;
@@ -46,30 +47,30 @@ impl Volume {
     pub fn clone_in(&self, alloc: Global) -> Result<Volume, NoMemory>
         ensures { IfOk result (λ v. v ≡ self.now) }
     {
-        let head = self.head.clone_in(alloc)?;
-        let kind = self.kind.clone_in(alloc)?;
-        let second = self.second.clone_in(alloc)?;
-        let id1 = text_clone(&self.id1, alloc)?;
-        let id2 = text_clone(&self.id2, alloc)?;
-        let hint = text_clone(&self.hint, alloc)?;
-        let tail = self.tail.clone_in(alloc)?;
-        Ok(Volume {
-            head,
-            kind,
-            second,
-            fixed21: self.fixed21,
-            children: self.children,
-            fixed16: self.fixed16,
-            size: self.size,
-            fixed4: self.fixed4,
-            part_type: self.part_type,
-            guid: self.guid,
-            id1,
-            id2,
-            size2: self.size2,
-            hint,
-            tail,
-        })
+        if let Ok((kind, second)) = both_clone(&self.kind, &self.second, alloc)
+            && let Ok((id1, id2, hint)) = texts_clone(&self.id1, &self.id2, &self.hint, alloc)
+            && let Ok((head, tail)) = ends_clone(&self.head, &self.tail, alloc)
+        {
+            Ok(Volume {
+                head,
+                kind,
+                second,
+                fixed21: self.fixed21,
+                children: self.children,
+                fixed16: self.fixed16,
+                size: self.size,
+                fixed4: self.fixed4,
+                part_type: self.part_type,
+                guid: self.guid,
+                id1,
+                id2,
+                size2: self.size2,
+                hint,
+                tail,
+            })
+        } else {
+            Err(NoMemory)
+        }
     }
 }
 
@@ -100,21 +101,24 @@ impl Component {
     pub fn clone_in(&self, alloc: Global) -> Result<Component, NoMemory>
         ensures { IfOk result (λ c. c ≡ self.now) }
     {
-        let head = self.head.clone_in(alloc)?;
-        let state = self.state.clone_in(alloc)?;
-        let tail = self.tail.clone_in(alloc)?;
-        Ok(Component {
-            head,
-            state,
-            layout: self.layout,
-            fixed4: self.fixed4,
-            children: self.children,
-            fixed16: self.fixed16,
-            parent: self.parent,
-            fixed1: self.fixed1,
-            striping: self.striping,
-            tail,
-        })
+        if let Ok(state) = self.state.clone_in(alloc)
+            && let Ok((head, tail)) = ends_clone(&self.head, &self.tail, alloc)
+        {
+            Ok(Component {
+                head,
+                state,
+                layout: self.layout,
+                fixed4: self.fixed4,
+                children: self.children,
+                fixed16: self.fixed16,
+                parent: self.parent,
+                fixed1: self.fixed1,
+                striping: self.striping,
+                tail,
+            })
+        } else {
+            Err(NoMemory)
+        }
     }
 }
 
@@ -145,8 +149,7 @@ impl Partition {
     pub fn clone_in(&self, alloc: Global) -> Result<Partition, NoMemory>
         ensures { IfOk result (λ p. p ≡ self.now) }
     {
-        let head = self.head.clone_in(alloc)?;
-        let tail = self.tail.clone_in(alloc)?;
+        let (head, tail) = ends_clone(&self.head, &self.tail, alloc)?;
         Ok(Partition {
             head,
             fixed12: self.fixed12,
@@ -177,15 +180,18 @@ impl Disk {
     pub fn clone_in(&self, alloc: Global) -> Result<Disk, NoMemory>
         ensures { IfOk result (λ d. d ≡ self.now) }
     {
-        let head = self.head.clone_in(alloc)?;
-        let form = self.form.clone_in(alloc)?;
-        let tail = self.tail.clone_in(alloc)?;
-        Ok(Disk {
-            head,
-            guid: self.guid,
-            form,
-            tail,
-        })
+        if let Ok(form) = self.form.clone_in(alloc)
+            && let Ok((head, tail)) = ends_clone(&self.head, &self.tail, alloc)
+        {
+            Ok(Disk {
+                head,
+                guid: self.guid,
+                form,
+                tail,
+            })
+        } else {
+            Err(NoMemory)
+        }
     }
 }
 
@@ -207,16 +213,19 @@ impl GroupRec {
     pub fn clone_in(&self, alloc: Global) -> Result<GroupRec, NoMemory>
         ensures { IfOk result (λ g. g ≡ self.now) }
     {
-        let head = self.head.clone_in(alloc)?;
-        let form = self.form.clone_in(alloc)?;
-        let ids = ids_clone(&self.ids, alloc)?;
-        let tail = self.tail.clone_in(alloc)?;
-        Ok(GroupRec {
-            head,
-            form,
-            ids,
-            tail,
-        })
+        if let Ok(form) = self.form.clone_in(alloc)
+            && let Ok(ids) = ids_clone(&self.ids, alloc)
+            && let Ok((head, tail)) = ends_clone(&self.head, &self.tail, alloc)
+        {
+            Ok(GroupRec {
+                head,
+                form,
+                ids,
+                tail,
+            })
+        } else {
+            Err(NoMemory)
+        }
     }
 }
 
@@ -249,29 +258,11 @@ impl Record {
         ensures { IfOk result (λ r. r ≡ self.now) }
     {
         match self {
-            Record::Volume(v) => Ok(Record::Volume(v.clone_in(alloc)?)),
-            Record::Component(c) => Ok(Record::Component(c.clone_in(alloc)?)),
-            Record::Partition(p) => Ok(Record::Partition(p.clone_in(alloc)?)),
-            Record::Disk(d) => Ok(Record::Disk(d.clone_in(alloc)?)),
-            Record::Group(g) => Ok(Record::Group(g.clone_in(alloc)?)),
+            Record::Volume(v) => v.clone_in(alloc).map(Record::Volume),
+            Record::Component(c) => c.clone_in(alloc).map(Record::Component),
+            Record::Partition(p) => p.clone_in(alloc).map(Record::Partition),
+            Record::Disk(d) => d.clone_in(alloc).map(Record::Disk),
+            Record::Group(g) => g.clone_in(alloc).map(Record::Group),
         }
-    }
-}
-
-fn text_clone(text: &Option<Bytes>, alloc: Global) -> Result<Option<Bytes>, NoMemory>
-    ensures { IfOk result (λ t. t ≡ text.now) }
-{
-    match text {
-        Some(text) => Ok(Some(text.clone_in(alloc)?)),
-        None => Ok(None),
-    }
-}
-
-fn ids_clone(ids: &Option<TwoIds>, alloc: Global) -> Result<Option<TwoIds>, NoMemory>
-    ensures { IfOk result (λ t. t ≡ ids.now) }
-{
-    match ids {
-        Some(ids) => Ok(Some(ids.clone_in(alloc)?)),
-        None => Ok(None),
     }
 }

@@ -1,5 +1,6 @@
 pub mod SpanLaws
 pub mod FirstLaws
+pub mod OneLaws
 pub mod TableLaws
 pub mod LayoutLaws
 pub mod GroupLaws

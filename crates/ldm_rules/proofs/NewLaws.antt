@@ -1,5 +1,5 @@
 -- A new group keeps the rules, and has neither a strange image nor an absent disk.
-use Rattle.std.proofs.Common.{◌≡◌, inl, inr, ℕ, zero, suc, ◌+◌, ◌<◌, ◌≤◌, ◌==◌, Bool, true, false, cond, List, [], ◌∷◌, length, get_or, slice_get, Option, Some, None, refl, sym, ap, subst, ◌∙◌, arith, find, count_by, position}
+use Rattle.std.proofs.Common.{◌≡◌, inl, inr, ℕ, zero, suc, ◌+◌, ◌<◌, ◌==◌, Bool, true, false, cond, List, [], ◌∷◌, length, get_or, slice_get, Some, None, refl, sym, ap, subst, ◌∙◌, arith, find, count_by, position}
 use Rattle.std.specs.Prelude.{is_none, map, nat_le, nat_lt}
 use Rattle.std.specs.List.{filter_map, position_or_len}
 use Rattle.std.specs.Option.{option_map}
@@ -7,7 +7,7 @@ use Rattle.std.proofs.lemmas.Bool.{eq-eqb, eqb-true, cases_lt, false≢true}
 use Rattle.std.proofs.lemmas.Bool.Decides.{nat_tests}
 use Rattle.std.proofs.lemmas.List.{length-map, get_or-map}
 use Rattle.std.proofs.lemmas.List.Sums.{sum_by-cons, fails_before_first, position_or_len_is}
-use Rattle.std.proofs.lemmas.Option.{slice_get-get_or, slice_get-map, get_or_from_slice_get}
+use Rattle.std.proofs.lemmas.Option.{get_or_from_slice_get}
 use Rattle.ldm_records.specs.declared.types.Record.{Record}
 use Rattle.ldm_records.specs.declared.types.Record.TheVariants as kinds
 use Rattle.ldm_records.specs.declared.types.Disk.{Disk}
@@ -17,12 +17,12 @@ use Rattle.ldm_group.specs.Order.{id_of}
 use Rattle.ldm_group.specs.Looks.{is_at, is_disk_with, is_volume_named, disk_in, disk_with, children_of}
 use Rattle.ldm_group.proofs.Rise.{tested, two_places}
 use Rattle.ldm_rules.specs.Ends.{data_size}
-use Rattle.ldm_rules.specs.Facts.{AreOneDisk, AreApart, stranger}
+use Rattle.ldm_rules.specs.Facts.{AreApart, stranger}
 use Rattle.ldm_rules.specs.New.{IsNewOn}
 use Rattle.ldm_rules.specs.Present.{image_with, has_guid, is_absent}
 use Rattle.ldm_rules.specs.Rules.{first_broken, group_id, group_fault, has_twin_guid, has_namesake, lacks_volume, lacks_component, lacks_disk, miscounts_components, miscounts_partitions, is_empty, passes_end, meets_another, has_layout_fault, passes_layout}
 use Rattle.ldm_rules.specs.Table.{IsSound}
-use Rattle.ldm_rules.proofs.SoundLaws.{EachRule, sound_from}
+use Rattle.ldm_rules.proofs.SoundLaws.{sound_from}
 
 -- ---- the first of the records that passes a test
 

@@ -6,3 +6,4 @@ pub mod Spans
 pub mod Disjoint
 pub mod Facts
 pub mod New
+pub mod Breaks

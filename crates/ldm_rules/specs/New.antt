@@ -5,7 +5,7 @@ use Rattle.ldm_records.specs.declared.types.Record.TheVariants as kinds
 use Rattle.ldm_records.specs.declared.types.Disk.{Disk}
 use Rattle.ldm_records.specs.declared.types.GroupRec.{GroupRec}
 use Rattle.ldm_label.specs.declared.Label.{Label}
-use Rattle.ldm_rules.specs.Facts.{AreApart, stranger}
+use Rattle.ldm_rules.specs.Facts.{AreApart}
 use Rattle.ldm_rules.specs.Table.{IsSound}
 
 -- a group record, then a disk record for each label, with its GUID, and nothing else

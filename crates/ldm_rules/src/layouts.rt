@@ -1,4 +1,4 @@
-ghost use Rattle.std.specs.Prelude.{◌≡◌, List, not, find, option_copied};
+ghost use Rattle.std.specs.Prelude.{◌≡◌, List, if◌then◌else◌, not, find, option_copied};
 ghost use Rattle.std.specs.Option.{option_map};
 ghost use Rattle.ldm_records.specs.declared.types.Record.{Record};
 ghost use Rattle.ldm_layout.specs.Volumes.{layout_faults};
@@ -6,22 +6,17 @@ ghost use Rattle.ldm_rules.specs.Rules.{first_broken, is_short, has_layout_fault
 
 use ldm_layout::{LayoutFault, VolumeFault};
 
-fn is_short(fault: LayoutFault) -> bool
-    ensures { result ≡ is_short fault }
+// Whether it is that the volume is larger than its layout, or, where `short` is false, another fault.
+fn is_of(fault: LayoutFault, short: bool) -> bool
+    ensures { result ≡ (if short then is_short fault else not (is_short fault)) }
 {
-    matches!(fault, LayoutFault::Short)
+    matches!(fault, LayoutFault::Short) == short
 }
 
-fn first_other(faults: &[VolumeFault]) -> Option<&VolumeFault>
-    ensures { option_copied result ≡ find (λ f. not (is_short f.fault)) faults.now }
+fn first_of(faults: &[VolumeFault], short: bool) -> Option<&VolumeFault>
+    ensures { option_copied result ≡ find (λ f. if short then is_short f.fault else not (is_short f.fault)) faults.now }
 {
-    faults.iter().find(|f| !is_short(f.fault))
-}
-
-fn first_short(faults: &[VolumeFault]) -> Option<&VolumeFault>
-    ensures { option_copied result ≡ find (λ f. is_short f.fault) faults.now }
-{
-    faults.iter().find(|f| is_short(f.fault))
+    faults.iter().find(|f| is_of(f.fault, short))
 }
 
 fn volume_in(found: Option<&VolumeFault>) -> Option<u64>
@@ -35,7 +30,7 @@ pub fn faulty(faults: &[VolumeFault]) -> Option<u64>
     ensures { (records : List Record) → faults.now ≡ layout_faults records
         → result ≡ first_broken (has_layout_fault records) records }
 {
-    volume_in(first_other(faults))
+    volume_in(first_of(faults, false))
 }
 
 /// The least volume that is larger than its layout.
@@ -43,5 +38,5 @@ pub fn too_large(faults: &[VolumeFault]) -> Option<u64>
     ensures { (records : List Record) → faults.now ≡ layout_faults records
         → result ≡ first_broken (passes_layout records) records }
 {
-    volume_in(first_short(faults))
+    volume_in(first_of(faults, true))
 }

@@ -5,6 +5,7 @@
 //! of which asks the look-ups of the database.
 #![tactic(auto)]
 
+mod broken;
 mod ends;
 mod fault;
 mod found;

@@ -102,12 +102,13 @@ fn are_apart(spans: &[Span]) -> bool
     true
 }
 
-// The spans in rising order.
-fn sorted(spans: Vec<Span>) -> Result<Vec<Span>, NoMemory>
-    ensures same { IfOk result (λ v. IsPermutation spans.items v.items) }
+// The same in rising order.
+fn sorted_spans(alloc: Global, records: &[Record]) -> Result<Vec<Span>, NoMemory>
+    requires { All EndsInRange records.now }
+    ensures same { IfOk result (λ v. IsPermutation (filter_map span_of records.now) v.items) }
     ensures rising { IfOk result (λ v. IsNonDecreasingBy (λ s. s.start) v.items) }
 {
-    let mut spans = spans;
+    let mut spans = spans_of(alloc, records)?;
     spans.sort_by_key(|s| s.start)?;
     Ok(spans)
 }
@@ -118,7 +119,7 @@ pub fn meeting(alloc: Global, db: &Db) -> Result<Option<u64>, NoMemory>
     ensures { IfOk result (λ id. id ≡ first_broken (meets_another db.now.records) db.now.records) }
 {
     if all_end_in_range(db.as_slice()) {
-        let spans = sorted(spans_of(alloc, db.as_slice())?)?;
+        let spans = sorted_spans(alloc, db.as_slice())?;
         if are_apart(spans.as_slice()) {
             return Ok(None);
         }

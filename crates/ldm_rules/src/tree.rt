@@ -1,8 +1,7 @@
 ghost use Rattle.std.specs.Prelude.{◌≡◌, ◌==◌, count_by};
 ghost use Rattle.ldm_group.specs.Looks.{is_at, children_of};
-ghost use Rattle.ldm_rules.specs.Rules.{first_broken, lacks_volume, lacks_component, lacks_disk, miscounts_components, miscounts_partitions};
+ghost use Rattle.ldm_rules.specs.Rules.{lacks_volume, lacks_component, lacks_disk, miscounts_components, miscounts_partitions};
 
-use crate::found::id_in;
 use ldm_group::Db;
 use ldm_records::Record;
 
@@ -13,7 +12,8 @@ fn lacks(db: &Db, kind: u8, id: u64) -> bool
     db.by_id(kind, id).is_none()
 }
 
-fn lacks_volume(r: &Record, db: &Db) -> bool
+/// Whether it is a component whose volume isn't there.
+pub fn lacks_volume(r: &Record, db: &Db) -> bool
     ensures { result ≡ lacks_volume (λ id. count_by (is_at 3 id) db.now.records) r.now }
 {
     match r {
@@ -22,14 +22,8 @@ fn lacks_volume(r: &Record, db: &Db) -> bool
     }
 }
 
-/// The least component whose volume isn't there.
-pub fn orphan_component(db: &Db) -> Option<u64>
-    ensures { result ≡ first_broken (lacks_volume (λ id. count_by (is_at 3 id) db.now.records)) db.now.records }
-{
-    id_in(db.as_slice().iter().find(|r| lacks_volume(r, db)))
-}
-
-fn lacks_component(r: &Record, db: &Db) -> bool
+/// Whether it is a partition whose component isn't there.
+pub fn lacks_component(r: &Record, db: &Db) -> bool
     ensures { result ≡ lacks_component (λ id. count_by (is_at 4 id) db.now.records) r.now }
 {
     match r {
@@ -38,14 +32,8 @@ fn lacks_component(r: &Record, db: &Db) -> bool
     }
 }
 
-/// The least partition whose component isn't there.
-pub fn orphan_partition(db: &Db) -> Option<u64>
-    ensures { result ≡ first_broken (lacks_component (λ id. count_by (is_at 4 id) db.now.records)) db.now.records }
-{
-    id_in(db.as_slice().iter().find(|r| lacks_component(r, db)))
-}
-
-fn lacks_disk(r: &Record, db: &Db) -> bool
+/// Whether it is a partition whose disk isn't there.
+pub fn lacks_disk(r: &Record, db: &Db) -> bool
     ensures { result ≡ lacks_disk (λ id. count_by (is_at 2 id) db.now.records) r.now }
 {
     match r {
@@ -54,14 +42,8 @@ fn lacks_disk(r: &Record, db: &Db) -> bool
     }
 }
 
-/// The least partition whose disk isn't there.
-pub fn stray_partition(db: &Db) -> Option<u64>
-    ensures { result ≡ first_broken (lacks_disk (λ id. count_by (is_at 2 id) db.now.records)) db.now.records }
-{
-    id_in(db.as_slice().iter().find(|r| lacks_disk(r, db)))
-}
-
-fn miscounts_components(r: &Record, db: &Db) -> bool
+/// Whether it is a volume whose children number isn't the number of its components.
+pub fn miscounts_components(r: &Record, db: &Db) -> bool
     ensures { result ≡ miscounts_components (λ id. children_of 3 id db.now.records) r.now }
 {
     match r {
@@ -70,25 +52,12 @@ fn miscounts_components(r: &Record, db: &Db) -> bool
     }
 }
 
-/// The least volume whose children number isn't the number of its components.
-pub fn miscounted_volume(db: &Db) -> Option<u64>
-    ensures { result ≡ first_broken (miscounts_components (λ id. children_of 3 id db.now.records)) db.now.records }
-{
-    id_in(db.as_slice().iter().find(|r| miscounts_components(r, db)))
-}
-
-fn miscounts_partitions(r: &Record, db: &Db) -> bool
+/// Whether it is a component whose children number isn't the number of its partitions.
+pub fn miscounts_partitions(r: &Record, db: &Db) -> bool
     ensures { result ≡ miscounts_partitions (λ id. children_of 4 id db.now.records) r.now }
 {
     match r {
         Record::Component(c) => c.children != db.children_of(4, c.head.id),
         _ => false,
     }
-}
-
-/// The least component whose children number isn't the number of its partitions.
-pub fn miscounted_component(db: &Db) -> Option<u64>
-    ensures { result ≡ first_broken (miscounts_partitions (λ id. children_of 4 id db.now.records)) db.now.records }
-{
-    id_in(db.as_slice().iter().find(|r| miscounts_partitions(r, db)))
 }

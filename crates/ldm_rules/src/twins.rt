@@ -1,12 +1,12 @@
 ghost use Rattle.std.specs.Prelude.{◌≡◌, count_by};
 ghost use Rattle.ldm_group.specs.Looks.{is_disk_with, is_volume_named};
-ghost use Rattle.ldm_rules.specs.Rules.{first_broken, has_twin_guid, has_namesake};
+ghost use Rattle.ldm_rules.specs.Rules.{has_twin_guid, has_namesake};
 
-use crate::found::id_in;
 use ldm_group::Db;
 use ldm_records::Record;
 
-fn has_twin_guid(r: &Record, db: &Db) -> bool
+/// Whether it is a disk whose GUID another has.
+pub fn has_twin_guid(r: &Record, db: &Db) -> bool
     ensures { result ≡ has_twin_guid (λ guid. count_by (is_disk_with guid) db.now.records) r.now }
 {
     match r {
@@ -15,25 +15,12 @@ fn has_twin_guid(r: &Record, db: &Db) -> bool
     }
 }
 
-/// The least disk whose GUID another has.
-pub fn twin_guid(db: &Db) -> Option<u64>
-    ensures { result ≡ first_broken (has_twin_guid (λ guid. count_by (is_disk_with guid) db.now.records)) db.now.records }
-{
-    id_in(db.as_slice().iter().find(|r| has_twin_guid(r, db)))
-}
-
-fn has_namesake(r: &Record, db: &Db) -> bool
+/// Whether it is a volume whose name another has.
+pub fn has_namesake(r: &Record, db: &Db) -> bool
     ensures { result ≡ has_namesake (λ name. count_by (is_volume_named name) db.now.records) r.now }
 {
     match r {
         Record::Volume(v) => db.name_count(v.head.name.as_slice()) >= 2,
         _ => false,
     }
-}
-
-/// The least volume whose name another has.
-pub fn namesake(db: &Db) -> Option<u64>
-    ensures { result ≡ first_broken (has_namesake (λ name. count_by (is_volume_named name) db.now.records)) db.now.records }
-{
-    id_in(db.as_slice().iter().find(|r| has_namesake(r, db)))
 }

@@ -1,8 +1,9 @@
-ghost use Rattle.std.specs.Prelude.{◌≡◌, ◌++◌, OnOk, IfOk, codes, decimal};
-ghost use Rattle.ldm_text.specs.Records.{text_of_vmdb_fault, at_block, text_of_frag_fault, text_of_record_fault, text_of_copy_fault};
+ghost use Rattle.std.specs.Prelude.{◌≡◌, ◌++◌, IfOk, codes, decimal};
+ghost use Rattle.ldm_words.specs.Names.{hex_byte};
+ghost use Rattle.ldm_text.specs.Records.{text_of_vmdb_fault, at_block, text_of_frag_fault, text_of_copy_fault};
 
-use crate::growing::Text;
-use crate::naming::push_hex_byte;
+use crate::naming::hex_byte;
+use crate::parts::{Part, text_of};
 use ldm_bytes::{Bytes, NoMemory};
 use ldm_copy::CopyFault;
 use ldm_frags::FragFault;
@@ -25,60 +26,77 @@ fn vmdb_text(fault: VmdbFault) -> &'static [u8]
 }
 
 // block B: FAULT
-fn push_at_block(text: &mut Text, block: u32, fault: &[u8]) -> Result<(), NoMemory>
-    ensures { OnOk result (text.new ≡ text.old ++ at_block block fault.now) }
+fn block_text(alloc: Global, block: u32, fault: &[u8]) -> Result<Bytes, NoMemory>
+    ensures { IfOk result (λ text. text ≡ at_block block fault.now) }
 {
-    text.push(b"block ")?;
-    text.push_number(u64::from(block))?;
-    text.push(b": ")?;
-    text.push(fault)
+    let parts = [
+        Part::Word(b"block "),
+        Part::Number(u64::from(block)),
+        Part::Word(b": "),
+        Part::Word(fault),
+    ];
+    text_of(alloc, &parts)
 }
 
-fn push_frag_fault(text: &mut Text, fault: FragFault) -> Result<(), NoMemory>
-    ensures { OnOk result (text.new ≡ text.old ++ text_of_frag_fault fault) }
+// The block of a fault, and its text there.
+fn frag_text(fault: FragFault) -> (u32, &'static [u8])
+    ensures { at_block result.0 result.1.now ≡ text_of_frag_fault fault }
 {
     match fault {
-        FragFault::NoMagic(block) => push_at_block(text, block, b"no VBLK"),
-        FragFault::Parts(block) => push_at_block(text, block, b"parts"),
-        FragFault::Part(block) => push_at_block(text, block, b"part"),
-        FragFault::Mixed(block) => push_at_block(text, block, b"mixed group"),
-        FragFault::Repeated(block) => push_at_block(text, block, b"repeated part"),
-        FragFault::Missing(block) => push_at_block(text, block, b"missing part"),
+        FragFault::NoMagic(block) => (block, b"no VBLK"),
+        FragFault::Parts(block) => (block, b"parts"),
+        FragFault::Part(block) => (block, b"part"),
+        FragFault::Mixed(block) => (block, b"mixed group"),
+        FragFault::Repeated(block) => (block, b"repeated part"),
+        FragFault::Missing(block) => (block, b"missing part"),
     }
 }
 
-fn push_record_fault(text: &mut Text, block: u32, fault: RecordFault) -> Result<(), NoMemory>
-    ensures { OnOk result (text.new ≡ text.old ++ at_block block (text_of_record_fault fault)) }
+// block B: type 0xKK
+fn type_text(alloc: Global, block: u32, kind: u8) -> Result<Bytes, NoMemory>
+    ensures { IfOk result (λ text. text ≡ at_block block (codes "type 0x" ++ hex_byte kind)) }
 {
-    match fault {
-        RecordFault::Malformed => push_at_block(text, block, b"malformed"),
-        RecordFault::UnknownType(kind) => {
-            push_at_block(text, block, b"type 0x")?;
-            push_hex_byte(text, kind)
-        }
-    }
+    let digits = hex_byte(kind);
+    let parts = [
+        Part::Word(b"block "),
+        Part::Number(u64::from(block)),
+        Part::Word(b": "),
+        Part::Word(b"type 0x"),
+        Part::Word(&digits),
+    ];
+    text_of(alloc, &parts)
 }
 
-fn push_same_id(text: &mut Text, kind: u8, id: u64) -> Result<(), NoMemory>
-    ensures { OnOk result (text.new ≡ text.old ++ (codes "kind " ++ decimal kind ++ codes " id " ++ decimal id ++ codes " twice")) }
+// kind K id I twice
+fn same_id_text(alloc: Global, kind: u8, id: u64) -> Result<Bytes, NoMemory>
+    ensures { IfOk result (λ text. text ≡ codes "kind " ++ decimal kind ++ codes " id " ++ decimal id ++ codes " twice") }
 {
-    text.push(b"kind ")?;
-    text.push_number(u64::from(kind))?;
-    text.push(b" id ")?;
-    text.push_number(id)?;
-    text.push(b" twice")
+    let parts = [
+        Part::Word(b"kind "),
+        Part::Number(u64::from(kind)),
+        Part::Word(b" id "),
+        Part::Number(id),
+        Part::Word(b" twice"),
+    ];
+    text_of(alloc, &parts)
 }
 
 /// The text of a fault of a copy.
 pub fn copy_fault_text(alloc: Global, fault: CopyFault) -> Result<Bytes, NoMemory>
     ensures { IfOk result (λ text. text ≡ text_of_copy_fault fault) }
 {
-    let mut text = Text::new(alloc);
     match fault {
-        CopyFault::Vmdb(fault) => text.push(vmdb_text(fault))?,
-        CopyFault::Frag(fault) => push_frag_fault(&mut text, fault)?,
-        CopyFault::BadRecord(block, fault) => push_record_fault(&mut text, block, fault)?,
-        CopyFault::SameId { kind, id } => push_same_id(&mut text, kind, id)?,
+        CopyFault::Vmdb(fault) => Bytes::from_slice(alloc, vmdb_text(fault)),
+        CopyFault::Frag(fault) => {
+            let (block, text) = frag_text(fault);
+            block_text(alloc, block, text)
+        }
+        CopyFault::BadRecord(block, RecordFault::Malformed) => {
+            block_text(alloc, block, b"malformed")
+        }
+        CopyFault::BadRecord(block, RecordFault::UnknownType(kind)) => {
+            type_text(alloc, block, kind)
+        }
+        CopyFault::SameId { kind, id } => same_id_text(alloc, kind, id),
     }
-    Ok(text.into_bytes())
 }

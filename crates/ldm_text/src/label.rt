@@ -1,45 +1,23 @@
 ghost use Rattle.std.specs.Prelude.{◌≡◌, ◌++◌, OnOk, IfOk, codes, decimal};
-ghost use Rattle.ldm_bytes.specs.Guid.{own_guid};
-ghost use Rattle.ldm_text.specs.Texts.{text_of_range, text_of_disk, text_of_privhead, text_of_areas, text_of_label, text_of_label_fault};
+ghost use Rattle.ldm_text.specs.Texts.{text_of_disk, text_of_privhead, text_of_areas, text_of_label, text_of_label_fault};
 
 use crate::growing::Text;
-use crate::naming::push_number;
+use crate::parts::{Part, push_parts, text_of};
 use ldm_bytes::{Bytes, NoMemory};
 use ldm_label::{Label, LabelFault};
 use std::alloc::Global;
 
-// NAME START+SIZE
-fn push_range(text: &mut Text, name: &[u8], start: u64, size: u64) -> Result<(), NoMemory>
-    ensures { OnOk result (text.new ≡ text.old ++ (name.now ++ text_of_range start size)) }
-{
-    text.push(name)?;
-    text.push_number(start)?;
-    text.push(b"+")?;
-    text.push_number(size)
-}
-
-// disk GUID
-fn push_guid(text: &mut Text, guid: u128) -> Result<(), NoMemory>
-    ensures { OnOk result (text.new ≡ text.old ++ (codes "disk " ++ own_guid guid)) }
-{
-    text.push(b"disk ")?;
-    text.push_guid(guid)
-}
-
-// version 2.MINOR
-fn push_version(text: &mut Text, minor: u16) -> Result<(), NoMemory>
-    ensures { OnOk result (text.new ≡ text.old ++ (codes " version 2." ++ decimal minor)) }
-{
-    push_number(text, b" version 2.", u64::from(minor))
-}
-
 // disk GUID version 2.MINOR
-#[tactic(auto, unfolding(crate::specs::Texts::text_of_disk))]
 fn push_disk(text: &mut Text, guid: u128, minor: u16) -> Result<(), NoMemory>
     ensures { OnOk result (text.new ≡ text.old ++ text_of_disk guid minor) }
 {
-    push_guid(text, guid)?;
-    push_version(text, minor)
+    let parts = [
+        Part::Word(b"disk "),
+        Part::Guid(guid),
+        Part::Word(b" version 2."),
+        Part::Number(u64::from(minor)),
+    ];
+    push_parts(text, &parts)
 }
 
 // The line of the private header.
@@ -48,9 +26,18 @@ fn push_privhead(text: &mut Text, label: &Label) -> Result<(), NoMemory>
     ensures { OnOk result (text.new ≡ text.old ++ text_of_privhead label.now) }
 {
     push_disk(text, label.disk_guid, label.minor)?;
-    push_range(text, b" data ", label.data_start, label.data_size)?;
-    push_range(text, b" database ", label.config_start, 2048)?;
-    text.push(b"\n")
+    let parts = [
+        Part::Word(b" data "),
+        Part::Number(label.data_start),
+        Part::Word(b"+"),
+        Part::Number(label.data_size),
+        Part::Word(b" database "),
+        Part::Number(label.config_start),
+        Part::Word(b"+"),
+        Part::Number(2048),
+        Part::Word(b"\n"),
+    ];
+    push_parts(text, &parts)
 }
 
 // The line of the table of contents.
@@ -58,9 +45,18 @@ fn push_privhead(text: &mut Text, label: &Label) -> Result<(), NoMemory>
 fn push_areas(text: &mut Text, label: &Label) -> Result<(), NoMemory>
     ensures { OnOk result (text.new ≡ text.old ++ text_of_areas label.now) }
 {
-    push_range(text, b"area ", label.area_start, label.area_sectors)?;
-    push_range(text, b" log ", label.log_start, label.log_sectors)?;
-    text.push(b"\n")
+    let parts = [
+        Part::Word(b"area "),
+        Part::Number(label.area_start),
+        Part::Word(b"+"),
+        Part::Number(label.area_sectors),
+        Part::Word(b" log "),
+        Part::Number(label.log_start),
+        Part::Word(b"+"),
+        Part::Number(label.log_sectors),
+        Part::Word(b"\n"),
+    ];
+    push_parts(text, &parts)
 }
 
 /// The two lines of a label: the private header, and the areas of the table of contents.
@@ -77,11 +73,12 @@ pub fn label_text(alloc: Global, label: &Label) -> Result<Bytes, NoMemory>
 fn differing_text(alloc: Global, copy: u8) -> Result<Bytes, NoMemory>
     ensures { IfOk result (λ text. text ≡ codes "PRIVHEAD " ++ decimal copy ++ codes " differs") }
 {
-    let mut text = Text::new(alloc);
-    text.push(b"PRIVHEAD ")?;
-    text.push_number(u64::from(copy))?;
-    text.push(b" differs")?;
-    Ok(text.into_bytes())
+    let parts = [
+        Part::Word(b"PRIVHEAD "),
+        Part::Number(u64::from(copy)),
+        Part::Word(b" differs"),
+    ];
+    text_of(alloc, &parts)
 }
 
 /// The text of a fault of a label.

@@ -6,6 +6,7 @@ mod growing;
 mod label;
 mod lines;
 mod naming;
+mod parts;
 mod records;
 mod refusal;
 mod volumes;

@@ -1,54 +1,52 @@
-ghost use Rattle.std.specs.Prelude.{◌≡◌, ◌==◌, ◌++◌, ℕ, [], nat_eq, OnOk, IfOk, unwrap_or, codes, decimal, if◌then◌else◌};
+ghost use Rattle.std.specs.Prelude.{◌≡◌, ◌==◌, ◌++◌, ℕ, [], nat_eq, OnOk, IfOk, unwrap_or, codes, if◌then◌else◌};
 ghost use Rattle.std.specs.HashMap as hash;
-ghost use Rattle.ldm_words.specs.Names.{esc};
-ghost use Rattle.ldm_text.specs.Volumes.{text_of_head, text_of_extent, text_of_index, text_of_partition, text_of_partitions, text_of_striping, text_of_layout, text_of_component, text_of_components};
+ghost use Rattle.ldm_text.specs.Volumes.{text_of_index, text_of_partition, text_of_partitions, text_of_striping, text_of_layout, text_of_component, text_of_components};
 
 use crate::growing::Text;
-use crate::naming::{push_name, push_number};
+use crate::parts::{Part, push_parts};
 use ldm_bytes::NoMemory;
-use ldm_records::{Component, Head, Partition, Record, Striping};
+use ldm_records::{Component, Partition, Record, Striping};
 use std::alloc::Global;
 use std::collections::HashMap;
 
-/// A word, and then the id and the name of a record.
-#[tactic(auto, unfolding(crate::specs::Volumes::text_of_head))]
-pub(crate) fn push_head(text: &mut Text, word: &[u8], head: &Head) -> Result<(), NoMemory>
-    ensures { OnOk result (text.new ≡ text.old ++ text_of_head word.now head.now) }
-{
-    push_number(text, word, head.id)?;
-    push_name(text, b" ", head.name.as_slice())
-}
-
-// disk DISKID start S size Z offset O
-#[tactic(auto, unfolding(crate::specs::Volumes::text_of_extent))]
-fn push_extent(text: &mut Text, p: &Partition) -> Result<(), NoMemory>
-    ensures { OnOk result (text.new ≡ text.old ++ text_of_extent p.now) }
-{
-    push_number(text, b" disk ", p.disk)?;
-    push_number(text, b" start ", p.start)?;
-    push_number(text, b" size ", p.size)?;
-    push_number(text, b" offset ", p.offset)
-}
-
-// index I, where it is there
-fn push_index(text: &mut Text, index: Option<u64>) -> Result<(), NoMemory>
-    ensures { OnOk result (text.new ≡ text.old ++ text_of_index index) }
+// index I, where it is there, and the end of the line
+fn push_end(text: &mut Text, index: Option<u64>) -> Result<(), NoMemory>
+    ensures { OnOk result (text.new ≡ text.old ++ (text_of_index index ++ codes "\n")) }
 {
     match index {
-        Some(index) => push_number(text, b" index ", index),
-        None => Ok(()),
+        Some(index) => {
+            let parts = [
+                Part::Word(b" index "),
+                Part::Number(index),
+                Part::Word(b"\n"),
+            ];
+            push_parts(text, &parts)
+        }
+        None => text.push(b"\n"),
     }
 }
 
 // The line of a partition.
-#[tactic(auto, unfolding(crate::specs::Volumes::text_of_partition))]
+#[tactic(auto, unfolding(crate::specs::Volumes::text_of_head, crate::specs::Volumes::text_of_extent, crate::specs::Volumes::text_of_partition))]
 fn push_partition(text: &mut Text, p: &Partition) -> Result<(), NoMemory>
     ensures { OnOk result (text.new ≡ text.old ++ text_of_partition p.now) }
 {
-    push_head(text, b"    partition ", &p.head)?;
-    push_extent(text, p)?;
-    push_index(text, p.index)?;
-    text.push(b"\n")
+    let parts = [
+        Part::Word(b"    partition "),
+        Part::Number(p.head.id),
+        Part::Word(b" "),
+        Part::Name(p.head.name.as_slice()),
+        Part::Word(b" disk "),
+        Part::Number(p.disk),
+        Part::Word(b" start "),
+        Part::Number(p.start),
+        Part::Word(b" size "),
+        Part::Number(p.size),
+        Part::Word(b" offset "),
+        Part::Number(p.offset),
+    ];
+    push_parts(text, &parts)?;
+    push_end(text, p.index)
 }
 
 // Adds the line of a partition to those of its component.
@@ -90,16 +88,22 @@ pub(crate) fn lines_of(lines: &HashMap<u64, Text>, id: u64) -> &[u8]
     }
 }
 
-// CHUNK COLUMNS
-fn push_striping(text: &mut Text, striping: Option<Striping>) -> Result<(), NoMemory>
-    ensures { OnOk result (text.new ≡ text.old ++ text_of_striping striping) }
+// WORD CHUNK COLUMNS, or the word alone
+fn push_striped(text: &mut Text, word: &[u8], striping: Option<Striping>) -> Result<(), NoMemory>
+    ensures { OnOk result (text.new ≡ text.old ++ (word.now ++ text_of_striping striping)) }
 {
     match striping {
         Some(striping) => {
-            push_number(text, b" ", striping.chunk)?;
-            push_number(text, b" ", striping.columns)
+            let parts = [
+                Part::Word(word),
+                Part::Word(b" "),
+                Part::Number(striping.chunk),
+                Part::Word(b" "),
+                Part::Number(striping.columns),
+            ];
+            push_parts(text, &parts)
         }
-        None => Ok(()),
+        None => text.push(word),
     }
 }
 
@@ -109,27 +113,29 @@ fn push_layout(text: &mut Text, c: &Component) -> Result<(), NoMemory>
     ensures { OnOk result (text.new ≡ text.old ++ text_of_layout c.now.layout c.now.striping) }
 {
     match c.layout {
-        1 => {
-            text.push(b" stripe")?;
-            push_striping(text, c.striping)
-        }
-        3 => {
-            text.push(b" raid")?;
-            push_striping(text, c.striping)
-        }
+        1 => push_striped(text, b" stripe", c.striping),
+        3 => push_striped(text, b" raid", c.striping),
         _ => text.push(b" basic"),
     }
 }
 
 // The line of a component, and those of its partitions.
-#[tactic(auto, unfolding(crate::specs::Volumes::text_of_component))]
-fn push_component(text: &mut Text, c: &Component, partitions: &[u8]) -> Result<(), NoMemory>
+fn push_component<'a>(
+    text: &mut Text,
+    c: &'a Component,
+    partitions: &'a [u8],
+) -> Result<(), NoMemory>
     ensures { OnOk result (text.new ≡ text.old ++ text_of_component c.now partitions.now) }
 {
-    push_head(text, b"  component ", &c.head)?;
+    let head = [
+        Part::Word(b"  component "),
+        Part::Number(c.head.id),
+        Part::Word(b" "),
+        Part::Name(c.head.name.as_slice()),
+    ];
+    push_parts(text, &head)?;
     push_layout(text, c)?;
-    text.push(b"\n")?;
-    text.push(partitions)
+    push_parts(text, &[Part::Word(b"\n"), Part::Word(partitions)])
 }
 
 // Adds the text of a component to those of its volume.

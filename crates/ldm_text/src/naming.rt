@@ -3,6 +3,7 @@ ghost use Rattle.ldm_bytes.specs.Guid.{own_guid};
 ghost use Rattle.ldm_words.specs.Names.{hex_digit, hex_byte, esc_byte, esc};
 
 use crate::growing::Text;
+use crate::parts::{Part, push_parts};
 use ldm_bytes::NoMemory;
 use ldm_words::is_plain;
 
@@ -14,10 +15,10 @@ fn hex_digit(d: u8) -> u8
 }
 
 /// Two lower-case hexadecimal digits.
-pub(crate) fn push_hex_byte(text: &mut Text, c: u8) -> Result<(), NoMemory>
-    ensures { OnOk result (text.new ≡ text.old ++ hex_byte c) }
+pub(crate) fn hex_byte(c: u8) -> [u8; 2]
+    ensures { result ≡ hex_byte c }
 {
-    text.push(&[hex_digit(c / 16), hex_digit(c % 16)])
+    [hex_digit(c / 16), hex_digit(c % 16)]
 }
 
 // A byte of a name, as it is written.
@@ -48,16 +49,14 @@ pub(crate) fn push_esc(text: &mut Text, name: &[u8]) -> Result<(), NoMemory>
 pub fn push_number(text: &mut Text, word: &[u8], number: u64) -> Result<(), NoMemory>
     ensures { OnOk result (text.new ≡ text.old ++ (word.now ++ decimal number)) }
 {
-    text.push(word)?;
-    text.push_number(number)
+    push_parts(text, &[Part::Word(word), Part::Number(number)])
 }
 
 /// A name behind a word.
 pub fn push_name(text: &mut Text, word: &[u8], name: &[u8]) -> Result<(), NoMemory>
     ensures { OnOk result (text.new ≡ text.old ++ (word.now ++ esc name.now)) }
 {
-    text.push(word)?;
-    push_esc(text, name)
+    push_parts(text, &[Part::Word(word), Part::Name(name)])
 }
 
 /// A name behind a word, and then a GUID.
@@ -65,6 +64,5 @@ pub fn push_named(text: &mut Text, word: &[u8], name: &[u8], guid: u128) -> Resu
     ensures { OnOk result (text.new ≡ text.old ++ ((word.now ++ esc name.now) ++ (codes " " ++ own_guid guid))) }
 {
     push_name(text, word, name)?;
-    text.push(b" ")?;
-    text.push_guid(guid)
+    push_parts(text, &[Part::Word(b" "), Part::Guid(guid)])
 }

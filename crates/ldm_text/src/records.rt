@@ -1,13 +1,11 @@
-ghost use Rattle.std.specs.Prelude.{◌≡◌, ◌++◌, OnOk, IfOk, flat_map, codes, decimal};
-ghost use Rattle.ldm_group.specs.Order.{id_of};
-ghost use Rattle.ldm_words.specs.Names.{esc};
+ghost use Rattle.std.specs.Prelude.{◌≡◌, ◌++◌, OnOk, IfOk, flat_map};
 ghost use Rattle.ldm_text.specs.Records.{type_of, name_of, text_of_record, text_of_header, text_of_copy};
 
 use crate::growing::Text;
-use crate::naming::{push_name, push_named, push_number};
+use crate::parts::{Part, push_parts};
 use ldm_bytes::{Bytes, NoMemory};
 use ldm_copy::CopyState;
-use ldm_group::{id_of, own_len};
+use ldm_group::{Db, id_of, own_len};
 use ldm_records::{DiskForm, GroupForm, Record};
 use ldm_vmdb::Header;
 use std::alloc::Global;
@@ -42,24 +40,22 @@ fn name_of(r: &Record) -> &[u8]
     }
 }
 
-// TYPE ID
-fn push_type(text: &mut Text, r: &Record) -> Result<(), NoMemory>
-    ensures { OnOk result (text.new ≡ text.old ++ (type_of r.now ++ codes " " ++ decimal (id_of r.now))) }
-{
-    text.push(type_of(r))?;
-    text.push(b" ")?;
-    text.push_number(id_of(r))
-}
-
 // The line of a record.
 #[tactic(auto, unfolding(crate::specs::Records::text_of_record))]
 fn push_record(text: &mut Text, r: &Record) -> Result<(), NoMemory>
     ensures { OnOk result (text.new ≡ text.old ++ text_of_record r.now) }
 {
-    push_type(text, r)?;
-    push_name(text, b" ", name_of(r))?;
-    push_number(text, b" ", own_len(r) as u64)?;
-    text.push(b"\n")
+    let parts = [
+        Part::Word(type_of(r)),
+        Part::Word(b" "),
+        Part::Number(id_of(r)),
+        Part::Word(b" "),
+        Part::Name(name_of(r)),
+        Part::Word(b" "),
+        Part::Number(own_len(r) as u64),
+        Part::Word(b"\n"),
+    ];
+    push_parts(text, &parts)
 }
 
 // The line of a header.
@@ -67,10 +63,18 @@ fn push_record(text: &mut Text, r: &Record) -> Result<(), NoMemory>
 fn push_header(text: &mut Text, header: &Header) -> Result<(), NoMemory>
     ensures { OnOk result (text.new ≡ text.old ++ text_of_header header.now) }
 {
-    push_named(text, b"vmdb ", header.name.as_slice(), header.guid)?;
-    push_number(text, b" sequence ", header.seq)?;
-    push_number(text, b" last ", u64::from(header.last))?;
-    text.push(b"\n")
+    let parts = [
+        Part::Word(b"vmdb "),
+        Part::Name(header.name.as_slice()),
+        Part::Word(b" "),
+        Part::Guid(header.guid),
+        Part::Word(b" sequence "),
+        Part::Number(header.seq),
+        Part::Word(b" last "),
+        Part::Number(u64::from(header.last)),
+        Part::Word(b"\n"),
+    ];
+    push_parts(text, &parts)
 }
 
 // The lines of records.
@@ -83,18 +87,23 @@ fn push_records(text: &mut Text, records: &[Record]) -> Result<(), NoMemory>
     Ok(())
 }
 
+// The text of a valid copy.
+fn database_text(alloc: Global, db: &Db) -> Result<Bytes, NoMemory>
+    ensures { IfOk result (λ text. text ≡ text_of_header db.now.header ++ flat_map text_of_record db.now.records) }
+{
+    let mut text = Text::new(alloc);
+    push_header(&mut text, db.header())?;
+    push_records(&mut text, db.as_slice())?;
+    Ok(text.into_bytes())
+}
+
 /// The text of one copy of the database: its header and its records, each with the length of its own
 /// spelling in bytes.
 pub fn records_text(alloc: Global, state: &CopyState) -> Result<Bytes, NoMemory>
     ensures { IfOk result (λ text. text ≡ text_of_copy state.now) }
 {
-    let mut text = Text::new(alloc);
     match state {
-        CopyState::Closed => text.push(b"closed\n")?,
-        CopyState::Valid(db) => {
-            push_header(&mut text, db.header())?;
-            push_records(&mut text, db.as_slice())?;
-        }
+        CopyState::Closed => Bytes::from_slice(alloc, b"closed\n"),
+        CopyState::Valid(db) => database_text(alloc, db),
     }
-    Ok(text.into_bytes())
 }

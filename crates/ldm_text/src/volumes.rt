@@ -2,11 +2,11 @@ ghost use Rattle.std.specs.Prelude.{◌≡◌, ◌++◌, [], nat_eq, OnOk, unwra
 ghost use Rattle.std.specs.HashMap as hash;
 ghost use Rattle.ldm_layout.specs.Parts.{plexes_at};
 ghost use Rattle.ldm_layout.specs.Volumes.{shape_of};
-ghost use Rattle.ldm_text.specs.Volumes.{text_of_shape, guid_of_volume, text_of_form, text_of_volume, text_of_volumes, text_of_all_volumes};
+ghost use Rattle.ldm_text.specs.Volumes.{text_of_shape, guid_of_volume, text_of_volume, text_of_volumes, text_of_all_volumes};
 
 use crate::growing::Text;
-use crate::lines::{component_lines, lines_of, partition_lines, push_head};
-use crate::naming::push_number;
+use crate::lines::{component_lines, lines_of, partition_lines};
+use crate::parts::{Part, push_parts};
 use byteorder::{BigEndian, ByteOrder};
 use ldm_bytes::NoMemory;
 use ldm_layout::{Parts, Shape, shape_of};
@@ -32,24 +32,12 @@ fn guid_of(v: &Volume) -> u128
     BigEndian::read_u128(&v.guid)
 }
 
-// SHAPE SIZE GUID
-#[tactic(auto, unfolding(crate::specs::Volumes::text_of_form))]
-fn push_form(text: &mut Text, v: &Volume, shape: Shape) -> Result<(), NoMemory>
-    ensures { OnOk result (text.new ≡ text.old ++ text_of_form v.now shape) }
-{
-    text.push(b" ")?;
-    text.push(shape_text(shape))?;
-    push_number(text, b" ", v.size)?;
-    text.push(b" ")?;
-    text.push_guid(guid_of(v))
-}
-
 // The line of a volume, and the texts of its components.
-#[tactic(auto, unfolding(crate::specs::Volumes::text_of_volume))]
-fn push_volume(
+#[tactic(auto, unfolding(crate::specs::Volumes::text_of_head, crate::specs::Volumes::text_of_form, crate::specs::Volumes::text_of_volume))]
+fn push_volume<'a>(
     text: &mut Text,
-    v: &Volume,
-    components: &[u8],
+    v: &'a Volume,
+    components: &'a [u8],
     shape: Option<Shape>,
 ) -> Result<(), NoMemory>
     ensures { OnOk result (text.new ≡ text.old ++ text_of_volume v.now components.now shape) }
@@ -57,10 +45,21 @@ fn push_volume(
     let Some(shape) = shape else {
         return Ok(());
     };
-    push_head(text, b"volume ", &v.head)?;
-    push_form(text, v, shape)?;
-    text.push(b"\n")?;
-    text.push(components)
+    let parts = [
+        Part::Word(b"volume "),
+        Part::Number(v.head.id),
+        Part::Word(b" "),
+        Part::Name(v.head.name.as_slice()),
+        Part::Word(b" "),
+        Part::Word(shape_text(shape)),
+        Part::Word(b" "),
+        Part::Number(v.size),
+        Part::Word(b" "),
+        Part::Guid(guid_of(v)),
+        Part::Word(b"\n"),
+        Part::Word(components),
+    ];
+    push_parts(text, &parts)
 }
 
 // The texts of all volumes, by their parts and the texts of their components.

@@ -49,7 +49,7 @@ pub struct Counts {
 }
 
 /// What is wrong with a header sector.
-#[derive(Clone, Copy, Debug, PartialEq, Eq)]
+#[derive(Clone, Copy, PartialEq, Eq)]
 pub enum VmdbFault {
     /// It doesn't begin with `VMDB`.
     Magic,
@@ -68,7 +68,7 @@ pub enum VmdbFault {
 }
 
 /// Why a header can't be read.
-#[derive(Clone, Copy, Debug)]
+#[derive(Clone, Copy)]
 pub enum VmdbError {
     Fault(VmdbFault),
     NoMemory,

@@ -1,11 +1,23 @@
 -- What the words before `on` say.
-use Rattle.std.proofs.Common.{◌≡◌, ℕ, Bool, true, false, List, ◌∷◌, take, codes, bytes_eq, refl, ap, Option, String, string_bytes}
+use Rattle.std.proofs.Common.{◌≡◌, ◌∙◌, ℕ, ◌==◌, ◌+◌, ◌≤◌, Bool, true, false, cond, List, [], ◌∷◌, length, take, drop, codes, bytes_eq, refl, sym, subst, ap, arith, Option, Some, None, IfSome, is_some, unwrap_or, String, string_bytes}
+use Rattle.std.specs.Prelude.{nat_le}
+use Rattle.std.specs.Option.{option_map}
+use Rattle.std.proofs.Math.Dec.{ltb}
+use Rattle.std.proofs.lemmas.Bool.{and_parts, ltb-false}
+use Rattle.std.proofs.lemmas.List.{length-drop}
+use Rattle.std.proofs.lemmas.Bool.Decides.{nat_tests}
 use Rattle.std.proofs.lemmas.Slice.Eq.{bytes_eq-Decides}
-use Rattle.std.specs.List.{position_or_len}
+use Rattle.std.specs.List.{position_or_len, before_first}
 use Rattle.std.specs.declared.alloc.Global.{Global}
 use Rattle.std.proofs.lemmas.List.{take-map}
 use Rattle.ldm_words.specs.declared.job.Job.{Job}
-use Rattle.ldm_words.specs.Jobs.{texts, is_on, images_of, images_behind, command_form, job_of, job_form, with_count}
+use Rattle.ldm_words.specs.declared.job.Job.TheVariants.{Disk, Records, Show, Check, Try, Edit, One, Sample}
+use Rattle.ldm_words.specs.Commands.{command_of}
+use Rattle.ldm_words.specs.Names.{name_of}
+use Rattle.ldm_words.specs.Numbers.{number_of}
+use Rattle.ldm_words.specs.Limits.{IsCommand}
+use Rattle.ldm_words.specs.Jobs.{texts, is_on, images_of, images_behind, on_one, is_group, on_group, map_with, map_form, sample_form, command_form, form_of, job_of, job_form, with_count, HasCount, KeepsLimits}
+use Rattle.ldm_words.proofs.LimitLaws.{where_so, one_of, from_one, within, is_command}
 
 -- the job of the words is the form before the first `on`, with the number of images after it
 pub job_of_form : (words : List (String Global)) (place images : ℕ) (behind : Option ℕ) (found : Option Job) → place ≡ position_or_len is_on (texts words) → images ≡ images_of (texts words)
@@ -28,3 +40,108 @@ pub no_other : (words rest : List (List ℕ)) (word : List ℕ) (images : Option
     → (word ≡ codes "check" → ⊥) → (word ≡ codes "map" → ⊥) → (word ≡ codes "try" → ⊥) → (word ≡ codes "edit" → ⊥) → (word ≡ codes "sample" → ⊥) → command_form words images ≡ job_form words images
 no_other words rest word images is disk records show check map try edit sample =
     rw (is, other_word word (codes "disk") disk, other_word word (codes "records") records, other_word word (codes "show") show, other_word word (codes "check") check, other_word word (codes "map") map, other_word word (codes "try") try, other_word word (codes "edit") edit, other_word word (codes "sample") sample) refl
+
+-- ---- a job that is read has the images that it may have, and keeps the grammar's limits
+
+pub record IsCounted (images : ℕ) (job : Job) : Type 0 where
+  pub count : HasCount job images
+  pub limits : KeepsLimits job
+
+one_counted : (job : Job) (rest : List (List ℕ)) (images : Option ℕ) → IsCounted 1 job → IfSome (on_one job rest images) (IsCounted (unwrap_or images 0))
+one_counted job [] None is = tt
+one_counted job [] (Some images) is = where_so (IsCounted images) (images == 1) (Some job) (λ same. subst (λ n. IsCounted n job) (sym (grind (arith, nat_tests, same))) is)
+one_counted job (word ∷ rest) images is = tt
+
+pub record IsGroup (images : ℕ) : Type 0 where
+  pub some : 1 ≤ images
+  pub few : images ≤ 64
+
+group_counted : (images : Option ℕ) (found : Option Job) → ((n : ℕ) → 1 ≤ n → n ≤ 64 → IfSome found (IsCounted n)) → IfSome (cond (is_group images) found None) (IsCounted (unwrap_or images 0))
+group_counted None found law = tt
+group_counted (Some images) found law = where_so (IsCounted images) (is_group (Some images)) found (λ is.
+    let parts = and_parts (nat_le 1 images) (nat_le images 64) is in
+    law images (within 1 images parts.0) (within images 64 parts.1))
+
+on_group_counted : (job : Job) (rest : List (List ℕ)) (images : Option ℕ) → ((n : ℕ) → 1 ≤ n → n ≤ 64 → IsCounted n job) → IfSome (on_group job rest images) (IsCounted (unwrap_or images 0))
+on_group_counted job [] images law = group_counted images (Some job) law
+on_group_counted job (word ∷ rest) images law = tt
+
+map_counted : (rest : List (List ℕ)) (images : Option ℕ) → IfSome (map_form rest images) (IsCounted (unwrap_or images 0))
+map_counted [] images = tt
+map_counted (a ∷ []) images = tt
+map_counted (a ∷ b ∷ []) images = tt
+map_counted (a ∷ b ∷ c ∷ []) images = group_counted images (map_with (name_of a) (number_of b) (number_of c)) (λ n some few. go n some few (name_of a) (number_of b) (number_of c))
+  where
+    go : (n : ℕ) → 1 ≤ n → n ≤ 64 → (name : Option (List ℕ)) (first count : Option ℕ) → IfSome (map_with name first count) (IsCounted n)
+    go n some few None first count = tt
+    go n some few (Some name) None count = tt
+    go n some few (Some name) (Some first) None = tt
+    go n some few (Some name) (Some first) (Some count) = record { count = (some, few); limits = tt }
+map_counted (a ∷ b ∷ c ∷ d ∷ rest) images = tt
+
+sample_counted : (rest : List (List ℕ)) (images : Option ℕ) → IfSome (sample_form rest images) (IsCounted (unwrap_or images 0))
+sample_counted [] images = tt
+sample_counted (seed ∷ []) None = go (number_of seed)
+  where
+    go : (seed : Option ℕ) → IfSome (option_map Sample seed) (IsCounted 0)
+    go None = tt
+    go (Some seed) = record { count = refl; limits = tt }
+sample_counted (seed ∷ []) (Some images) = tt
+sample_counted (seed ∷ word ∷ rest) images = tt
+
+command_counted : (words : List (List ℕ)) (images : Option ℕ) → IfSome (command_form words images) (IsCounted (unwrap_or images 0))
+command_counted words images =
+    group_counted images (option_map One (command_of words)) (λ n some few.
+    from_one IsCommand (IsCounted n) One (command_of words) (λ command is. record { count = (some, few); limits = is }) (is_command words))
+
+form_counted : (word : List ℕ) (rest : List (List ℕ)) (images : Option ℕ) → IfSome (form_of word rest images) (IsCounted (unwrap_or images 0))
+form_counted word rest images =
+    let P = IsCounted (unwrap_or images 0) in
+    let one : (job : Job) → HasCount job 1 → KeepsLimits job → IfSome (on_one job rest images) P = λ job count limits. one_counted job rest images (record { count = count; limits = limits }) in
+    let ninth = command_form (word ∷ rest) images in
+    let eighth = cond (bytes_eq word (codes "sample")) (sample_form rest images) ninth in
+    let seventh = cond (bytes_eq word (codes "edit")) (on_group Edit rest images) eighth in
+    let sixth = cond (bytes_eq word (codes "try")) (on_group Try rest images) seventh in
+    let fifth = cond (bytes_eq word (codes "map")) (map_form rest images) sixth in
+    let fourth = cond (bytes_eq word (codes "check")) (on_group Check rest images) fifth in
+    let third = cond (bytes_eq word (codes "show")) (on_group Show rest images) fourth in
+    let second = cond (bytes_eq word (codes "records")) (on_one Records rest images) third in
+    one_of P (bytes_eq word (codes "disk")) (on_one Disk rest images) second (one Disk refl tt)
+    (one_of P (bytes_eq word (codes "records")) (on_one Records rest images) third (one Records refl tt)
+    (one_of P (bytes_eq word (codes "show")) (on_group Show rest images) fourth (on_group_counted Show rest images (λ n some few. record { count = (some, few); limits = tt }))
+    (one_of P (bytes_eq word (codes "check")) (on_group Check rest images) fifth (on_group_counted Check rest images (λ n some few. record { count = (some, few); limits = tt }))
+    (one_of P (bytes_eq word (codes "map")) (map_form rest images) sixth (map_counted rest images)
+    (one_of P (bytes_eq word (codes "try")) (on_group Try rest images) seventh (on_group_counted Try rest images (λ n some few. record { count = (some, few); limits = tt }))
+    (one_of P (bytes_eq word (codes "edit")) (on_group Edit rest images) eighth (on_group_counted Edit rest images (λ n some few. record { count = (some, few); limits = tt }))
+    (one_of P (bytes_eq word (codes "sample")) (sample_form rest images) ninth (sample_counted rest images)
+    (command_counted (word ∷ rest) images))))))))
+
+-- as many images follow the first `on`, and none where there is no `on`
+behind_first : (place : ℕ) (words : List (List ℕ)) (inside : Bool) → ltb place (length words) ≡ inside
+    → unwrap_or (cond (is_some (cond inside (Some place) None)) (Some (length (drop (place + 1) words))) None) 0 ≡ length (drop (place + 1) words)
+behind_first place words true is = refl
+behind_first place words false is = sym (length-drop (place + 1) words ∙ (let within = ltb-false place (length words) is in omega arith))
+
+images_are : (words : List (List ℕ)) → unwrap_or (images_behind words) 0 ≡ images_of words
+images_are words = behind_first (position_or_len is_on words) words (ltb (position_or_len is_on words) (length words)) refl
+
+-- what the words say
+pub record IsReading (words : List (List ℕ)) (reading : Job × ℕ) : Type 0 where
+  pub count : HasCount reading.0 reading.1
+  pub limits : KeepsLimits reading.0
+
+-- for what is found before `on`
+found_reading : (words : List (List ℕ)) (found : Option Job) → IfSome found (IsCounted (images_of words)) → IfSome (with_count (images_of words) found) (IsReading words)
+found_reading words None is = tt
+found_reading words (Some job) is = record { count = is.count; limits = is.limits }
+
+front_counted : (words front : List (List ℕ)) → IfSome (job_form front (images_behind words)) (IsCounted (images_of words))
+front_counted words [] = tt
+front_counted words (word ∷ rest) = subst (λ n. IfSome (form_of word rest (images_behind words)) (IsCounted n)) (images_are words) (form_counted word rest (images_behind words))
+
+is_reading : (words : List (List ℕ)) → IfSome (job_of words) (IsReading words)
+unfolding job_of
+is_reading words = found_reading words (job_form (before_first is_on words) (images_behind words)) (front_counted words (before_first is_on words))
+
+pub reading_of : (words : List (List ℕ)) (reading : Job × ℕ) → job_of words ≡ Some reading → IsReading words reading
+reading_of words reading is = subst (λ (o : Option (Job × ℕ)). IfSome o (IsReading words)) is (is_reading words)

@@ -22,15 +22,15 @@ use Rattle.ldm_words.specs.Limits.{ArePieces, AreDisks, AreColumns, IsNewLayout,
 
 -- ---- parts
 
-where_so : {A : Type 0} (P : A → Type 0) (t : Bool) (o : Option A) → (t ≡ true → IfSome o P) → IfSome (cond t o None) P
+pub where_so : {A : Type 0} (P : A → Type 0) (t : Bool) (o : Option A) → (t ≡ true → IfSome o P) → IfSome (cond t o None) P
 where_so P true o h = h refl
 where_so P false o h = tt
 
-one_of : {A : Type 0} (P : A → Type 0) (t : Bool) (o p : Option A) → IfSome o P → IfSome p P → IfSome (cond t o p) P
+pub one_of : {A : Type 0} (P : A → Type 0) (t : Bool) (o p : Option A) → IfSome o P → IfSome p P → IfSome (cond t o p) P
 one_of P true o p h k = h
 one_of P false o p h k = k
 
-from_one : {A B : Type 0} (P : A → Type 0) (Q : B → Type 0) (make : A → B) (o : Option A) → ((a : A) → P a → Q (make a)) → IfSome o P → IfSome (option_map make o) Q
+pub from_one : {A B : Type 0} (P : A → Type 0) (Q : B → Type 0) (make : A → B) (o : Option A) → ((a : A) → P a → Q (make a)) → IfSome o P → IfSome (option_map make o) Q
 from_one P Q make None law h = tt
 from_one P Q make (Some a) law h = law a h
 
@@ -52,7 +52,7 @@ from_three P Q R S make (Some a) (Some b) (Some c) law h k l = law a b c h k l
 below : (n m : ℕ) → nat_lt n m ≡ true → n < m
 below n m h = grind (arith, nat_tests, h)
 
-within : (n m : ℕ) → nat_le n m ≡ true → n ≤ m
+pub within : (n m : ℕ) → nat_le n m ≡ true → n ≤ m
 within n m h = grind (arith, nat_tests, h)
 
 is_small : (word : List ℕ) → IfSome (number_of word) (λ n. n < 2 ^ 64)
@@ -165,7 +165,7 @@ is_layout kind tokens =
     (one_of IsNewLayout (bytes_eq kind (codes "raid5")) (option_map raid5 (columns_of 3 tokens)) None
     (from_one (λ c. AreColumns 3 c.chunk c.len c.disks) IsNewLayout raid5 (columns_of 3 tokens) (λ c are. are) (are_columns 3 tokens)) tt)))
 
-pub is_create : (tokens : List (List ℕ)) → IfSome (create_of tokens) IsCommand
+is_create : (tokens : List (List ℕ)) → IfSome (create_of tokens) IsCommand
 is_create [] = tt
 is_create (name ∷ []) = tt
 is_create (name ∷ guid ∷ []) = tt
@@ -177,18 +177,18 @@ is_create (name ∷ guid ∷ kind ∷ tokens) =
     any_one None = tt
     any_one (Some n) = tt
 
-pub is_extend : (tokens : List (List ℕ)) → IfSome (extend_of tokens) IsCommand
+is_extend : (tokens : List (List ℕ)) → IfSome (extend_of tokens) IsCommand
 is_extend [] = tt
 is_extend (name ∷ pieces) =
     from_both (λ n. length n ≤ 255) ArePieces IsCommand Extend (name_of name) (many 1 piece_of pieces)
     (λ n ps short are. record { short = short; pieces_are = are }) (is_short name) (are_pieces pieces)
 
-pub is_delete : (tokens : List (List ℕ)) → IfSome (delete_of tokens) IsCommand
+is_delete : (tokens : List (List ℕ)) → IfSome (delete_of tokens) IsCommand
 is_delete [] = tt
 is_delete (name ∷ []) = from_one (λ n. length n ≤ 255) IsCommand Delete (name_of name) (λ n short. short) (is_short name)
 is_delete (name ∷ token ∷ tokens) = tt
 
-is_command : (tokens : List (List ℕ)) → IfSome (command_of tokens) IsCommand
+pub is_command : (tokens : List (List ℕ)) → IfSome (command_of tokens) IsCommand
 unfolding command_of
 is_command [] = tt
 is_command (word ∷ tokens) =
@@ -203,8 +203,7 @@ is_command (word ∷ tokens) =
 pub keep_limits : CommandsKeepLimits
 keep_limits tokens command is = subst (λ (o : Option Command). IfSome o IsCommand) is (is_command tokens)
 
--- what a form reads keeps them
-pub keeps : {E : Type 0} (form : List (List ℕ) → Option Command) → ((tokens : List (List ℕ)) → IfSome (form tokens) IsCommand) → (result : Result (Option Command) E) (tokens : List (List ℕ))
-    → IfOk result (λ command. command ≡ form tokens) → IfOk result (λ found. IfSome found IsCommand)
-keeps form law (Err e) tokens is = tt
-keeps form law (Ok found) tokens is = subst (λ (o : Option Command). IfSome o IsCommand) (sym is) (law tokens)
+-- what the grammar's command is keeps them
+pub keeps : {E : Type 0} (result : Result (Option Command) E) (tokens : List (List ℕ)) → IfOk result (λ command. command ≡ command_of tokens) → IfOk result (λ found. IfSome found IsCommand)
+keeps (Err e) tokens is = tt
+keeps (Ok found) tokens is = subst (λ (o : Option Command). IfSome o IsCommand) (sym is) (is_command tokens)

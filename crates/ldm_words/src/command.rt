@@ -4,14 +4,14 @@ use ldm_bytes::Bytes;
 use std::marker::Model;
 
 /// A disk by its name, and how many sectors of it.
-#[derive(Debug, Drop)]
+#[derive(Drop)]
 pub struct Piece {
     pub disk: Bytes,
     pub len: u64,
 }
 
 /// The pieces of a command, in their order. Contracts see them as that list.
-#[derive(Debug, Drop)]
+#[derive(Drop)]
 pub struct Pieces {
     items: Vec<Piece>,
 }
@@ -42,7 +42,7 @@ impl Pieces {
 }
 
 /// The names of disks in a command, in their order. Contracts see them as that list.
-#[derive(Debug, Drop)]
+#[derive(Drop)]
 pub struct Names {
     items: Vec<Bytes>,
 }
@@ -72,7 +72,6 @@ impl Names {
 }
 
 /// How a new volume lies on its disks. All lengths are in sectors.
-#[derive(Debug, Drop)]
 pub enum NewLayout {
     /// The pieces one after another.
     Span { pieces: Pieces },
@@ -84,8 +83,27 @@ pub enum NewLayout {
     Raid5 { chunk: u64, len: u64, disks: Names },
 }
 
+// By hand, so that a function that lets a layout go has one step for all that it has.
+impl Drop for NewLayout {
+    fn drop(self) {
+        match self {
+            NewLayout::Span { pieces: _ } => {}
+            NewLayout::Stripe {
+                chunk: _,
+                len: _,
+                disks: _,
+            } => {}
+            NewLayout::Mirror { len: _, disks: _ } => {}
+            NewLayout::Raid5 {
+                chunk: _,
+                len: _,
+                disks: _,
+            } => {}
+        }
+    }
+}
+
 /// A change of the group that a line of a script, or the words of a command line, ask for.
-#[derive(Debug, Drop)]
 pub enum Command {
     /// A new volume, with its GUID.
     Create {
@@ -102,4 +120,19 @@ pub enum Command {
     Delete {
         name: Bytes,
     },
+}
+
+// By hand, as that of a layout.
+impl Drop for Command {
+    fn drop(self) {
+        match self {
+            Command::Create {
+                name: _,
+                guid: _,
+                layout: _,
+            } => {}
+            Command::Extend { name: _, pieces: _ } => {}
+            Command::Delete { name: _ } => {}
+        }
+    }
 }

@@ -1,4 +1,4 @@
-ghost use Rattle.std.specs.Prelude.{◌≡◌, ◌≤◌, ℕ, IfOk, IfSome, length, unwrap_or};
+ghost use Rattle.std.specs.Prelude.{◌≡◌, ◌≤◌, IfOk, length};
 ghost use Rattle.std.specs.List.{position_or_len};
 ghost use Rattle.ldm_words.specs.Jobs.{texts, is_on, images_of, images_behind, on_one, is_group, on_group, map_form, sample_form, command_form, job_form, job_of, HasCount, KeepsLimits};
 ghost use Rattle.ldm_words.specs.Commands.{bytes_of};
@@ -10,10 +10,9 @@ use crate::number::read_number;
 use crate::reading::read_command;
 use ldm_bytes::{Bytes, NoMemory};
 use std::alloc::Global;
-use thiserror::Error;
 
 /// What a command line asks for.
-#[derive(Debug, Drop)]
+#[derive(Drop)]
 pub enum Job {
     /// The private header of one disk.
     Disk,
@@ -36,12 +35,10 @@ pub enum Job {
 }
 
 /// Why words give no job.
-#[derive(Clone, Copy, Debug, PartialEq, Eq, Error)]
+#[derive(Clone, Copy)]
 pub enum WordsError {
     /// The words have no reading.
-    #[error("usage: ldm JOB on IMAGE...")]
     Usage,
-    #[error("no memory")]
     NoMemory,
 }
 
@@ -95,11 +92,7 @@ fn images_behind(words: &[String]) -> Option<usize>
 
 // A job that takes no words of its own, and one image.
 fn on_one(job: Job, rest: &[String], images: Option<usize>) -> Option<Job>
-    requires count { HasCount job 1 }
-    requires limits { KeepsLimits job }
-    ensures is { result ≡ on_one job (texts rest.now) images }
-    ensures count { IfSome result (λ found. HasCount found (unwrap_or images 0)) }
-    ensures limits { IfSome result KeepsLimits }
+    ensures { result ≡ on_one job (texts rest.now) images }
 {
     if rest.is_empty() && images == Some(1) {
         Some(job)
@@ -117,11 +110,7 @@ fn is_group(images: Option<usize>) -> bool
 
 // A job that takes no words of its own, and the images of a group.
 fn on_group(job: Job, rest: &[String], images: Option<usize>) -> Option<Job>
-    requires count { (n : ℕ) → 1 ≤ n → n ≤ 64 → HasCount job n }
-    requires limits { KeepsLimits job }
-    ensures is { result ≡ on_group job (texts rest.now) images }
-    ensures count { IfSome result (λ found. HasCount found (unwrap_or images 0)) }
-    ensures limits { IfSome result KeepsLimits }
+    ensures { result ≡ on_group job (texts rest.now) images }
 {
     if rest.is_empty() && is_group(images) {
         Some(job)
@@ -132,33 +121,23 @@ fn on_group(job: Job, rest: &[String], images: Option<usize>) -> Option<Job>
 
 // map NAME FIRST COUNT
 fn read_map(alloc: Global, rest: &[String], images: Option<usize>) -> Result<Option<Job>, NoMemory>
-    ensures is { IfOk result (λ found. found ≡ map_form (texts rest.now) images) }
-    ensures count { IfOk result (λ found. IfSome found (λ job. HasCount job (unwrap_or images 0))) }
-    ensures limits { IfOk result (λ found. IfSome found KeepsLimits) }
+    ensures { IfOk result (λ found. found ≡ map_form (texts rest.now) images) }
 {
-    let [name, first, count] = rest else {
-        return Ok(None);
-    };
-    if !is_group(images) {
-        return Ok(None);
+    if let [name, first, count] = rest
+        && is_group(images)
+        && let Some(first) = read_number(first.as_bytes())
+        && let Some(count) = read_number(count.as_bytes())
+        && let Some(name) = read_name(alloc, name.as_bytes())?
+    {
+        Ok(Some(Job::Map { name, first, count }))
+    } else {
+        Ok(None)
     }
-    let Some(name) = read_name(alloc, name.as_bytes())? else {
-        return Ok(None);
-    };
-    let Some(first) = read_number(first.as_bytes()) else {
-        return Ok(None);
-    };
-    let Some(count) = read_number(count.as_bytes()) else {
-        return Ok(None);
-    };
-    Ok(Some(Job::Map { name, first, count }))
 }
 
 // sample SEED, without images
 fn read_sample(rest: &[String], images: Option<usize>) -> Option<Job>
-    ensures is { result ≡ sample_form (texts rest.now) images }
-    ensures count { IfSome result (λ job. HasCount job (unwrap_or images 0)) }
-    ensures limits { IfSome result KeepsLimits }
+    ensures { result ≡ sample_form (texts rest.now) images }
 {
     match (rest, images) {
         ([seed], None) => Some(Job::Sample(read_number(seed.as_bytes())?)),
@@ -179,9 +158,7 @@ fn tokens_of(alloc: Global, words: &[String]) -> Result<Vec<&[u8]>, NoMemory>
 
 // A command, and the images of a group.
 fn read_one(alloc: Global, words: &[String], images: Option<usize>) -> Result<Option<Job>, NoMemory>
-    ensures is { IfOk result (λ found. found ≡ command_form (texts words.now) images) }
-    ensures count { IfOk result (λ found. IfSome found (λ job. HasCount job (unwrap_or images 0))) }
-    ensures limits { IfOk result (λ found. IfSome found KeepsLimits) }
+    ensures { IfOk result (λ found. found ≡ command_form (texts words.now) images) }
 {
     if !is_group(images) {
         return Ok(None);
@@ -195,9 +172,7 @@ fn read_one(alloc: Global, words: &[String], images: Option<usize>) -> Result<Op
 
 // The job that stands before `on`.
 fn read_job(alloc: Global, words: &[String], images: Option<usize>) -> Result<Option<Job>, NoMemory>
-    ensures is { IfOk result (λ found. found ≡ job_form (texts words.now) images) }
-    ensures count { IfOk result (λ found. IfSome found (λ job. HasCount job (unwrap_or images 0))) }
-    ensures limits { IfOk result (λ found. IfSome found KeepsLimits) }
+    ensures { IfOk result (λ found. found ≡ job_form (texts words.now) images) }
 {
     let [word, rest @ ..] = words else {
         return Ok(None);

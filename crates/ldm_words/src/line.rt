@@ -7,15 +7,12 @@ use crate::command::Command;
 use crate::reading::read_command;
 use ldm_bytes::NoMemory;
 use std::alloc::Global;
-use thiserror::Error;
 
 /// Why a line gives no command.
-#[derive(Clone, Copy, Debug, PartialEq, Eq, Error)]
+#[derive(Clone, Copy)]
 pub enum LineError {
     /// The line has no reading.
-    #[error("bad line")]
     BadLine,
-    #[error("no memory")]
     NoMemory,
 }
 

@@ -41,16 +41,14 @@ fn last_equals(token: &[u8]) -> Option<usize>
 fn read_piece(alloc: Global, token: &[u8]) -> Result<Option<Piece>, NoMemory>
     ensures { IfOk result (λ piece. piece ≡ piece_of token.now) }
 {
-    let Some(place) = last_equals(token) else {
-        return Ok(None);
-    };
-    let Some(disk) = read_name(alloc, &token[..place])? else {
-        return Ok(None);
-    };
-    let Some(len) = read_number(&token[place + 1..]) else {
-        return Ok(None);
-    };
-    Ok(Some(Piece { disk, len }))
+    if let Some(place) = last_equals(token)
+        && let Some(len) = read_number(&token[place + 1..])
+        && let Some(disk) = read_name(alloc, &token[..place])?
+    {
+        Ok(Some(Piece { disk, len }))
+    } else {
+        Ok(None)
+    }
 }
 
 // The pieces that the tokens are, 1 to 64 of them.
@@ -91,35 +89,29 @@ fn read_names(alloc: Global, tokens: &[&[u8]], least: usize) -> Result<Option<Na
 fn read_columns(alloc: Global, tokens: &[&[u8]], least: usize) -> Result<Option<Columns>, NoMemory>
     ensures { IfOk result (λ columns. columns ≡ columns_of least (bytes_of tokens.now)) }
 {
-    let [chunk, len, disks @ ..] = tokens else {
-        return Ok(None);
-    };
-    let Some(chunk) = read_number(chunk) else {
-        return Ok(None);
-    };
-    let Some(len) = read_number(len) else {
-        return Ok(None);
-    };
-    let Some(disks) = read_names(alloc, disks, least)? else {
-        return Ok(None);
-    };
-    Ok(Some(Columns { chunk, len, disks }))
+    if let [chunk, len, disks @ ..] = tokens
+        && let Some(chunk) = read_number(chunk)
+        && let Some(len) = read_number(len)
+        && let Some(disks) = read_names(alloc, disks, least)?
+    {
+        Ok(Some(Columns { chunk, len, disks }))
+    } else {
+        Ok(None)
+    }
 }
 
 // The mirror that the tokens are.
 fn read_mirror(alloc: Global, tokens: &[&[u8]]) -> Result<Option<NewLayout>, NoMemory>
     ensures { IfOk result (λ layout. layout ≡ mirror_of (bytes_of tokens.now)) }
 {
-    let [len, disks @ ..] = tokens else {
-        return Ok(None);
-    };
-    let Some(len) = read_number(len) else {
-        return Ok(None);
-    };
-    let Some(disks) = read_names(alloc, disks, 2)? else {
-        return Ok(None);
-    };
-    Ok(Some(NewLayout::Mirror { len, disks }))
+    if let [len, disks @ ..] = tokens
+        && let Some(len) = read_number(len)
+        && let Some(disks) = read_names(alloc, disks, 2)?
+    {
+        Ok(Some(NewLayout::Mirror { len, disks }))
+    } else {
+        Ok(None)
+    }
 }
 
 // The layout of this kind that the tokens are.
@@ -146,11 +138,9 @@ fn read_layout(alloc: Global, kind: &[u8], tokens: &[&[u8]]) -> Result<Option<Ne
 fn read_new_name(alloc: Global, token: &[u8]) -> Result<Option<Bytes>, NoMemory>
     ensures { IfOk result (λ name. name ≡ new_name (name_of token.now)) }
 {
-    let Some(name) = read_name(alloc, token)? else {
-        return Ok(None);
-    };
-    let len = name.as_slice().len();
-    if len >= 1 && len <= 63 {
+    if let Some(name) = read_name(alloc, token)?
+        && (1..=63).contains(&name.as_slice().len())
+    {
         Ok(Some(name))
     } else {
         Ok(None)
@@ -161,57 +151,48 @@ fn read_new_name(alloc: Global, token: &[u8]) -> Result<Option<Bytes>, NoMemory>
 fn read_create(alloc: Global, tokens: &[&[u8]]) -> Result<Option<Command>, NoMemory>
     ensures { IfOk result (λ command. command ≡ create_of (bytes_of tokens.now)) }
 {
-    let [name, guid, kind, rest @ ..] = tokens else {
-        return Ok(None);
-    };
-    let Some(guid) = read_guid(guid) else {
-        return Ok(None);
-    };
-    let Some(name) = read_new_name(alloc, name)? else {
-        return Ok(None);
-    };
-    let Some(layout) = read_layout(alloc, kind, rest)? else {
-        return Ok(None);
-    };
-    Ok(Some(Command::Create { name, guid, layout }))
+    if let [name, guid, kind, rest @ ..] = tokens
+        && let Some(guid) = read_guid(guid)
+        && let Some(name) = read_new_name(alloc, name)?
+        && let Some(layout) = read_layout(alloc, kind, rest)?
+    {
+        Ok(Some(Command::Create { name, guid, layout }))
+    } else {
+        Ok(None)
+    }
 }
 
 // The command behind the word `extend`.
 fn read_extend(alloc: Global, tokens: &[&[u8]]) -> Result<Option<Command>, NoMemory>
     ensures { IfOk result (λ command. command ≡ extend_of (bytes_of tokens.now)) }
 {
-    let [name, pieces @ ..] = tokens else {
-        return Ok(None);
-    };
-    let Some(name) = read_name(alloc, name)? else {
-        return Ok(None);
-    };
-    let Some(pieces) = read_pieces(alloc, pieces)? else {
-        return Ok(None);
-    };
-    Ok(Some(Command::Extend { name, pieces }))
+    if let [name, pieces @ ..] = tokens
+        && let Some(name) = read_name(alloc, name)?
+        && let Some(pieces) = read_pieces(alloc, pieces)?
+    {
+        Ok(Some(Command::Extend { name, pieces }))
+    } else {
+        Ok(None)
+    }
 }
 
 // The command behind the word `delete`.
 fn read_delete(alloc: Global, tokens: &[&[u8]]) -> Result<Option<Command>, NoMemory>
     ensures { IfOk result (λ command. command ≡ delete_of (bytes_of tokens.now)) }
 {
-    let [name] = tokens else {
-        return Ok(None);
-    };
-    let Some(name) = read_name(alloc, name)? else {
-        return Ok(None);
-    };
-    Ok(Some(Command::Delete { name }))
+    if let [name] = tokens
+        && let Some(name) = read_name(alloc, name)?
+    {
+        Ok(Some(Command::Delete { name }))
+    } else {
+        Ok(None)
+    }
 }
 
-/// The command that the tokens say. `None` exactly where they have no reading. On a command line each
-/// word is one token.
-#[tactic(auto, using(crate::proofs::LimitLaws::keep_limits), unfolding(crate::specs::Commands::command_of))]
-pub fn read_command(alloc: Global, tokens: &[&[u8]]) -> Result<Option<Command>, NoMemory>
-    ensures is { IfOk result (λ found. found ≡ command_of (bytes_of tokens.now)) }
-    ensures limits { IfOk result (λ found. IfSome found IsCommand) }
-    ensures all_keep { CommandsKeepLimits }
+// The command that the tokens say.
+#[tactic(auto, unfolding(crate::specs::Commands::command_of))]
+fn read_form(alloc: Global, tokens: &[&[u8]]) -> Result<Option<Command>, NoMemory>
+    ensures { IfOk result (λ found. found ≡ command_of (bytes_of tokens.now)) }
 {
     let [word, rest @ ..] = tokens else {
         return Ok(None);
@@ -225,4 +206,15 @@ pub fn read_command(alloc: Global, tokens: &[&[u8]]) -> Result<Option<Command>, 
     } else {
         Ok(None)
     }
+}
+
+/// The command that the tokens say. `None` exactly where they have no reading. On a command line each
+/// word is one token.
+#[tactic(auto, using(crate::proofs::LimitLaws::keep_limits, crate::proofs::LimitLaws::keeps))]
+pub fn read_command(alloc: Global, tokens: &[&[u8]]) -> Result<Option<Command>, NoMemory>
+    ensures is { IfOk result (λ found. found ≡ command_of (bytes_of tokens.now)) }
+    ensures limits { IfOk result (λ found. IfSome found IsCommand) }
+    ensures all_keep { CommandsKeepLimits }
+{
+    read_form(alloc, tokens)
 }

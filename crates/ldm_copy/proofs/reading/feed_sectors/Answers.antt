@@ -1,7 +1,7 @@
 use Rattle.std.proofs.Common.{◌∙◌, refl, arith}
 use Rattle.std.proofs.lemmas.Result.{err_from_is_err_and}
 use Rattle.ldm_host.specs.Seen.{image}
-use Rattle.ldm_host.proofs.Relations.{still_itself, still_trans, quiet_trans}
+use Rattle.ldm_host.proofs.Relations.{still_itself, still_trans, quiet_trans, rose_sooner}
 use Rattle.ldm_copy.proofs.ReadLaws.{none_read, more_read, fault_read}
 use Rattle.ldm_copy.proofs.reading.feed_sectors.Goals as goal
 
@@ -41,3 +41,22 @@ returns-in_err-feed_all-clause-fault g c tells =
     rw (passed.1, passed.2)
     (fault_read g.H.Host.tells_disks (image start.content c.args.disk) c.args.from c.loop-k.k c.loop-k.joiner c.in_ok-sector.sector c.loop-k.invariant.read
     (λ t. rw c.loop-k.invariant.still.content at (c.in_ok-sector.ensures.bytes t)) c.args.sectors c.in_err-feed_all.field-0.0 c.loop-k-test.true tells c.in_err-feed_all.ensures.first)
+
+pub returns-in_err-sector-clause-still : goal.returns-in_err-sector-clause-still
+returns-in_err-sector-clause-still g c =
+    still_trans (g.H.Host.seen c.args.host.now) (g.H.Host.seen c.loop-k.host) (g.H.Host.seen c.read_sector.new.host) c.loop-k.invariant.still c.read_sector.ensures.still
+
+pub returns-in_err-sector-clause-quiet : goal.returns-in_err-sector-clause-quiet
+returns-in_err-sector-clause-quiet g c =
+    quiet_trans (g.H.Host.seen c.args.host.now) (g.H.Host.seen c.loop-k.host) (g.H.Host.seen c.read_sector.new.host) c.loop-k.invariant.quiet c.read_sector.ensures.quiet
+
+pub returns-in_err-sector-clause-cause : goal.returns-in_err-sector-clause-cause
+returns-in_err-sector-clause-cause g c disk = rose_sooner _ _ _ c.loop-k.invariant.still.later.disk_faults (c.in_err-sector.ensures.cause refl)
+
+pub returns-in_err-feed_all-clause-still : goal.returns-in_err-feed_all-clause-still
+returns-in_err-feed_all-clause-still g c =
+    still_trans (g.H.Host.seen c.args.host.now) (g.H.Host.seen c.loop-k.host) (g.H.Host.seen c.read_sector.new.host) c.loop-k.invariant.still c.read_sector.ensures.still
+
+pub returns-in_err-feed_all-clause-quiet : goal.returns-in_err-feed_all-clause-quiet
+returns-in_err-feed_all-clause-quiet g c =
+    quiet_trans (g.H.Host.seen c.args.host.now) (g.H.Host.seen c.loop-k.host) (g.H.Host.seen c.read_sector.new.host) c.loop-k.invariant.quiet c.read_sector.ensures.quiet

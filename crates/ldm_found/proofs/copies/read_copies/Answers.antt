@@ -1,7 +1,8 @@
-use Rattle.std.proofs.Common.{◌≡◌, length, length-append, ap, arith}
-use Rattle.ldm_host.proofs.Relations.{still_trans, quiet_trans}
+use Rattle.std.proofs.Common.{◌≡◌, Err, length, length-append, ap, arith}
+use Rattle.ldm_host.proofs.Relations.{still_trans, quiet_trans, rose_sooner}
+use Rattle.ldm_found.specs.declared.fault.OpenError.{OpenError}
 use Rattle.ldm_found.specs.declared.notes.Note.{Note}
-use Rattle.ldm_found.proofs.CopyLaws.{copies_next, copies_all, copies_passed, copy_fault, among_roomy}
+use Rattle.ldm_found.proofs.CopyLaws.{copies_next, copies_all, copies_passed, copy_fault, passed_disk, among_roomy}
 use Rattle.ldm_found.proofs.copies.read_copies.Goals as goal
 
 pub returns-in_err-next-clause-is : goal.returns-in_err-next-clause-is
@@ -41,3 +42,14 @@ returns-clause-is g c tells =
 
 pub returns-clause-room : goal.returns-clause-room
 returns-clause-room g c = among_roomy c.loop-disk.newest c.loop-disk.disk c.loop-disk.invariant.newest
+
+pub returns-in_err-next-clause-quiet : goal.returns-in_err-next-clause-quiet
+returns-in_err-next-clause-quiet g c = quiet_trans (g.H.Host.seen c.args.host.now) (g.H.Host.seen c.loop-disk.host) (g.H.Host.seen c.with_image.new.host) c.loop-disk.invariant.quiet c.in_err-next.ensures.quiet
+
+pub returns-in_err-next-clause-cause : goal.returns-in_err-next-clause-cause
+returns-in_err-next-clause-cause g c disk =
+    rose_sooner _ _ _ c.loop-disk.invariant.still.later.disk_faults
+    (c.in_err-next.ensures.cause (ap (λ (e : OpenError). Err e) (passed_disk c.from_residual.result c.in_err-next.field-0.0 c.from_residual.ensures.1 disk)))
+
+pub returns-in_err-push-clause-quiet : goal.returns-in_err-push-clause-quiet
+returns-in_err-push-clause-quiet g c = quiet_trans (g.H.Host.seen c.args.host.now) (g.H.Host.seen c.loop-disk.host) (g.H.Host.seen c.with_image.new.host) c.loop-disk.invariant.quiet c.in_ok-next.ensures.quiet

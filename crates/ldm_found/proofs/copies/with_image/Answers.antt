@@ -1,6 +1,6 @@
 use Rattle.std.proofs.Common.{◌≡◌, ℕ, List, length, Ok, Err, ap, subst, arith}
 use Rattle.ldm_host.specs.Seen.{image}
-use Rattle.ldm_host.proofs.Relations.{still_trans, rose_sooner}
+use Rattle.ldm_host.proofs.Relations.{still_trans, quiet_trans, rose_sooner}
 use Rattle.ldm_found.specs.declared.fault.OpenError.{OpenError}
 use Rattle.ldm_found.specs.Copies.{IsCopyIn}
 use Rattle.ldm_found.proofs.CopyLaws.{one_copy_each, passed_disk}
@@ -26,3 +26,11 @@ returns-clause-is g c tells copies all is =
 pub returns-clause-still : goal.returns-clause-still
 returns-clause-still g c =
     still_trans (g.H.Host.seen c.args.host.now) (g.H.Host.seen c.note_alike.new.host) (g.H.Host.seen c.copy_at.new.host) c.note_alike.ensures.still c.copy_at.ensures.still
+
+pub returns-in_err-copy-clause-quiet : goal.returns-in_err-copy-clause-quiet
+returns-in_err-copy-clause-quiet g c =
+    quiet_trans (g.H.Host.seen c.args.host.now) (g.H.Host.seen c.note_alike.new.host) (g.H.Host.seen c.copy_at.new.host) c.note_alike.ensures.quiet c.copy_at.ensures.quiet
+
+pub returns-clause-quiet : goal.returns-clause-quiet
+returns-clause-quiet g c =
+    quiet_trans (g.H.Host.seen c.args.host.now) (g.H.Host.seen c.note_alike.new.host) (g.H.Host.seen c.copy_at.new.host) c.note_alike.ensures.quiet c.copy_at.ensures.quiet

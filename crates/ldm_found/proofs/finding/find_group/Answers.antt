@@ -1,4 +1,7 @@
-use Rattle.ldm_host.proofs.Relations.{still_trans}
+use Rattle.std.proofs.Common.{Err, ap}
+use Rattle.ldm_host.proofs.Relations.{still_trans, quiet_trans, rose_sooner}
+use Rattle.ldm_found.specs.declared.fault.OpenError.{OpenError}
+use Rattle.ldm_found.proofs.CopyLaws.{passed_disk}
 use Rattle.ldm_found.proofs.GroupLaws.{one_group, finds, lies_on}
 use Rattle.ldm_found.proofs.finding.find_group.Goals as goal
 
@@ -23,3 +26,20 @@ returns-clause-lies g c = lies_on c.choose.result c.in_ok-labels.labels (g.H.Hos
 pub returns-clause-still : goal.returns-clause-still
 returns-clause-still g c =
     still_trans (g.H.Host.seen c.args.host.now) (g.H.Host.seen c.read_disks.new.host) (g.H.Host.seen c.read_copies.new.host) c.in_ok-labels.ensures.still c.in_ok-copies.ensures.still
+
+pub returns-clause-quiet : goal.returns-clause-quiet
+returns-clause-quiet g c =
+    quiet_trans (g.H.Host.seen c.args.host.now) (g.H.Host.seen c.read_disks.new.host) (g.H.Host.seen c.read_copies.new.host) c.in_ok-labels.ensures.quiet c.in_ok-copies.ensures.quiet
+
+pub returns-in_err-copies-clause-still : goal.returns-in_err-copies-clause-still
+returns-in_err-copies-clause-still g c =
+    still_trans (g.H.Host.seen c.args.host.now) (g.H.Host.seen c.read_disks.new.host) (g.H.Host.seen c.read_copies.new.host) c.in_ok-labels.ensures.still c.in_err-copies.ensures.still
+
+pub returns-in_err-copies-clause-quiet : goal.returns-in_err-copies-clause-quiet
+returns-in_err-copies-clause-quiet g c =
+    quiet_trans (g.H.Host.seen c.args.host.now) (g.H.Host.seen c.read_disks.new.host) (g.H.Host.seen c.read_copies.new.host) c.in_ok-labels.ensures.quiet c.in_err-copies.ensures.quiet
+
+pub returns-in_err-copies-clause-cause : goal.returns-in_err-copies-clause-cause
+returns-in_err-copies-clause-cause g c disk =
+    rose_sooner _ _ _ c.in_ok-labels.ensures.still.later.disk_faults
+    (c.in_err-copies.ensures.cause (ap (λ (e : OpenError). Err e) (passed_disk c.from_residual-in_err-copies.result c.in_err-copies.field-0.0 c.from_residual-in_err-copies.ensures.1 disk)))

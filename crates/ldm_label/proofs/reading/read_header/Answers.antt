@@ -1,10 +1,10 @@
-use Rattle.std.proofs.Common.{◌≡◌, sym, ◌∙◌}
+use Rattle.std.proofs.Common.{rules, ◌≡◌, refl, sym, ◌∙◌}
 use Rattle.ldm_host.specs.Seen.{image}
-use Rattle.ldm_host.proofs.Relations.{still_trans}
+use Rattle.ldm_host.proofs.Relations.{still_trans, quiet_trans, rose_sooner}
 use Rattle.ldm_label.specs.Fields.{sector, header_of}
 use Rattle.ldm_label.specs.LabelOf.{mbr_faults, header_faults}
 use Rattle.ldm_label.proofs.AnswerLaws.{front_err, front_ok}
-use Rattle.ldm_label.proofs.GivesLaws.{faulty}
+use Rattle.ldm_label.proofs.GivesLaws.{failed, faulty}
 use Rattle.ldm_label.proofs.reading.read_header.Goals as goal
 
 pub returns-in_err-check_mbr-clause-is : goal.returns-in_err-check_mbr-clause-is
@@ -39,3 +39,39 @@ returns-clause-is g c tells =
 
 pub returns-clause-still : goal.returns-clause-still
 returns-clause-still g c = still_trans (g.H.Host.seen c.args.host.now) (g.H.Host.seen c.read_sector.new.host) (g.H.Host.seen c.read_sector-2.new.host) c.in_ok-mbr.ensures.still c.in_ok-head.ensures.still
+
+pub returns-in_err-mbr : goal.returns-in_err-mbr
+returns-in_err-mbr g c = record {
+  is = λ tells. failed c.from_residual.result _ c.from_residual.ensures.1;
+  fits = search rules;
+  still = c.in_err-mbr.ensures.still;
+  quiet = c.in_err-mbr.ensures.quiet;
+  cause = λ is. c.in_err-mbr.ensures.cause refl;
+}
+
+pub returns-in_err-check_mbr-clause-still : goal.returns-in_err-check_mbr-clause-still
+returns-in_err-check_mbr-clause-still g c = c.in_ok-mbr.ensures.still
+
+pub returns-in_err-check_mbr-clause-quiet : goal.returns-in_err-check_mbr-clause-quiet
+returns-in_err-check_mbr-clause-quiet g c = c.in_ok-mbr.ensures.quiet
+
+pub returns-in_err-head : goal.returns-in_err-head
+returns-in_err-head g c = record {
+  is = λ tells. failed c.from_residual-in_err-head.result _ c.from_residual-in_err-head.ensures.1;
+  fits = search rules;
+  still = still_trans (g.H.Host.seen c.args.host.now) (g.H.Host.seen c.read_sector.new.host) (g.H.Host.seen c.read_sector-2.new.host) c.in_ok-mbr.ensures.still c.in_err-head.ensures.still;
+  quiet = quiet_trans (g.H.Host.seen c.args.host.now) (g.H.Host.seen c.read_sector.new.host) (g.H.Host.seen c.read_sector-2.new.host) c.in_ok-mbr.ensures.quiet c.in_err-head.ensures.quiet;
+  cause = λ is. rose_sooner (g.H.Host.seen c.args.host.now).disk_faults (g.H.Host.seen c.read_sector.new.host).disk_faults (g.H.Host.seen c.read_sector-2.new.host).disk_faults c.in_ok-mbr.ensures.still.later.disk_faults (c.in_err-head.ensures.cause refl);
+}
+
+pub returns-in_err-read-clause-quiet : goal.returns-in_err-read-clause-quiet
+returns-in_err-read-clause-quiet g c = quiet_trans (g.H.Host.seen c.args.host.now) (g.H.Host.seen c.read_sector.new.host) (g.H.Host.seen c.read_sector-2.new.host) c.in_ok-mbr.ensures.quiet c.in_ok-head.ensures.quiet
+
+pub returns-clause-quiet : goal.returns-clause-quiet
+returns-clause-quiet g c = quiet_trans (g.H.Host.seen c.args.host.now) (g.H.Host.seen c.read_sector.new.host) (g.H.Host.seen c.read_sector-2.new.host) c.in_ok-mbr.ensures.quiet c.in_ok-head.ensures.quiet
+
+pub returns-clause-fits : goal.returns-clause-fits
+returns-clause-fits g c = c.in_ok-read.ensures.fits
+
+pub returns-clause-cause : goal.returns-clause-cause
+returns-clause-cause g c is = absurd (cc is)

@@ -1,9 +1,9 @@
-use Rattle.std.proofs.Common.{◌≡◌, ◌≤◌, sym, ◌∙◌, arith}
+use Rattle.std.proofs.Common.{◌≡◌, ◌≤◌, refl, sym, ◌∙◌, arith}
 use Rattle.ldm_host.specs.Seen.{image}
-use Rattle.ldm_host.proofs.Relations.{still_trans}
+use Rattle.ldm_host.proofs.Relations.{still_itself, still_trans, quiet_trans, rose_sooner}
 use Rattle.ldm_label.specs.Fields.{sectors_of}
 use Rattle.ldm_label.proofs.LabelLaws.{short_label, header_err, copies_err, toc_err, label_is}
-use Rattle.ldm_label.proofs.GivesLaws.{passed}
+use Rattle.ldm_label.proofs.GivesLaws.{passed, passed_disk}
 use Rattle.ldm_label.proofs.reading.read_label.Goals as goal
 
 pub returns-then-sectors-lt7-clause-is : goal.returns-then-sectors-lt7-clause-is
@@ -61,3 +61,44 @@ returns-clause-still g c =
     let start = g.H.Host.seen c.args.host.now in
     let copies = still_trans start (g.H.Host.seen c.read_header.new.host) (g.H.Host.seen c.check_copies.new.host) c.in_ok-header.ensures.still c.in_ok-check_copies.ensures.still in
     still_trans start (g.H.Host.seen c.check_copies.new.host) (g.H.Host.seen c.read_toc.new.host) copies c.in_ok-toc.ensures.still
+
+pub returns-then-sectors-lt7-clause-still : goal.returns-then-sectors-lt7-clause-still
+returns-then-sectors-lt7-clause-still g c = still_itself (g.H.Host.seen c.args.host.now) (λ t images le left. g.met.H.Host.counts_now c.args.host.now t images le left) (λ images said left. g.met.H.Host.only_now c.args.host.now images said left)
+
+pub returns-then-sectors-lt7-clause-quiet : goal.returns-then-sectors-lt7-clause-quiet
+returns-then-sectors-lt7-clause-quiet g c = record { said = refl; heard = refl; input = refl }
+
+pub returns-then-sectors-lt7-clause-cause : goal.returns-then-sectors-lt7-clause-cause
+returns-then-sectors-lt7-clause-cause g c is = absurd (cc is)
+
+pub returns-in_err-header-clause-still : goal.returns-in_err-header-clause-still
+returns-in_err-header-clause-still g c = c.in_err-header.ensures.still
+
+pub returns-in_err-header-clause-quiet : goal.returns-in_err-header-clause-quiet
+returns-in_err-header-clause-quiet g c = c.in_err-header.ensures.quiet
+
+pub returns-in_err-header-clause-cause : goal.returns-in_err-header-clause-cause
+returns-in_err-header-clause-cause g c is = c.in_err-header.ensures.cause (passed_disk c.from_residual.result c.in_err-header.field-0.0 c.from_residual.ensures.1 is)
+
+pub returns-in_err-check_copies-clause-quiet : goal.returns-in_err-check_copies-clause-quiet
+returns-in_err-check_copies-clause-quiet g c = quiet_trans (g.H.Host.seen c.args.host.now) (g.H.Host.seen c.read_header.new.host) (g.H.Host.seen c.check_copies.new.host) c.in_ok-header.ensures.quiet c.in_err-check_copies.ensures.quiet
+
+pub returns-in_err-check_copies-clause-cause : goal.returns-in_err-check_copies-clause-cause
+returns-in_err-check_copies-clause-cause g c is =
+    rose_sooner (g.H.Host.seen c.args.host.now).disk_faults (g.H.Host.seen c.read_header.new.host).disk_faults (g.H.Host.seen c.check_copies.new.host).disk_faults c.in_ok-header.ensures.still.later.disk_faults
+    (c.in_err-check_copies.ensures.cause (passed_disk c.from_residual-in_err-check_copies.result c.in_err-check_copies.field-0.0 c.from_residual-in_err-check_copies.ensures.1 is))
+
+pub returns-in_err-toc-clause-quiet : goal.returns-in_err-toc-clause-quiet
+returns-in_err-toc-clause-quiet g c = quiet_trans (g.H.Host.seen c.args.host.now) (g.H.Host.seen c.check_copies.new.host) (g.H.Host.seen c.read_toc.new.host) (quiet_trans (g.H.Host.seen c.args.host.now) (g.H.Host.seen c.read_header.new.host) (g.H.Host.seen c.check_copies.new.host) c.in_ok-header.ensures.quiet c.in_ok-check_copies.ensures.quiet) c.in_err-toc.ensures.quiet
+
+pub returns-in_err-toc-clause-cause : goal.returns-in_err-toc-clause-cause
+returns-in_err-toc-clause-cause g c is =
+    rose_sooner (g.H.Host.seen c.args.host.now).disk_faults (g.H.Host.seen c.read_header.new.host).disk_faults (g.H.Host.seen c.read_toc.new.host).disk_faults c.in_ok-header.ensures.still.later.disk_faults
+    (rose_sooner (g.H.Host.seen c.read_header.new.host).disk_faults (g.H.Host.seen c.check_copies.new.host).disk_faults (g.H.Host.seen c.read_toc.new.host).disk_faults c.in_ok-check_copies.ensures.still.later.disk_faults
+    (c.in_err-toc.ensures.cause (passed_disk c.from_residual-in_err-toc.result c.in_err-toc.field-0.0 c.from_residual-in_err-toc.ensures.1 is)))
+
+pub returns-clause-quiet : goal.returns-clause-quiet
+returns-clause-quiet g c = quiet_trans (g.H.Host.seen c.args.host.now) (g.H.Host.seen c.check_copies.new.host) (g.H.Host.seen c.read_toc.new.host) (quiet_trans (g.H.Host.seen c.args.host.now) (g.H.Host.seen c.read_header.new.host) (g.H.Host.seen c.check_copies.new.host) c.in_ok-header.ensures.quiet c.in_ok-check_copies.ensures.quiet) c.in_ok-toc.ensures.quiet
+
+pub returns-clause-cause : goal.returns-clause-cause
+returns-clause-cause g c is = absurd (cc is)

@@ -23,8 +23,7 @@ invariant_of-result c = record {
     number_len c.args.parent c.ranges.parent.fits,
     number_len c.args.children c.ranges.children.fits,
     chunk_len c.args.striping c.requires,
-    ap length c.from_vec-tail.ensures,
-    ap length c.new.ensures.items,
+    ap length c.empty-tail.ensures,
   );
 }
 
@@ -33,7 +32,7 @@ returns c =
     let name = c.in_ok-name.ensures in
     let state = c.in_ok-state.ensures in
     let flags = c.striping_flags-flags.ensures in
-    let tail = c.from_vec-tail.ensures ∙ c.new.ensures.items in
+    let tail = c.empty-tail.ensures in
     component_is c.args.id c.args.parent c.args.layout c.args.children c.args.striping c.ranges.id.fits c.ranges.parent.fits c.ranges.children.fits c.requires _
     (λ i. record {
       mark = 0;

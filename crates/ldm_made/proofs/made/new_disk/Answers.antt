@@ -1,4 +1,4 @@
-use Rattle.std.proofs.Common.{◌∙◌, ap, length, arith}
+use Rattle.std.proofs.Common.{ap, length, arith}
 use Rattle.std.specs.Prelude.{replicate}
 use Rattle.ldm_records.specs.declared.pieces.DiskForm.TheVariants.{V3}
 use Rattle.ldm_records.specs.Forms.{disk_values}
@@ -8,8 +8,8 @@ use Rattle.ldm_made.proofs.made.new_disk.Goals as goal
 pub invariant_of-result : goal.invariant_of-result
 invariant_of-result c =
     let name = ap length c.in_ok-name.ensures in
-    let alt = ap length (c.from_vec-alt.ensures ∙ c.new.ensures.items) in
-    let tail = ap length (c.from_vec-tail.ensures ∙ c.new-2.ensures.items) in
+    let alt = ap length c.empty-alt.ensures in
+    let tail = ap length c.empty-tail.ensures in
     record {
       alt_short = omega (arith, alt);
       short = omega (arith, name, c.requires, alt, tail, number_len c.args.id c.ranges.id.fits);
@@ -18,7 +18,7 @@ invariant_of-result c =
 pub returns : goal.returns
 returns c =
     let name = c.in_ok-name.ensures in
-    let alt = c.from_vec-alt.ensures ∙ c.new.ensures.items in
-    let tail = c.from_vec-tail.ensures ∙ c.new-2.ensures.items in
+    let alt = c.empty-alt.ensures in
+    let tail = c.empty-tail.ensures in
     disk_is c.args.id c.args.name.now c.args.guid c.ranges.id.fits c.requires _
     (λ i. record { mark = 0; flags = 0; type = 0x34; fields = disk_values c.args.id (name i) c.args.guid (V3 (alt i) (replicate 12 0)); tail = tail i })

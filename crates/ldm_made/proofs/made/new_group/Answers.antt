@@ -11,7 +11,7 @@ pub invariant_of-result : goal.invariant_of-result
 invariant_of-result c =
     let name = ap length c.in_ok-name.ensures in
     let guid = ap length c.in_ok-guid.ensures ∙ own_guid-len c.args.guid in
-    let tail = ap length (c.from_vec-tail.ensures ∙ c.new.ensures.items) in
+    let tail = ap length c.empty-tail.ensures in
     record {
       guid_short = omega (arith, guid);
       flagged = refl;
@@ -22,6 +22,6 @@ pub returns : goal.returns
 returns c =
     let name = c.in_ok-name.ensures in
     let guid = c.in_ok-guid.ensures in
-    let tail = c.from_vec-tail.ensures ∙ c.new.ensures.items in
+    let tail = c.empty-tail.ensures in
     group_is c.args.id c.args.name.now c.args.guid c.ranges.id.fits c.requires _
     (λ i. record { mark = 0; flags = 0; type = 0x35; fields = group_values c.args.id (name i) (V3 (guid i) (replicate 12 0)) Absent Absent; tail = tail i })

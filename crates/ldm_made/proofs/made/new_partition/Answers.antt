@@ -21,8 +21,7 @@ invariant_of-result c = record {
     number_len c.args.parent c.ranges.parent.fits,
     number_len c.args.disk c.ranges.disk.fits,
     index_len c.args.index c.requires,
-    ap length c.from_vec-tail.ensures,
-    ap length c.new.ensures.items,
+    ap length c.empty-tail.ensures,
   );
 }
 
@@ -30,6 +29,6 @@ pub returns : goal.returns
 returns c =
     let name = c.in_ok-name.ensures in
     let flags = c.index_flags-flags.ensures in
-    let tail = c.from_vec-tail.ensures ∙ c.new.ensures.items in
+    let tail = c.empty-tail.ensures in
     partition_is c.args.id c.args.start c.args.offset c.args.size c.args.parent c.args.disk c.args.index c.ranges.id.fits c.ranges.size.fits c.ranges.parent.fits c.ranges.disk.fits c.requires _
     (λ i. record { mark = 0; flags = flags i; type = 0x33; fields = partition_values c.args.id (name i) (replicate 12 0) c.args.start c.args.offset c.args.size c.args.parent c.args.disk c.args.index; tail = tail i })

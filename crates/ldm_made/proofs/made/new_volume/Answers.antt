@@ -1,4 +1,4 @@
-use Rattle.std.proofs.Common.{◌∙◌, ap, refl, length, arith, None}
+use Rattle.std.proofs.Common.{ap, refl, length, arith, None}
 use Rattle.std.specs.Prelude.{replicate}
 use Rattle.byteorder.specs.Numbers.{length-bytes_high_first}
 use Rattle.ldm_records.specs.Fields.{volume_values}
@@ -9,8 +9,8 @@ pub invariant_of-result : goal.invariant_of-result
 invariant_of-result c =
     let name = ap length c.in_ok-name.ensures in
     let kind = ap length c.in_ok-kind.ensures in
-    let second = ap length (c.from_vec-second.ensures ∙ c.new.ensures.items) in
-    let tail = ap length (c.from_vec-tail.ensures ∙ c.new-2.ensures.items) in
+    let second = ap length c.empty-second.ensures in
+    let tail = ap length c.empty-tail.ensures in
     let fixed = ap length c.volume_fixed21-fixed21.ensures in
     let guid = ap length c.to_be_bytes-guid.ensures in
     record {
@@ -45,8 +45,8 @@ pub returns : goal.returns
 returns c =
     let name = c.in_ok-name.ensures in
     let kind = c.in_ok-kind.ensures in
-    let second = c.from_vec-second.ensures ∙ c.new.ensures.items in
-    let tail = c.from_vec-tail.ensures ∙ c.new-2.ensures.items in
+    let second = c.empty-second.ensures in
+    let tail = c.empty-tail.ensures in
     let fixed = c.volume_fixed21-fixed21.ensures in
     let guid = c.to_be_bytes-guid.ensures in
     volume_is c.args.id c.args.name.now c.args.guid c.args.raid c.args.children c.args.size c.ranges.id.fits c.requires c.ranges.children.fits c.ranges.size.fits _

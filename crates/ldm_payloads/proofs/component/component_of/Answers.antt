@@ -15,5 +15,5 @@ returns-in_err-head c =
 pub returns : goal.returns
 returns c =
     let whole = rest_is c.args.opening.now 0x32 (component_kinds c.args.opening.now.flags) c.args.rest.now _ c.in-Some.ensures.gives ∙ c.in_ok-head.ensures.gives 0x32 (component_seen c.in-Some.fields) (sym c.own_len.ensures.len) in
-    let state-is = c.in_ok-state.ensures in
+    let state-is = c.in-Ok.ensures in
     cc

@@ -15,5 +15,5 @@ returns-in_err-head c =
 pub returns : goal.returns
 returns c =
     let whole = rest_is c.args.opening.now 0x34 disk3_kinds c.args.rest.now _ c.in-Some.ensures.gives ∙ c.in_ok-head.ensures.gives 0x34 (disk3_seen c.in-Some.fields) (omega (arith, c.in-Some.ensures.long)) in
-    let alt-is = c.in_ok-alt.ensures in
+    let alt-is = c.in-Ok.ensures in
     cc

@@ -15,6 +15,6 @@ returns-in_err-head c =
 pub returns : goal.returns
 returns c =
     let whole = rest_is c.args.opening.now 0x45 (group4_kinds c.args.opening.now.flags) c.args.rest.now _ c.in-Some.ensures.gives ∙ c.in_ok-head.ensures.gives 0x45 (group4_seen c.in-Some.fields) (omega (arith, c.in-Some.ensures.long, c.ids_len-len.ensures.len)) in
-    let ids-first-is = c.in_ok-ids.ensures.first in
-    let ids-second-is = c.in_ok-ids.ensures.second in
+    let ids-first-is = c.in-Ok.ensures.first in
+    let ids-second-is = c.in-Ok.ensures.second in
     cc

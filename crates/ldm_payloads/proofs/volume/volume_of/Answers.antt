@@ -37,7 +37,7 @@ text_len t = value_len (text_option t)
 
 pub invariant_of-result-clause-short : goal.invariant_of-result-clause-short
 invariant_of-result-clause-short c =
-    omega (arith, ap length c.in_ok-kind.ensures.0, ap length c.in_ok-kind.ensures.1, ap text_len c.in_ok-texts.ensures.id1, ap text_len c.in_ok-texts.ensures.id2, ap text_len c.in_ok-texts.ensures.hint, c.own_len.ensures.len, c.in_ok-head.ensures.short)
+    omega (arith, ap length c.in-Ok.ensures.0, ap length c.in-Ok.ensures.1, ap text_len c.in-Ok-more_texts.ensures.id1, ap text_len c.in-Ok-more_texts.ensures.id2, ap text_len c.in-Ok-more_texts.ensures.hint, c.own_len.ensures.len, c.in_ok-head.ensures.short)
 
 -- the values of owned texts
 owned : (m : VolumeMain) (f : VolumeMore) (kind second : List ℕ) (id1 id2 hint : Option (List ℕ)) → kind ≡ m.kind.now → second ≡ m.second.now
@@ -47,8 +47,8 @@ owned : (m : VolumeMain) (f : VolumeMore) (kind second : List ℕ) (id1 id2 hint
     ∷ text_option id1 ∷ text_option id2 ∷ number_option f.size2 ∷ text_option hint ∷ []
 owned m f kind second id1 id2 hint k s i j h = rw (k, s, i, j, h) refl
 
-pub returns : goal.returns
-returns c =
+pub returns-in-Ok-more_texts : goal.returns-in-Ok-more_texts
+returns-in-Ok-more_texts c =
     let flags : ℕ = c.args.opening.now.flags in
     let m : VolumeMain = c.in-Some.main in
     let f : VolumeMore = c.in-Some-read_more.more in
@@ -56,4 +56,4 @@ returns c =
     rest_is c.args.opening.now 0x51 (volume_kinds flags) c.args.rest.now (main_seen m ++ more_seen f, f.tail.now) read
     ∙ c.in_ok-head.ensures.gives 0x51 (main_seen m ++ more_seen f) (all_len m f _ c.own_len.ensures.len)
     ∙ ap (λ (values : List Value). Some (ended 0x51 values (c.in_ok-head.head, c.in_ok-head.tail)))
-    (owned m f _ _ _ _ _ c.in_ok-kind.ensures.0 c.in_ok-kind.ensures.1 c.in_ok-texts.ensures.id1 c.in_ok-texts.ensures.id2 c.in_ok-texts.ensures.hint)
+    (owned m f _ _ _ _ _ c.in-Ok.ensures.0 c.in-Ok.ensures.1 c.in-Ok-more_texts.ensures.id1 c.in-Ok-more_texts.ensures.id2 c.in-Ok-more_texts.ensures.hint)

@@ -7,5 +7,5 @@ use Rattle.ldm_rules.proofs.layouts.faulty.Goals as goal
 
 pub returns : goal.returns
 returns c = λ records is. c.volume_in.ensures
-    ∙ (ap (λ (found : Option VolumeFault). option_map {U = ℕ} (λ (f : VolumeFault). f.volume) found) c.first_other.ensures
+    ∙ (ap (λ (found : Option VolumeFault). option_map {U = ℕ} (λ (f : VolumeFault). f.volume) found) c.first_of.ensures
     ∙ (ap (λ (faults : List VolumeFault). first_passing (λ f. not (is_short f)) faults) is ∙ first_faulty records))

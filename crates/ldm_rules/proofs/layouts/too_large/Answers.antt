@@ -7,5 +7,5 @@ use Rattle.ldm_rules.proofs.layouts.too_large.Goals as goal
 
 pub returns : goal.returns
 returns c = λ records is. c.volume_in.ensures
-    ∙ (ap (λ (found : Option VolumeFault). option_map {U = ℕ} (λ (f : VolumeFault). f.volume) found) c.first_short.ensures
+    ∙ (ap (λ (found : Option VolumeFault). option_map {U = ℕ} (λ (f : VolumeFault). f.volume) found) c.first_of.ensures
     ∙ (ap (λ (faults : List VolumeFault). first_passing is_short faults) is ∙ first_too_large records))

@@ -1,36 +1,40 @@
-use Rattle.std.proofs.Common.{arith, length, refl, sym, ◌∙◌, ap}
-use Rattle.ldm_host.specs.Images.{items_of}
-use Rattle.ldm_host.specs.Memory.{memory_seen, counts_of}
-use Rattle.ldm_host.specs.Story.{fresh_state, run}
-use Rattle.ldm_host.proofs.Vectors.{image_read}
-use Rattle.ldm_host.proofs.EachStep.{still_counts}
-use Rattle.ldm_host.proofs.InRange.{there, fits}
-use Rattle.std.proofs.Common.{false}
+use Rattle.std.proofs.Common.{◌≡◌, ◌+◌, List, ℕ, length, slice_range, true, is_ok, refl, sym, ◌∙◌, ap, arith}
 use Rattle.ldm_host.specs.Acts.{Act}
-use Rattle.ldm_host.proofs.HowEnds.{outcome_is, ends_ok, ends_nothing, plan_is, nothing_of}
+use Rattle.ldm_host.specs.Images.{items_of}
+use Rattle.ldm_host.specs.Memory.{memory_seen, story_of, counts_of}
+use Rattle.ldm_host.specs.Seen.{image}
+use Rattle.ldm_host.specs.Story.{Counts, fresh_state, run}
+use Rattle.ldm_host.proofs.Done.{read_still, read_took, ok_whole}
+use Rattle.ldm_host.proofs.Grows.{CountsRise}
+use Rattle.ldm_host.proofs.HowEnds.{outcome_is, plan_is, ends, rose, failed_count, kept_count, on_ok, is_failed}
+use Rattle.ldm_host.proofs.InRange.{there, fits, image_is}
 use Rattle.ldm_host.proofs.in_memory.MemoryHostHost.read_at.Goals as goal
 
-pub read_bytes-requires : goal.read_bytes-requires
-read_bytes-requires c =
+pub read_in-requires : goal.read_in-requires
+read_in-requires c =
     let m = c.args.self.now in
     let disks = (run (fresh_state (items_of m.first.items)) m.calls.items).disks in
-    let here = image_read m.held.items c.args.disk c.index.result.now (there m.held.items disks m.kept.content c.args.disk c.requires.disk) c.index.ensures in
-    omega (arith, fits m.held.items disks m.kept.content c.args.disk c.requires.disk c.args.at (length c.args.buf.now) c.requires.range, ap length here)
+    record {
+      disk = there m.held.items disks m.kept.content c.args.disk c.requires.disk;
+      range = fits m.held.items disks m.kept.content c.args.disk c.requires.disk c.args.at (length c.args.buf.now) c.requires.range;
+    }
 
-pub returns-in-Whole-clause-still : goal.returns-in-Whole-clause-still
-returns-in-Whole-clause-still c =
+pub returns : goal.returns
+returns c =
     let m = c.args.self.now in
-    still_counts (fresh_state (items_of m.first.items)) m.calls.items m.script.items (counts_of m) (counts_of m) (record { disk_faults = omega arith; talk_faults = omega arith }) refl
-
-pub returns-in-Whole-clause-ending : goal.returns-in-Whole-clause-ending
-returns-in-Whole-clause-ending c =
-    let m = c.args.self.now in
-    ends_ok Act.Read m _ (plan_is m c.next_outcome.new.number c.next_outcome.ensures.number) (outcome_is m c.deref.result.now c.next_outcome.new.number c.next_outcome.result c.next_outcome.ensures.outcome c.deref.ensures.value c.next_outcome.ensures.number ∙ c.in-Whole.is) refl refl refl tt
-
-pub returns-in_default-clause-ending : goal.returns-in_default-clause-ending
-returns-in_default-clause-ending c =
-    let m = c.args.self.now in
-    let new = c.count_disk.new.self in
-    let fault = c.count_disk.ensures in
-    ends_nothing Act.Read m _ new false (plan_is m c.next_outcome.new.number c.next_outcome.ensures.number) refl refl refl fault.plan
-    (λ is. refl) (λ whole. c.in_default.not-Whole (sym (outcome_is m c.deref.result.now c.next_outcome.new.number c.next_outcome.result c.next_outcome.ensures.outcome c.deref.ensures.value c.next_outcome.ensures.number) ∙ whole)) (λ nothing. (nothing, tt)) (nothing_of (memory_seen m) (memory_seen new) fault.still fault.quiet)
+    let outcome = c.next_outcome-outcome.result in
+    let ended = c.end_call.ensures in
+    let ok = is_ok c.end_call.result in
+    let plan = plan_is m c.next_outcome-outcome.new.number c.next_outcome-outcome.ensures.number in
+    let is = outcome_is m c.next_outcome-outcome.new.number outcome c.next_outcome-outcome.ensures.outcome c.next_outcome-outcome.ensures.number in
+    let disks = (run (fresh_state (items_of m.first.items)) m.calls.items).disks in
+    let new : Counts = record { disk_faults = c.end_call.new.faults; talk_faults = m.talk_faults; dry = c.end_call.new.dry; wrote = m.handed.items } in
+    let rises : CountsRise (counts_of m) new = record { disk_faults = ended.rises; talk_faults = omega arith } in
+    record {
+      filled = λ tells. on_ok (c.read_in.new.buf ≡ slice_range (image (memory_seen m).content c.args.disk) c.args.at (c.args.at + length c.args.buf.now)) c.end_call.result
+          (λ is_fine. c.read_in.ensures (ok_whole outcome true (sym ended.ok ∙ is_fine)) ∙ ap (λ (l : List ℕ). slice_range l c.args.at (c.args.at + length c.args.buf.now)) (image_is m.held.items disks m.kept.content c.args.disk c.requires.disk));
+      still = read_still (story_of m) (counts_of m) new rises refl;
+      quiet = record { said = refl; heard = refl; input = refl };
+      cause = λ failed. rose ok m.disk_faults c.end_call.new.faults ended.faults (is_failed c.end_call.result failed);
+      ending = ends Act.Read m _ outcome true _ plan is ended.ok (λ reads. refl) (failed_count ok m.disk_faults c.end_call.new.faults ended.faults) (kept_count ok m.talk_faults) ended.dry (read_took (story_of m) (counts_of m) new rises outcome);
+    }

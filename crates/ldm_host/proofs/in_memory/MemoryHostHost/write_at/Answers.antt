@@ -1,90 +1,72 @@
-use Rattle.std.proofs.Common.{◌≡◌, length, set, refl, sym, ◌∙◌}
-use Rattle.ldm_host.specs.Seen.{image}
+use Rattle.std.proofs.Common.{◌≡◌, ◌<◌, length, set, is_ok, sym, ◌∙◌, ap, arith}
+use Rattle.std.proofs.lemmas.List.{length-set}
+use Rattle.ldm_bytes.specs.Numbers.{IsBytes}
 use Rattle.ldm_bytes.specs.Places.{put}
-use Rattle.ldm_host.proofs.Relations.{ticks_still, writes_still}
-use Rattle.ldm_host.specs.Images.{items_of}
-use Rattle.ldm_host.specs.Memory.{memory_seen}
-use Rattle.ldm_host.specs.Story.{fresh_state, run}
-use Rattle.ldm_host.proofs.InRange.{fits}
-use Rattle.std.proofs.Common.{true}
 use Rattle.ldm_host.specs.Acts.{Act}
-use Rattle.ldm_host.specs.Ending.{TakesNothing, Pends, first_half}
-use Rattle.ldm_host.proofs.HowEnds.{outcome_is, ends_ok, ends_dry, ends_half, ends_past, plan_is, pends_still, nothing_still, on_ok, on_err}
+use Rattle.ldm_host.specs.Images.{items_of}
+use Rattle.ldm_host.specs.Laws.{held_now}
+use Rattle.ldm_host.specs.Memory.{memory_seen, story_of, counts_of}
+use Rattle.ldm_host.specs.Seen.{image}
+use Rattle.ldm_host.specs.Steps.{IsWrite}
+use Rattle.ldm_host.specs.Story.{Counts, fresh_state, run, seen_of}
+use Rattle.ldm_host.proofs.Done.{adds_ticks, write_writes, write_placed, write_took}
+use Rattle.ldm_host.proofs.Grows.{CountsRise}
+use Rattle.ldm_host.proofs.Handed.{handed_here, handed_others}
+use Rattle.ldm_host.proofs.HowEnds.{outcome_is, plan_is, ends, rose, failed_count, kept_count, on_ok, is_failed}
+use Rattle.ldm_host.proofs.InRange.{there, fits, fits_disk}
+use Rattle.ldm_host.proofs.StillKept.{kept_write_part}
 use Rattle.ldm_host.proofs.in_memory.MemoryHostHost.write_at.Goals as goal
 
-pub take_bytes-requires-clause-range : goal.take_bytes-requires-clause-range
-take_bytes-requires-clause-range c =
+pub hand-requires : goal.hand-requires
+hand-requires c =
+    let m = c.args.self.now in
+    omega (arith, there m.held.items (run (fresh_state (items_of m.first.items)) m.calls.items).disks m.kept.content c.args.disk c.requires.disk, m.kept.each)
+
+pub write_part-found-requires-clause-range : goal.write_part-found-requires-clause-range
+write_part-found-requires-clause-range c =
     let m = c.args.self.now in
     let disks = (run (fresh_state (items_of m.first.items)) m.calls.items).disks in
     fits m.held.items disks m.kept.content c.args.disk c.requires.disk c.args.at (length c.args.bytes.now) c.requires.range
 
-pub take_bytes-requires-in-Half-clause-range : goal.take_bytes-requires-in-Half-clause-range
-take_bytes-requires-in-Half-clause-range c =
+pub invariant_of-self : goal.invariant_of-self
+invariant_of-self c =
     let m = c.args.self.now in
+    let step = c.write_part-found in
+    let counts : length c.hand.new.handed.items ≡ length m.handed.items = ap length c.hand.ensures ∙ simp length-set in
+    let inside = fits_disk (run (fresh_state (items_of m.first.items)) m.calls.items).disks c.args.disk c.args.at (length c.args.bytes.now) c.requires.range in
+    let small : IsBytes c.args.bytes.now = λ k. omega (arith, c.type_inv.bytes k) in
+    record { kept = kept_write_part (items_of m.first.items) m.calls.items m.script.items m.held.items m.said.items m.heard m.handed.items m.kept c.args.disk c.args.at c.args.bytes.now step.new.held.items c.hand.new.handed.items counts inside small c.next_outcome-outcome.result step.result step.new.calls.items step.ensures.calls step.ensures.held }
+
+pub returns : goal.returns
+returns c =
+    let m = c.args.self.now in
+    let outcome = c.next_outcome-outcome.result in
+    let ended = c.end_call.ensures in
+    let ok = is_ok c.end_call.result in
+    let plan = plan_is m c.next_outcome-outcome.new.number c.next_outcome-outcome.ensures.number in
+    let is = outcome_is m c.next_outcome-outcome.new.number outcome c.next_outcome-outcome.ensures.outcome c.next_outcome-outcome.ensures.number in
+    let disk = c.args.disk in
+    let at = c.args.at in
+    let bytes = c.args.bytes.now in
+    let found = c.write_part-found.result in
+    let calls = c.write_part-found.new.calls.items in
+    let adds = c.write_part-found.ensures.calls in
+    let handed = c.hand.new.handed.items in
+    let new : Counts = record { disk_faults = c.end_call.new.faults; talk_faults = m.talk_faults; dry = c.end_call.new.dry; wrote = handed } in
+    let rises : CountsRise (counts_of m) new = record { disk_faults = ended.rises; talk_faults = omega arith } in
     let disks = (run (fresh_state (items_of m.first.items)) m.calls.items).disks in
-    fits m.held.items disks m.kept.content c.args.disk c.requires.disk c.args.at (length c.args.bytes.now) c.requires.range
-
-pub returns-in-Err-clause-writes : goal.returns-in-Err-clause-writes
-returns-in-Err-clause-writes c =
-    writes_still c.args.disk c.args.at (length c.args.bytes.now) (memory_seen c.args.self.now) (memory_seen c.take_bytes.new.self) (memory_seen c.count_disk.new.self) c.requires.disk c.take_bytes.ensures.writes c.count_disk.ensures.still c.count_disk.ensures.quiet
-
-pub returns-in-Err-clause-ticks : goal.returns-in-Err-clause-ticks
-returns-in-Err-clause-ticks c =
-    ticks_still (memory_seen c.args.self.now) (memory_seen c.take_bytes.new.self) (memory_seen c.count_disk.new.self) c.take_bytes.ensures.ticks c.count_disk.ensures.still c.count_disk.ensures.quiet
-
-pub returns-in-Half-clause-writes : goal.returns-in-Half-clause-writes
-returns-in-Half-clause-writes c =
-    writes_still c.args.disk c.args.at (length c.args.bytes.now) (memory_seen c.args.self.now) (memory_seen c.take_bytes-in-Half.new.self) (memory_seen c.count_disk-in-Half.new.self) c.requires.disk c.take_bytes-in-Half.ensures.writes c.count_disk-in-Half.ensures.still c.count_disk-in-Half.ensures.quiet
-
-pub returns-in-Half-clause-ticks : goal.returns-in-Half-clause-ticks
-returns-in-Half-clause-ticks c =
-    ticks_still (memory_seen c.args.self.now) (memory_seen c.take_bytes-in-Half.new.self) (memory_seen c.count_disk-in-Half.new.self) c.take_bytes-in-Half.ensures.ticks c.count_disk-in-Half.ensures.still c.count_disk-in-Half.ensures.quiet
-
-pub returns-in-Nothing-clause-writes : goal.returns-in-Nothing-clause-writes
-returns-in-Nothing-clause-writes c =
-    writes_still c.args.disk c.args.at (length c.args.bytes.now) (memory_seen c.args.self.now) (memory_seen c.pass_bytes.new.self) (memory_seen c.count_disk-in-Nothing.new.self) c.requires.disk c.pass_bytes.ensures.writes c.count_disk-in-Nothing.ensures.still c.count_disk-in-Nothing.ensures.quiet
-
-pub returns-in-Nothing-clause-ticks : goal.returns-in-Nothing-clause-ticks
-returns-in-Nothing-clause-ticks c =
-    ticks_still (memory_seen c.args.self.now) (memory_seen c.pass_bytes.new.self) (memory_seen c.count_disk-in-Nothing.new.self) c.pass_bytes.ensures.ticks c.count_disk-in-Nothing.ensures.still c.count_disk-in-Nothing.ensures.quiet
-
-pub returns-in-Ok-clause-ending : goal.returns-in-Ok-clause-ending
-returns-in-Ok-clause-ending c =
-    let m = c.args.self.now in
-    let same = c.take_bytes.ensures.plan in
-    ends_ok (Act.Write c.args.disk c.args.at c.args.bytes.now) m c.take_bytes.new.self (same.plan ∙ plan_is m c.next_outcome.new.number c.next_outcome.ensures.number) (outcome_is m c.deref.result.now c.next_outcome.new.number c.next_outcome.result c.next_outcome.ensures.outcome c.deref.ensures.value c.next_outcome.ensures.number ∙ c.in-Whole.is) same.disk_faults same.talk_faults same.dry c.in-Ok.ensures.pending
-
-pub returns-in-Err-clause-ending : goal.returns-in-Err-clause-ending
-returns-in-Err-clause-ending c =
-    let m = c.args.self.now in
-    let same = c.take_bytes.ensures.plan in
-    let nothing = c.in-Err.ensures.untaken in
-    ends_dry (Act.Write c.args.disk c.args.at c.args.bytes.now) m c.take_bytes.new.self c.count_disk.new.self true (same.plan ∙ plan_is m c.next_outcome.new.number c.next_outcome.ensures.number) same.disk_faults same.talk_faults same.dry c.count_disk.ensures.plan
-    (λ is. absurd (cc is)) (outcome_is m c.deref.result.now c.next_outcome.new.number c.next_outcome.result c.next_outcome.ensures.outcome c.deref.ensures.value c.next_outcome.ensures.number ∙ c.in-Whole.is) refl
-    (nothing_still (memory_seen m) (memory_seen c.take_bytes.new.self) (memory_seen c.count_disk.new.self) nothing c.count_disk.ensures.still c.count_disk.ensures.quiet)
-
-pub returns-in-Half-clause-ending : goal.returns-in-Half-clause-ending
-returns-in-Half-clause-ending c =
-    let m = c.args.self.now in
-    let mid = c.take_bytes-in-Half.new.self in
-    let new = c.count_disk-in-Half.new.self in
-    let same = c.take_bytes-in-Half.ensures.plan in
-    let fault = c.count_disk-in-Half.ensures in
-    ends_half (Act.Write c.args.disk c.args.at c.args.bytes.now) m mid new c.is_err-dry.result (same.plan ∙ plan_is m c.next_outcome.new.number c.next_outcome.ensures.number) same.disk_faults same.talk_faults same.dry fault.plan
-    (λ is. absurd (cc is)) (outcome_is m c.deref.result.now c.next_outcome.new.number c.next_outcome.result c.next_outcome.ensures.outcome c.deref.ensures.value c.next_outcome.ensures.number ∙ c.in-Half.is)
-    (λ found. let is = sym c.is_err-dry.ensures.value ∙ found in let r = c.take_bytes-in-Half.result in (
-      fault.still.content ∙ on_ok ((memory_seen mid).content ≡ set (memory_seen m).content c.args.disk (put (image (memory_seen m).content c.args.disk) c.args.at (first_half c.args.bytes.now))) r c.take_bytes-in-Half.ensures.placed is,
-      pends_still c.args.disk c.args.at c.args.bytes.now (memory_seen m) (memory_seen mid) (memory_seen new) (on_ok (Pends (Act.Write c.args.disk c.args.at c.args.bytes.now) (memory_seen m) (memory_seen mid)) r c.take_bytes-in-Half.ensures.pending is) fault.still,
-    ))
-    (λ dry. nothing_still (memory_seen m) (memory_seen mid) (memory_seen new) (on_err (TakesNothing (memory_seen m) (memory_seen mid)) c.take_bytes-in-Half.result c.take_bytes-in-Half.ensures.untaken (sym c.is_err-dry.ensures.value ∙ dry)) fault.still fault.quiet)
-
-pub returns-in-Nothing-clause-ending : goal.returns-in-Nothing-clause-ending
-returns-in-Nothing-clause-ending c =
-    let m = c.args.self.now in
-    let mid = c.pass_bytes.new.self in
-    let new = c.count_disk-in-Nothing.new.self in
-    let same = c.pass_bytes.ensures.plan in
-    let fault = c.count_disk-in-Nothing.ensures in
-    ends_past (Act.Write c.args.disk c.args.at c.args.bytes.now) m mid new c.is_err-dry-in-Nothing.result (same.plan ∙ plan_is m c.next_outcome.new.number c.next_outcome.ensures.number) same.disk_faults same.talk_faults same.dry fault.plan
-    (λ is. absurd (cc is)) (outcome_is m c.deref.result.now c.next_outcome.new.number c.next_outcome.result c.next_outcome.ensures.outcome c.deref.ensures.value c.next_outcome.ensures.number ∙ c.in-Nothing.is)
-    (nothing_still (memory_seen m) (memory_seen mid) (memory_seen new) c.pass_bytes.ensures.untaken fault.still fault.quiet)
+    let held : disk < length m.handed.items = omega (arith, there m.held.items disks m.kept.content disk c.requires.disk, m.kept.each) in
+    let inside = fits_disk disks disk at (length bytes) c.requires.range in
+    let here = handed_here m.handed.items handed disk (length bytes) held c.hand.ensures in
+    let others = handed_others m.handed.items handed disk (length bytes) c.hand.ensures in
+    let later = seen_of (record { first = items_of m.first.items; calls = calls; script = m.script.items }) new in
+    let took = write_took (story_of m) (counts_of m) new rises disk at bytes c.requires.disk inside (held_now m disk).bytes here others outcome found calls adds in
+    record {
+      written = λ tells. on_ok (later.content ≡ set (memory_seen m).content disk (put (image (memory_seen m).content disk) at bytes)) c.end_call.result
+          (λ is_fine. write_placed (story_of m) (counts_of m) new rises disk at bytes c.requires.disk inside (held_now m disk).bytes here others outcome found calls adds (sym ended.ok ∙ is_fine));
+      writes = write_writes (story_of m) (counts_of m) new rises disk at bytes c.requires.disk inside (held_now m disk).bytes here others outcome found calls adds;
+      wrote = c.hand.ensures;
+      ticks = adds_ticks (story_of m) (counts_of m) new rises found (IsWrite outcome disk at bytes) calls adds;
+      cause = λ failed. rose ok m.disk_faults c.end_call.new.faults ended.faults (is_failed c.end_call.result failed);
+      ending = ends (Act.Write disk at bytes) m _ outcome found _ plan is ended.ok (λ reads. absurd (cc reads)) (failed_count ok m.disk_faults c.end_call.new.faults ended.faults) (kept_count ok m.talk_faults) ended.dry took;
+    }

@@ -3,7 +3,7 @@ use Rattle.std.proofs.lemmas.List.{length-map, take_all}
 use Rattle.ldm_host.specs.Images.{items_of}
 use Rattle.ldm_host.specs.Left.{left_of, left_on}
 use Rattle.ldm_host.specs.Memory.{story_of}
-use Rattle.ldm_host.specs.Story.{fresh_state, run}
+use Rattle.ldm_host.specs.Story.{disk_at, fresh_state, run}
 use Rattle.ldm_host.proofs.LeftLaws.{held_count, left_leaves, left_push}
 use Rattle.ldm_host.proofs.memory.MemoryHost.left.Goals as goal
 
@@ -11,8 +11,10 @@ pub loop-disk-preserved : goal.loop-disk-preserved
 loop-disk-preserved c =
     let m = c.args.self.now in
     let disks = (run (fresh_state (items_of m.first.items)) m.calls.items).disks in
+    let pushed = c.in_ok-push_made.ensures in
+    let made : pushed.0.items ≡ left_on c.args.filling (disk_at disks c.loop-disk.disk) = rw pushed.1 at c.left_on.ensures.is in
     let lt : c.loop-disk.disk < length disks = omega (arith, c.loop-disk-test.true, c.len-disk-end.ensures, m.held.ok.0, held_count m) in (
-      ap items_of c.in_ok-push.ensures.items ∙ left_push c.args.filling disks c.loop-disk.disk c.loop-disk.images.items c.in_ok-left_on.field-0 lt c.loop-disk.invariant.0 c.in_ok-left_on.ensures.is,
+      ap items_of pushed.2 ∙ left_push c.args.filling disks c.loop-disk.disk c.loop-disk.images.items pushed.0 lt c.loop-disk.invariant.0 made,
       λ some. c.left_on.ensures.small,
     )
 

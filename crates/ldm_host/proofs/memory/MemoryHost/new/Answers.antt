@@ -8,9 +8,9 @@ use Rattle.ldm_host.proofs.memory.MemoryHost.new.Goals as goal
 
 pub invariant_of-result : goal.invariant_of-result
 invariant_of-result c =
-    let sized : length c.in_ok-handed.handed.items ≡ length c.args.images.items = search (rules, length-replicate) in
-    let bytes : (disk : ℕ) → IsBytes (image (items_of c.in_ok-first.first.items) disk) = c.in_ok-first.ensures.bytes in
-    record { kept = fresh_kept (items_of c.in_ok-first.first.items) c.new.result.items c.args.script.items c.args.images.items c.new-2.result.items c.in_ok-handed.handed.items (search rules) (search rules) (search rules) sized bytes }
+    let sized : length c.in-Ok-zeros.handed.items ≡ length c.args.images.items = search (rules, length-replicate) in
+    let bytes : (disk : ℕ) → IsBytes (image (items_of c.in-Ok.first.items) disk) = c.in-Ok.ensures.bytes in
+    record { kept = fresh_kept (items_of c.in-Ok.first.items) c.new.result.items c.args.script.items c.args.images.items c.new-2.result.items c.in-Ok-zeros.handed.items (search rules) (search rules) (search rules) sized bytes }
 
-pub returns-clause-settled : goal.returns-clause-settled
-returns-clause-settled c = fresh_settled (items_of c.in_ok-first.first.items) c.new.result.items (search rules)
+pub returns-in-Ok-zeros-clause-settled : goal.returns-in-Ok-zeros-clause-settled
+returns-in-Ok-zeros-clause-settled c = fresh_settled (items_of c.in-Ok.first.items) c.new.result.items (search rules)

@@ -1,0 +1,82 @@
+-- Absent fields behind the others change neither the own spelling nor which record it is.
+use Rattle.std.proofs.Common.{◌≡◌, ℕ, zero, suc, ◌-◌, ◌+◌, ◌<◌, ◌^◌, List, [], ◌∷◌, ◌++◌, length, take, refl, sym, ap, subst, ◌∙◌, arith}
+use Rattle.std.specs.Prelude.{replicate}
+use Rattle.std.proofs.lemmas.List.{take_at}
+use Rattle.byteorder.specs.Endian.{big_bytes}
+use Rattle.ldm_records.specs.Values.{Value, Text, Absent, Kind, HasKind, HasKinds, IsShort, AreShort, own_values, values_len}
+use Rattle.ldm_records.specs.Plain.{Plain, IsRecord, own_spelling, body_len}
+use Rattle.ldm_records.specs.Outlines.{filled, filled_plain}
+use Rattle.ldm_records.proofs.ValueLaws.{text_kind}
+use Rattle.ldm_records.proofs.PlainLaws.{own_body_len}
+
+absent_own : (n : ℕ) → own_values (replicate n Absent) ≡ []
+absent_own zero = refl
+absent_own (suc n) = absent_own n
+
+more_own : (xs : List Value) (n : ℕ) → own_values (xs ++ replicate n Absent) ≡ own_values xs
+more_own [] n = absent_own n
+more_own (x ∷ xs) n = rw (more_own xs n) refl
+
+absent_len : (n : ℕ) → values_len (replicate n Absent) ≡ 0
+absent_len zero = refl
+absent_len (suc n) = omega (arith, absent_len n)
+
+more_len : (xs : List Value) (n : ℕ) → values_len (xs ++ replicate n Absent) ≡ values_len xs
+more_len [] n = absent_len n
+more_len (x ∷ xs) n = omega (arith, more_len xs n)
+
+filled_len : (xs : List Value) → values_len (filled xs) ≡ values_len xs
+filled_len xs = more_len xs (15 - length xs)
+
+-- the body that is listed is as long
+pub listed_len : (p q : Plain) → q ≡ filled_plain p → values_len q.fields + length q.tail ≡ body_len p
+listed_len p q e =
+    ap (λ (x : Plain). values_len x.fields + length x.tail) e ∙ ap (λ (n : ℕ). n + length p.tail) (filled_len p.fields)
+
+pub listed_fits : (p q : Plain) → q ≡ filled_plain p → IsRecord p → values_len q.fields + length q.tail < 2 ^ 32
+listed_fits p q e s = omega (arith, listed_len p q e, own_body_len p, s.short)
+
+filled_own : (p : Plain) → own_spelling (filled_plain p) ≡ own_spelling p
+filled_own p =
+    ap (λ (xs : List ℕ). (big_bytes 2 p.mark ++ p.flags ∷ p.type ∷ big_bytes 4 (length (xs ++ p.tail))) ++ (xs ++ p.tail)) (more_own p.fields (15 - length p.fields))
+
+pub listed_own : (p q : Plain) → q ≡ filled_plain p → own_spelling q ≡ own_spelling p
+listed_own p q e = ap own_spelling e ∙ filled_own p
+
+short_kind : (k : Kind) (x : Value) → HasKind k x → IsShort x
+short_kind k (Text t) h = text_kind k t h
+short_kind k _ h = tt
+
+absent_short : (n : ℕ) → AreShort (replicate n Absent)
+absent_short zero = tt
+absent_short (suc n) = (tt, absent_short n)
+
+more_short : (ks : List Kind) (xs : List Value) (n : ℕ) → HasKinds ks xs → AreShort (xs ++ replicate n Absent)
+more_short [] [] n h = absent_short n
+more_short (k ∷ ks) (x ∷ xs) n h = (short_kind k x h.0, more_short ks xs n h.1)
+more_short _ _ n h = absurd h
+
+pub listed_short : (p q : Plain) → q ≡ filled_plain p → IsRecord p → AreShort q.fields
+listed_short p q e s =
+    subst (λ (x : Plain). AreShort x.fields) (sym e) (more_short s.kinds p.fields (15 - length p.fields) s.fields)
+
+kinds_len : (ks : List Kind) (xs : List Value) → HasKinds ks xs → length ks ≡ length xs
+kinds_len [] [] h = refl
+kinds_len (k ∷ ks) (x ∷ xs) h = omega (arith, kinds_len ks xs h.1)
+kinds_len _ _ h = absurd h
+
+front : (xs : List Value) (n : ℕ) → length xs ≡ n → take n (filled xs) ≡ xs
+front xs n len = take_at xs (replicate (15 - length xs) Absent) n len
+
+-- records of one type and the same flags have as many fields
+pub one_filled : (p q : Plain) → IsRecord p → IsRecord q → filled_plain p ≡ filled_plain q → p ≡ q
+one_filled p q s t e =
+    let mark : p.mark ≡ q.mark = ap (λ (x : Plain). x.mark) e in
+    let flags : p.flags ≡ q.flags = ap (λ (x : Plain). x.flags) e in
+    let type : p.type ≡ q.type = ap (λ (x : Plain). x.type) e in
+    let tail : p.tail ≡ q.tail = ap (λ (x : Plain). x.tail) e in
+    let kinds : s.kinds ≡ t.kinds = (let known = s.known in let others = t.known in cc) in
+    let len : length p.fields ≡ length q.fields = sym (kinds_len s.kinds p.fields s.fields) ∙ ap length kinds ∙ kinds_len t.kinds q.fields t.fields in
+    let fields : p.fields ≡ q.fields =
+    sym (front p.fields (length q.fields) len) ∙ ap (λ (x : Plain). take (length q.fields) x.fields) e ∙ front q.fields (length q.fields) refl in
+    λ i. record { mark = mark i; flags = flags i; type = type i; fields = fields i; tail = tail i }
