@@ -1,10 +1,9 @@
 -- A host in memory, as the clauses of a host see it.
-use Rattle.std.specs.Prelude.{◌≡◌, Bool, not, if◌then◌else◌}
 use Rattle.ldm_host.specs.Seen.{Seen}
 use Rattle.ldm_host.specs.declared.memory.MemoryHost.{MemoryHost}
 use Rattle.ldm_host.specs.Images.{items_of}
 use Rattle.ldm_host.specs.Story.{Story, Counts, seen_of}
-use Rattle.ldm_host.specs.Plan.{Plan, next}
+use Rattle.ldm_host.specs.Plan.{Plan}
 
 -- the images and the input at its start, and its calls since
 abbrev pub story_of : MemoryHost → Story
@@ -20,17 +19,3 @@ plan_of m = record { number = m.number; chosen = m.chosen.items; stop = m.stop }
 
 abbrev pub memory_seen : MemoryHost → Seen
 memory_seen m = seen_of (story_of m) (counts_of m)
-
--- the plan of failures, and the counts of failures, are as they were
-pub record SameCounts (old new : MemoryHost) : Type 0 where
-  pub plan : plan_of new ≡ plan_of old
-  pub disk_faults : new.disk_faults ≡ old.disk_faults
-  pub talk_faults : new.talk_faults ≡ old.talk_faults
-  pub dry : new.dry ≡ old.dry
-
--- a call failed, of the talk or of a disk, and found memory or none
-pub record CountsFault (talk dry : Bool) (old new : MemoryHost) : Type 0 where
-  pub plan : plan_of new ≡ plan_of old
-  pub disk_faults : new.disk_faults ≡ (if talk then old.disk_faults else next old.disk_faults)
-  pub talk_faults : new.talk_faults ≡ (if not talk then old.talk_faults else next old.talk_faults)
-  pub dry_is : new.dry ≡ (if dry then next old.dry else old.dry)
