@@ -16,7 +16,7 @@ use std::process::ExitCode;
 use std::{env, io};
 
 // How the program ends before a run.
-#[derive(Clone, Copy, PartialEq, Eq)]
+#[derive(Clone, Copy, Debug, PartialEq, Eq)]
 enum Stop {
     Usage,
     CannotOpen,
