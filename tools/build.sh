@@ -3,14 +3,11 @@
 # to speak by). run_program runs the program, built first where the one that is there isn't that of the sources.
 #
 # A program is built from a copy of its sources. The sum of that copy, the sum of the program and the kit's line go into a file
-# beside the program, so that no other program is ever run. The kit works on one crate at a time in one folder, so each crate
-# is proved in a folder of its own, over the built libraries below it, and crates that don't stand on each other are proved
-# side by side. What was proved stays in crates/NAME/out, where the kit's commands look for it.
+# beside the program, so that no other program is ever run. The prover is called on one crate after another, by what crates.txt
+# says, and on crates that don't stand on each other side by side. Of each proved library the statements are kept in build/,
+# with the sum of all that they rest on: what others can cite, and no proof. So a crate above reads little of what is below it.
 
 NOT_BUILT=70
-
-# The most crates below one that is proved by several processes.
-FEW_BELOW=5
 
 say() {
     echo "$me: $*" >&2
@@ -29,10 +26,14 @@ real_path() {
     echo "$path"
 }
 
-# The kit's line, or nothing where there is no kit. (KIT-ID has what `rt version` prints.)
+# The folder of the kit, or nothing where there is none.
+kit_folder() {
+    found=$(command -v rt) && found=$(real_path "$found") && found=$(dirname "$found") && (CDPATH='' cd -- "$found/.." && pwd)
+}
+
+# The kit's line, or nothing where there is no kit.
 kit_line() {
-    kit=$(command -v rt) && kit=$(real_path "$kit") || return 0
-    { cat "$(dirname "$kit")/../KIT-ID" 2>/dev/null || rt version 2>/dev/null; } | head -n 1
+    found=$(kit_folder) && head -n 1 "$found/KIT-ID"
 }
 
 # The crates that $crate stands on and itself, by crates.txt below $1. For each a line: the lines of code from this crate on to
@@ -81,7 +82,7 @@ plan_of() {
 below() {
     while read -r _ name others; do
         [ "$name" != "$1" ] || echo "$others"
-    done <"$rooms/plan"
+    done <"$room/plan"
 }
 
 # The folders below $1 that a build of $crate reads.
@@ -115,70 +116,85 @@ is_current() {
     } <"$program.sum"
     [ -n "$of_sources" ] && [ "$of_sources" = "$(sum_of_sources "$here")" ] || return 1
     [ -n "$of_program" ] && [ "$of_program" = "$(sum_of <"$program")" ] || return 1
-    kit=$(kit_line)
-    [ -z "$kit" ] || [ "$kit" = "$of_kit" ]
+    kit_is=$(kit_line)
+    [ -z "$kit_is" ] || [ "$kit_is" = "$of_kit" ]
 }
 
-# Moves what was proved of crate $1 from folder $2 to folder $3, where no command of the kit is at work in the crate.
-move_kept() {
-    (
-        ! command -v flock >/dev/null 2>&1 || flock -n 8 || exit 0
-        for part in rlib incremental; do
-            [ -d "$2/$part" ] || continue
-            mkdir -p "$3" && rm -rf "${3:?}/$part" && mv "$2/$part" "$3/$part"
-        done
-    ) 8<"$here/crates/$1"
+# The other words of crate $1's row in crates.txt: the crates below it, and those of the kit that it uses.
+row_of() {
+    sed -n "s/#.*//; s/^$1 *://p" "$room/source/crates.txt" | tr , ' '
 }
 
-# Proves crate $1 in a folder of its own, and leaves the status there. $2: how many jobs it has. $3: by how much it stands back.
+# A sum of all that the proof of crate $1 rests on, where those below it are proved.
+sum_of_crate() {
+    {
+        echo "$kit_is"
+        row_of "$1"
+        (cd "$room/source/crates/$1" && find . -type f | LC_ALL=C sort | xargs sha256sum)
+        for it in $(below "$1"); do cat "$kept/$it.sum"; done
+    } | sum_of
+}
+
+# Whether library $1 was proved before, and its statements are kept.
+is_kept() {
+    [ -d "$kept/$1.rlib" ] && [ "$(cat "$kept/$1.sum" 2>/dev/null)" = "$(sum_of_crate "$1")" ]
+}
+
+# Proves crate $1 by $2 processes, and leaves the status in a file. $3: by how much it stands back.
 prove() {
     child='' status=1
     trap '[ -z "$child" ] || kill "$child"; exit 1' TERM
-    make_room "$1" && cd "$rooms/$1/crates/$1" && {
-        # (a program is run with no words: what it says and its status tell nothing of the build)
-        if [ -f src/main.rt ]; then
-            nice -n "$3" rt run --jobs "$2" -- </dev/null &
-        else
-            nice -n "$3" rt lib --jobs "$2" &
-        fi
+    cd "$room/source/crates/$1" && rm -rf "$kept/$1.sum" "$kept/$1.rlib" && {
+        call_prover "$1" "$2" "$3" &
         child=$!
         wait "$child"
         status=$?
-        [ ! -f src/main.rt ] || [ ! -x "out/$1" ] || status=0
+        [ "$status" != 0 ] || sum_of_crate "$1" >"$kept/$1.sum" || status=1
+        [ "$status" != 0 ] || [ ! -f src/main.rt ] || link "$1" || status=1
     }
-    echo "$status" >"$rooms/$1/status.new"
-    mv "$rooms/$1/status.new" "$rooms/$1/status"
+    echo "$status" >"$room/$1.status.new"
+    mv "$room/$1.status.new" "$room/$1.status"
 }
 
-# Makes the folder of crate $1, with the built libraries below it and what was proved of it before.
-make_room() {
-    mkdir -p "$rooms/$1/crates" || return 1
-    for it in $(below "$1") "$1"; do
-        grep "^$it *:" "$rooms/source/crates.txt" >>"$rooms/$1/crates.txt"
-        cp -R "$rooms/source/crates/$it" "$rooms/$1/crates/$it" && mkdir "$rooms/$1/crates/$it/out" || return 1
-        [ "$it" = "$1" ] || copy_library "$it" "$rooms/$1/crates/$it/out" || return 1
+# Has the prover prove crate $1, and write a library's statements or a program's object file. $2 and $3: as prove.
+call_prover() {
+    name=$1 jobs=$2 back=$3
+    set -- --crate-name "$name" --links "$name=" --jobs "$jobs"
+    set -- "$@" --antt-project "$kit/rattle/logic/antt-project.json" --logic-built "$kit/logic_built"
+    set -- "$@" -L "dependency=$kit/rlibs" -L "dependency=$kept" --extern "std=$kit/rlibs/std.rlib"
+    for it in $(row_of "$name"); do
+        if [ -d "$room/source/crates/$it" ]; then
+            set -- "$@" --extern "$it=$kept/$it.rlib"
+        else
+            set -- "$@" --extern "$it=$kit/rlibs/$it.rlib"
+        fi
     done
-    move_kept "$1" "$here/crates/$1/out" "$rooms/$1/crates/$1/out"
+    if [ -f src/main.rt ]; then
+        set -- "$@" --toolchain "$kit/toolchain" --backend llvm -o "$room/$name.o" src/main.rt
+    else
+        set -- "$@" --statements -o "$kept/$name.rlib" src/lib.rt
+    fi
+    exec nice -n "$back" "$kit/bin/rattle" build "$@" </dev/null
 }
 
-# Copies the built library $1 into folder $2, by links where these can be made: rt never writes into such a file.
-copy_library() {
-    cp -Rl "$rooms/$1/crates/$1/out/rlib" "$2/" 2>/dev/null || cp -R "$rooms/$1/crates/$1/out/rlib" "$2/"
+# Links program $1.
+link() {
+    "$kit/bin/rattle-link" --target x86_64-unknown-linux-gnu --toolchain "$kit/toolchain" \
+        -o "$room/$1" "$room/$1.o" "$kit/c/libos_c.a" "$kit/c/liblibc_c.a"
 }
 
-# How many crates to prove side by side: one for each processor, but no more than one for each 3 GB of free memory.
+# How many crates to prove side by side: one for each processor, but no more than one for each 2 GB of free memory.
 lanes() {
     processors=$(nproc 2>/dev/null || getconf _NPROCESSORS_ONLN 2>/dev/null || echo 1)
     awk -v most="$processors" '
-        $1 == "MemAvailable:" && $2 < 3000000 * most { most = int($2 / 3000000) }
+        $1 == "MemAvailable:" && $2 < 2000000 * most { most = int($2 / 2000000) }
         END { print most < 1 ? 1 : most }' /proc/meminfo 2>/dev/null || echo 1
 }
 
-# Proves the crates of the plan, each once those below it are proved. Each is proved by one process of the kit, for each more reads
-# all crates below it once more. Only the one with most to come is split, where it has few below it, and the others stand back then.
+# Proves the crates of the plan, each once those below it are proved.
 prove_all() {
-    left=$(cut -d ' ' -f 2 "$rooms/plan" | tr '\n' ' ')
-    total=$(grep -c . "$rooms/plan")
+    left=$(cut -d ' ' -f 2 "$room/plan" | tr '\n' ' ')
+    total=$(grep -c . "$room/plan")
     at_once=$(lanes)
     began=$(date +%s)
     spoke=$began
@@ -187,7 +203,7 @@ prove_all() {
         start_ready
         sleep 1
         for name in $running; do
-            [ ! -f "$rooms/$name/status" ] || end_of "$name" || return 1
+            [ ! -f "$room/$name.status" ] || end_of "$name" || return 1
         done
         now=$(date +%s)
         if [ $((now - spoke)) -ge 60 ]; then
@@ -197,40 +213,41 @@ prove_all() {
     done
 }
 
-# Starts the crates that can be proved now.
+# Starts the crates that can be proved now, but for those that are kept.
 start_ready() {
-    ready='' waiting=''
-    count=$(echo "$running" | wc -w)
+    waiting=''
     for name in $left; do
-        if [ "$count" -lt "$at_once" ] && are_proved "$(below "$name")"; then
-            ready="$ready$name "
-            count=$((count + 1))
-        else
+        if [ "$(echo "$running" | wc -w)" -ge "$at_once" ] || ! are_proved "$(below "$name")"; then
             waiting="$waiting$name "
+        elif is_kept "$name"; then
+            ended=$((ended + 1)) started=$((started + 1))
+            proved="$proved$name "
+        else
+            start "$name"
         fi
     done
     left=$waiting
-    for name in $ready; do
-        started=$((started + 1))
-        say "crate $started of $total: $name .."
-        jobs=1 back=5
-        if is_first "$name"; then
-            back=0
-            [ "$(below "$name" | wc -w)" -gt "$FEW_BELOW" ] || jobs=$at_once
-        fi
-        mkdir "$rooms/$name"
-        date +%s >"$rooms/$name/began"
-        prove "$name" "$jobs" "$back" >"$rooms/$name/log" 2>&1 &
-        pids="$pids $!"
-        running="$running$name "
-    done
+}
+
+# Starts the proof of crate $1. The one with most to come has a process on each processor, and goes before the others.
+start() {
+    started=$((started + 1))
+    say "crate $started of $total: $1 .."
+    jobs=1 back=5
+    if is_first "$1"; then
+        jobs=$at_once back=0
+    fi
+    date +%s >"$room/$1.began"
+    prove "$1" "$jobs" "$back" >"$room/$1.log" 2>&1 &
+    pids="$pids $!"
+    running="$running$1 "
 }
 
 # Whether no crate that isn't proved has more to come than crate $1.
 is_first() {
     while read -r _ name_of _; do
         case $proved in *" $name_of "*) ;; *) break ;; esac
-    done <"$rooms/plan"
+    done <"$room/plan"
     [ "$name_of" = "$1" ]
 }
 
@@ -244,11 +261,11 @@ are_proved() {
 end_of() {
     {
         echo "== $1"
-        cat "$rooms/$1/log"
+        cat "$room/$1.log"
     } >>"$here/build.log"
-    read -r status <"$rooms/$1/status"
+    read -r status <"$room/$1.status"
     now=$(date +%s)
-    took=$((now - $(cat "$rooms/$1/began")))
+    took=$((now - $(cat "$room/$1.began")))
     if [ "$status" != 0 ]; then
         say "$1 was not built, after $took s: see $here/build.log"
         return 1
@@ -260,63 +277,53 @@ end_of() {
     running=$(echo " $running" | sed "s/ $1 / /; s/^ *//")
 }
 
-# Ends what is still at work, keeps what was proved, and removes the folders of the build.
-leave_rooms() {
+# Ends what is still at work, and removes all of the build but the statements of what was proved.
+leave_room() {
     # shellcheck disable=SC2086
     [ -z "$pids" ] || kill $pids 2>/dev/null
     wait
-    keep_proved
-    rm -rf "$rooms"
-}
-
-# Moves what was proved back to the crates.
-keep_proved() {
-    while read -r _ name _; do
-        move_kept "$name" "$rooms/$name/crates/$name/out" "$here/crates/$name/out"
-    done <"$rooms/plan"
+    rm -rf "$room"
 }
 
 # (A redirection that fails ends some shells, but for one that is in a shell of its own.)
 copy_sources() {
-    # (there is a plan where a build was killed)
-    [ ! -f "$rooms/plan" ] || keep_proved
-    rm -rf "$rooms"
-    mkdir -p "$rooms/source/crates" && (: >"$here/build.log") && cp "$here/crates.txt" "$here/HANDLES" "$rooms/source/" || return 1
+    rm -rf "$room"
+    mkdir -p "$room/source/crates" && (: >"$here/build.log") && cp "$here/crates.txt" "$here/HANDLES" "$room/source/" || return 1
     for it in $(folders_of "$here"); do
-        mkdir -p "$(dirname "$rooms/source/$it")" && cp -R "$here/$it" "$rooms/source/$it" || return 1
+        mkdir -p "$(dirname "$room/source/$it")" && cp -R "$here/$it" "$room/source/$it" || return 1
     done
 }
 
 # Builds the program from a copy of the sources, and notes of what it was built.
 build() {
-    command -v rt >/dev/null 2>&1 || {
+    kit=$(kit_folder) || {
         say "there is no rt, the command of the Rattle kit: see README.md"
         return 1
     }
     copy_sources || {
-        say "the sources can't be copied to $rooms"
+        say "the sources can't be copied to $room"
         return 1
     }
-    for it in "$rooms"/source/crates/*; do
+    for it in "$room"/source/crates/*; do
         echo "= $(basename "$it") $(find "$it/src" -type f -exec cat {} + | wc -l)"
-    done >"$rooms/sizes"
-    plan_of "$rooms/source" "$rooms/sizes" >"$rooms/plan"
-    kit=$(kit_line)
+    done >"$room/sizes"
+    plan_of "$room/source" "$room/sizes" >"$room/plan"
+    kit_is=$(kit_line)
     say "the program is not that of the sources: building it (the first time it takes many minutes)"
     pids=''
-    trap 'leave_rooms; let_go; exit 130' INT
-    trap 'leave_rooms; let_go; exit 143' TERM HUP
+    trap 'leave_room; let_go; exit 130' INT
+    trap 'leave_room; let_go; exit 143' TERM HUP
     trap '' PIPE
     prove_all && {
         rm -f "$program.sum"
-        cp "$rooms/$crate/crates/$crate/out/$crate" "$program.new" && mv "$program.new" "$program"
+        cp "$room/$crate" "$program.new" && mv "$program.new" "$program"
     } && {
-        sum_of_sources "$rooms/source"
+        sum_of_sources "$room/source"
         sum_of <"$program"
-        echo "$kit"
+        echo "$kit_is"
     } >"$program.sum.new" && mv "$program.sum.new" "$program.sum"
     built=$?
-    leave_rooms
+    leave_room
     trap - INT TERM HUP PIPE
     return $built
 }
@@ -352,7 +359,8 @@ let_go() {
 run_program() {
     out=$here/crates/$crate/out
     program=$out/$crate
-    rooms=$here/build
+    kept=$here/build
+    room=$kept/now
     if ! is_current; then
         mkdir -p "$out" 2>/dev/null
         if [ ! -w "$out" ] || ! (: >>"$here/build.lock") 2>/dev/null; then
