@@ -147,10 +147,8 @@ prove() {
     cd "$room/source/crates/$1" && rm -rf "$kept/$1.sum" "$kept/$1.rlib" && {
         call_prover "$1" "$2" "$3" &
         child=$!
-        wait "$child"
+        wait "$child" && finish "$1"
         status=$?
-        [ "$status" != 0 ] || sum_of_crate "$1" >"$kept/$1.sum" || status=1
-        [ "$status" != 0 ] || [ ! -f src/main.rt ] || link "$1" || status=1
     }
     echo "$status" >"$room/$1.status.new"
     mv "$room/$1.status.new" "$room/$1.status"
@@ -177,10 +175,14 @@ call_prover() {
     exec nice -n "$back" "$kit/bin/rattle" build "$@" </dev/null
 }
 
-# Links program $1.
-link() {
-    "$kit/bin/rattle-link" --target x86_64-unknown-linux-gnu --toolchain "$kit/toolchain" \
-        -o "$room/$1" "$room/$1.o" "$kit/c/libos_c.a" "$kit/c/liblibc_c.a"
+# Links program $1, or notes of what library $1 was built.
+finish() {
+    if [ -f src/main.rt ]; then
+        "$kit/bin/rattle-link" --target x86_64-unknown-linux-gnu --toolchain "$kit/toolchain" \
+            -o "$room/$1" "$room/$1.o" "$kit/c/libos_c.a" "$kit/c/liblibc_c.a"
+    else
+        sum_of_crate "$1" >"$kept/$1.sum"
+    fi
 }
 
 # How many crates to prove side by side: one for each processor, but no more than one for each 2 GB of free memory.
