@@ -4,8 +4,9 @@
 #
 # A program is built from a copy of its sources. The sum of that copy, the sum of the program and the kit's line go into a file
 # beside the program, so that no other program is ever run. The prover is called on one crate after another, by what crates.txt
-# says, and on crates that don't stand on each other side by side. Of each proved library the statements are kept in build/,
-# with the sum of all that they rest on: what others can cite, and no proof. So a crate above reads little of what is below it.
+# says, and on crates that don't stand on each other side by side. What a crate above reads of a proved library is its
+# statements, and no proof. They are kept in build/, with the sum of all that they rest on, each as one archive, since the kit's
+# commands refuse a tree with sources that they don't read.
 
 NOT_BUILT=70
 
@@ -131,20 +132,20 @@ sum_of_crate() {
         echo "$kit_is"
         row_of "$1"
         (cd "$room/source/crates/$1" && find . -type f | LC_ALL=C sort | xargs sha256sum)
-        for it in $(below "$1"); do cat "$kept/$it.sum"; done
+        for it in $(below "$1"); do cat "$room/$it.sum"; done
     } | sum_of
 }
 
-# Whether library $1 was proved before, and its statements are kept.
-is_kept() {
-    [ -d "$kept/$1.rlib" ] && [ "$(cat "$kept/$1.sum" 2>/dev/null)" = "$(sum_of_crate "$1")" ]
+# Takes the statements of library $1 from an earlier build, where they are those of the sources.
+take_kept() {
+    sum_of_crate "$1" >"$room/$1.sum" && cmp -s "$room/$1.sum" "$kept/$1.sum" && tar -xf "$kept/$1.tar" -C "$room"
 }
 
 # Proves crate $1 by $2 processes, and leaves the status in a file. $3: by how much it stands back.
 prove() {
     child='' status=1
     trap '[ -z "$child" ] || kill "$child"; exit 1' TERM
-    cd "$room/source/crates/$1" && rm -rf "$kept/$1.sum" "$kept/$1.rlib" && {
+    rm -rf "$room/$1.rlib" && cd "$room/source/crates/$1" && {
         call_prover "$1" "$2" "$3" &
         child=$!
         wait "$child" && finish "$1"
@@ -159,10 +160,10 @@ call_prover() {
     name=$1 jobs=$2 back=$3
     set -- --crate-name "$name" --links "$name=" --jobs "$jobs"
     set -- "$@" --antt-project "$kit/rattle/logic/antt-project.json" --logic-built "$kit/logic_built"
-    set -- "$@" -L "dependency=$kit/rlibs" -L "dependency=$kept" --extern "std=$kit/rlibs/std.rlib"
+    set -- "$@" -L "dependency=$kit/rlibs" -L "dependency=$room" --extern "std=$kit/rlibs/std.rlib"
     for it in $(row_of "$name"); do
         if [ -d "$room/source/crates/$it" ]; then
-            set -- "$@" --extern "$it=$kept/$it.rlib"
+            set -- "$@" --extern "$it=$room/$it.rlib"
         else
             set -- "$@" --extern "$it=$kit/rlibs/$it.rlib"
         fi
@@ -170,18 +171,18 @@ call_prover() {
     if [ -f src/main.rt ]; then
         set -- "$@" --toolchain "$kit/toolchain" --backend llvm -o "$room/$name.o" src/main.rt
     else
-        set -- "$@" --statements -o "$kept/$name.rlib" src/lib.rt
+        set -- "$@" --statements -o "$room/$name.rlib" src/lib.rt
     fi
     exec nice -n "$back" "$kit/bin/rattle" build "$@" </dev/null
 }
 
-# Links program $1, or notes of what library $1 was built.
+# Links program $1, or keeps the statements of library $1.
 finish() {
     if [ -f src/main.rt ]; then
         "$kit/bin/rattle-link" --target x86_64-unknown-linux-gnu --toolchain "$kit/toolchain" \
             -o "$room/$1" "$room/$1.o" "$kit/c/libos_c.a" "$kit/c/liblibc_c.a"
     else
-        sum_of_crate "$1" >"$kept/$1.sum"
+        rm -f "$kept/$1.sum" && tar -cf "$kept/$1.tar" -C "$room" "$1.rlib" && cp "$room/$1.sum" "$kept/$1.sum"
     fi
 }
 
@@ -221,7 +222,7 @@ start_ready() {
     for name in $left; do
         if [ "$(echo "$running" | wc -w)" -ge "$at_once" ] || ! are_proved "$(below "$name")"; then
             waiting="$waiting$name "
-        elif is_kept "$name"; then
+        elif take_kept "$name"; then
             ended=$((ended + 1)) started=$((started + 1))
             proved="$proved$name "
         else
