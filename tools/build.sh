@@ -232,12 +232,12 @@ start_ready() {
     left=$waiting
 }
 
-# Starts the proof of crate $1. The one with most to come has a process on each processor, and goes before the others.
+# Starts the proof of crate $1. The two with most to come have a process on each processor, and go before the others.
 start() {
     started=$((started + 1))
     say "crate $started of $total: $1 .."
     jobs=1 back=5
-    if is_first "$1"; then
+    if is_early "$1"; then
         jobs=$at_once back=0
     fi
     date +%s >"$room/$1.began"
@@ -246,12 +246,13 @@ start() {
     running="$running$1 "
 }
 
-# Whether no crate that isn't proved has more to come than crate $1.
-is_first() {
-    while read -r _ name_of _; do
-        case $proved in *" $name_of "*) ;; *) break ;; esac
+# Whether at most one crate that isn't proved has more to come than crate $1.
+is_early() {
+    before=0
+    while read -r _ name_of _ && [ "$name_of" != "$1" ]; do
+        case $proved in *" $name_of "*) ;; *) before=$((before + 1)) ;; esac
     done <"$room/plan"
-    [ "$name_of" = "$1" ]
+    [ "$before" -lt 2 ]
 }
 
 are_proved() {
