@@ -80,12 +80,12 @@ fn spellings(alloc: Global, records: &[Record]) -> Result<Vec<Bytes>, NoMemory>
 }
 
 // So many blocks that hold the payloads one after the other, which they have room for.
-fn blocks_of(alloc: Global, payloads: &Vec<Bytes>, blocks: u32) -> Result<Bytes, NoMemory>
-    requires sized { All IsSized payloads.now.items }
+fn blocks_of(alloc: Global, payloads: &[Bytes], blocks: u32) -> Result<Bytes, NoMemory>
+    requires sized { All IsSized payloads.now }
     requires few { blocks ≤ 8192 }
-    requires room { written.need_of payloads.now.items ≤ blocks }
+    requires room { written.need_of payloads.now ≤ blocks }
     ensures size { IfOk result (λ out. length out ≡ 128 * blocks) }
-    ensures holds { IfOk result (λ out. Holds out (in_order 4 payloads.now.items)) }
+    ensures holds { IfOk result (λ out. Holds out (in_order 4 payloads.now)) }
 {
     match split(alloc, payloads, blocks) {
         Ok(out) => Ok(out),

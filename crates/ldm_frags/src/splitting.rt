@@ -19,9 +19,9 @@ pub fn parts_of(len: usize) -> u32
 }
 
 // How many blocks the payloads take together.
-fn need_of(payloads: &Vec<Bytes>) -> u64
-    requires { All IsSized payloads.now.items }
-    ensures { result ≡ need_of payloads.now.items }
+fn need_of(payloads: &[Bytes]) -> u64
+    requires { All IsSized payloads.now }
+    ensures { result ≡ need_of payloads.now }
 {
     let mut need = 0;
     for payload in payloads {
@@ -31,12 +31,12 @@ fn need_of(payloads: &Vec<Bytes>) -> u64
 }
 
 // Writes the records one after the other from block 4 on, and answers the number of the next block.
-fn write_records(out: &mut [u8], payloads: &Vec<Bytes>) -> u32
-    requires sized { All IsSized payloads.now.items }
+fn write_records(out: &mut [u8], payloads: &[Bytes]) -> u32
+    requires sized { All IsSized payloads.now }
     requires small { length out.old ≤ 1048576 }
-    requires room { need_of payloads.now.items ≤ count out.old }
-    ensures next { result ≡ 4 + need_of payloads.now.items }
-    ensures placed { All (IsPlaced out.new) (in_order 4 payloads.now.items) }
+    requires room { need_of payloads.now ≤ count out.old }
+    ensures next { result ≡ 4 + need_of payloads.now }
+    ensures placed { All (IsPlaced out.new) (in_order 4 payloads.now) }
 {
     let mut number = 4;
     for payload in payloads {
@@ -48,11 +48,11 @@ fn write_records(out: &mut [u8], payloads: &Vec<Bytes>) -> u32
 }
 
 // Writes the records one after the other, and then unused blocks. `out` begins with block 4.
-fn write_all(out: &mut [u8], payloads: &Vec<Bytes>)
-    requires sized { All IsSized payloads.now.items }
+fn write_all(out: &mut [u8], payloads: &[Bytes])
+    requires sized { All IsSized payloads.now }
     requires small { length out.old ≤ 1048576 }
-    requires room { need_of payloads.now.items ≤ count out.old }
-    ensures { Holds out.new (in_order 4 payloads.now.items) }
+    requires room { need_of payloads.now ≤ count out.old }
+    ensures { Holds out.new (in_order 4 payloads.now) }
 {
     let next = write_records(out, payloads);
     let end = (out.len() / 128) as u32 + 4;
@@ -61,12 +61,12 @@ fn write_all(out: &mut [u8], payloads: &Vec<Bytes>)
 
 /// The blocks from number 4 on that hold records of these payloads, in their order and without gaps,
 /// and then unused blocks.
-pub fn split(alloc: Global, payloads: &Vec<Bytes>, blocks: u32) -> Result<Bytes, SplitError>
-    requires sized { All IsSized payloads.now.items }
+pub fn split(alloc: Global, payloads: &[Bytes], blocks: u32) -> Result<Bytes, SplitError>
+    requires sized { All IsSized payloads.now }
     requires few { blocks ≤ 8192 }
-    ensures answers { SplitAnswers payloads.now.items blocks result }
+    ensures answers { SplitAnswers payloads.now blocks result }
     // What is written joins to the payloads in their order, each filled with zeros.
-    ensures joins { IfOk result (λ out. Joins out (map joined_of (in_order 4 payloads.now.items))) }
+    ensures joins { IfOk result (λ out. Joins out (map joined_of (in_order 4 payloads.now))) }
 {
     let need = need_of(payloads);
     let have = u64::from(blocks);

@@ -2,14 +2,13 @@ ghost use Rattle.std.specs.Prelude.{◌≡◌, ◌<◌, ◌≤◌, IfOk, IfSome,
 ghost use Rattle.ldm_words.specs.Names.{name_of, spelled, is_plain, is_hex, hex_value, escaped, NamesReadBack};
 ghost use Rattle.ldm_words.specs.Units.{unit_of};
 
-use crate::number::is_digit;
 use ldm_bytes::{Bytes, NoMemory};
 use std::alloc::Global;
 
 fn is_hex(c: u8) -> bool
     ensures { result ≡ is_hex c }
 {
-    is_digit(c) || c >= b'a' && c <= b'f'
+    c.is_ascii_digit() || (b'a'..=b'f').contains(&c)
 }
 
 fn hex_value(c: u8) -> u8

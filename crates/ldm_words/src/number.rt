@@ -4,17 +4,10 @@ ghost use Rattle.ldm_words.specs.Numbers.{number_of, is_digit};
 
 use std::str;
 
-/// Whether the byte is a decimal digit.
-pub(crate) fn is_digit(c: u8) -> bool
-    ensures { result ≡ is_digit c }
-{
-    c >= b'0' && c <= b'9'
-}
-
 fn all_digits(word: &[u8]) -> bool
     ensures { result ≡ list_all is_digit word.now }
 {
-    word.iter().all(|c| is_digit(*c))
+    word.iter().all(|c| c.is_ascii_digit())
 }
 
 /// The number that the word is. `None` exactly where it is none.

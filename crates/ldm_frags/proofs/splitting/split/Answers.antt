@@ -14,14 +14,14 @@ length_is c = c.write_all.auto.out ∙ c.deref_mut.ensures.len ∙ c.in_ok-resiz
 
 pub returns-clause-answers : goal.returns-clause-answers
 returns-clause-answers c =
-    let payloads = c.args.payloads.now.items in
+    let payloads = c.args.payloads.now in
     let need = c.need_of-need.ensures in
     let have = c.from-have.ensures in
     (omega arith, ap length (written c) ∙ length_is c, subst (λ (out : List ℕ). Holds out (in_order 4 payloads)) (sym (written c)) c.write_all.ensures)
 
 pub returns-clause-joins : goal.returns-clause-joins
 returns-clause-joins c =
-    let payloads = c.args.payloads.now.items in
+    let payloads = c.args.payloads.now in
     let len = length_is c in
     subst (λ (out : List ℕ). Joins out (map joined_of (in_order 4 payloads))) (sym (written c))
     (order_joins c.write_all.new.out payloads (omega arith) c.requires.sized c.write_all.ensures)

@@ -5,7 +5,7 @@ use Rattle.ldm_frags.proofs.splitting.write_all.Goals as goal
 
 pub returns : goal.returns
 returns c =
-    let payloads = c.args.payloads.now.items in
+    let payloads = c.args.payloads.now in
     let before = c.write_records-next.new.out in
     let after = c.write_unused.new.out in
     let next = c.write_records-next.ensures.next in

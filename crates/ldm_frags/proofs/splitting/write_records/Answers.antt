@@ -7,24 +7,21 @@ use Rattle.ldm_frags.proofs.splitting.write_records.Goals as goal
 
 pub write_record-requires-clause-within : goal.write_record-requires-clause-within
 write_record-requires-clause-within c =
-    let payloads = c.deref-payload-items.result.now in
-    let all : need_of payloads ≡ need_of c.args.payloads.now.items = ap need_of c.deref-payload-items.ensures.value in
+    let payloads = c.args.payloads.now in
     let bytes = ap (λ (b : List ℕ). parts_of (length b)) c.as_slice-bytes.ensures in
     let within = need_within payloads c.loop-payload.payload-index c.payload-item.result c.loop-payload-test.true c.payload-item.is in
     omega arith
 
 pub loop-payload-preserved : goal.loop-payload-preserved
 loop-payload-preserved c =
-    let payloads = c.deref-payload-items.result.now in
+    let payloads = c.args.payloads.now in
     let i = c.loop-payload.payload-index in
     let bytes = c.as_slice-bytes.result.now in
     let item : bytes ≡ get_or payloads i bytes = c.as_slice-bytes.ensures ∙ get_or_read payloads i c.payload-item.result c.loop-payload-test.true c.payload-item.is bytes in
     let next = need_next payloads i bytes c.loop-payload-test.true item in
     let need = ap need_of next ∙ need_push (take i payloads) bytes in
-    let all : need_of payloads ≡ need_of c.args.payloads.now.items = ap need_of c.deref-payload-items.ensures.value in
     let within = need_within payloads i bytes c.loop-payload-test.true item in
-    let each : All IsSized payloads = subst (All IsSized) (sym c.deref-payload-items.ensures.value) c.requires.sized in
-    let sized : IsSized bytes = subst IsSized (sym item) (each i bytes c.loop-payload-test.true) in
+    let sized : IsSized bytes = subst IsSized (sym item) (c.requires.sized i bytes c.loop-payload-test.true) in
     let room : c.loop-payload.number + parts_of (length bytes) ≤ count c.write_record.new.out + 4 = omega arith in
     record {
       next = omega arith;

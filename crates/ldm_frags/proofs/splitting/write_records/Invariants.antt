@@ -4,6 +4,6 @@ use Rattle.ldm_frags.proofs.splitting.write_records.Given as goal
 
 abbrev pub invariant-loop-payload : goal.invariant-loop-payload
 invariant-loop-payload l = record {
-  next : l.number ≡ 4 + need_of (take l.payload-index l.payload-items);
-  placed : All (IsPlaced l.out) (in_order 4 (take l.payload-index l.payload-items));
+  next : l.number ≡ 4 + need_of (take l.payload-index l.payloads);
+  placed : All (IsPlaced l.out) (in_order 4 (take l.payload-index l.payloads));
 }
