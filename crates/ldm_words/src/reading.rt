@@ -138,13 +138,8 @@ fn read_layout(alloc: Global, kind: &[u8], tokens: &[&[u8]]) -> Result<Option<Ne
 fn read_new_name(alloc: Global, token: &[u8]) -> Result<Option<Bytes>, NoMemory>
     ensures { IfOk result (λ name. name ≡ new_name (name_of token.now)) }
 {
-    if let Some(name) = read_name(alloc, token)?
-        && (1..=63).contains(&name.as_slice().len())
-    {
-        Ok(Some(name))
-    } else {
-        Ok(None)
-    }
+    let name = read_name(alloc, token)?;
+    Ok(name.filter(|name| (1..=63).contains(&name.as_slice().len())))
 }
 
 // The command behind the word `create`.
