@@ -33,6 +33,14 @@ ask_none sectors at size (Some d) rest h = absurd cc
 abbrev pub IsAskedTo : (ℕ → ℕ) → List Record → List (List ℕ × ℕ) → ℕ → List Wanted → Type 0
 IsAskedTo sectors records words at done = asked_for sectors records 0 words ≡ ahead done (asked_for sectors records at (drop at words))
 
+ahead_none : (rest : Result (List Wanted) ℕ) → rest ≡ ahead [] rest
+ahead_none (Ok more) = refl
+ahead_none (Err place) = refl
+
+-- nothing is, at first
+pub asked_first : (sectors : ℕ → ℕ) (records : List Record) (words : List (List ℕ × ℕ)) → IsAskedTo sectors records words 0 []
+asked_first sectors records words = ahead_none (asked_for sectors records 0 words)
+
 next_word : (sectors : ℕ → ℕ) (records : List Record) (words : List (List ℕ × ℕ)) (at : ℕ) (word : List ℕ × ℕ) → at < length words → get_or words at word ≡ word
     → asked_for sectors records at (drop at words) ≡ ask sectors at word.1 (disk_named word.0 records) (asked_for sectors records (at + 1) (drop (at + 1) words))
 next_word sectors records words at word lt is =

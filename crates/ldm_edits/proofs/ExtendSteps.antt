@@ -1,10 +1,13 @@
 -- Extend, reason by reason.
-use Rattle.std.proofs.Common.{◌≡◌, ℕ, ◌+◌, ◌-◌, ◌^◌, ◌<◌, sym, ap, ◌∙◌, Bool, true, false, List, [], ◌∷◌, length, map, Option, Some, None, Result, Ok, Err, refl, not}
-use Rattle.std.specs.Prelude.{is_some}
+use Rattle.std.proofs.Common.{◌≡◌, ℕ, ◌+◌, ◌-◌, ◌^◌, ◌<◌, ◌++◌, sym, ap, ◌∙◌, Bool, true, false, List, [], ◌∷◌, length, map, Option, Some, None, Result, Ok, Err, refl, not}
+use Rattle.std.specs.Prelude.{is_some, sum_by}
+use Rattle.std.specs.Option.{option_map}
 use Rattle.ldm_bytes.specs.Tables.{first_of, unless}
 use Rattle.ldm_records.specs.declared.types.Record.{Record}
+use Rattle.ldm_records.specs.declared.types.Record.TheVariants as kinds
 use Rattle.ldm_records.specs.declared.types.Volume.{Volume}
 use Rattle.ldm_records.specs.declared.types.Component.{Component}
+use Rattle.ldm_made.specs.Made.{resized, with_children}
 use Rattle.ldm_label.specs.declared.Label.{Label}
 use Rattle.ldm_group.specs.Database.{Database}
 use Rattle.ldm_group.specs.Looks.{max_id}
@@ -18,6 +21,7 @@ use Rattle.ldm_space.specs.declared.placed.Wanted.{Wanted}
 use Rattle.ldm_space.specs.Free.{taken_in}
 use Rattle.ldm_space.specs.Wanted.{placed}
 use Rattle.ldm_space.specs.Placed.{taken_at}
+use Rattle.ldm_volumes.specs.Volumes.{span_parts, there}
 use Rattle.ldm_words.specs.declared.command.Piece.{Piece}
 use Rattle.ldm_edits.specs.declared.leaving.Leaving.TheVariants as leavings
 use Rattle.ldm_edits.specs.declared.reply.Refusal.{Refusal}
@@ -104,3 +108,14 @@ module _ (db : Database) (labels : List Label) (pieces : List Piece) (v : Volume
       let all : made ≡ change.made = made_is ∙ (λ i. longer_parts v c (capacity_is i) (id_is i) (taken_is i)) in
       let same : change_of (leavings.Changed v.head.id c.head.id) db.records made ≡ change = (λ i. record { stay = change.stay; made = all i }) in
       ap (change_to db (length wanted)) same ∙ sym (by_component (Some c) h ∙ ap (lengthen db v (Some c) wanted) places)
+
+-- the records of a longer span, pushed one after the other
+pub longer_are : (v longer : Volume) (c fuller : Component) (capacity id size : ℕ) (taken : List Taken) (none one two : List Record) → size ≡ capacity + sum_by (λ t. t.size) taken
+    → resized v size ≡ Some longer → with_children c (c.children + length taken) ≡ Some fuller → none ≡ [] → one ≡ none ++ kinds.Volume longer ∷ [] → two ≡ one ++ kinds.Component fuller ∷ []
+    → two ++ there (span_parts id c.head.id capacity taken) ≡ longer_parts v c capacity id taken
+longer_are v longer c fuller capacity id size taken none one two size_is longer_is fuller_is none_is one_is two_is =
+    let heads : two ≡ kinds.Volume longer ∷ (kinds.Component fuller ∷ []) =
+    two_is ∙ ap (λ (l : List Record). l ++ kinds.Component fuller ∷ []) (one_is ∙ ap (λ (l : List Record). l ++ kinds.Volume longer ∷ []) none_is) in
+    let volume : Some longer ≡ resized v (capacity + sum_by (λ t. t.size) taken) = sym longer_is ∙ ap (resized v) size_is in
+    ap (λ (l : List Record). l ++ there (span_parts id c.head.id capacity taken)) heads
+    ∙ (λ i. there (option_map kinds.Volume (volume i) ∷ (option_map kinds.Component (sym fuller_is i) ∷ span_parts id c.head.id capacity taken)))

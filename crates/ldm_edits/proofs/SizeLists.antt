@@ -1,14 +1,17 @@
 -- The sizes of what is asked for or taken, as the words say them.
-use Rattle.std.proofs.Common.{◌≡◌, ℕ, ◌+◌, ◌==◌, ◌||◌, Bool, List, [], ◌∷◌, length, map, refl, sym, ap, ◌∙◌, arith, sum}
+use Rattle.std.proofs.Common.{◌≡◌, ℕ, ◌+◌, ◌*◌, ◌≤◌, ◌==◌, ◌||◌, Bool, List, [], ◌∷◌, length, map, refl, sym, ap, ◌∙◌, arith, sum}
 use Rattle.std.specs.Prelude.{sum_by}
 use Rattle.std.specs.List.{list_any}
 use Rattle.std.proofs.lemmas.List.{length-map}
 use Rattle.std.proofs.lemmas.List.Sums.{sum-map}
+use Rattle.ldm_space.specs.declared.taken.Taken.{Taken}
 use Rattle.ldm_space.specs.declared.placed.Wanted.{Wanted}
 use Rattle.ldm_words.specs.declared.command.Piece.{Piece}
+use Rattle.ldm_words.specs.declared.command.NewLayout.{NewLayout}
 use Rattle.ldm_words.specs.declared.command.NewLayout.TheVariants as layouts
+use Rattle.ldm_words.specs.Limits.{IsNewLayout}
 use Rattle.ldm_edits.specs.Asked.{is_much}
-use Rattle.ldm_edits.specs.Creating.{words_of, is_bad_size}
+use Rattle.ldm_edits.specs.Creating.{words_of, is_bad_size, fresh_for}
 use Rattle.ldm_edits.specs.Extending.{is_bad_length}
 
 any_empty : {X : Type 0} (f : X → ℕ) (xs : List X) → list_any (λ x. f x == 0) xs ≡ list_any (λ n. n == 0) (map f xs)
@@ -34,3 +37,31 @@ bad_pieces pieces wanted same =
     any_empty (λ (w : Wanted). w.size) wanted ∙ ap (list_any (λ (n : ℕ). n == 0)) (same ∙ piece_sizes pieces) ∙ sym (any_empty (λ (p : Piece). p.len) pieces) in
     let whole : 0 + sum_by (λ w. w.size) wanted ≡ sum_by (λ p. p.len) pieces = (let e = sizes_sum (λ (w : Wanted). w.size) wanted pieces same in omega arith) in
     λ i. empty i || is_much (whole i)
+
+-- ---- as many partitions as words
+
+abbrev pub AreFor : NewLayout → List Taken → Type 0
+AreFor layout spots = map (λ t. t.size) spots ≡ map (λ (word : List ℕ × ℕ). word.1) (words_of layout)
+
+disks_many : (spots : List Taken) (len : ℕ) (disks : List (List ℕ)) → map (λ t. t.size) spots ≡ map (λ (word : List ℕ × ℕ). word.1) (map (λ name. (name, len)) disks) → length spots ≡ length disks
+disks_many spots len disks same = sizes_many (λ (t : Taken). t.size) spots (map (λ name. (name, len)) disks) same ∙ length-map disks (λ name. (name, len))
+
+pieces_many : (spots : List Taken) (pieces : List Piece) → AreFor (layouts.Span pieces) spots → length spots ≡ length pieces
+pieces_many spots pieces same = sizes_many (λ (t : Taken). t.size) spots (map (λ p. (p.disk, p.len)) pieces) same ∙ length-map pieces (λ p. (p.disk, p.len))
+
+pub some_spots : (layout : NewLayout) (spots : List Taken) → IsNewLayout layout → AreFor layout spots → 1 ≤ length spots
+some_spots (layouts.Span pieces) spots grammar same = (let many = pieces_many spots pieces same in let some = grammar.some in omega arith)
+some_spots (layouts.Stripe chunk len disks) spots grammar same = (let many = disks_many spots len disks same in let some = grammar.disks_are.some in omega arith)
+some_spots (layouts.Mirror len disks) spots grammar same = (let many = disks_many spots len disks same in let some = grammar.disks_are.some in omega arith)
+some_spots (layouts.Raid5 chunk len disks) spots grammar same = (let many = disks_many spots len disks same in let some = grammar.disks_are.some in omega arith)
+
+-- the new records of a layout with so many partitions
+abbrev pub fresh_with : NewLayout → ℕ → ℕ
+fresh_with (layouts.Mirror len disks) count = 1 + 2 * count
+fresh_with _ count = 2 + count
+
+pub fresh_spots : (layout : NewLayout) (spots : List Taken) → AreFor layout spots → fresh_for layout ≡ fresh_with layout (length spots)
+fresh_spots (layouts.Span pieces) spots same = (let many = pieces_many spots pieces same in omega arith)
+fresh_spots (layouts.Stripe chunk len disks) spots same = (let many = disks_many spots len disks same in omega arith)
+fresh_spots (layouts.Mirror len disks) spots same = (let many = disks_many spots len disks same in omega arith)
+fresh_spots (layouts.Raid5 chunk len disks) spots same = (let many = disks_many spots len disks same in omega arith)

@@ -1,7 +1,10 @@
 -- A partition goes with a volume where its component is there and of the volume.
-use Rattle.std.proofs.Common.{◌≡◌, ℕ, ◌==◌, refl, sym, ap, subst, ◌∙◌, Bool, true, false, List, Option, Some, None, Contains}
+use Rattle.std.proofs.Common.{◌≡◌, ℕ, ◌+◌, ◌<◌, ◌==◌, ◌++◌, refl, sym, ap, subst, ◌∙◌, not, Bool, true, false, List, [], ◌∷◌, length, get_or, take, Option, Some, None, Contains}
+use Rattle.std.specs.Prelude.{filter, cond}
 use Rattle.std.specs.List.{list_any}
 use Rattle.std.proofs.lemmas.Bool.{and_parts, eq-eqb, eqb-true}
+use Rattle.std.proofs.lemmas.List.{append-nil}
+use Rattle.std.proofs.lemmas.List.Elements.{filter_more}
 use Rattle.std.proofs.lemmas.List.Folds.{list_any_at, Any-from_list_any}
 use Rattle.ldm_records.specs.declared.types.Record.{Record}
 use Rattle.ldm_records.specs.declared.types.Record.TheVariants as kinds
@@ -63,3 +66,19 @@ same_true false false to back = refl
 pub component_is : (records : List Record) (volume q : ℕ) → Rising records → is_component_of volume records q ≡ list_any (λ plex. plex.id == q) (plexes_of volume records)
 component_is records volume q up =
     same_true (is_component_of volume records q) (list_any (λ plex. plex.id == q) (plexes_of volume records)) (λ h. own_any records volume q (found_own records volume q h)) (λ h. own_found records volume q up (any_own records volume q h))
+
+-- ---- a walk over the records
+
+-- what passes of one record more
+walk_more : (p : Record → Bool) (rs : List Record) (at : ℕ) (r : Record) (passes : Bool) → at < length rs → r ≡ get_or rs at r → p r ≡ passes
+    → filter p (take (at + 1) rs) ≡ filter p (take at rs) ++ cond passes (r ∷ []) []
+walk_more p rs at r passes lt is h =
+    filter_more p rs at r lt ∙ ap (λ (s : Record). filter p (take at rs) ++ cond (p s) (s ∷ []) []) (sym is) ∙ ap (λ (b : Bool). filter p (take at rs) ++ cond b (r ∷ []) []) h
+
+pub one_stays : (goes : Record → Bool) (rs : List Record) (at : ℕ) (r : Record) → at < length rs → r ≡ get_or rs at r → goes r ≡ false
+    → filter (λ s. not (goes s)) (take (at + 1) rs) ≡ filter (λ s. not (goes s)) (take at rs) ++ r ∷ []
+one_stays goes rs at r lt is h = walk_more (λ s. not (goes s)) rs at r true lt is (ap not h)
+
+pub one_goes : (goes : Record → Bool) (rs : List Record) (at : ℕ) (r : Record) → at < length rs → r ≡ get_or rs at r → goes r ≡ true
+    → filter (λ s. not (goes s)) (take (at + 1) rs) ≡ filter (λ s. not (goes s)) (take at rs)
+one_goes goes rs at r lt is h = walk_more (λ s. not (goes s)) rs at r false lt is (ap not h) ∙ append-nil (filter (λ s. not (goes s)) (take at rs))

@@ -40,19 +40,17 @@ fn plan_of(alloc: Global, db: &Db, labels: &Labels, volume: &Volume) -> Result<P
 }
 
 // The first component of the volume of this id.
-fn component_record(records: &[Record], volume: u64) -> Option<&Record>
-    ensures { option_copied result ≡ find (is_child 3 volume) records.now }
-{
-    records.iter().find(|r| matches!(r, Record::Component(c) if c.parent == volume))
-}
-
 fn component_of(db: &Db, volume: u64) -> Option<&Component>
     ensures { option_copied result ≡ component_in (find (is_child 3 volume) db.now.records) }
 {
-    match component_record(db.as_slice(), volume) {
-        Some(Record::Component(c)) => Some(c),
-        _ => None,
+    for r in db.as_slice() {
+        if let Record::Component(c) = r
+            && c.parent == volume
+        {
+            return Some(c);
+        }
     }
+    None
 }
 
 // The longer volume and its component, and the new partitions behind its capacity.

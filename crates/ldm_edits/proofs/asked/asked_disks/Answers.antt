@@ -5,8 +5,15 @@ use Rattle.std.proofs.lemmas.List.Elements.{All-append, All-cons, All-nil}
 use Rattle.ldm_group.specs.Looks.{disk_named}
 use Rattle.ldm_rules.specs.Ends.{data_size}
 use Rattle.ldm_space.specs.declared.placed.Wanted.{Wanted}
-use Rattle.ldm_edits.proofs.AskWalk.{asked_of, asked_more, asked_none, word_at}
+use Rattle.ldm_edits.proofs.AskWalk.{IsAskedTo, asked_of, asked_first, asked_more, asked_none, asked_all, word_at}
 use Rattle.ldm_edits.proofs.asked.asked_disks.Goals as goal
+
+pub loop-at-init : goal.loop-at-init
+loop-at-init c = record {
+  asked = subst (λ (l : List Wanted). IsAskedTo (data_size c.args.labels.now c.args.db.now.records) c.args.db.now.records (map (λ (name : List ℕ). (name, c.args.size)) c.args.disks.now) 0 l) (sym c.new-wanted.ensures.items)
+      (asked_first (data_size c.args.labels.now c.args.db.now.records) c.args.db.now.records (map (λ (name : List ℕ). (name, c.args.size)) c.args.disks.now));
+  low = subst (λ (l : List Wanted). All (λ w. w.limit < 2 ^ 64) l) (sym c.new-wanted.ensures.items) (All-nil (λ (w : Wanted). w.limit < 2 ^ 64));
+}
 
 pub returns-in-None-clause-is : goal.returns-in-None-clause-is
 returns-in-None-clause-is c =
@@ -27,3 +34,12 @@ loop-at-preserved c = record {
       (All-append (λ (w : Wanted). w.limit < 2 ^ 64) c.loop-at.wanted.items (c.in-Some.one ∷ []) c.loop-at.invariant.low
       (All-cons (λ (w : Wanted). w.limit < 2 ^ 64) c.in-Some.one [] c.in-Some.ensures.low (All-nil (λ (w : Wanted). w.limit < 2 ^ 64))));
 }
+
+pub returns-clause-is : goal.returns-clause-is
+returns-clause-is c =
+    let words : List (List ℕ × ℕ) = map (λ (name : List ℕ). (name, c.args.size)) c.args.disks.now in
+    let many : length words ≡ length c.args.disks.now = length-map c.args.disks.now (λ (name : List ℕ). (name, c.args.size)) in
+    asked_all (data_size c.args.labels.now c.args.db.now.records) c.args.db.now.records words c.loop-at.at c.loop-at.wanted.items (let past = c.loop-at-test.false in omega arith) c.loop-at.invariant.asked
+
+pub returns-clause-low : goal.returns-clause-low
+returns-clause-low c = c.loop-at.invariant.low

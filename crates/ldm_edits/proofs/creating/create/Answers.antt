@@ -3,6 +3,7 @@ use Rattle.std.specs.Prelude.{is_some}
 use Rattle.std.specs.List.{All}
 use Rattle.ldm_records.specs.declared.types.Record.{Record}
 use Rattle.ldm_group.specs.Order.{Rising, in_order}
+use Rattle.ldm_group.specs.Partitions.{EndsInRange}
 use Rattle.ldm_group.specs.Looks.{max_id}
 use Rattle.ldm_group.specs.Database.{Database}
 use Rattle.ldm_rules.specs.Ends.{data_size}
@@ -11,7 +12,7 @@ use Rattle.ldm_space.specs.declared.placed.Wanted.{Wanted}
 use Rattle.ldm_edits.specs.declared.leaving.Leaving.TheVariants as leavings
 use Rattle.ldm_edits.specs.declared.reply.Refusal.{Refusal}
 use Rattle.ldm_edits.specs.Asked.{asked_for}
-use Rattle.ldm_edits.specs.Answers.{StepsTo}
+use Rattle.ldm_edits.specs.Answers.{StepsTo, AreLow}
 use Rattle.ldm_edits.specs.Creating.{words_of, is_same_disk, made_for, fresh_for}
 use Rattle.ldm_edits.specs.Changes.{change_to}
 use Rattle.ldm_edits.specs.Staying.{change_of}
@@ -38,6 +39,9 @@ returns-then-is_same_disk c =
     let apart = ap (is_same_disk c.args.layout.now) (sym c.as_slice.ensures.value) ∙ sym c.is_same_disk.ensures ∙ c.if-is_same_disk.true in
     same_disk c.args.db.now c.args.labels.now c.args.name.now c.args.guid c.args.layout.now c.in-Ok.wanted.items free found apart
 
+pub is_bad_size-requires-clause-limits : goal.is_bad_size-requires-clause-limits
+is_bad_size-requires-clause-limits c = c.requires.limits.layout_is
+
 pub is_bad_size-requires-clause-sizes : goal.is_bad_size-requires-clause-sizes
 is_bad_size-requires-clause-sizes c =
     let found : asked_for (data_size c.args.labels.now c.args.db.now.records) c.args.db.now.records 0 (words_of c.args.layout.now) ≡ Ok c.in-Ok.wanted.items = asked_ok (asked_for (data_size c.args.labels.now c.args.db.now.records) c.args.db.now.records 0 (words_of c.args.layout.now)) c.in_ok-wanted.field-0 c.in-Ok.wanted c.in_ok-wanted.ensures.is c.in-Ok.is in
@@ -50,6 +54,9 @@ returns-then-is_bad_size c =
     let apart = ap (is_same_disk c.args.layout.now) (sym c.as_slice.ensures.value) ∙ sym c.is_same_disk.ensures ∙ c.if-is_same_disk.false in
     bad_size c.args.db.now c.args.labels.now c.args.name.now c.args.guid c.args.layout.now c.in-Ok.wanted.items free found apart (sym c.is_bad_size.ensures ∙ c.if-is_bad_size.true)
 
+pub place_all-requires-clause-ends : goal.place_all-requires-clause-ends
+place_all-requires-clause-ends c = subst (λ (l : List Record). All EndsInRange l) (sym c.as_slice-3.ensures.all) c.requires.sound.ends
+
 pub place_all-requires-clause-some : goal.place_all-requires-clause-some
 place_all-requires-clause-some c =
     let found : asked_for (data_size c.args.labels.now c.args.db.now.records) c.args.db.now.records 0 (words_of c.args.layout.now) ≡ Ok c.in-Ok.wanted.items = asked_ok (asked_for (data_size c.args.labels.now c.args.db.now.records) c.args.db.now.records 0 (words_of c.args.layout.now)) c.in_ok-wanted.field-0 c.in-Ok.wanted c.in_ok-wanted.ensures.is c.in-Ok.is in
@@ -57,6 +64,9 @@ place_all-requires-clause-some c =
     (found_all (λ (w : Wanted). 0 < w.size) IsSize (data_size c.args.labels.now c.args.db.now.records) c.args.db.now.records (words_of c.args.layout.now) c.in-Ok.wanted.items
     (λ size w f h. let e = f.size_is in let some = h.0 in omega arith)
     (are_found (data_size c.args.labels.now c.args.db.now.records) c.args.db.now.records 0 (words_of c.args.layout.now) c.in-Ok.wanted.items found) (word_sizes c.args.layout.now c.requires.limits.layout_is (sym c.is_bad_size.ensures ∙ c.if-is_bad_size.false)))
+
+pub place_all-requires-clause-limits : goal.place_all-requires-clause-limits
+place_all-requires-clause-limits c = subst (λ (l : List Wanted). All (λ w. w.limit < 2 ^ 64) l) (sym c.as_slice-4.ensures.value) (subst AreLow c.in-Ok.is c.in_ok-wanted.ensures.low)
 
 pub returns-in-Err-2 : goal.returns-in-Err-2
 returns-in-Err-2 c =
@@ -66,6 +76,9 @@ returns-in-Err-2 c =
     let is : IsAsked c.args.db.now c.args.labels.now c.args.name.now c.args.layout.now c.in-Ok.wanted.items = record { free = free; found = found; apart = apart; sizes = sym c.is_bad_size.ensures ∙ c.if-is_bad_size.false } in
     no_space c.args.db.now c.args.labels.now c.args.name.now c.args.guid c.args.layout.now c.in-Ok.wanted.items is c.in-Err-2.word
     (placed_err c.args.db.now.records c.as_slice-3.result.now c.in-Ok.wanted.items c.as_slice-4.result.now c.in_ok-spots.field-0 c.in-Err-2.word c.in_ok-spots.ensures c.as_slice-3.ensures.all c.as_slice-4.ensures.value c.in-Err-2.is)
+
+pub fresh_for-fresh-requires : goal.fresh_for-fresh-requires
+fresh_for-fresh-requires c = c.requires.limits.layout_is
 
 pub returns-in_default : goal.returns-in_default
 returns-in_default c =
@@ -77,6 +90,18 @@ returns-in_default c =
     placed_ok c.args.db.now.records c.as_slice-3.result.now c.in-Ok.wanted.items c.as_slice-4.result.now c.in_ok-spots.field-0 c.in-Ok-2.spots c.in_ok-spots.ensures c.as_slice-3.ensures.all c.as_slice-4.ensures.value c.in-Ok-2.is in
     no_ids c.args.db.now c.args.labels.now c.args.name.now c.args.guid c.args.layout.now c.in-Ok.wanted.items is at.starts at.places (subst (λ (n : ℕ). 2 ^ 64 - 1 < max_id c.args.db.now.records + n) c.fresh_for-fresh.ensures c.in_default.ensures)
 
+pub made_for-requires-clause-short : goal.made_for-requires-clause-short
+made_for-requires-clause-short c = (let short = c.requires.limits.short in omega arith)
+
+pub made_for-requires-clause-layout_is : goal.made_for-requires-clause-layout_is
+made_for-requires-clause-layout_is c = c.requires.limits.layout_is
+
+pub made_for-requires-clause-size : goal.made_for-requires-clause-size
+made_for-requires-clause-size c = sym c.is_bad_size.ensures ∙ c.if-is_bad_size.false
+
+pub made_for-requires-clause-ids : goal.made_for-requires-clause-ids
+made_for-requires-clause-ids c = (let first = c.in-Some.ensures.0 in let most = c.in-Some.ensures.1 in let fresh = c.fresh_for-fresh.ensures in omega arith)
+
 pub made_for-requires-clause-sizes : goal.made_for-requires-clause-sizes
 made_for-requires-clause-sizes c =
     let free = ap is_some (sym c.volume_named.ensures.is) ∙ sym (copied_some c.volume_named.result) ∙ sym c.is_some.ensures ∙ c.if-is_some.false in
@@ -87,6 +112,9 @@ made_for-requires-clause-sizes c =
     placed_ok c.args.db.now.records c.as_slice-3.result.now c.in-Ok.wanted.items c.as_slice-4.result.now c.in_ok-spots.field-0 c.in-Ok-2.spots c.in_ok-spots.ensures c.as_slice-3.ensures.all c.as_slice-4.ensures.value c.in-Ok-2.is in
     ap (map (λ (t : Taken). t.size)) (c.as_slice-5.ensures.value ∙ at.spots_are)
     ∙ (taken_for c.args.layout.now (data_size c.args.labels.now c.args.db.now.records) c.args.db.now.records c.in-Ok.wanted.items at.starts c.requires.limits.layout_is is.sizes (let ids = c.in-Some.ensures.1 in omega arith) found at.places).sizes
+
+pub change-requires-clause-fits : goal.change-requires-clause-fits
+change-requires-clause-fits c = c.requires.sound.room.each
 
 pub change-requires-clause-rising : goal.change-requires-clause-rising
 change-requires-clause-rising c up =

@@ -1,5 +1,6 @@
 use Rattle.std.proofs.Common.{◌≡◌, ◌∙◌, ◌<◌, ◌≤◌, ◌+◌, ◌-◌, ◌^◌, ◌++◌, ℕ, ap, sym, subst, arith, length, List, map, false, Result, Ok, Some, Option}
 use Rattle.std.specs.Prelude.{is_some, sum_by}
+use Rattle.std.specs.List.{All}
 use Rattle.std.proofs.lemmas.List.{length-map}
 use Rattle.ldm_records.specs.declared.types.Record.{Record}
 use Rattle.ldm_records.specs.declared.types.Volume.{Volume}
@@ -7,6 +8,7 @@ use Rattle.ldm_records.specs.declared.types.Component.{Component}
 use Rattle.ldm_made.specs.Made.{resized, with_children}
 use Rattle.ldm_group.specs.Order.{Rising, in_order}
 use Rattle.ldm_group.specs.Looks.{max_id}
+use Rattle.ldm_group.specs.Partitions.{EndsInRange}
 use Rattle.ldm_group.specs.Database.{Database}
 use Rattle.ldm_layout.specs.Volumes.{layout_of}
 use Rattle.ldm_rules.specs.Ends.{data_size}
@@ -18,16 +20,21 @@ use Rattle.ldm_space.proofs.PlacedLaws.{placed_fit, as_many}
 use Rattle.ldm_words.specs.declared.command.Piece.{Piece}
 use Rattle.ldm_edits.specs.declared.leaving.Leaving.TheVariants as leavings
 use Rattle.ldm_edits.specs.declared.reply.Refusal.{Refusal}
-use Rattle.ldm_edits.specs.Answers.{StepsTo}
+use Rattle.ldm_edits.specs.Answers.{StepsTo, AreLow}
 use Rattle.ldm_edits.specs.Changes.{change_to}
 use Rattle.ldm_edits.specs.Extending.{held, component_of, is_bad_length, longer_parts}
 use Rattle.ldm_edits.specs.Staying.{staying, change_of}
 use Rattle.ldm_edits.proofs.ExtendLaws.{not_unlengthened}
 use Rattle.ldm_edits.proofs.ExtendedParts.{MayExtend, MakesLonger, makes_longer, extended_rises}
-use Rattle.ldm_edits.proofs.ExtendSteps.{asked_by, IsLengthy, no_ids, by_limits}
+use Rattle.ldm_edits.proofs.ExtendSteps.{asked_by, IsLengthy, no_disk, no_component, no_space, no_ids, by_limits}
 use Rattle.ldm_edits.proofs.SizeLists.{sizes_many}
-use Rattle.ldm_edits.proofs.WalkAnswers.{ArePlaced, asked_ok, asked_sizes, placed_ok}
+use Rattle.ldm_edits.proofs.WalkAnswers.{ArePlaced, asked_ok, asked_err, asked_sizes, placed_ok, placed_err}
 use Rattle.ldm_edits.proofs.extending.lengthen.Goals as goal
+
+pub returns-in-Err : goal.returns-in-Err
+returns-in-Err c =
+    no_disk c.args.db.now c.args.labels.now c.args.pieces.now c.args.volume.now c.in-Err.piece c.requires.span
+    (asked_err (asked_by c.args.db.now c.args.labels.now c.args.pieces.now) c.in_ok-wanted.field-0 c.in-Err.piece c.in_ok-wanted.ensures.is c.in-Err.is)
 
 pub is_bad_length-requires : goal.is_bad_length-requires
 is_bad_length-requires c =
@@ -37,6 +44,31 @@ is_bad_length-requires c =
     let many : length c.in-Ok.wanted.items ≡ length c.args.pieces.now =
     sizes_many (λ (w : Wanted). w.size) c.in-Ok.wanted.items words (asked_sizes (data_size c.args.labels.now c.args.db.now.records) c.args.db.now.records words c.in-Ok.wanted.items found) ∙ length-map c.args.pieces.now (λ (p : Piece). (p.disk, p.len)) in
     let same = ap (λ (l : List Wanted). length l) c.as_slice.ensures.value in let few = c.requires.limits.few in omega arith
+
+pub returns-in_default : goal.returns-in_default
+returns-in_default c =
+    let found : asked_by c.args.db.now c.args.labels.now c.args.pieces.now ≡ Ok c.in-Ok.wanted.items =
+    asked_ok (asked_by c.args.db.now c.args.labels.now c.args.pieces.now) c.in_ok-wanted.field-0 c.in-Ok.wanted c.in_ok-wanted.ensures.is c.in-Ok.is in
+    let good : is_bad_length (held (layout_of c.args.db.now.records c.args.volume.now)) c.in-Ok.wanted.items ≡ false =
+    (λ i. is_bad_length (sym c.requires.held i) (sym c.as_slice.ensures.value i)) ∙ sym c.is_bad_length.ensures ∙ c.if-is_bad_length.false in
+    let is : IsLengthy c.args.db.now c.args.labels.now c.args.pieces.now c.args.volume.now c.in-Ok.wanted.items = record { may = c.requires.span; found = found; sizes = good } in
+    no_component c.args.db.now c.args.labels.now c.args.pieces.now c.args.volume.now c.in-Ok.wanted.items is (sym c.in_default.ensures)
+
+pub place_all-requires-clause-ends : goal.place_all-requires-clause-ends
+place_all-requires-clause-ends c = subst (λ (l : List Record). All EndsInRange l) (sym c.as_slice-2.ensures.all) c.requires.sound.ends
+
+pub place_all-requires-clause-limits : goal.place_all-requires-clause-limits
+place_all-requires-clause-limits c = subst (λ (l : List Wanted). All (λ w. w.limit < 2 ^ 64) l) (sym c.as_slice-3.ensures.value) (subst AreLow c.in-Ok.is c.in_ok-wanted.ensures.low)
+
+pub returns-in-Err-2 : goal.returns-in-Err-2
+returns-in-Err-2 c =
+    let found : asked_by c.args.db.now c.args.labels.now c.args.pieces.now ≡ Ok c.in-Ok.wanted.items =
+    asked_ok (asked_by c.args.db.now c.args.labels.now c.args.pieces.now) c.in_ok-wanted.field-0 c.in-Ok.wanted c.in_ok-wanted.ensures.is c.in-Ok.is in
+    let good : is_bad_length (held (layout_of c.args.db.now.records c.args.volume.now)) c.in-Ok.wanted.items ≡ false =
+    (λ i. is_bad_length (sym c.requires.held i) (sym c.as_slice.ensures.value i)) ∙ sym c.is_bad_length.ensures ∙ c.if-is_bad_length.false in
+    let is : IsLengthy c.args.db.now c.args.labels.now c.args.pieces.now c.args.volume.now c.in-Ok.wanted.items = record { may = c.requires.span; found = found; sizes = good } in
+    no_space c.args.db.now c.args.labels.now c.args.pieces.now c.args.volume.now c.in-Ok.wanted.items is c.in-Some.component.now c.in-Err-2.piece (sym c.in-Some.ensures)
+    (placed_err c.args.db.now.records c.as_slice-2.result.now c.in-Ok.wanted.items c.as_slice-3.result.now c.in_ok-spots.field-0 c.in-Err-2.piece c.in_ok-spots.ensures c.as_slice-2.ensures.all c.as_slice-3.ensures.value c.in-Err-2.is)
 
 pub first_new_id-requires : goal.first_new_id-requires
 first_new_id-requires c =
@@ -178,6 +210,12 @@ lengthened-requires-clause-component_there c =
     } in
     let makes : MakesLonger c.args.db.now c.args.volume.now c.in-Some.component.now (held (layout_of c.args.db.now.records c.args.volume.now)) (taken_at c.in-Ok.wanted.items at.starts) = makes_longer c.as_slice-2.ensures.rising c.requires.sound may in
     ap (λ (l : List Taken). is_some (with_children c.in-Some.component.now (c.in-Some.component.now.children + length l))) spots ∙ ap (λ (o : Option Component). is_some o) makes.component.made
+
+pub lengthened-requires-clause-ids : goal.lengthened-requires-clause-ids
+lengthened-requires-clause-ids c = (let first = c.in-Some-first_new_id.ensures.0 in let most = c.in-Some-first_new_id.ensures.1 in omega arith)
+
+pub change-requires-clause-fits : goal.change-requires-clause-fits
+change-requires-clause-fits c = c.requires.sound.room.each
 
 pub change-requires-clause-rising : goal.change-requires-clause-rising
 change-requires-clause-rising c up =
