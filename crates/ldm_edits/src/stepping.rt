@@ -30,11 +30,7 @@ pub enum Outcome {
 fn largest(labels: &[Label]) -> u64
     ensures { All (λ l. l.data_size ≤ result) labels.now }
 {
-    let mut largest = 0;
-    for label in labels {
-        largest = label.data_size.max(largest);
-    }
-    largest
+    labels.iter().map(|l| l.data_size).max().unwrap_or(0)
 }
 
 // A law of the types: the records rise, and the sizes that the labels say are numbers of the format.
