@@ -16,6 +16,7 @@ use Rattle.ldm_store.specs.Sessions.{IsEditable, IsNextFor, IsTurnOf, Opened, Re
 use Rattle.ldm_store.proofs.OpensLaws.{editable_opens}
 use Rattle.ldm_store.proofs.ApplyLaws.{untouched}
 use Rattle.ldm_group_text.specs.Reply.{text_of_reply}
+use Rattle.ldm_run.specs.Kinds.{SameInput}
 use Rattle.ldm_run.specs.Editing.{turn_on, IsDoing, IsAnswering}
 use Rattle.ldm_run.proofs.OpenLaws.{outside_trans}
 
@@ -80,6 +81,14 @@ begins_part said text new n is = (
   drop n text,
   ap (λ (l : List ℕ). said ++ l) (sym (take-append-drop n text)) ∙ sym (append_assoc said (take n text) (drop n text)) ∙ ap (λ (l : List ℕ). l ++ drop n text) (sym is),
 )
+
+-- nothing of the reply was said
+pub unsaid : (old mid : Seen) (text : List ℕ) → Quiet old mid → Begins mid.said (old.said ++ text)
+unsaid old mid text quiet = (text, ap (λ (l : List ℕ). l ++ text) (sym quiet.said))
+
+-- what is quiet and then says something leaves the input as it was
+pub input_stays : (old mid new : Seen) → Quiet old mid → new.input ≡ mid.input → new.heard ≡ mid.heard → SameInput old new
+input_stays old mid new quiet input heard = record { input = input ∙ quiet.input; heard = heard ∙ quiet.heard }
 
 module _ (session next : Opened) (line : Option Command) (number : ℕ) (reply : Reply) (old mid new : Seen) (turned : IsTurnOf (turn_on session line) session.labels next reply)
     (later : Later old mid) (quiet : Quiet old mid) (still : Still mid new) (text : List ℕ) (text_is : text ≡ text_of_reply (number, reply))

@@ -13,3 +13,4 @@ pub mod EditState
 pub mod GroupEnds
 pub mod HearsEdits
 pub mod SampleLaws
+pub mod JobLaws

@@ -11,7 +11,9 @@ use Rattle.ldm_layout.specs.declared.shape.LayoutError.{LayoutError}
 use Rattle.ldm_layout.specs.declared.shape.LayoutError.TheVariants.{Fault}
 use Rattle.ldm_layout.specs.declared.shape.LayoutFault.{LayoutFault}
 use Rattle.ldm_rules.specs.Disjoint.{AllLaidOut}
-use Rattle.ldm_run.specs.Mapping.{is_bad_range}
+use Rattle.ldm_found.specs.declared.found.Found.{Found}
+use Rattle.ldm_run.specs.Said.{Answer}
+use Rattle.ldm_run.specs.Mapping.{is_bad_range, map_answer}
 
 -- what is answered of the volume with its id is answered of the volume
 pub of_volume : (P : Volume → Type 0) (records : List Record) (v : Volume) → volume_with v.head.id records ≡ Some v → IfSome (volume_with v.head.id records) P → P v
@@ -33,6 +35,10 @@ pub planned_size : (records : List Record) (v : Volume) (result : Result Layout 
     → IfOk result (λ l. IfSome (volume_with v.head.id records) (λ w. l.size ≡ w.size)) → result ≡ Ok plan → plan.size ≡ v.size
 planned_size records v result plan again sizes is =
     of_volume (λ w. plan.size ≡ w.size) records v again (subst (λ (r : Result Layout LayoutError). IfOk r (λ l. IfSome (volume_with v.head.id records) (λ w. l.size ≡ w.size))) is sizes)
+
+-- the answer of a name is that of the same name
+pub same_name : (name other : List ℕ) (first count : ℕ) (found : Found) (answer : Answer) → name ≡ other → answer ≡ map_answer name first count found → answer ≡ map_answer other first count found
+same_name name other first count found answer same is = subst (λ (n : List ℕ). answer ≡ map_answer n first count found) same is
 
 -- a range that is not bad lies in the volume
 pub range_fits : (size first count : ℕ) → is_bad_range size first count ≡ false → first + count ≤ size

@@ -1,7 +1,8 @@
-use Rattle.std.proofs.Common.{rules, ◌∙◌}
-use Rattle.ldm_host.proofs.Relations.{later_trans}
-use Rattle.ldm_store.specs.Sessions.{IsEditable}
-use Rattle.ldm_run.proofs.DoingLaws.{answering, reply_front, rests_still}
+use Rattle.std.proofs.Common.{rules, List, ℕ, refl, sym, ap, subst, ◌∙◌}
+use Rattle.ldm_host.proofs.Relations.{later_trans, rose_sooner}
+use Rattle.ldm_store.specs.Sessions.{IsEditable, HoldsGroup}
+use Rattle.ldm_run.specs.Scripts.{is_refused}
+use Rattle.ldm_run.proofs.DoingLaws.{answering, reply_front, reply_said, rests_still, unsaid, input_stays}
 use Rattle.ldm_run.proofs.editing.edit_line.Goals as goal
 
 pub returns-in_default-say-clause-any_moment : goal.returns-in_default-say-clause-any_moment
@@ -44,3 +45,33 @@ returns-clause-later g c =
 
 pub returns-clause-rests : goal.returns-clause-rests
 returns-clause-rests g c = rests_still c.in_ok-session.session (g.H.Host.seen c.apply_line.new.host) (g.H.Host.seen c.say.new.self) c.in_ok-session.ensures.rests c.say.ensures.still
+
+pub returns-in_err-session-clause-front : goal.returns-in_err-session-clause-front
+returns-in_err-session-clause-front g c tells = unsaid _ _ _ c.apply_line.ensures.quiet
+
+pub returns-in_default-clause-front : goal.returns-in_default-clause-front
+returns-in_default-clause-front g c tells = unsaid _ _ _ c.apply_line.ensures.quiet
+
+pub returns-in_default-say-clause-fault : goal.returns-in_default-say-clause-fault
+returns-in_default-say-clause-fault g c = rose_sooner _ _ _ c.apply_line.ensures.later.talk_faults (c.in_default-say.ensures.cause refl)
+
+pub returns-in_default-say-clause-input : goal.returns-in_default-say-clause-input
+returns-in_default-say-clause-input g c = input_stays _ _ _ c.apply_line.ensures.quiet c.say.ensures.input c.say.ensures.heard
+
+pub returns-clause-input : goal.returns-clause-input
+returns-clause-input g c = input_stays _ _ _ c.apply_line.ensures.quiet c.say.ensures.input c.say.ensures.heard
+
+pub returns-clause-said : goal.returns-clause-said
+returns-clause-said g c tells =
+    reply_said c.args.session c.in_ok-session.session c.args.line c.args.number c.in_ok-session.reply (g.H.Host.seen c.args.host.now) (g.H.Host.seen c.apply_line.new.host) (g.H.Host.seen c.say.new.self)
+    c.in_ok-session.ensures.turn c.apply_line.ensures.later c.apply_line.ensures.quiet c.say.ensures.still c.as_slice.result.now (c.as_slice.ensures ∙ c.in-Ok.ensures) c.say.ensures.front
+    (c.in-Ok-say.ensures.said (g.met.H.Host.tells_both tells))
+
+pub returns-clause-holds : goal.returns-clause-holds
+returns-clause-holds g c tells =
+    subst (λ (images : List (List ℕ)). HoldsGroup c.in_ok-session.session images) (sym c.say.ensures.still.content) (c.in_ok-session.ensures.holds tells)
+
+pub returns-clause-turn : goal.returns-clause-turn
+returns-clause-turn g c =
+    let turned = c.in_ok-session.ensures.turn in
+    record { db = turned.db; labels_stay = turned.labels_stay; refused_is = c.is_refused.ensures ∙ ap is_refused turned.reply_is }

@@ -1,5 +1,6 @@
-use Rattle.std.proofs.Common.{List, ℕ, refl, ap, ◌∙◌, Ok}
+use Rattle.std.proofs.Common.{refl, ◌∙◌, Ok}
 use Rattle.ldm_run.specs.Mapping.{map_answer}
+use Rattle.ldm_run.proofs.PlanLaws.{same_name}
 use Rattle.ldm_run.proofs.Saying.{reads_first}
 use Rattle.ldm_run.proofs.running.map.Goals as goal
 
@@ -9,6 +10,6 @@ returns-in-Err g c = c.in-Err.ensures.fault (map_answer c.args.name.now c.args.f
 pub returns : goal.returns
 returns g c =
     let found = c.in-Ok.found in
-    let is = c.in-Ok-mapped.ensures.is ∙ ap (λ (name : List ℕ). map_answer name c.args.first c.args.count found) c.as_slice.ensures in
+    let is = same_name _ _ c.args.first c.args.count found _ c.as_slice.ensures c.in-Ok-mapped.ensures.is in
     reads_first (c.say_made.ensures.says c.in-Ok-mapped.text refl) c.in-Ok.ensures.quiet c.in-Ok.ensures.still g.met.H.Host.tells_both
     (λ tells answer e. (Ok found, c.in-Ok.ensures.found tells, e ∙ is))

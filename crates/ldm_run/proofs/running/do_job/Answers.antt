@@ -1,0 +1,30 @@
+use Rattle.std.proofs.Common.{rules}
+use Rattle.ldm_run.proofs.JobLaws.{of_job, reads_job, try_job, edit_job, one_job}
+use Rattle.ldm_run.proofs.running.do_job.Goals as goal
+
+pub returns-in-Disk : goal.returns-in-Disk
+returns-in-Disk g c = of_job g.H.Host.tells_disks g.H.Host.tells_talk c.in-Disk.is (reads_job c.disk.ensures)
+
+pub returns-in-Records : goal.returns-in-Records
+returns-in-Records g c = of_job g.H.Host.tells_disks g.H.Host.tells_talk c.in-Records.is (reads_job c.records.ensures)
+
+pub returns-in-Show : goal.returns-in-Show
+returns-in-Show g c = of_job g.H.Host.tells_disks g.H.Host.tells_talk c.in-Show.is (reads_job c.show.ensures)
+
+pub returns-in-Check : goal.returns-in-Check
+returns-in-Check g c = of_job g.H.Host.tells_disks g.H.Host.tells_talk c.in-Check.is (reads_job c.check.ensures)
+
+pub returns-in-Map : goal.returns-in-Map
+returns-in-Map g c = of_job g.H.Host.tells_disks g.H.Host.tells_talk c.in-Map.is (reads_job c.map.ensures)
+
+pub returns-in-Try : goal.returns-in-Try
+returns-in-Try g c = of_job g.H.Host.tells_disks g.H.Host.tells_talk c.in-Try.is (try_job (search rules))
+
+pub returns-in-Edit : goal.returns-in-Edit
+returns-in-Edit g c = of_job g.H.Host.tells_disks g.H.Host.tells_talk c.in-Edit.is (edit_job (search rules))
+
+pub returns-in-One : goal.returns-in-One
+returns-in-One g c = of_job g.H.Host.tells_disks g.H.Host.tells_talk c.in-One.is (one_job g.H.Host.tells_talk c.in-One.command c.edit_one.ensures.does c.edit_one.ensures.silent)
+
+pub returns-in-Sample : goal.returns-in-Sample
+returns-in-Sample g c = of_job g.H.Host.tells_disks g.H.Host.tells_talk c.in-Sample.is (reads_job c.sample.ensures)
