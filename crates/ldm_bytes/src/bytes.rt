@@ -1,4 +1,4 @@
-ghost use Rattle.std.specs.Prelude.{◌≡◌, IfOk, List, ℕ, length};
+ghost use Rattle.std.specs.Prelude.{◌≡◌, IfOk, List, ℕ};
 
 use std::alloc::{AllocError, AllocFailed, Global};
 use std::marker::Model;

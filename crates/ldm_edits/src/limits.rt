@@ -1,4 +1,4 @@
-ghost use Rattle.std.specs.Prelude.{◌≡◌, min, unwrap_or, ◌+◌, ◌-◌, ◌^◌, ◌≤◌, ◌<◌, ◌++◌, All, MatchOption, nat_le};
+ghost use Rattle.std.specs.Prelude.{◌≡◌, min, unwrap_or, ◌+◌, ◌-◌, ◌^◌, ◌≤◌, ◌<◌, All, MatchOption, nat_le};
 ghost use Rattle.std.specs.Option.{option_map};
 ghost use Rattle.ldm_bytes.specs.Tables.{first_of};
 ghost use Rattle.ldm_group.specs.Looks.{max_id};

@@ -1,4 +1,4 @@
-ghost use Rattle.std.specs.Prelude.{◌≡◌, ◌<◌, List, ℕ, length, slice_index, slice_get, IfOk, IsErrOf, Some};
+ghost use Rattle.std.specs.Prelude.{◌<◌, length, slice_index, IfOk, IsErrOf, Some};
 ghost use Rattle.ldm_host.specs.Seen.{image};
 ghost use Rattle.ldm_host.specs.Moves.{Rose, Still, Quiet};
 ghost use Rattle.ldm_label.specs.LabelOf.{Fits};

@@ -1,4 +1,4 @@
-ghost use Rattle.std.specs.Prelude.{◌≡◌, ◌≤◌, ◌<◌, ◌+◌, ◌%◌, ◌++◌, ◌∷◌, [], ◌↔◌, ℕ, List, Some, None, Err, length, is_some, vec_len, IfOk, IfErr, OnOk, OnErr, IsErrAnd, MatchResult};
+ghost use Rattle.std.specs.Prelude.{◌≡◌, ◌≤◌, ◌<◌, ◌+◌, ◌%◌, ◌++◌, ◌∷◌, [], ◌↔◌, ℕ, List, Some, None, Err, length, is_some, vec_len, IfOk, IfErr, OnOk, OnErr, MatchResult};
 ghost use Rattle.std.specs.Ordering.{nat_cmp};
 ghost use Rattle.std.specs.BTreeMap.{get};
 ghost use Rattle.ldm_frags.specs.declared.faults.FragFault.{FragFault};

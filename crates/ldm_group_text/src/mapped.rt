@@ -1,6 +1,6 @@
 ghost use Rattle.std.specs.Prelude.{◌≡◌, ◌==◌, ℕ, nat_eq, OnOk, IfOk, Some, None, if◌then◌else◌};
 ghost use Rattle.std.specs.HashMap as hash;
-ghost use Rattle.std.specs.Option.{option_map, option_or};
+ghost use Rattle.std.specs.Option.{option_or};
 ghost use Rattle.ldm_rules.specs.Present.{data_start_with};
 ghost use Rattle.ldm_group_text.specs.Map.{mapped_disk, mapped_at};
 

@@ -5,7 +5,7 @@ ghost use Rattle.ldm_group.specs.Room.{IsFitting};
 ghost use Rattle.ldm_rules.specs.Ends.{sectors_by};
 ghost use Rattle.ldm_found.specs.Facts.{IsSoundGroup};
 ghost use Rattle.ldm_rules.specs.Present.{image_with};
-ghost use Rattle.ldm_group_text.specs.Show.{text_of_group, text_of_place, text_of_disk_at, line_of_disk, text_of_disks, text_of_show};
+ghost use Rattle.ldm_group_text.specs.Show.{text_of_group, text_of_place, text_of_disk_at, text_of_disks, text_of_show};
 
 use ldm_bytes::{Bytes, NoMemory};
 use ldm_found::Found;

@@ -1,4 +1,4 @@
-ghost use Rattle.std.specs.Prelude.{◌≡◌, ◌↔◌, ◌^◌, ◌+◌, ◌-◌, ◌*◌, ◌/◌, ◌<◌, ◌≤◌, ◌++◌, min, List, ℕ, length, take, set, slice_index, slice_range, IfOk, OnOk, OnErr, IsErr, is_ok, Bool, ⊤};
+ghost use Rattle.std.specs.Prelude.{◌≡◌, ◌^◌, ◌+◌, ◌-◌, ◌*◌, ◌/◌, ◌<◌, ◌≤◌, ◌++◌, min, List, ℕ, length, take, set, slice_index, slice_range, IfOk, OnOk, OnErr, IsErr, is_ok, Bool, ⊤};
 ghost use Rattle.ldm_bytes.specs.Numbers.{IsBytes};
 ghost use Rattle.ldm_bytes.specs.Places.{put};
 ghost use Rattle.ldm_host.specs.Seen.{Seen, Leaves, image};

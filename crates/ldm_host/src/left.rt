@@ -1,5 +1,5 @@
 // What a stop may leave of the disks of a host in memory.
-ghost use Rattle.std.specs.Prelude.{◌≡◌, ◌≢◌, ◌+◌, ◌<◌, ◌≤◌, ℕ, List, length, IfOk, Vec};
+ghost use Rattle.std.specs.Prelude.{◌≡◌, ◌+◌, ◌<◌, ◌≤◌, ℕ, length, IfOk, Vec};
 ghost use Rattle.std.specs.declared.alloc.Global.{Global};
 ghost use Rattle.ldm_host.specs.declared.call.Call.TheVariants.{Write};
 ghost use Rattle.ldm_host.specs.declared.left.Filling.TheVariants.{Fill};

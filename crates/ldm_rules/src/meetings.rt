@@ -1,4 +1,4 @@
-ghost use Rattle.std.specs.Prelude.{◌≡◌, ◌↔◌, ◌==◌, ◌&&◌, ◌≤◌, ◌<◌, ◌+◌, ◌^◌, not, nat_lt, max, min, ℕ, List, All, AllPairs, IfOk, IsTrue, find, option_copied, length, IsPermutation};
+ghost use Rattle.std.specs.Prelude.{◌≡◌, ◌↔◌, ◌==◌, ◌&&◌, ◌≤◌, ◌<◌, ◌+◌, max, min, All, IfOk, IsTrue, find, option_copied, length, IsPermutation};
 ghost use Rattle.std.specs.List.{filter_map, list_any, AllAdjacentBelow};
 ghost use Rattle.std.specs.List.Sorted.{IsNonDecreasingBy};
 ghost use Rattle.ldm_group.specs.Partitions.{EndsInRange, meets};

@@ -1,5 +1,5 @@
 //! Does lines to the group of the disks, each on all disks and then answered.
-ghost use Rattle.std.specs.Prelude.{if◌then◌else◌, ◌≡◌, ◌≤◌, ◌<◌, ◌⊎◌, ◌++◌, List, ℕ, length, IfOk, IfErr, IfSome, OnOk, IsErrOf, ◌∷◌, [], Option, Some, None, Ok};
+ghost use Rattle.std.specs.Prelude.{if◌then◌else◌, ◌≡◌, ◌≤◌, ◌<◌, ◌⊎◌, ◌++◌, List, ℕ, length, IfOk, IfErr, IfSome, OnOk, ◌∷◌, [], Option, Some, None, Ok};
 ghost use Rattle.ldm_host.specs.Moves.{Later, Quiet, Begins};
 ghost use Rattle.ldm_words.specs.declared.command.Command.{Command as Line};
 ghost use Rattle.ldm_words.specs.Limits.{IsCommand};

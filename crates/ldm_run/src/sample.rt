@@ -1,5 +1,5 @@
 //! The sample: a script from a seed, done to a group of three images in memory.
-ghost use Rattle.std.specs.Prelude.{◌≡◌, ◌≢◌, ◌==◌, count_by, IfOk, string_bytes};
+ghost use Rattle.std.specs.Prelude.{◌≡◌, ◌==◌, count_by, IfOk, string_bytes};
 ghost use Rattle.ldm_run.specs.declared.running.Status.{Status as Ending};
 ghost use Rattle.ldm_run.specs.Runs.{OnlyReads};
 ghost use Rattle.ldm_run.specs.Sample.{text_of_counts, text_of_group, text_of_summary, IsSampleAnswer, IsSampleHost};

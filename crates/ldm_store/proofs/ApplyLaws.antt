@@ -5,7 +5,6 @@ use Rattle.ldm_host.specs.Seen.{Seen, Leaves}
 use Rattle.ldm_label.specs.declared.Label.{Label}
 use Rattle.ldm_group.specs.Database.{Database}
 use Rattle.ldm_copy.specs.Body.{IsBodyOf}
-use Rattle.ldm_copy.specs.declared.answer.CopyState.{CopyState}
 use Rattle.ldm_copy.specs.declared.answer.CopyState.TheVariants.{Valid}
 use Rattle.ldm_words.specs.declared.command.Command.{Command}
 use Rattle.ldm_edits.specs.declared.reply.Refusal.{Refusal}

@@ -1,5 +1,5 @@
 -- What a group that may be edited has: no fault on its disks, and bodies that fit each of them.
-use Rattle.std.proofs.Common.{◌≡◌, ◌≤◌, ℕ, List, [], ◌∷◌, length, refl, arith, Option, None}
+use Rattle.std.proofs.Common.{◌≡◌, ◌≤◌, ℕ, List, [], ◌∷◌, length, refl, arith, None}
 use Rattle.std.specs.List.{filter_map}
 use Rattle.std.specs.Option.{option_map}
 use Rattle.ldm_bytes.specs.Tables.{first_of}
@@ -15,7 +15,6 @@ use Rattle.ldm_copy.proofs.MadeLaws.{few_records}
 use Rattle.ldm_found.specs.Editing.{blocked_in}
 use Rattle.ldm_found.specs.Facts.{LieOn}
 use Rattle.ldm_found.specs.Opening.{group_faults}
-use Rattle.ldm_found.specs.declared.fault.OpenFault.{OpenFault}
 use Rattle.ldm_found.specs.declared.fault.OpenFault.TheVariants as faults
 use Rattle.ldm_found.proofs.ClearLaws.{clear_of}
 use Rattle.ldm_store.specs.Kept.{MayEdit}

@@ -1,4 +1,4 @@
-ghost use Rattle.std.specs.Prelude.{◌≡◌, ◌+◌, ◌*◌, ◌/◌, ◌<◌, ◌≤◌, ℕ, length, slice_index, IfOk, OnOk, IsErrOf, None};
+ghost use Rattle.std.specs.Prelude.{◌≡◌, ◌+◌, ◌*◌, ◌/◌, ◌<◌, ◌≤◌, ℕ, slice_index, IfOk, IsErrOf, None};
 ghost use Rattle.ldm_host.specs.Moves.{Later, Quiet, Rose, Still};
 ghost use Rattle.ldm_copy.specs.declared.answer.CopyState.{CopyState};
 ghost use Rattle.ldm_edits.specs.declared.reply.Reply.{Reply};
@@ -46,7 +46,7 @@ pub enum ApplyError {
 }
 
 impl Session {
-    ghost use Rattle.std.specs.Prelude.{◌≡◌, ◌+◌, ◌*◌, ◌/◌, ◌<◌, ◌≤◌, ℕ, length, slice_index, IfOk, OnOk, IsErrOf, None};
+    ghost use Rattle.std.specs.Prelude.{◌≡◌, ◌+◌, ◌*◌, ◌/◌, ◌<◌, ◌≤◌, ℕ, slice_index, IfOk, IsErrOf, None};
     ghost use Rattle.ldm_host.specs.Moves.{Later, Quiet, Rose, Still};
     ghost use Rattle.ldm_copy.specs.declared.answer.CopyState.{CopyState};
     ghost use Rattle.ldm_edits.specs.declared.reply.Reply.{Reply};

@@ -1,5 +1,5 @@
 -- How the sample script goes on.
-use Rattle.std.proofs.Common.{◌≡◌, ℕ, suc, ◌+◌, ◌*◌, ◌/◌, ◌^◌, List, [], ◌++◌, refl, sym, ap, ◌∙◌, add-one, arith}
+use Rattle.std.proofs.Common.{◌≡◌, ℕ, ◌+◌, ◌*◌, ◌/◌, ◌^◌, List, [], ◌++◌, refl, sym, ap, ◌∙◌, add-one, arith}
 use Rattle.ldm_vectors.specs.Script.{advanced, state_after, draw, line_of, lines_of_seed}
 
 next_state : (seed draws : ℕ) → state_after seed (draws + 1) ≡ advanced (state_after seed draws)

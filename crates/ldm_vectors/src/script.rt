@@ -1,5 +1,5 @@
 //! The sample script: lines that are drawn from a seed.
-ghost use Rattle.std.specs.Prelude.{◌≡◌, ◌≢◌, ◌/◌, ◌^◌, ◌++◌, ◌≤◌, IfOk, OnOk, length, string_bytes};
+ghost use Rattle.std.specs.Prelude.{◌≡◌, ◌≢◌, ◌/◌, ◌^◌, ◌≤◌, IfOk, length, string_bytes};
 ghost use Rattle.ldm_vectors.specs.Script.{advanced, span_line, mirror_line, extend_line, delete_line, line_of, script_of};
 
 use ldm_bytes::NoMemory;

@@ -1,5 +1,4 @@
-ghost use Rattle.std.specs.Prelude.{◌≡◌, ◌++◌, ◌+◌, ◌*◌, ◌≤◌, ℕ, None, length};
-ghost use Rattle.byteorder.specs.Endian.{big_bytes};
+ghost use Rattle.std.specs.Prelude.{◌≡◌, ◌+◌, ◌*◌, ◌≤◌, ℕ, None, length};
 ghost use Rattle.ldm_bytes.specs.Places.{put};
 ghost use Rattle.ldm_vmdb.specs.Headers.{vmdb_fault, written, counts_bytes, ReadsBack};
 

@@ -1,4 +1,4 @@
-ghost use Rattle.std.specs.Prelude.{◌≡◌, [], IfOk, MatchOption, map};
+ghost use Rattle.std.specs.Prelude.{◌≡◌, [], IfOk, MatchOption};
 ghost use Rattle.ldm_words.specs.Commands.{bytes_of, command_of};
 ghost use Rattle.ldm_words.specs.Limits.{IsCommand};
 ghost use Rattle.ldm_words.specs.Lines.{tokens_of, lines_of, IsFrontLine, ReadsLine};
