@@ -7,12 +7,14 @@ use crate::command::Command;
 use crate::reading::read_command;
 use ldm_bytes::NoMemory;
 use std::alloc::Global;
+use thiserror::Error;
 
 /// Why a line gives no command.
-#[derive(Clone, Copy)]
+#[derive(Clone, Copy, Debug, Drop, Error)]
 pub enum LineError {
-    /// The line has no reading.
+    #[error("the line has no reading")]
     BadLine,
+    #[error("no memory")]
     NoMemory,
 }
 
