@@ -1,3 +1,4 @@
+//! Copies of the database: valid, closed, and each first fault.
 use crate::made::{host_with, kinds_of};
 use ldm_copy::{CopyError, CopyFault, CopyState, read_copy};
 use ldm_frags::FragFault;

@@ -1,3 +1,4 @@
+//! The group of several images: the newest copy, and failing disks.
 use crate::made::host_with;
 use ldm_found::{Found, Note, OpenError, find_group};
 use ldm_host::Host;
