@@ -175,7 +175,8 @@ fn copy_at<H: Host>(
 /// failed.
 ///
 /// It reads the first sector of the area, and where the copy is open the blocks in use, eight sectors at a time. So of
-/// blocks that have a fault, no piece of eight sectors behind the first fault is read. It takes memory for the heads of these blocks, for their payloads and for the records.
+/// blocks that have a fault, no piece of eight sectors behind the first fault is read. It takes memory for the heads of
+/// these blocks, for their payloads and for the records.
 pub fn read_copy<H: Host>(
     alloc: Global,
     host: &mut H,
