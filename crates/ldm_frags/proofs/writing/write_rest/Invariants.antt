@@ -1,6 +1,6 @@
 use Rattle.std.proofs.Common.{◌≡◌, ℕ, ◌≤◌, ◌<◌}
 use Rattle.ldm_frags.specs.Written.{unused_block, block_at}
-use Rattle.ldm_frags.proofs.writing.write_unused.Given as goal
+use Rattle.ldm_frags.proofs.writing.write_rest.Given as goal
 
 abbrev pub invariant-loop-number : goal.invariant-loop-number
 invariant-loop-number l = record {
