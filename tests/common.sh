@@ -82,6 +82,21 @@ says_nothing() {
     [ -z "$("$@")" ]
 }
 
+# Waits some seconds until a command succeeds.
+wait_for() {
+    what=$1
+    shift
+    tries=0
+    until "$@"; do
+        tries=$((tries + 1))
+        [ "$tries" -lt 100 ] || {
+            echo "  this never came: $what"
+            return 1
+        }
+        sleep 0.1
+    done
+}
+
 # Says how many cases failed, and ends.
 sum_up() {
     echo "$cases cases, $skips skipped, $failures failures"
