@@ -1,14 +1,42 @@
-//! Who uses a block device, as far as the system tells it in files.
+//! Who uses an image, as far as the system tells it in files.
 use crate::image::ImageError;
 use std::alloc::{AllocError, Global};
 use std::os::unix::fs::MetadataExt;
 use std::{fs, io};
 
-// The two numbers of a device, as the system writes them.
+// The two numbers that make the number of a device.
+fn major(device: u64) -> u64 {
+    (device >> 8 & 0xfff) | (device >> 32 & 0xffff_f000)
+}
+
+fn minor(device: u64) -> u64 {
+    (device & 0xff) | (device >> 12 & 0xffff_ff00)
+}
+
+// These two as the system writes them in most places.
 fn number_text(alloc: Global, device: u64) -> Result<String, AllocError> {
-    let major = (device >> 8 & 0xfff) | (device >> 32 & 0xffff_f000);
-    let minor = (device & 0xff) | (device >> 12 & 0xffff_ff00);
-    format!(in alloc; "{major}:{minor}")
+    format!(in alloc; "{}:{}", major(device), minor(device))
+}
+
+// Whether a line of the table of locks is of bytes of the file that is called so there. What waits for a lock has
+// none.
+fn locks_bytes(line: &str, file: &str) -> bool {
+    let mut words = line.split_whitespace().skip(1);
+    let is_of_bytes = matches!(words.next(), Some("POSIX" | "OFDLCK"));
+    is_of_bytes && words.nth(3) == Some(file)
+}
+
+/// Whether a program holds bytes of the file of this number on this device, as programs do that run virtual
+/// machines. A lock of the whole file is none of these.
+pub(crate) fn has_byte_locks(rt: &HostRuntime, device: u64, number: u64) -> io::Result<bool> {
+    let file = format!(in rt.alloc(); "{:02x}:{:02x}:{number}", major(device), minor(device))?;
+    let table = fs::read_to_string(rt, "/proc/locks")?;
+    Ok(
+        table
+            .as_str()
+            .lines()
+            .any(|line| locks_bytes(line, file.as_str())),
+    )
 }
 
 // A block device or a part of it is used by no other device.

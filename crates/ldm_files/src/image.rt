@@ -3,9 +3,8 @@ ghost use Rattle.std.specs.Prelude.{◌<◌, ◌^◌, ◌≤ℤ◌};
 ghost use Rattle.std.specs.Fd.{file_raw_fd};
 ghost use Rattle.ldm_files.specs.declared.streams.TheConstants.{STREAMS};
 
-use crate::device::hindrance;
+use crate::device::{has_byte_locks, hindrance};
 use crate::streams::STREAMS;
-use os::RangeLock;
 use std::fs::{File, Metadata, TryLockError};
 use std::io::{self, ErrorKind, Seek, SeekFrom};
 use std::os::fd::AsRawFd;
@@ -96,6 +95,15 @@ fn require_disk(metadata: &Metadata) -> Result<(), ImageError> {
     }
 }
 
+// The system doesn't tell who uses an image, or there is no memory for it.
+fn untold(error: io::Error) -> ImageError {
+    if error.kind() == ErrorKind::OutOfMemory {
+        ImageError::NoMemory
+    } else {
+        ImageError::Untold
+    }
+}
+
 // Refuses a block device that is used or may not be written.
 fn require_unused(rt: &HostRuntime, metadata: &Metadata) -> Result<(), ImageError> {
     if !metadata.file_type().is_block_device() {
@@ -104,8 +112,7 @@ fn require_unused(rt: &HostRuntime, metadata: &Metadata) -> Result<(), ImageErro
     match hindrance(rt, metadata.rdev()) {
         Ok(None) => Ok(()),
         Ok(Some(error)) => Err(error),
-        Err(error) if error.kind() == ErrorKind::OutOfMemory => Err(ImageError::NoMemory),
-        Err(_) => Err(ImageError::Untold),
+        Err(error) => Err(untold(error)),
     }
 }
 
@@ -128,27 +135,24 @@ impl ImageFile {
     }
 
     /// Locks the image against other programs that edit, for as long as it is open, and fails where one of
-    /// them holds it. An image that is among those already open is left to the lock of the first, so that it
-    /// is found to be named twice.
-    pub fn lock_beside(&self, others: &[ImageFile]) -> Result<(), ImageError> {
+    /// them holds it, or where any program holds bytes of it. An image that is among those already open is left to
+    /// the lock of the first, so that it is found to be named twice.
+    pub fn lock_beside(&self, rt: &HostRuntime, others: &[ImageFile]) -> Result<(), ImageError> {
         if others.iter().any(|other| other.id == self.id) {
             return Ok(());
         }
         match self.file.try_lock() {
-            Ok(()) => self.lock_bytes(),
+            Ok(()) => self.require_no_byte_locks(rt),
             Err(TryLockError::Error(error)) => Err(ImageError::from(error)),
             Err(TryLockError::WouldBlock) => Err(ImageError::Held),
         }
     }
 
-    // Locks all bytes of the file as well. Programs that hold images for virtual machines lock some bytes, and
-    // look at no lock of the whole file.
-    fn lock_bytes(&self) -> Result<(), ImageError> {
-        let all = i64::MAX as u64;
-        if os::try_lock_range(self.file.as_raw_fd(), RangeLock::Exclusive, 0, all) == 0 {
-            Ok(())
-        } else {
-            Err(ImageError::from(io::Error::from_raw_os_error(os::errno())))
+    fn require_no_byte_locks(&self, rt: &HostRuntime) -> Result<(), ImageError> {
+        match has_byte_locks(rt, self.id.device, self.id.number) {
+            Ok(false) => Ok(()),
+            Ok(true) => Err(ImageError::Held),
+            Err(error) => Err(untold(error)),
         }
     }
 

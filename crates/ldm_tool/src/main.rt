@@ -53,7 +53,7 @@ fn open_image(
 ) -> Result<ImageFile, ImageError> {
     let image = ImageFile::open(rt, path, access)?;
     if access == Access::Edit {
-        image.lock_beside(others)?;
+        image.lock_beside(rt, others)?;
     }
     Ok(image)
 }
