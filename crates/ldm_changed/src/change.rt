@@ -1,3 +1,4 @@
+//! A change of a body: the new body, and the numbers of the blocks that differ.
 ghost use Rattle.std.specs.Prelude.{◌≡◌, ◌≢◌, ◌↔◌, ◌+◌, ◌*◌, ◌≤◌, ◌<◌, ◌++◌, IsTrue, length, drop, map, count_by, IfOk, OnOk, All, AllPairs};
 ghost use Rattle.ldm_vmdb.specs.Sectors.{last_of};
 ghost use Rattle.ldm_vmdb.specs.Headers.{written};

@@ -1,3 +1,4 @@
+//! Writes the changed blocks of a body behind a closed gate.
 ghost use Rattle.std.specs.Prelude.{◌≡◌, ◌≢◌, ℕ, ◌+◌, ◌-◌, ◌*◌, ◌^◌, ◌<◌, ◌≤◌, List, length, slice_index, OnOk, IsErr};
 ghost use Rattle.ldm_host.specs.Moves.{Rose, Settled, Writes, Changes};
 ghost use Rattle.ldm_host.specs.Seen.{image};

@@ -1,3 +1,4 @@
+//! What a copy becomes: a whole body, or a change of the one that is there.
 ghost use Rattle.std.specs.Prelude.{◌≡◌, ◌+◌, ◌*◌, ◌<◌, ◌≤◌, List, ℕ, length, slice_index, OnOk, IsErr};
 ghost use Rattle.ldm_host.specs.Moves.{Changes, Rose, Settled};
 ghost use Rattle.ldm_host.specs.Seen.{image};

@@ -1,3 +1,4 @@
+//! The next body from the one that is there: which blocks are freed and which are taken.
 ghost use Rattle.std.specs.Prelude.{◌≡◌, ◌≢◌, ◌↔◌, ℕ, ◌+◌, ◌*◌, ◌≤◌, ◌<◌, ◌++◌, ◌∷◌, [], List, length, take, map, filter, bytes_eq, if◌then◌else◌, IsTrue, IfOk, OnOk, All, AllPairs, Contains};
 ghost use Rattle.ldm_frags.specs.Blocks.{count};
 ghost use Rattle.ldm_frags.specs.Written.{parts_of, block_at, IsInUse, IsPlaced, Holds};

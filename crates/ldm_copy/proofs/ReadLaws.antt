@@ -1,5 +1,5 @@
 -- The copy on a disk, by what was read of it.
-use Rattle.std.proofs.Common.{◌≡◌, ◌≢◌, ℕ, ◌+◌, ◌-◌, ◌*◌, ◌/◌, ◌<◌, ◌≤◌, List, [], ◌++◌, length, take, drop, slice_range, Option, Some, None, Result, Ok, Err, IfOk, IsErrAnd, refl, ap, sym, subst, ◌∙◌, arith}
+use Rattle.std.proofs.Common.{◌≡◌, ◌≢◌, ℕ, ◌+◌, ◌-◌, ◌*◌, ◌/◌, ◌≤◌, List, [], ◌++◌, length, take, drop, slice_range, Option, Some, None, Result, Ok, Err, IfOk, IsErrAnd, refl, ap, sym, subst, ◌∙◌, arith}
 use Rattle.std.proofs.lemmas.List.{length-append}
 use Rattle.std.proofs.lemmas.Result.{err_from_is_err_and}
 use Rattle.ldm_label.specs.declared.Label.{Label}
@@ -40,7 +40,7 @@ join_answers : (blocks : List ℕ) (e : FragError) → frag_answers.Answers bloc
 join_answers blocks (frag_errors.Fault f) found = found
 join_answers blocks frag_errors.NoMemory found = tt
 
--- ---- a sector after the other
+-- ---- a few sectors after the others
 
 module _ (told : Type 0) (image : List ℕ) (from : ℕ) where
   pub none_read : (joiner : Fed) → IsFed joiner [] → IsRead told image from 0 (IsFed joiner)
@@ -58,29 +58,31 @@ module _ (told : Type 0) (image : List ℕ) (from : ℕ) where
       → told → JoinsBlocks (sectors_from from n image) (Err (of_frag e))
   fault_joined n joiner e read answers tells = join_answers (sectors_from from n image) e (subst (λ (x : List ℕ). frag_answers.Answers x (Err e)) (read.there tells) (answers read.bytes read.passes))
 
-  module _ (k : ℕ) (before : Fed) (sector : List ℕ) (read : IsRead told image from k (IsFed before))
-      (is : told → sector ≡ slice_range image (512 * (from + k)) (512 * (from + k) + 512)) where
-    there : told → read.bytes ++ sector ≡ sectors_from from k image ++ sectors_from (from + k) 1 image
-    there tells =
-        ap (λ (x : List ℕ). x ++ sector) (read.there tells)
-        ∙ ap (λ (x : List ℕ). sectors_from from k image ++ x) (is tells ∙ chunk_is image (from + k) 1 512 refl)
+  -- a few sectors more
+  module _ (k n : ℕ) (before : Fed) (read : IsRead told image from k (IsFed before)) where
+    pub more_read : (after : Fed) → ((fed : List ℕ) → IsFed before fed → IsRead told image (from + k) n (λ bytes. IsFed after (fed ++ bytes)))
+        → IsRead told image from (k + n) (IsFed after)
+    more_read after next =
+        let more = next read.bytes read.passes in
+        record {
+          bytes = read.bytes ++ more.bytes;
+          size = omega (arith, read.size, more.size, length-append read.bytes more.bytes);
+          there = λ tells. ap (λ (x : List ℕ). x ++ more.bytes) (read.there tells)
+              ∙ ap (λ (x : List ℕ). sectors_from from k image ++ x) (more.there tells) ∙ sym (split image from k n);
+          passes = more.passes;
+        }
 
-    pub more_read : (after : Fed) → length sector ≡ 512 → ((blocks : List ℕ) → IsFed before blocks → IsFed after (blocks ++ sector)) → IsRead told image from (k + 1) (IsFed after)
-    more_read after size fed = record {
-      bytes = read.bytes ++ sector;
-      size = omega (arith, read.size, length-append read.bytes sector);
-      there = λ tells. there tells ∙ sym (split image from k 1);
-      passes = fed read.bytes read.passes;
-    }
-
-    pub fault_read : (n : ℕ) (e : FragError) → k < n → told → ((blocks rest : List ℕ) → IsFed before blocks → IsFault e (first_block_fault (blocks ++ sector ++ rest)))
-        → JoinsBlocks (sectors_from from n image) (Err (of_frag e))
-    fault_read n e lt tells first =
-        let m : ℕ = n - (k + 1) in
-        let rest : List ℕ = sectors_from (from + (k + 1)) m image in
-        let whole : read.bytes ++ sector ++ rest ≡ sectors_from from n image =
-        ap (λ (x : List ℕ). x ++ rest) (there tells ∙ sym (split image from k 1)) ∙ sym (split image from (k + 1) m) ∙ ap (λ (j : ℕ). sectors_from from j image) (omega arith) in
-        block_fault (sectors_from from n image) e (subst (λ (x : List ℕ). IsFault e (first_block_fault x)) whole (first read.bytes rest read.passes))
+    pub fault_read : (all : ℕ) (e : CopyError) → k + n ≤ all → told
+        → ((fed rest : List ℕ) → IsFed before fed → JoinsBlocks (fed ++ sectors_from (from + k) n image ++ rest) (Err e))
+        → JoinsBlocks (sectors_from from all image) (Err e)
+    fault_read all e le tells found =
+        let m : ℕ = all - (k + n) in
+        let rest : List ℕ = sectors_from (from + (k + n)) m image in
+        let whole : read.bytes ++ sectors_from (from + k) n image ++ rest ≡ sectors_from from all image =
+        ap (λ (x : List ℕ). x ++ rest) (ap (λ (x : List ℕ). x ++ sectors_from (from + k) n image) (read.there tells) ∙ sym (split image from k n))
+        ∙ sym (split image from (k + n) m)
+        ∙ ap (λ (j : ℕ). sectors_from from j image) (omega arith) in
+        subst (λ (x : List ℕ). JoinsBlocks x (Err e)) whole (found read.bytes rest read.passes)
 
 -- ---- the header and the database of a disk
 

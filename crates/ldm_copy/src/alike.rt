@@ -1,3 +1,4 @@
+//! Whether the areas of two disks have the same bytes in use.
 ghost use Rattle.std.specs.Prelude.{◌≡◌, ◌↔◌, ◌+◌, ◌*◌, ◌^◌, ◌<◌, ◌≤◌, IsTrue, length, slice_index, slice_range, IfOk, IsErr};
 ghost use Rattle.ldm_host.specs.Moves.{Rose, Still, Quiet};
 ghost use Rattle.ldm_host.specs.Seen.{image};
@@ -9,8 +10,8 @@ ghost use Rattle.ldm_copy.specs.Alike.{sectors_from, AreAlike};
 use ldm_host::{Failed, Host};
 use ldm_label::Label;
 
-// How many sectors of each disk are held at a time.
-const CHUNK: u64 = 8;
+/// How many sectors of a disk are held at a time.
+pub(crate) const CHUNK: u64 = 8;
 
 /// The first sector of the config area on a disk.
 pub(crate) fn area_start<H: Host>(host: &H, disk: usize, label: &Label) -> u64

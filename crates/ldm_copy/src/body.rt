@@ -1,3 +1,4 @@
+//! The body of a copy: the header sector of a database, and its blocks.
 ghost use Rattle.std.specs.Prelude.{◌≡◌, ◌≤◌, ◌*◌, ◌++◌, length, All, IfOk, OnOk};
 ghost use Rattle.ldm_frags.specs.Written.{IsSized, Holds, in_order};
 ghost use Rattle.ldm_frags.specs.Written as written;

@@ -1,3 +1,4 @@
+//! Which blocks hold each record of a body.
 ghost use Rattle.std.specs.Prelude.{◌≡◌, ◌↔◌, ◌+◌, ◌-◌, ◌*◌, ◌<◌, ◌≤◌, IsTrue, length, map, IfOk, IfSome, None, All};
 ghost use Rattle.ldm_frags.specs.Blocks.{count, parts};
 ghost use Rattle.ldm_frags.specs.Written.{IsInUse};

@@ -1,3 +1,4 @@
+//! The gate of a copy, and what is written behind it.
 ghost use Rattle.std.specs.Prelude.{◌≡◌, ◌≢◌, ◌+◌, ◌-◌, ◌*◌, ◌^◌, ◌<◌, ◌≤◌, List, ℕ, length, slice_index, OnOk, IsErr};
 ghost use Rattle.ldm_host.specs.Moves.{Rose, Settled, Writes};
 ghost use Rattle.ldm_host.specs.Seen.{image};

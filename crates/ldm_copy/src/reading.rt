@@ -1,7 +1,9 @@
-ghost use Rattle.std.specs.Prelude.{◌≡◌, ◌+◌, ◌-◌, ◌*◌, ◌/◌, ◌^◌, ◌<◌, ◌≤◌, ℕ, [], Result, Err, length, slice_index, IfOk, IfErr, IfSome, OnOk, IsErrOf};
+//! Reads the copy on a disk.
+ghost use Rattle.std.specs.Prelude.{◌≡◌, ◌+◌, ◌-◌, ◌*◌, ◌/◌, ◌^◌, ◌<◌, ◌≤◌, ◌++◌, ℕ, List, [], Result, Err, length, slice_index, IfOk, IfErr, IfSome, OnOk, IsErrOf};
 ghost use Rattle.ldm_host.specs.Moves.{Rose, Still, Quiet};
 ghost use Rattle.ldm_host.specs.Seen.{image};
 ghost use Rattle.ldm_label.specs.LabelOf.{Fits};
+ghost use Rattle.ldm_frags.specs.Blocks.{count};
 ghost use Rattle.ldm_frags.specs.Fed.{IsFed};
 ghost use Rattle.ldm_frags.specs.Joins.{Joins};
 ghost use Rattle.ldm_copy.specs.declared.answer.CopyState.{CopyState};
@@ -11,7 +13,7 @@ ghost use Rattle.ldm_copy.specs.Answers.{IsAnswer, Answers, FitsArea, IsSoundSta
 ghost use Rattle.ldm_copy.specs.Alike.{sectors_from};
 ghost use Rattle.ldm_copy.specs.Steps.{ReadsHeader, JoinsBlocks, IsRead, ReadsDatabase};
 
-use crate::alike::area_start;
+use crate::alike::{CHUNK, area_start};
 use crate::answer::{CopyError, CopyState};
 use crate::database::{database_of, open_header};
 use ldm_frags::{Joined, Joiner};
@@ -20,6 +22,35 @@ use ldm_host::Host;
 use ldm_label::{Label, read_sector};
 use ldm_vmdb::Header;
 use std::alloc::Global;
+
+// Feeds the joiner the blocks in a few sectors of the disk, from this one on.
+fn feed_few<H: Host>(
+    host: &mut H,
+    disk: usize,
+    from: u64,
+    sectors: u64,
+    joiner: &mut Joiner,
+) -> Result<(), CopyError>
+    requires few { sectors ≤ 8 }
+    requires disk { disk < length (H.seen host.old).sizes }
+    requires inside { from + sectors ≤ slice_index (H.seen host.old).sizes disk }
+    requires small { from < 2 ^ 55 }
+    requires room { count joiner.old.blocks + 4 * sectors ≤ joiner.old.limit }
+    ensures read { (fed : List ℕ) → IsFed joiner.old fed → OnOk result
+        (IsRead H.tells_disks (image (H.seen host.old).content disk) from sectors (λ bytes. IsFed joiner.new (fed ++ bytes))) }
+    ensures fault { H.tells_disks → IfErr result (λ e. (fed rest : List ℕ) → IsFed joiner.old fed
+        → JoinsBlocks (fed ++ sectors_from from sectors (image (H.seen host.old).content disk) ++ rest) (Err e)) }
+    ensures limit { joiner.new.limit ≡ joiner.old.limit }
+    ensures still { Still (H.seen host.old) (H.seen host.new) }
+    ensures quiet { Quiet (H.seen host.old) (H.seen host.new) }
+    ensures cause { IsErrOf result CopyError.Disk → Rose (H.seen host.old).disk_faults (H.seen host.new).disk_faults }
+{
+    let mut bytes = [0u8; 4096];
+    let piece = &mut bytes[..512 * sectors as usize];
+    host.read_at(disk, 512 * from, piece)?;
+    joiner.feed_all(piece)?;
+    Ok(())
+}
 
 // Feeds a new joiner the blocks in so many sectors of the disk, from this one on.
 fn feed_sectors<H: Host>(
@@ -40,9 +71,10 @@ fn feed_sectors<H: Host>(
     ensures quiet { Quiet (H.seen host.old) (H.seen host.new) }
     ensures cause { IsErrOf result CopyError.Disk → Rose (H.seen host.old).disk_faults (H.seen host.new).disk_faults }
 {
-    for k in 0..sectors {
-        let sector = read_sector(host, disk, from + k)?;
-        joiner.feed_all(&sector)?;
+    for chunk in 0..sectors.div_ceil(CHUNK) {
+        let done = CHUNK * chunk;
+        let few = CHUNK.min(sectors - done);
+        feed_few(host, disk, from + done, few, joiner)?;
     }
     Ok(())
 }
@@ -143,8 +175,9 @@ fn copy_at<H: Host>(
 /// The copy in the config area of a disk, or its first fault. `Disk` comes only where a call of the disk
 /// failed.
 ///
-/// It reads the first sector of the area, and where the copy is open the blocks in use, a sector at a time. It takes
-/// memory for the heads of these blocks, for their payloads and for the records.
+/// It reads the first sector of the area, and where the copy is open the blocks in use, eight sectors at a time. So of
+/// blocks that have a fault, no piece of eight sectors behind the first fault is read. It takes memory for the heads of
+/// these blocks, for their payloads and for the records.
 pub fn read_copy<H: Host>(
     alloc: Global,
     host: &mut H,

@@ -1,3 +1,4 @@
+//! Blocks that are taken one by one, or all at once.
 ghost use Rattle.std.specs.Prelude.{◌≡◌, ◌≤◌, ◌<◌, ◌+◌, ◌%◌, ◌++◌, ◌∷◌, [], ◌↔◌, ℕ, List, Some, None, Err, length, is_some, vec_len, IfOk, IfErr, OnOk, OnErr, MatchResult};
 ghost use Rattle.std.specs.Ordering.{nat_cmp};
 ghost use Rattle.std.specs.BTreeMap.{get};
@@ -168,7 +169,8 @@ impl Joiner {
         Ok(())
     }
 
-    /// Takes the next blocks one by one, up to the first that has a fault.
+    /// Takes the next blocks one by one, up to the first that has a fault. After an error the joiner answers that error
+    /// to every call, also where it is fed no block.
     pub fn feed_all(&mut self, blocks: &[u8]) -> Result<(), FragError>
         requires whole { length blocks.now % 128 ≡ 0 }
         requires room { count self.old.blocks + count blocks.now ≤ self.old.limit }
@@ -177,7 +179,15 @@ impl Joiner {
             → IfErr result (λ error. IsFault error (first_block_fault (fed ++ blocks.now ++ rest))) }
         ensures taken { OnOk result (count self.new.blocks ≡ count self.old.blocks + count blocks.now) }
         ensures limit { self.new.limit ≡ self.old.limit }
+        // With an error it has failed with that error, and of what it keeps nothing is said.
+        ensures fails { IfErr result (λ error. self.new.failed ≡ Some error) }
+        // One that has failed answers its error, also where there is no block, and stays as it is.
+        ensures failed { (error : FragError) → self.old.failed ≡ Some error
+            → (result ≡ Err error) × (self.new ≡ self.old) }
     {
+        if let Some(error) = self.failed {
+            return Err(error);
+        }
         let (chunks, _) = blocks.as_chunks::<128>();
         for block in chunks {
             self.feed(block)?;

@@ -4,7 +4,7 @@ use Rattle.std.specs.Option.{option_map}
 use Rattle.std.specs.List.{position_or_len}
 use Rattle.std.specs.Prelude.{nat_lt}
 use Rattle.std.specs.Cmp.Lexicographic.{bytes_decides}
-use Rattle.std.specs.HashMap as hash
+use Rattle.indexmap.specs.IndexMap as map
 use Rattle.std.specs.Map.{KeepsOthers}
 use Rattle.std.proofs.lemmas.Cmp.{nat_list_eq_equiv}
 use Rattle.std.proofs.lemmas.Bool.{ltb-false}
@@ -130,19 +130,19 @@ hits_few t records = let is = count_found t records in let few = count_by-le-len
 
 -- ---- names as keys
 
-module _ {A X S : Type 0} (m n : hash.HashMap (Vec ℕ A) X S) (key : Vec ℕ A) (w : Option X) where
+module _ {A X S : Type 0} (m n : map.IndexMap (Vec ℕ A) X S) (key : Vec ℕ A) (w : Option X) where
   apart : (bs cs ks : List ℕ) → bytes_eq bs cs ≡ false → bytes_eq bs ks ≡ true → bytes_eq cs ks ≡ false
   apart bs cs ks fails holds = nat_list_eq_equiv.symm cs ks ∙ sym (nat_list_eq_equiv.congr bs ks cs holds) ∙ fails
 
   others : KeepsOthers (λ (x y : Vec ℕ A). bytes_eq x.items y.items) (λ (y : Vec ℕ A). bytes_eq key.items y.items) m.entries n.entries
-      → (name : List ℕ) → bytes_eq key.items name ≡ false → hash.get_by (λ (k : Vec ℕ A). bytes_eq name k.items) n ≡ hash.get_by (λ (k : Vec ℕ A). bytes_eq name k.items) m
+      → (name : List ℕ) → bytes_eq key.items name ≡ false → map.get_by (λ (k : Vec ℕ A). bytes_eq name k.items) n ≡ map.get_by (λ (k : Vec ℕ A). bytes_eq name k.items) m
   unfolding KeepsOthers
   others keeps name fails = keeps (λ (k : Vec ℕ A). bytes_eq name k.items) (λ x y. nat_list_eq_equiv.congr name x.items y.items) (λ k. apart key.items name k.items fails)
 
-  pub names_after : hash.UpdatesBy (λ (x y : Vec ℕ A). bytes_eq x.items y.items) (λ (y : Vec ℕ A). bytes_eq key.items y.items) m n w
-      → (name : List ℕ) → hash.get_by (λ (k : Vec ℕ A). bytes_eq name k.items) n ≡ cond (bytes_eq key.items name) w (hash.get_by (λ (k : Vec ℕ A). bytes_eq name k.items) m)
+  pub names_after : map.UpdatesBy (λ (x y : Vec ℕ A). bytes_eq x.items y.items) (λ (y : Vec ℕ A). bytes_eq key.items y.items) m n w
+      → (name : List ℕ) → map.get_by (λ (k : Vec ℕ A). bytes_eq name k.items) n ≡ cond (bytes_eq key.items name) w (map.get_by (λ (k : Vec ℕ A). bytes_eq name k.items) m)
   names_after put name = elim (tested (bytes_eq key.items name)) [
-    | inl holds ↦ subst (λ (bs : List ℕ). hash.get_by (λ (k : Vec ℕ A). bytes_eq bs k.items) n ≡ w) ((bytes_decides key.items name).0 holds) put.1
-        ∙ sym (ap (λ (b : Bool). cond b w (hash.get_by (λ (k : Vec ℕ A). bytes_eq name k.items) m)) holds)
-    | inr fails ↦ others put.3 name fails ∙ sym (ap (λ (b : Bool). cond b w (hash.get_by (λ (k : Vec ℕ A). bytes_eq name k.items) m)) fails)
+    | inl holds ↦ subst (λ (bs : List ℕ). map.get_by (λ (k : Vec ℕ A). bytes_eq bs k.items) n ≡ w) ((bytes_decides key.items name).0 holds) put.1
+        ∙ sym (ap (λ (b : Bool). cond b w (map.get_by (λ (k : Vec ℕ A). bytes_eq name k.items) m)) holds)
+    | inr fails ↦ others put.3 name fails ∙ sym (ap (λ (b : Bool). cond b w (map.get_by (λ (k : Vec ℕ A). bytes_eq name k.items) m)) fails)
   ]

@@ -2,7 +2,7 @@
 use Rattle.std.specs.Prelude.{ℕ, ◌+◌, ◌==◌, ◌&&◌, Bool, List, Option, Some, None, bytes_eq, count_by, position}
 use Rattle.std.specs.Option.{option_map}
 use Rattle.std.specs.declared.vec.Vec.{Vec}
-use Rattle.std.specs.HashMap.{HashMap, get_by}
+use Rattle.indexmap.specs.IndexMap.{IndexMap, get_by}
 use Rattle.ldm_records.specs.declared.types.Record.{Record}
 use Rattle.ldm_group.specs.declared.index.Hits.{Hits}
 use Rattle.ldm_group.specs.declared.index.ObjectId.{ObjectId}
@@ -25,9 +25,9 @@ one_more (Some found) at = record { first = found.first; count = found.count + 1
 abbrev pub is_object : ℕ → ℕ → ObjectId → Bool
 is_object kind id key = (kind == key.kind) && (id == key.id)
 
-abbrev pub at_object : {S : Type 0} → HashMap ObjectId Hits S → ℕ → ℕ → Option Hits
+abbrev pub at_object : {S : Type 0} → IndexMap ObjectId Hits S → ℕ → ℕ → Option Hits
 at_object map kind id = get_by (is_object kind id) map
 
 -- and at a name
-abbrev pub at_name : {A S : Type 0} → HashMap (Vec ℕ A) Hits S → List ℕ → Option Hits
+abbrev pub at_name : {A S : Type 0} → IndexMap (Vec ℕ A) Hits S → List ℕ → Option Hits
 at_name map name = get_by (λ key. bytes_eq name key.items) map

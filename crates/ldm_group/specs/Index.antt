@@ -1,6 +1,6 @@
 -- What the maps of a database say of its records: for each key, the records that have it.
 use Rattle.std.specs.Prelude.{◌≡◌, ℕ, List, nat_eq}
-use Rattle.std.specs.HashMap.{get}
+use Rattle.indexmap.specs.IndexMap.{get}
 use Rattle.ldm_records.specs.declared.types.Record.{Record}
 use Rattle.ldm_group.specs.Hits.{hits, at_name, at_object}
 use Rattle.ldm_group.specs.Looks.{is_at, is_child, is_disk_named, is_disk_with, is_volume_named}

@@ -1,3 +1,4 @@
+//! The database of a group.
 use crate::catalog::Catalog;
 use crate::error::DbError;
 use crate::index::Index;
@@ -42,7 +43,7 @@ impl Db {
 
     /// The database of this header, with the records in their order. Its maps are made in near linear time,
     /// but where records were chosen so that their keys fall on one place of a hash table: then in some
-    /// five steps for each pair of records.
+    /// ten steps for each pair of records.
     pub fn new(alloc: Global, header: Header, records: Vec<Record>) -> Result<Db, DbError>
         ensures { MakesDb result header records.items }
     {

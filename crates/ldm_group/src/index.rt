@@ -1,13 +1,14 @@
+//! Tables of the places of records, by what they are looked up by.
 ghost use Rattle.std.specs.Prelude.{◌≡◌, ◌+◌, ◌<◌, ◌^◌, ℕ, List, Some, if◌then◌else◌, bytes_eq, nat_eq, length, take, OnOk};
-ghost use Rattle.std.specs.HashMap.{get, Updates};
+ghost use Rattle.indexmap.specs.IndexMap.{get, Updates};
 ghost use Rattle.ldm_group.specs.Hits.{hits, count_in, one_more, at_name, at_object};
 ghost use Rattle.ldm_group.specs.Looks.{is_at, is_child, is_disk_named, is_disk_with, is_volume_named};
 
 use crate::order::{id_of, kind_of};
+use indexmap::IndexMap;
 use ldm_bytes::NoMemory;
 use ldm_records::Record;
 use std::alloc::Global;
-use std::collections::HashMap;
 use std::hash::Hash;
 
 /// The records that have one key.
@@ -37,15 +38,15 @@ impl ObjectId {
 /// What records are looked up by.
 pub struct Index {
     /// All records, by kind and id.
-    ids: HashMap<ObjectId, Hits>,
+    ids: IndexMap<ObjectId, Hits>,
     /// Volumes by their names.
-    volumes: HashMap<Vec<u8>, Hits>,
+    volumes: IndexMap<Vec<u8>, Hits>,
     /// Disks by their names.
-    disks: HashMap<Vec<u8>, Hits>,
+    disks: IndexMap<Vec<u8>, Hits>,
     /// Disks by their GUIDs.
-    guids: HashMap<u128, Hits>,
+    guids: IndexMap<u128, Hits>,
     /// Components by their volumes, and partitions by their components and by their disks.
-    children: HashMap<ObjectId, Hits>,
+    children: IndexMap<ObjectId, Hits>,
 }
 
 // By hand, so that a function that lets an index go has one step for all its maps.
@@ -79,7 +80,7 @@ fn one_more(found: Option<Hits>, at: usize) -> Hits
 }
 
 // One more record, at this place, has the key.
-fn note<K: Eq + Hash + Drop>(map: &mut HashMap<K, Hits>, key: K, at: usize) -> Result<(), NoMemory>
+fn note<K: Eq + Hash + Drop>(map: &mut IndexMap<K, Hits>, key: K, at: usize) -> Result<(), NoMemory>
     requires { count_in (get K.eq map.old key) + 1 < 2 ^ 64 }
     ensures { OnOk result (Updates K.eq map.old map.new key (Some (one_more (get K.eq map.old key) at))) }
 {
@@ -90,7 +91,7 @@ fn note<K: Eq + Hash + Drop>(map: &mut HashMap<K, Hits>, key: K, at: usize) -> R
 
 // The same of a name.
 fn note_name(
-    names: &mut HashMap<Vec<u8>, Hits>,
+    names: &mut IndexMap<Vec<u8>, Hits>,
     alloc: Global,
     name: &[u8],
     at: usize,
@@ -102,7 +103,11 @@ fn note_name(
 }
 
 // The record at a place, into a map that has those before it.
-fn note_id(ids: &mut HashMap<ObjectId, Hits>, records: &[Record], at: usize) -> Result<(), NoMemory>
+fn note_id(
+    ids: &mut IndexMap<ObjectId, Hits>,
+    records: &[Record],
+    at: usize,
+) -> Result<(), NoMemory>
     requires within { at < length records.now }
     requires before { (kind id : ℕ) → at_object ids.old kind id ≡ hits (is_at kind id) (take at records.now) }
     ensures { OnOk result ((kind id : ℕ) → at_object ids.new kind id ≡ hits (is_at kind id) (take (at + 1) records.now)) }
@@ -112,7 +117,7 @@ fn note_id(ids: &mut HashMap<ObjectId, Hits>, records: &[Record], at: usize) -> 
 }
 
 fn note_volume(
-    volumes: &mut HashMap<Vec<u8>, Hits>,
+    volumes: &mut IndexMap<Vec<u8>, Hits>,
     alloc: Global,
     records: &[Record],
     at: usize,
@@ -128,7 +133,7 @@ fn note_volume(
 }
 
 fn note_disk(
-    disks: &mut HashMap<Vec<u8>, Hits>,
+    disks: &mut IndexMap<Vec<u8>, Hits>,
     alloc: Global,
     records: &[Record],
     at: usize,
@@ -143,7 +148,11 @@ fn note_disk(
     }
 }
 
-fn note_guid(guids: &mut HashMap<u128, Hits>, records: &[Record], at: usize) -> Result<(), NoMemory>
+fn note_guid(
+    guids: &mut IndexMap<u128, Hits>,
+    records: &[Record],
+    at: usize,
+) -> Result<(), NoMemory>
     requires within { at < length records.now }
     requires before { (guid : ℕ) → get nat_eq guids.old guid ≡ hits (is_disk_with guid) (take at records.now) }
     ensures { OnOk result ((guid : ℕ) → get nat_eq guids.new guid ≡ hits (is_disk_with guid) (take (at + 1) records.now)) }
@@ -155,7 +164,7 @@ fn note_guid(guids: &mut HashMap<u128, Hits>, records: &[Record], at: usize) -> 
 }
 
 fn note_child(
-    children: &mut HashMap<ObjectId, Hits>,
+    children: &mut IndexMap<ObjectId, Hits>,
     records: &[Record],
     at: usize,
 ) -> Result<(), NoMemory>
@@ -184,13 +193,13 @@ impl Index {
     fn with_room(alloc: Global, records: usize) -> Result<Index, NoMemory>
         ensures { IfOk result (λ index. IsIndexOf index []) }
     {
-        let ids = HashMap::with_capacity(alloc, records)?;
-        let children = HashMap::with_capacity(alloc, records)?;
+        let ids = IndexMap::with_capacity(alloc, records)?;
+        let children = IndexMap::with_capacity(alloc, records)?;
         Ok(Index {
             ids,
-            volumes: HashMap::new(alloc),
-            disks: HashMap::new(alloc),
-            guids: HashMap::new(alloc),
+            volumes: IndexMap::new(alloc),
+            disks: IndexMap::new(alloc),
+            guids: IndexMap::new(alloc),
             children,
         })
     }

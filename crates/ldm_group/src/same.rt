@@ -1,3 +1,4 @@
+//! Whether two databases are the same group.
 ghost use Rattle.std.specs.Prelude.{◌≡◌, ◌↔◌, IsTrue};
 ghost use Rattle.ldm_group.specs.Database.{IsSameHeader, IsSameCore};
 

@@ -1,5 +1,6 @@
+//! The text of `show`.
 ghost use Rattle.std.specs.Prelude.{◌≡◌, ◌++◌, ◌-◌, ◌<◌, nat_eq, length, slice_get, Some, All, OnOk, IfOk, unwrap_or};
-ghost use Rattle.std.specs.HashMap as hash;
+ghost use Rattle.indexmap.specs.IndexMap as map;
 ghost use Rattle.ldm_group.specs.Partitions.{used_on};
 ghost use Rattle.ldm_group.specs.Room.{IsFitting};
 ghost use Rattle.ldm_rules.specs.Ends.{sectors_by};
@@ -7,6 +8,7 @@ ghost use Rattle.ldm_found.specs.Facts.{IsSoundGroup};
 ghost use Rattle.ldm_rules.specs.Present.{image_with};
 ghost use Rattle.ldm_group_text.specs.Show.{text_of_group, text_of_place, text_of_disk_at, text_of_disks, text_of_show};
 
+use indexmap::IndexMap;
 use ldm_bytes::{Bytes, NoMemory};
 use ldm_found::Found;
 use ldm_group::{Db, used_of, used_sectors};
@@ -14,7 +16,6 @@ use ldm_label::{Label, Labels};
 use ldm_records::{Disk, Record};
 use ldm_text::{Text, push_all_volumes, push_named, push_number};
 use std::alloc::Global;
-use std::collections::HashMap;
 
 // The line of the group.
 #[tactic(auto, unfolding(crate::specs::Show::text_of_group))]
@@ -67,9 +68,9 @@ fn push_disk(
     text: &mut Text,
     found: &Found,
     d: &Disk,
-    used: &HashMap<u64, u128>,
+    used: &IndexMap<u64, u128>,
 ) -> Result<(), NoMemory>
-    ensures { OnOk result (text.new ≡ text.old ++ text_of_disk_at (λ disk. unwrap_or (hash.get nat_eq used.now disk) 0) found.now.labels d.now) }
+    ensures { OnOk result (text.new ≡ text.old ++ text_of_disk_at (λ disk. unwrap_or (map.get nat_eq used.now disk) 0) found.now.labels d.now) }
 {
     push_number(text, b"disk ", d.head.id)?;
     push_named(text, b" ", d.head.name.as_slice(), d.guid)?;
@@ -78,8 +79,8 @@ fn push_disk(
 }
 
 // A line for each disk, by the sectors that the map has for it.
-fn push_lines(text: &mut Text, found: &Found, used: &HashMap<u64, u128>) -> Result<(), NoMemory>
-    ensures { OnOk result (text.new ≡ text.old ++ text_of_disks (λ disk. unwrap_or (hash.get nat_eq used.now disk) 0) found.now.labels found.now.db.records) }
+fn push_lines(text: &mut Text, found: &Found, used: &IndexMap<u64, u128>) -> Result<(), NoMemory>
+    ensures { OnOk result (text.new ≡ text.old ++ text_of_disks (λ disk. unwrap_or (map.get nat_eq used.now disk) 0) found.now.labels found.now.db.records) }
 {
     for r in found.db.as_slice() {
         if let Record::Disk(d) = r {

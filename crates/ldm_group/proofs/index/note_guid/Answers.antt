@@ -1,6 +1,6 @@
 use Rattle.std.proofs.Common.{ap, nat_eq}
 use Rattle.std.proofs.lemmas.Bool.{eqb-true}
-use Rattle.std.specs.HashMap.{get}
+use Rattle.indexmap.specs.IndexMap.{get}
 use Rattle.ldm_group.specs.Looks.{is_disk_with}
 use Rattle.ldm_group.proofs.HitLaws.{noted, where_ok}
 use Rattle.ldm_group.proofs.index.note_guid.Goals as goal

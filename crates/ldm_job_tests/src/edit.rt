@@ -1,6 +1,6 @@
 //! Sessions of jobs on the disks of a small group: each job is run on what the jobs before it left.
+use crate::group::change_images;
 use crate::jobs::{letters_of, named_images, place_of, run_over, sample_group, words_in};
-use crate::jobs_group::change_images;
 use ldm_host::{Host, MemoryHost};
 use std::alloc::Global;
 use std::process::Abort;
@@ -127,6 +127,12 @@ $ map Data 2057 1 on A B C
 $ map Data 2057 2 on A B C
 refused: bad range
 = 1
+$ map Data 0 0 on A B C
+refused: bad range
+= 1
+$ map Nope 0 1 on A B C
+refused: no volume
+= 1
 $ edit on A B C
 < create Data cccccccc-cccc-cccc-cccc-cccccccccccc span Nope=1
 < create X cccccccc-cccc-cccc-cccc-cccccccccccc span Nope=1
@@ -160,9 +166,25 @@ volume 5 R raid5 24 cccccccc-cccc-cccc-cccc-cccccccccccc
     partition 8 p8 disk 3 start 0 size 12 offset 0 index 1
     partition 9 p9 disk 4 start 0 size 12 offset 0 index 2
 = 0
+$ map R 0 1 on A B C
+0 copy 0 Disk1 0 at 63
+0 parity Disk3 0 at 63
+= 0
+$ map R 4 1 on A B C
+4 copy 0 Disk2 0 at 63
+4 parity Disk3 0 at 63
+= 0
 $ map R 8 1 on A B C
 8 copy 0 Disk3 4 at 67
 8 parity Disk2 4 at 67
+= 0
+$ map R 12 1 on A B C
+12 copy 0 Disk1 4 at 67
+12 parity Disk2 4 at 67
+= 0
+$ map R 16 1 on A B C
+16 copy 0 Disk2 8 at 71
+16 parity Disk1 8 at 71
 = 0
 $ map R 20 1 on A B C
 20 copy 0 Disk3 8 at 71
@@ -273,7 +295,7 @@ $ create Data bbbbbbbb-bbbb-bbbb-bbbb-bbbbbbbbbbbb span Disk3=1 on A B C
 1 ok 8
 = 0 ABC
 ! *.copy+75=ffffffffffffffff
-$ try on A B C
+$ edit on A B C
 < delete Data
 1 refused: sequence spent
 = 1";
