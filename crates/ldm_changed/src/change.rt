@@ -60,8 +60,8 @@ impl Change {
     }
 }
 
-// The blocks of the new database, where a record that both databases have keeps its blocks, the numbers of those that differ,
-// and the slots of the records.
+// The blocks of the new database, where a record that both databases have keeps its blocks, the
+// numbers of those that differ, and the slots of the records.
 fn next_blocks(
     alloc: Global,
     blocks: &[u8],
@@ -114,8 +114,8 @@ fn next_bytes(
     Ok((bytes, numbers, table))
 }
 
-/// The body of the new database that has the records which both databases have where the old body has them, and the numbers of
-/// the blocks in which it differs.
+/// The body of the new database that has the records which both databases have where the old body
+/// has them, and the numbers of the blocks in which it differs.
 pub fn next_body(alloc: Global, body: &Body, old: &Db, new: &Db) -> Result<Change, NoMemory>
     requires holds { Store (drop 512 body.now) old.now.records }
     requires last { last_of (header_sector body.now) ≡ new.now.header.last }

@@ -49,8 +49,9 @@ fn run_from(numbers: &[u32], k: usize) -> usize
     numbers.len() - k
 }
 
-/// Writes the header of a change's body but the gate, and the blocks of its list, behind the gate of a closed copy, where the old
-/// body stands, then syncs. Blocks that follow one another go in one write.
+/// Writes the header of a change's body but the gate, and the blocks of its list, behind the gate
+/// of a closed copy, where the old body stands, then syncs. Blocks that follow one another go in
+/// one write.
 pub fn fill_changed<H: Host>(
     host: &mut H,
     disk: usize,

@@ -23,8 +23,8 @@ pub enum Next {
     Changed(Change),
 }
 
-/// Closes an open copy, writes what is next into it, and opens it. At each moment, whatever the outcome, the area is as it was, or
-/// the copy is closed or that of the new body.
+/// Closes an open copy, writes what is next into it, and opens it. At each moment, whatever the
+/// outcome, the area is as it was, or the copy is closed or that of the new body.
 pub fn rewrite_next<H: Host>(
     host: &mut H,
     disk: usize,

@@ -67,7 +67,8 @@ fn keep_or_free(
     Ok(())
 }
 
-// Frees the blocks of the records that the new database doesn't have, and answers the slots of the others, in their order.
+// Frees the blocks of the records that the new database doesn't have, and answers the slots of the
+// others, in their order.
 pub fn free_gone(
     alloc: Global,
     out: &mut [u8],
@@ -223,7 +224,8 @@ pub fn changed(alloc: Global, old: &[u8], new: &[u8]) -> Result<Vec<u32>, NoMemo
     Ok(numbers)
 }
 
-// Takes the records of the old database out of the blocks that the new one doesn't have, and puts those in that are new.
+// Takes the records of the old database out of the blocks that the new one doesn't have, and puts
+// those in that are new.
 pub fn rewrite_blocks(
     alloc: Global,
     out: &mut [u8],

@@ -14,8 +14,8 @@ use ldm_copy::{close, unseal};
 use ldm_host::{Failed, Host};
 use ldm_label::Label;
 
-/// Fills a closed copy, behind whose gate the old body stands, and opens it. At each moment, whatever the outcome, the copy is
-/// closed or that of the new body.
+/// Fills a closed copy, behind whose gate the old body stands, and opens it. At each moment,
+/// whatever the outcome, the copy is closed or that of the new body.
 pub fn refill_changed<H: Host>(
     host: &mut H,
     disk: usize,
@@ -42,8 +42,9 @@ pub fn refill_changed<H: Host>(
     unseal(host, disk, label)
 }
 
-/// Closes an open copy whose bytes are those of the old body, fills it with what differs, and opens it. At each moment, whatever
-/// the outcome, the area is as it was, or the copy is closed or that of the new body.
+/// Closes an open copy whose bytes are those of the old body, fills it with what differs, and opens
+/// it. At each moment, whatever the outcome, the area is as it was, or the copy is closed or that
+/// of the new body.
 pub fn rewrite_changed<H: Host>(
     host: &mut H,
     disk: usize,

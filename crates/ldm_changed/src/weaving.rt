@@ -30,7 +30,8 @@ fn weave_one(
     Ok((taken.0, taken.1 + 1))
 }
 
-// The slots of all records in their order, from those of the records that the old database has, and those of the others.
+// The slots of all records in their order, from those of the records that the old database has, and
+// those of the others.
 pub fn weave(
     alloc: Global,
     records: &[Record],
