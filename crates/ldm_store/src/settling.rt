@@ -1,3 +1,4 @@
+//! Makes the group of the disks ready to be edited.
 ghost use Rattle.std.specs.Prelude.{◌≡◌, ◌≢◌, ◌⊎◌, ◌+◌, ◌*◌, ◌/◌, ◌<◌, ◌≤◌, List, ℕ, length, slice_index, Result, IfOk, IfErr, OnOk, IsErr, IsErrOf, Some, None};
 ghost use Rattle.ldm_host.specs.Moves.{Later, Quiet, Rose, Settled, Settles, Changes};
 ghost use Rattle.ldm_host.specs.Seen.{image};
