@@ -1,10 +1,8 @@
 -- The syncs and the look for a group, and what follows them.
-use Rattle.std.proofs.Common.{◌⊎◌, ◌≡◌, inl, inr, ⊎_elim, ℕ, ◌<◌, List, length, Some, None, Ok, Err, sym, ◌∙◌, ap, subst}
+use Rattle.std.proofs.Common.{◌⊎◌, ◌≡◌, inl, inr, ⊎_elim, ℕ, List, length, Some, None, Ok, Err, sym, ◌∙◌, ap, subst}
 use Rattle.ldm_host.specs.Seen.{Seen, Leaves, image}
-use Rattle.ldm_host.specs.Moves.{Begins, Later, Settled, Settles, Still, Quiet}
-use Rattle.ldm_host.proofs.Relations.{moments_trans, leaves_settles, settles_trans, syncs_settles, still_syncs}
-use Rattle.ldm_host.specs.StoryLaws.{begins_both}
-use Rattle.ldm_label.specs.declared.Label.{Label}
+use Rattle.ldm_host.specs.Moves.{Later, Settles, Still, Quiet}
+use Rattle.ldm_host.proofs.Relations.{settles_trans, syncs_settles, still_syncs}
 use Rattle.ldm_label.specs.LabelOf.{SameOutsideArea}
 use Rattle.ldm_found.specs.declared.found.Found.{Found}
 use Rattle.ldm_found.specs.Opening.{IsGroupIn}

@@ -8,7 +8,6 @@ use Rattle.ldm_found.specs.declared.found.Found.{Found}
 use Rattle.ldm_found.specs.declared.fault.OpenError.TheVariants.{Disk}
 use Rattle.ldm_found.specs.Facts.{LieOn}
 use Rattle.ldm_found.specs.Labels.{AreSameOutside}
-use Rattle.ldm_found.specs.Opening.{IsGroupIn}
 use Rattle.ldm_store.specs.Healing.{AreSpared}
 use Rattle.ldm_store.specs.Sessions.{Opened, HoldsGroup, RestsOn}
 use Rattle.ldm_store.specs.Turning.{AllSettled, AreRewritten}
