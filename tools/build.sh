@@ -6,7 +6,10 @@
 # beside the program, so that no other program is ever run. The prover is called on one crate after another, by what crates.txt
 # says, and on crates that don't stand on each other side by side. What a crate above reads of a proved library is its
 # statements, and no proof. They are kept in build/, with the sum of all that they rest on, each as one archive, since the kit's
-# commands refuse a tree with sources that they don't read.
+# commands refuse a tree with sources that they don't read. The last programs are kept there too, by the sum of their sources.
+#
+# To sum the sources takes a while. So where they were found to be those of the program, a stamp beside the program notes of each
+# file its number, its size and its times. As long as nothing of that has changed, the next calls sum nothing.
 
 NOT_BUILT=70
 
@@ -121,6 +124,55 @@ is_current() {
     [ -z "$kit_is" ] || [ "$kit_is" = "$of_kit" ]
 }
 
+# Puts a program that was built of these sources before in its place.
+take_built() {
+    built=$kept/programs/$crate-$(sum_of_sources "$here")
+    [ -r "$built" ] && [ -r "$built.sum" ] || return 1
+    rm -f "$program.sum"
+    cp "$built" "$program.new" && mv "$program.new" "$program" && cp "$built.sum" "$program.sum" && is_current
+}
+
+# Keeps the program by the sum of its sources, and the last four of all.
+keep_program() {
+    mkdir -p "$kept/programs" && read -r of_sources <"$program.sum" || return 1
+    built=$kept/programs/$crate-$of_sources
+    cp "$program" "$built" && cp "$program.sum" "$built.sum" || return 1
+    # shellcheck disable=SC2012
+    ls -t "$kept"/programs/*.sum | tail -n +5 | while IFS= read -r it; do
+        rm -f "$it" "${it%.sum}"
+    done
+}
+
+# What the program, its sources and the kit look like from outside: of each file its number, its size and its times. The first
+# two lines are the kit's command and folder, as a stamp that was read has them.
+marks() {
+    echo "$rt_is"
+    echo "$kit_was"
+    set -- "$here/crates.txt" "$here/HANDLES" "$here"/crates/*/src "$here"/crates/*/specs "$here"/crates/*/proofs
+    [ -z "$rt_is" ] || set -- "$@" "$rt_is" "$kit_was/KIT-ID"
+    find -L "$@" "$program" "$program.sum" -type f -printf '%p %D:%i %s %T@ %C@\n' 2>/dev/null
+}
+
+# Whether nothing has changed since the program was found to be that of the sources.
+is_as_stamped() {
+    [ -x "$program" ] && [ -r "$stamp" ] || return 1
+    rt_is=$(command -v rt)
+    {
+        read -r rt_was && read -r kit_was && read -r _
+    } <"$stamp" || return 1
+    [ "$rt_is" = "$rt_was" ] && marks | cmp -s - "$stamp"
+}
+
+# Notes what was found to be current, as $1 looked before. What changed within the last seconds may change again within the
+# same moment of the file system's clock: then nothing is noted.
+write_stamp() {
+    [ "$(marks)" = "$1" ] && [ "$(printf '%s\n' "$1" | wc -l)" -gt 2 ] || return 0
+    youngest=$(printf '%s\n' "$1" | awk 'NR > 2 && $NF > most { most = $NF } END { printf "%d", most }')
+    [ $((youngest + 2)) -lt "$(date +%s)" ] || return 0
+    (printf '%s\n' "$1" >"$stamp.$$") 2>/dev/null && mv "$stamp.$$" "$stamp" 2>/dev/null
+    return 0
+}
+
 # The other words of crate $1's row in crates.txt: the crates below it, and those of the kit that it uses.
 row_of() {
     sed -n "s/#.*//; s/^$1 *://p" "$room/source/crates.txt" | tr , ' '
@@ -216,11 +268,16 @@ prove_all() {
     done
 }
 
+count_of() {
+    echo $#
+}
+
 # Starts the crates that can be proved now, but for those that are kept.
 start_ready() {
     waiting=''
     for name in $left; do
-        if [ "$(echo "$running" | wc -w)" -ge "$at_once" ] || ! are_proved "$(below "$name")"; then
+        # shellcheck disable=SC2086
+        if [ "$(count_of $running)" -ge "$at_once" ] || ! are_proved "$(below "$name")"; then
             waiting="$waiting$name "
         elif take_kept "$name"; then
             ended=$((ended + 1)) started=$((started + 1))
@@ -326,10 +383,11 @@ build() {
         sum_of <"$program"
         echo "$kit_is"
     } >"$program.sum.new" && mv "$program.sum.new" "$program.sum"
-    built=$?
+    done_so=$?
     leave_room
     trap - INT TERM HUP PIPE
-    return $built
+    [ "$done_so" -ne 0 ] || keep_program || say "the program isn't kept in $kept"
+    return $done_so
 }
 
 # Waits until no other call builds, and holds others off until let_go.
@@ -363,8 +421,13 @@ let_go() {
 run_program() {
     out=$here/crates/$crate/out
     program=$out/$crate
+    stamp=$program.stamp
     kept=$here/build
     room=$kept/now
+    ! is_as_stamped || exec "$program" "$@"
+    rt_is=$(command -v rt)
+    kit_was=$(kit_folder)
+    looked=$(marks)
     if ! is_current; then
         mkdir -p "$out" 2>/dev/null
         if [ ! -w "$out" ] || ! (: >>"$here/build.lock") 2>/dev/null; then
@@ -372,6 +435,7 @@ run_program() {
             exit $NOT_BUILT
         fi
         take_turn
+        is_current || take_built || :
         tries=0
         until is_current; do
             # (sources that change while they are built are built again)
@@ -387,6 +451,8 @@ run_program() {
             tries=$((tries + 1))
         done
         let_go
+    else
+        write_stamp "$looked"
     fi
     exec "$program" "$@"
 }

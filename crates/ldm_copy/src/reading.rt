@@ -1,3 +1,4 @@
+//! Reads the copy on a disk.
 ghost use Rattle.std.specs.Prelude.{◌≡◌, ◌+◌, ◌-◌, ◌*◌, ◌/◌, ◌^◌, ◌<◌, ◌≤◌, ◌++◌, ℕ, List, [], Result, Err, length, slice_index, IfOk, IfErr, IfSome, OnOk, IsErrOf};
 ghost use Rattle.ldm_host.specs.Moves.{Rose, Still, Quiet};
 ghost use Rattle.ldm_host.specs.Seen.{image};

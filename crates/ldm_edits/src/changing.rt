@@ -1,3 +1,4 @@
+//! The next group of a command: the records that stay and those that are made, behind one header.
 ghost use Rattle.std.specs.Prelude.{◌≡◌, ◌≢◌, ◌++◌, ◌-◌, ◌^◌, All, IfOk};
 ghost use Rattle.ldm_group.specs.Order.{Rising, in_order};
 ghost use Rattle.ldm_group.specs.Room.{IsFitting};
@@ -30,8 +31,8 @@ fn changed(alloc: Global, db: &Db, leaving: Leaving, made: Vec<Record>) -> Resul
     }
 }
 
-/// The group with these records, of which so many are new, in the places of those that leave it, where no limit is passed. No
-/// record is copied before.
+/// The group with these records, of which so many are new, in the places of those that leave it, where no limit is passed. The
+/// records that stay are copied only then.
 pub fn change(
     alloc: Global,
     db: &Db,

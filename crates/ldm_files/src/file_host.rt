@@ -1,99 +1,38 @@
 //! A host over files, standard input and standard output.
-ghost use Rattle.std.specs.Prelude.{◌≡◌, ◌≤◌, ◌<◌, ◌+◌, ◌-◌, ◌^◌, ◌≤ℤ◌, length, map, min, set, slice_index, IfOk, IsErr, is_ok};
+ghost use Rattle.std.specs.Prelude.{◌≡◌, ◌≤◌, ◌<◌, ◌+◌, ◌-◌, ◌^◌, length, map, min, set, slice_index, IfOk, IsErr, is_ok};
 ghost use Rattle.ldm_host.specs.Moves.{Rose};
-ghost use Rattle.std.specs.Fd.{file_raw_fd};
-ghost use Rattle.ldm_files.specs.declared.streams.TheConstants.{STREAMS};
 
-use crate::streams::STREAMS;
+use crate::image::ImageFile;
 use ldm_bytes::NoMemory;
 use ldm_host::{Failed, Host};
 use std::alloc::Global;
-use std::fs::{File, Metadata, TryLockError};
-use std::io::{self, ErrorKind, Read, Seek, SeekFrom, Write};
-use std::os::fd::AsRawFd;
-use std::os::unix::fs::{FileExt, FileTypeExt, MetadataExt};
+use std::io::{self, ErrorKind, Read, Write};
+use std::os::unix::fs::FileExt;
 
-/// What a job does with its images.
-#[derive(Clone, Copy, PartialEq, Eq)]
-pub enum Access {
-    /// They are read alone.
+/// What a call of a disk did.
+#[derive(Clone, Copy, Debug, PartialEq, Eq)]
+pub enum DiskCall {
     Read,
-    /// They are written to as well.
-    Edit,
+    Write,
+    Sync,
 }
 
-/// A file by the device that it is on, and its number there.
-#[derive(Clone, Copy, PartialEq, Eq)]
-struct FileId {
-    device: u64,
-    number: u64,
-}
-
-/// An image that is open for its disk, and how long it is. It is on no standard stream.
-#[derive(Drop)]
-pub struct ImageFile {
-    file: File,
-    id: FileId,
-    sectors: u64,
-    ghost small: { sectors < 2 ^ 55 },
-    ghost apart: { STREAMS ≤ℤ file_raw_fd file },
-}
-
-// Refuses what holds no disk: only a regular file and a block device do.
-fn require_disk(metadata: &Metadata) -> io::Result<()> {
-    if metadata.is_file() || metadata.file_type().is_block_device() {
-        Ok(())
-    } else {
-        Err(io::Error::from(ErrorKind::InvalidInput))
-    }
-}
-
-impl ImageFile {
-    /// Opens an image for reading, and for writing too where the job edits. What holds no disk isn't even
-    /// opened, since a named pipe would wait for a writer; what was opened is looked at again, since the name
-    /// may stand for another file by then.
-    pub fn open(rt: &HostRuntime, path: &str, access: Access) -> io::Result<ImageFile> {
-        require_disk(&std::fs::metadata(rt, path)?)?;
-        let file = File::options()
-            .read(true)
-            .write(access == Access::Edit)
-            .open(rt, path)?;
-        require_disk(&file.metadata()?)?;
-        ImageFile::of(file)
-    }
-
-    /// Locks the image against other programs that edit, for as long as it is open, and fails where one of
-    /// them holds it. An image that is among those already open is left to the lock of the first, so that it
-    /// is found to be named twice.
-    pub fn lock_beside(&self, others: &[ImageFile]) -> io::Result<()> {
-        if others.iter().any(|other| other.id == self.id) {
-            return Ok(());
-        }
-        match self.file.try_lock() {
-            Ok(()) => Ok(()),
-            Err(TryLockError::Error(error)) => Err(error),
-            Err(TryLockError::WouldBlock) => Err(io::Error::from(ErrorKind::WouldBlock)),
-        }
-    }
-
-    /// Takes an open file for an image, but none that is on a standard stream. Its length is where it
-    /// ends, since the metadata of a block device has none; whole sectors count.
-    pub fn of(file: File) -> io::Result<ImageFile> {
-        if file.as_raw_fd() < STREAMS {
-            return Err(io::Error::from(ErrorKind::InvalidInput));
-        }
-        let metadata = file.metadata()?;
-        let id = FileId {
-            device: metadata.dev(),
-            number: metadata.ino(),
-        };
-        let sectors = (&file).seek(SeekFrom::End(0))? / 512;
-        Ok(ImageFile { file, id, sectors })
-    }
+/// A call of the host that failed, and what the system said.
+#[derive(Clone, Copy, Debug)]
+pub enum Failure {
+    /// A call of a disk, by the number of its image.
+    Disk {
+        image: usize,
+        call: DiskCall,
+        error: io::Error,
+    },
+    Input(io::Error),
+    Output(io::Error),
 }
 
 /// The images are files. It tells nothing of what is in them, of what is said and of what is heard:
-/// what the clauses say of it is how long the files are, which counts rose, and what it was handed.
+/// what the clauses say of it is how long the files are, which counts rose, and what it was handed. Of calls that
+/// fail it keeps the last, and it counts the lines that were said.
 #[derive(Drop)]
 pub struct FileHost<I, O> {
     images: Vec<ImageFile>,
@@ -102,6 +41,8 @@ pub struct FileHost<I, O> {
     output: O,
     disk_faults: u64,
     talk_faults: u64,
+    failure: Option<Failure>,
+    lines: u64,
     ghost counted: { length wrote.items ≡ length images.items },
 }
 
@@ -121,7 +62,19 @@ impl<I, O> FileHost<I, O> {
             output,
             disk_faults: 0,
             talk_faults: 0,
+            failure: None,
+            lines: 0,
         })
+    }
+
+    /// The last call that failed, if one did.
+    pub fn failure(&self) -> Option<Failure> {
+        self.failure
+    }
+
+    /// How many lines were said whole.
+    pub fn lines(&self) -> u64 {
+        self.lines
     }
 }
 
@@ -147,7 +100,7 @@ fn ended(ok: bool, faults: &mut u64) -> Result<(), Failed>
 }
 
 // Reads what comes next of the input.
-fn read_some<I: Read>(input: &mut I, buf: &mut [u8]) -> Result<usize, Failed>
+fn read_some<I: Read>(input: &mut I, buf: &mut [u8]) -> io::Result<usize>
     ensures { IfOk result (λ n. n ≤ length buf.old) }
 {
     for _ in 0..u64::MAX {
@@ -155,17 +108,30 @@ fn read_some<I: Read>(input: &mut I, buf: &mut [u8]) -> Result<usize, Failed>
             Ok(n) => return Ok(n),
             Err(error) => {
                 if error.kind() != ErrorKind::Interrupted {
-                    return Err(Failed);
+                    return Err(error);
                 }
             }
         }
     }
-    Err(Failed)
+    Err(io::Error::from(ErrorKind::Interrupted))
 }
 
-// Writes all bytes to the output, and says whether it could.
-fn write_out<O: Write>(output: &mut O, bytes: &[u8]) -> bool {
-    output.write_all(bytes).is_ok() && output.flush().is_ok()
+// Writes all bytes to the output.
+fn write_out<O: Write>(output: &mut O, bytes: &[u8]) -> io::Result<()> {
+    output.write_all(bytes)?;
+    output.flush()
+}
+
+// How many lines end in these bytes.
+fn line_count(bytes: &[u8]) -> u64 {
+    bytes.iter().filter(|c| **c == b'\n').count() as u64
+}
+
+// Keeps a failed call of a disk as the last.
+fn keep_failure(failure: &mut Option<Failure>, image: usize, call: DiskCall, done: io::Result<()>) {
+    if let Err(error) = done {
+        *failure = Some(Failure::Disk { image, call, error });
+    }
 }
 
 impl<I: Read, O: Write> Host for FileHost<I, O> {
@@ -207,27 +173,39 @@ impl<I: Read, O: Write> Host for FileHost<I, O> {
 
     fn read_at(&mut self, disk: usize, at: u64, buf: &mut [u8]) -> Result<(), Failed> {
         let done = self.images[disk].file.read_exact_at(buf, at);
+        keep_failure(&mut self.failure, disk, DiskCall::Read, done);
         ended(done.is_ok(), &mut self.disk_faults)
     }
 
     fn write_at(&mut self, disk: usize, at: u64, bytes: &[u8]) -> Result<(), Failed> {
         hand(&mut self.wrote, disk, bytes.len());
         let done = self.images[disk].file.write_all_at(bytes, at);
+        keep_failure(&mut self.failure, disk, DiskCall::Write, done);
         ended(done.is_ok(), &mut self.disk_faults)
     }
 
     fn sync(&mut self, disk: usize) -> Result<(), Failed> {
         let done = self.images[disk].file.sync_all();
+        keep_failure(&mut self.failure, disk, DiskCall::Sync, done);
         ended(done.is_ok(), &mut self.disk_faults)
     }
 
     fn hear(&mut self, buf: &mut [u8]) -> Result<usize, Failed> {
-        let done = read_some(&mut self.input, buf);
-        ended(done.is_ok(), &mut self.talk_faults).and(done)
+        match read_some(&mut self.input, buf) {
+            Ok(n) => Ok(n),
+            Err(error) => {
+                self.failure = Some(Failure::Input(error));
+                ended(false, &mut self.talk_faults).and(Err(Failed))
+            }
+        }
     }
 
     fn say(&mut self, bytes: &[u8]) -> Result<(), Failed> {
         let done = write_out(&mut self.output, bytes);
-        ended(done, &mut self.talk_faults)
+        match done {
+            Ok(()) => self.lines = self.lines.saturating_add(line_count(bytes)),
+            Err(error) => self.failure = Some(Failure::Output(error)),
+        }
+        ended(done.is_ok(), &mut self.talk_faults)
     }
 }

@@ -4,8 +4,11 @@
 //! is trusted.
 #![tactic(auto)]
 
+mod device;
 mod file_host;
+mod image;
 mod streams;
 
-pub use file_host::{Access, FileHost, ImageFile};
+pub use file_host::{DiskCall, Failure, FileHost};
+pub use image::{Access, ImageError, ImageFile};
 pub use streams::{STREAMS, take_closed_streams};

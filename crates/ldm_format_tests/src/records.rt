@@ -1,5 +1,7 @@
+//! Records: what payloads spell, and own spellings.
 use crate::made::{bytes_of, check};
 use ldm_bytes::{Bytes, NoMemory};
+use ldm_frags::parts_of;
 use ldm_made::{new_component, new_partition, new_volume};
 use ldm_payloads::{RecordError, RecordFault, read_record};
 use ldm_records::{Record, Striping, spelled_len, spelling};
@@ -169,6 +171,17 @@ fn own_spellings(rt: HostRuntime) {
     for row in [DISK, PARTITION, VOLUME] {
         check(&rt, is_spelled(&rt, rt.alloc(), row, row), row);
     }
+}
+
+// A record of three blocks: a partition whose name has 255 bytes.
+#[test]
+fn long_names(rt: HostRuntime) {
+    let name = "x".repeat(rt.alloc(), 255).expect(&rt, "memory");
+    let row = format!(in rt.alloc(); "00000033 l293 0107 ff '{name} z28 020800 0106 0102");
+    let row = row.expect(&rt, "memory");
+    assert!(rt; is_spelled(&rt, rt.alloc(), &row, &row));
+    let len = len_of(rt.alloc(), &bytes_of(&rt, rt.alloc(), &row));
+    assert!(rt; len == Ok(301) && parts_of(301) == 3);
 }
 
 const MALFORMED: RecordError = RecordError::Fault(RecordFault::Malformed);

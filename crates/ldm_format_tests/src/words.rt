@@ -1,3 +1,4 @@
+//! Command lines and their words: which have a reading, and which job that is.
 use crate::made::check;
 use ldm_bytes::{Bytes, NoMemory};
 use ldm_words::{Job, WordsError, read_name, read_number, read_words};

@@ -17,7 +17,7 @@ use Rattle.ldm_frags.proofs.Fields.{HasFields, fields_of}
 abbrev pub nowhere : Placed
 nowhere = record { payload = []; slots = [] }
 
-abbrev record_at : List Placed → ℕ → Placed
+abbrev pub record_at : List Placed → ℕ → Placed
 record_at records m = get_or records m nowhere
 
 pub All-cons : {X : Type 0} (P : X → Type 0) (x : X) (xs : List X) → P x → All P xs → All P (x ∷ xs)
@@ -30,7 +30,7 @@ All-rest P x xs all k d lt = all (suc k) d (omega arith)
 AllPairs-rest : {X : Type 0} (R : X → X → Type 0) (x : X) (xs : List X) → AllPairs R (x ∷ xs) → AllPairs R xs
 AllPairs-rest R x xs all i j d below lt = all (suc i) (suc j) d (omega arith) (omega arith)
 
-find_number : (numbers : List ℕ) (b : ℕ) → ((i : ℕ) × (i < length numbers) × (slice_index numbers i ≡ b)) ⊎ All (λ s. s ≢ b) numbers
+pub find_number : (numbers : List ℕ) (b : ℕ) → ((i : ℕ) × (i < length numbers) × (slice_index numbers i ≡ b)) ⊎ All (λ s. s ≢ b) numbers
 find_number [] b = inr (λ k d lt. absurd (omega arith))
 find_number (x ∷ xs) b =
     elim (cases_eq x b) [
@@ -42,17 +42,17 @@ find_number (x ∷ xs) b =
     ]
 
 -- the record and the part whose slot has that number
-record Found (records : List Placed) (b : ℕ) : Type 0 where
-  m : ℕ
-  i : ℕ
-  in_records : m < length records
-  in_slots : i < length (record_at records m).slots
-  there : slot (record_at records m) i ≡ b
+pub record Spot (records : List Placed) (b : ℕ) : Type 0 where
+  pub m : ℕ
+  pub i : ℕ
+  pub in_records : m < length records
+  pub in_slots : i < length (record_at records m).slots
+  pub there : slot (record_at records m) i ≡ b
 
 abbrev pub IsFree : List Placed → ℕ → Type 0
 IsFree records b = All (λ r. All (λ s. s ≢ b) r.slots) records
 
-find_slot : (records : List Placed) (b : ℕ) → Found records b ⊎ IsFree records b
+pub find_slot : (records : List Placed) (b : ℕ) → Spot records b ⊎ IsFree records b
 find_slot [] b = inr (λ k d lt. absurd (omega arith))
 find_slot (r ∷ rs) b =
     elim (find_number r.slots b) [
@@ -63,7 +63,7 @@ find_slot (r ∷ rs) b =
       ]
     ]
 
-abbrev AreApart : List Placed → Type 0
+abbrev pub AreApart : List Placed → Type 0
 AreApart records = AllPairs (λ r s. slot r 0 ≢ slot s 0) records
 
 -- the records that begin at a number
@@ -87,7 +87,7 @@ begin_one (r ∷ rs) (suc m) apart lt =
     rw other (begin_one rs m (AllPairs-rest (λ (a b : Placed). slot a 0 ≢ slot b 0) r rs apart) (omega arith))
 
 -- records that begin at one number are one
-same_record : (records : List Placed) (m n : ℕ) → AreApart records → m < length records → n < length records → slot (record_at records m) 0 ≡ slot (record_at records n) 0 → m ≡ n
+pub same_record : (records : List Placed) (m n : ℕ) → AreApart records → m < length records → n < length records → slot (record_at records m) 0 ≡ slot (record_at records n) 0 → m ≡ n
 same_record records m n apart lm ln e =
     elim (cases_lt m n) [
       | inl lt ↦ absurd (apart m n nowhere lt ln e)
@@ -99,7 +99,7 @@ same_record records m n apart lm ln e =
 
 -- ---- the bytes of parts
 
-filled_length : (bytes : List ℕ) → length (filled bytes) ≡ 112 * parts_of (length bytes)
+pub filled_length : (bytes : List ℕ) → length (filled bytes) ≡ 112 * parts_of (length bytes)
 filled_length bytes = simp (length-append, length-replicate) (omega arith)
 
 pub part_length : (bytes : List ℕ) (i : ℕ) → i < parts_of (length bytes) → length (part_bytes bytes i) ≡ 112
@@ -109,29 +109,29 @@ part_length bytes i lt =
     length-take-le 112 (drop (112 * i) (filled bytes)) (omega arith)
 
 -- the parts in their order are the filled payload
-parts_more : (bytes : List ℕ) (i : ℕ) → take (112 * i) (filled bytes) ++ part_bytes bytes i ≡ take (112 * (i + 1)) (filled bytes)
+pub parts_more : (bytes : List ℕ) (i : ℕ) → take (112 * i) (filled bytes) ++ part_bytes bytes i ≡ take (112 * (i + 1)) (filled bytes)
 parts_more bytes i = sym (ap (λ (n : ℕ). take n (filled bytes)) (omega arith) ∙ take-add (112 * i) 112 (filled bytes))
 
 -- ---- what stands in a block
 
 -- block k holds part i of record m, or it is free
-data Stands (blocks : List ℕ) (records : List Placed) (k : ℕ) : Type 0 where
+pub data Stands (blocks : List ℕ) (records : List Placed) (k : ℕ) : Type 0 where
   in_record : (m i : ℕ) → m < length records → i < length (record_at records m).slots → slot (record_at records m) i ≡ k + 4
       → HasFields blocks k (slot (record_at records m) 0) i (length (record_at records m).slots) (part_bytes (record_at records m).payload i) → Stands blocks records k
   free : IsFree records (k + 4) → HasFields blocks k 0 0 0 (replicate 112 0) → Stands blocks records k
 
-few_slots : (blocks : List ℕ) (r : Placed) → IsPlaced blocks r → (1 ≤ length r.slots) × (length r.slots ≤ 4)
+pub few_slots : (blocks : List ℕ) (r : Placed) → IsPlaced blocks r → (1 ≤ length r.slots) × (length r.slots ≤ 4)
 few_slots blocks r is =
     let some = is.some in
     let few = is.few in
     let whole = is.whole in
     (omega arith, omega arith)
 
-small_count : (blocks : List ℕ) → length blocks ≤ 1048576 → count blocks ≤ 8192
+pub small_count : (blocks : List ℕ) → length blocks ≤ 1048576 → count blocks ≤ 8192
 small_count blocks le = omega arith
 
 -- part i of a record that is placed
-part_fields : (blocks : List ℕ) (r : Placed) (i k : ℕ) → length blocks ≤ 1048576 → IsPlaced blocks r → i < length r.slots → slot r i ≡ k + 4 → HasFields blocks k (slot r 0) i (length r.slots) (part_bytes r.payload i)
+pub part_fields : (blocks : List ℕ) (r : Placed) (i k : ℕ) → length blocks ≤ 1048576 → IsPlaced blocks r → i < length r.slots → slot r i ≡ k + 4 → HasFields blocks k (slot r 0) i (length r.slots) (part_bytes r.payload i)
 part_fields blocks r i k small is lt e =
     let few = few_slots blocks r is in
     let few_0 = few.0 in
@@ -141,7 +141,7 @@ part_fields blocks r i k small is lt e =
     let n = small_count blocks small in
     fields_of blocks k (slot r i) (slot r i) (slot r 0) i (length r.slots) (part_bytes r.payload i) e (is.written i lt) (omega arith) (omega arith) (omega arith)
 
-stands : (blocks : List ℕ) (records : List Placed) → length blocks ≤ 1048576 → Holds blocks records → (k : ℕ) → k < count blocks → Stands blocks records k
+pub stands : (blocks : List ℕ) (records : List Placed) → length blocks ≤ 1048576 → Holds blocks records → (k : ℕ) → k < count blocks → Stands blocks records k
 stands blocks records small holds k lt =
     elim (find_slot records (k + 4)) [
       | inl found ↦
@@ -161,7 +161,7 @@ has_magic_held : (blocks : List ℕ) (records : List Placed) (k : ℕ) → Stand
 has_magic_held blocks records k (in_record m i lm li e has) = has.magic
 has_magic_held blocks records k (free none has) = has.magic
 
-few_held : (blocks : List ℕ) (records : List Placed) (k : ℕ) → Holds blocks records → Stands blocks records k → parts blocks k ≤ 4
+pub few_held : (blocks : List ℕ) (records : List Placed) (k : ℕ) → Holds blocks records → Stands blocks records k → parts blocks k ≤ 4
 few_held blocks records k holds (in_record m i lm li e has) =
     let few = few_slots blocks (record_at records m) (holds.placed m nowhere lm) in
     let few_1 = few.1 in
@@ -186,7 +186,7 @@ one_count_held blocks records j k holds frag of (in_record m i lm li e has) (in_
     let same : m ≡ n = same_record records m n holds.apart lm ln (sym has.group ∙ groups ∙ has_k.group) in
     has.parts ∙ ap (λ (x : ℕ). length (record_at records x).slots) same ∙ sym has_k.parts
 
-once_held : (blocks : List ℕ) (records : List Placed) (j k : ℕ) → Holds blocks records → is_fragment blocks k ≡ true → is_part blocks (group blocks k) (part blocks k) j ≡ true → Stands blocks records j → Stands blocks records k → j ≡ k
+pub once_held : (blocks : List ℕ) (records : List Placed) (j k : ℕ) → Holds blocks records → is_fragment blocks k ≡ true → is_part blocks (group blocks k) (part blocks k) j ≡ true → Stands blocks records j → Stands blocks records k → j ≡ k
 once_held blocks records j k holds frag is (free none has) other =
     let of = (both_true (is_of blocks (group blocks k) j) (eqb (part blocks j) (part blocks k)) is).0 in
     absurd (not_free blocks j 0 0 (replicate 112 0) has (both_true (is_fragment blocks j) (eqb (group blocks j) (group blocks k)) of).0)
@@ -200,7 +200,7 @@ once_held blocks records j k holds frag is (in_record m i lm li e has) (in_recor
     omega arith
 
 -- a part of a record of two parts or more is that part of its group
-part_is : (blocks : List ℕ) (k g p n : ℕ) (bytes : List ℕ) → HasFields blocks k g p n bytes → 2 ≤ n → is_part blocks g p k ≡ true
+pub part_is : (blocks : List ℕ) (k g p n : ℕ) (bytes : List ℕ) → HasFields blocks k g p n bytes → 2 ≤ n → is_part blocks g p k ≡ true
 part_is blocks k g p n bytes has le =
     let frag : is_fragment blocks k ≡ true = frag_is blocks k n (sym has.parts) le in
     let in_group : eqb (group blocks k) g ≡ true = eq-eqb _ _ has.group in
@@ -208,7 +208,7 @@ part_is blocks k g p n bytes has le =
     rw (frag, in_group, part) refl
 
 -- the place of part p of record m
-place_of : (blocks : List ℕ) (records : List Placed) (m p : ℕ) → Holds blocks records → m < length records → p < length (record_at records m).slots → (j : ℕ) × (j < count blocks) × (slot (record_at records m) p ≡ j + 4)
+pub place_of : (blocks : List ℕ) (records : List Placed) (m p : ℕ) → Holds blocks records → m < length records → p < length (record_at records m).slots → (j : ℕ) × (j < count blocks) × (slot (record_at records m) p ≡ j + 4)
 place_of blocks records m p holds lm lp =
     let in_use = (holds.placed m nowhere lm).within p lp in
     let in_use_0 = in_use.0 in
@@ -232,7 +232,7 @@ false_or_true true = inr refl
 false_or_true false = inl refl
 
 -- the least block of a part is its slot
-least_of : (blocks : List ℕ) (records : List Placed) (m p j : ℕ) → length blocks ≤ 1048576 → Holds blocks records → m < length records → p < length (record_at records m).slots → 2 ≤ length (record_at records m).slots → j < count blocks → slot (record_at records m) p ≡ j + 4
+pub least_of : (blocks : List ℕ) (records : List Placed) (m p j : ℕ) → length blocks ≤ 1048576 → Holds blocks records → m < length records → p < length (record_at records m).slots → 2 ≤ length (record_at records m).slots → j < count blocks → slot (record_at records m) p ≡ j + 4
     → least_below (count blocks) (is_part blocks (slot (record_at records m) 0) p) ≡ j
 least_of blocks records m p j small holds lm lp two lj e =
     let has = part_fields blocks (record_at records m) p j small (holds.placed m nowhere lm) lp e in

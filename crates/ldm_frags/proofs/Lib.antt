@@ -7,3 +7,7 @@ pub mod OrderLaws
 pub mod TableLaws
 pub mod SameLaws
 pub mod KeptLaws
+pub mod HoldEdits
+pub mod ApartLaws
+pub mod FewLaws
+pub mod WrittenReads

@@ -4,5 +4,6 @@ pub mod Joins
 pub mod Answers
 pub mod Groups
 pub mod Written
+pub mod Free
 pub mod Kept
 pub mod Fed

@@ -10,9 +10,12 @@ mod faults;
 mod groups;
 mod joiner;
 mod joining;
+mod slots;
 mod splitting;
 mod writing;
 
 pub use faults::{FragError, FragFault, Joined, SplitError};
 pub use joiner::{Joiner, join};
+pub use slots::Slots;
 pub use splitting::{parts_of, split};
+pub use writing::{is_unused, is_written, write_record, write_unused};

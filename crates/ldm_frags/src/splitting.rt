@@ -1,3 +1,4 @@
+//! Payloads as blocks, one after another without gaps.
 ghost use Rattle.std.specs.Prelude.{◌≡◌, ◌+◌, ◌*◌, ◌≤◌, ◌<◌, length, map, All, IfOk};
 ghost use Rattle.ldm_frags.specs.Blocks.{count};
 ghost use Rattle.ldm_frags.specs.Joins.{Joins};
@@ -5,7 +6,7 @@ ghost use Rattle.ldm_frags.specs.Written.{parts_of, need_of, IsSized, IsPlaced, 
 ghost use Rattle.ldm_frags.specs.Answers.{SplitAnswers};
 
 use crate::SplitError;
-use crate::writing::{write_record, write_unused};
+use crate::writing::{write_next, write_rest};
 use ldm_bytes::Bytes;
 use std::alloc::Global;
 
@@ -41,7 +42,7 @@ fn write_records(out: &mut [u8], payloads: &[Bytes]) -> u32
     let mut number = 4;
     for payload in payloads {
         let bytes = payload.as_slice();
-        write_record(out, number, bytes);
+        write_next(out, number, bytes);
         number += parts_of(bytes.len());
     }
     number
@@ -56,7 +57,7 @@ fn write_all(out: &mut [u8], payloads: &[Bytes])
 {
     let next = write_records(out, payloads);
     let end = (out.len() / 128) as u32 + 4;
-    write_unused(out, next, end);
+    write_rest(out, next, end);
 }
 
 /// The blocks from number 4 on that hold records of these payloads, in their order and without gaps,

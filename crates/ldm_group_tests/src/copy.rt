@@ -1,3 +1,4 @@
+//! Copies of the database: valid, closed, and each first fault.
 use crate::made::{host_with, kinds_of};
 use ldm_copy::{CopyError, CopyFault, CopyState, read_copy};
 use ldm_frags::FragFault;
@@ -131,7 +132,7 @@ fn first_faults(rt: HostRuntime) -> Result<(), Fail> {
     Ok(())
 }
 
-// A label takes eight reads, and a copy one for its first sector and one for every eight of the 15 behind it.
+// A label takes eight reads, and a copy three: one for its header, and two for its 15 sectors of blocks.
 #[test]
 fn failing_disks(rt: HostRuntime) -> Result<(), Fail> {
     for call in &[9, 10, 11] {

@@ -1,4 +1,4 @@
-//! Tests of the crates of groups and of the jobs over disks in memory, of what no clause of theirs says.
+//! Tests of the crates of groups and of their texts, of what no clause of theirs says.
 #![tactic(auto)]
 
 #[cfg(test)]
@@ -9,16 +9,6 @@ mod found;
 mod gate;
 #[cfg(test)]
 mod group;
-#[cfg(test)]
-mod jobs;
-#[cfg(test)]
-mod jobs_edit;
-#[cfg(test)]
-mod jobs_group;
-#[cfg(test)]
-mod jobs_stop;
-#[cfg(test)]
-mod jobs_try;
 #[cfg(test)]
 mod layout;
 #[cfg(test)]

@@ -1,3 +1,4 @@
+//! Free sectors of a disk, and where new partitions start.
 ghost use Rattle.std.specs.Prelude.{◌≡◌, ◌<◌, ◌^◌, All, IfOk};
 ghost use Rattle.ldm_group.specs.Partitions.{EndsInRange};
 
@@ -5,7 +6,7 @@ use crate::made::database;
 use crate::rules::labels;
 use ldm_group::Db;
 use ldm_rules::check;
-use ldm_space::{FreeMap, Wanted, place_all};
+use ldm_space::{FreeMap, Wanted, first_fit, place_all};
 use std::alloc::Global;
 use std::test::Fail;
 
@@ -114,5 +115,30 @@ fn takes_from_the_first_gaps(rt: HostRuntime) -> Result<(), Fail> {
         assert!(rt; takes(&mut map, *size, *start), "{size}");
     }
     assert!(rt; map.gaps().is_empty());
+    Ok(())
+}
+
+// How many sectors the disk has, how many are wanted, and where they fit first.
+const FITS: [(u64, u64, Option<u64>); 7] = [
+    (50, 1, Some(10)),
+    (50, 10, Some(10)),
+    (50, 11, None),
+    (51, 11, Some(40)),
+    (20, 10, Some(10)),
+    (19, 10, None),
+    (0, 1, None),
+];
+
+#[test]
+fn fits_first_behind_partitions(rt: HostRuntime) -> Result<(), Fail> {
+    let group = group(rt.alloc())?;
+    for (sectors, size, start) in FITS {
+        let found = if size == 0 {
+            None
+        } else {
+            first_fit(&group, 2, sectors, size)
+        };
+        assert!(rt; found == start, "{size} of {sectors}");
+    }
     Ok(())
 }

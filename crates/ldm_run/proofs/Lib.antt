@@ -14,3 +14,4 @@ pub mod GroupEnds
 pub mod HearsEdits
 pub mod SampleLaws
 pub mod JobLaws
+pub mod KindLaws

@@ -4,6 +4,7 @@ pub mod Scripts
 pub mod Heard
 pub mod Answer
 pub mod Kinds
+pub mod Writing
 pub mod Stops
 pub mod Written
 pub mod Sample

@@ -4,11 +4,13 @@
 #![tactic(auto)]
 
 mod editing;
+mod kinds;
 mod mapping;
 mod replying;
 mod running;
 mod sample;
 mod script;
 
+pub use kinds::kinds_say_which_jobs_write;
 pub use running::{Status, run};
 pub use sample::sample_host;

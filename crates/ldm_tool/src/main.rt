@@ -4,71 +4,65 @@
 //! are the trusted edge.
 #![tactic(auto)]
 
-ghost use Rattle.std.specs.Prelude.{◌≡◌, ◌≢◌, ◌⊎◌, IfOk, IfErr, length, vec_len};
+mod stop;
 
+ghost use Rattle.std.specs.Prelude.{◌≡◌, IfOk, length, vec_len};
+
+use crate::stop::{Fault, Stop};
 use ldm_bytes::NoMemory;
-use ldm_files::{Access, FileHost, ImageFile, take_closed_streams};
+use ldm_files::{Access, Failure, FileHost, ImageError, ImageFile, take_closed_streams};
+use ldm_help::{HELP, Shown, UsageError, VERSION, usage_error};
 use ldm_run::{Status, run};
 use ldm_words::{Job, WordsError, read_words};
 use std::alloc::Global;
-use std::io::{ErrorKind, Read, Write};
+use std::io::{ErrorKind, IsTerminal, Read, Write};
 use std::process::ExitCode;
 use std::{env, io};
 
-// How the program ends before a run.
-#[derive(Clone, Copy, Debug, PartialEq, Eq)]
-enum Stop {
-    Usage,
-    CannotOpen,
-    NoMemory,
-}
-
-// Want of memory, or else the other stop.
-fn stop_for(error: &io::Error, other: Stop) -> Stop
-    ensures { (result ≡ Stop.NoMemory) ⊎ (result ≡ other) }
-{
-    if error.kind() == ErrorKind::OutOfMemory {
-        Stop::NoMemory
-    } else {
-        other
-    }
-}
-
 // The words of the command line, without the program's name. A word that isn't UTF-8 has no reading.
-fn words_of(alloc: Global, rt: &HostRuntime) -> Result<Vec<String>, Stop> {
+fn words_of(alloc: Global, rt: &HostRuntime) -> Result<Vec<String>, Stop<'static>> {
     let args = match env::args(rt) {
         Ok(args) => args,
-        Err(error) => return Err(stop_for(&error, Stop::Usage)),
+        Err(error) if error.kind() == ErrorKind::OutOfMemory => return Err(Stop::NoMemory(None)),
+        Err(_) => return Err(Stop::Usage(UsageError::NotUtf8)),
     };
     let mut words = Vec::new(alloc);
     for word in args.skip(1) {
         if words.push(word).is_err() {
-            return Err(Stop::NoMemory);
+            return Err(Stop::NoMemory(None));
         }
     }
     Ok(words)
 }
 
-// What the job does with its images.
-fn access_of(job: &Job) -> Access {
-    match job {
-        Job::Edit | Job::One(_) => Access::Edit,
-        _ => Access::Read,
+// What the only word asks to be told, if it does.
+fn told(words: &[String]) -> Option<&'static str> {
+    match words {
+        [word] if word.as_str() == "--help" || word.as_str() == "-h" => Some(HELP),
+        [word] if word.as_str() == "--version" => Some(VERSION),
+        _ => None,
     }
 }
 
 // Opens an image. One that is to be edited is locked, but where it is among those that are already open.
 fn open_image(
     rt: &HostRuntime,
-    name: &str,
+    path: &str,
     access: Access,
     others: &[ImageFile],
-) -> io::Result<ImageFile> {
-    let image = ImageFile::open(rt, name, access)?;
+) -> Result<ImageFile, ImageError> {
+    let image = ImageFile::open(rt, path, access)?;
     if access == Access::Edit {
-        image.lock_beside(others)?;
+        image.lock_beside(rt, others)?;
     }
     Ok(image)
+}
+
+// An image that can't be had, by its number.
+#[derive(Clone, Copy, Debug)]
+struct Unopened {
+    image: usize,
+    error: ImageError,
 }
 
 // Opens the images that the words name, in their order.
@@ -77,73 +71,179 @@ fn open_images(
     rt: &HostRuntime,
     names: &[String],
     access: Access,
-) -> Result<Vec<ImageFile>, Stop>
+) -> Result<Vec<ImageFile>, Unopened>
     ensures all { IfOk result (λ images. vec_len images ≡ length names.now) }
-    ensures no_usage { IfErr result (λ stop. stop ≢ Stop.Usage) }
 {
     let mut images = Vec::new(alloc);
     for name in names {
+        let number = images.len();
         let image = match open_image(rt, name.as_str(), access, images.as_slice()) {
             Ok(image) => image,
-            Err(error) => return Err(stop_for(&error, Stop::CannotOpen)),
+            Err(error) => return Err(Unopened {
+                image: number,
+                error,
+            }),
         };
         if images.push(image).is_err() {
-            return Err(Stop::NoMemory);
+            let error = ImageError::NoMemory;
+            return Err(Unopened {
+                image: number,
+                error,
+            });
         }
     }
     Ok(images)
 }
 
-// Opens the images, and runs the words over them and these streams.
-fn run_words<I, O>(rt: &HostRuntime, words: &[String], input: I, output: O) -> Result<Status, Stop>
+// Why the images of these names aren't open.
+fn stop_unopened(names: &[String], unopened: Unopened) -> Stop<'_> {
+    let Unopened { image, error } = unopened;
+    if let ImageError::NoMemory = error {
+        return Stop::NoMemory(None);
+    }
+    let name = names.get(image).map_or("", |name| name.as_str());
+    Stop::CannotOpen {
+        image,
+        name: Shown(name),
+        error,
+    }
+}
+
+// What a job asks of the outside before it begins: how it opens its images, and whether it hears a script.
+#[derive(Clone, Copy)]
+struct Needs {
+    access: Access,
+    script: bool,
+}
+
+fn needs_of(job: &Job) -> Needs {
+    Needs {
+        access: if job.edits() {
+            Access::Edit
+        } else {
+            Access::Read
+        },
+        script: matches!(job, Job::Try | Job::Edit),
+    }
+}
+
+// A job that writes needs an output that takes its replies, before it writes. To write nothing there fails where
+// it is closed, open for reading alone, or a device that is always full.
+fn try_output<O: Write>(needs: Needs, output: &mut O) -> io::Result<()> {
+    if needs.access == Access::Edit {
+        output.write(b"")?;
+    }
+    Ok(())
+}
+
+// How a run ended, after which the host has these counts.
+fn ending<'a>(
+    status: Status,
+    names: &'a [String],
+    failure: Option<Failure>,
+    answered: Option<u64>,
+) -> Result<Status, Stop<'a>> {
+    let fault = Fault {
+        failure,
+        names,
+        answered,
+    };
+    match status {
+        Status::Done | Status::Refused => Ok(status),
+        Status::Usage => Err(Stop::Usage(UsageError::NoReading)),
+        Status::DiskFault => Err(Stop::Disk(fault)),
+        Status::NoMemory => Err(Stop::NoMemory(answered)),
+        Status::TalkFault => Err(Stop::Talk(fault)),
+    }
+}
+
+// Opens the images, and runs the words over them and these streams. All images are open, and locked where the job
+// writes, before the first of its calls.
+fn run_words<'a, I, O>(
+    rt: &HostRuntime,
+    words: &'a [String],
+    input: I,
+    mut output: O,
+    at_terminal: bool,
+) -> Result<Status, Stop<'a>>
 where
     I: Read + Drop,
     O: Write + Drop,
 {
     let alloc = rt.alloc();
-    let (access, count) = match read_words(alloc, words) {
-        Err(WordsError::Usage) => return Err(Stop::Usage),
-        Err(WordsError::NoMemory) => return Err(Stop::NoMemory),
-        Ok((job, count)) => (access_of(&job), count),
+    let (needs, count) = match read_words(alloc, words) {
+        Err(WordsError::Usage) => return Err(Stop::Usage(usage_error(alloc, words))),
+        Err(WordsError::NoMemory) => return Err(Stop::NoMemory(None)),
+        Ok((job, count)) => (needs_of(&job), count),
     };
-    let images = open_images(alloc, rt, &words[words.len() - count..], access)?;
-    match FileHost::new(alloc, images, input, output) {
-        Ok(mut host) => Ok(run(alloc, words, &mut host)),
-        Err(NoMemory) => Err(Stop::NoMemory),
+    let names = &words[words.len() - count..];
+    let images = match open_images(alloc, rt, names, needs.access) {
+        Ok(images) => images,
+        Err(unopened) => return Err(stop_unopened(names, unopened)),
+    };
+    if let Err(error) = try_output(needs, &mut output) {
+        let failure = Some(Failure::Output(error));
+        return ending(Status::TalkFault, names, failure, None);
+    }
+    if at_terminal && needs.script {
+        let _ = eprint!(rt;
+            "ldm: waiting for the lines of a script on the terminal; Ctrl-D ends them\n"
+        );
+    }
+    let mut host = match FileHost::new(alloc, images, input, output) {
+        Ok(host) => host,
+        Err(NoMemory) => return Err(Stop::NoMemory(None)),
+    };
+    let status = run(alloc, words, &mut host);
+    let answered = match needs.access {
+        Access::Edit => Some(host.lines()),
+        Access::Read => None,
+    };
+    ending(status, names, host.failure(), answered)
+}
+
+// Says a text that was asked for by a word alone.
+fn tell<O: Write>(mut output: O, text: &str) -> Result<Status, Stop<'static>>
+where
+    O: Drop,
+{
+    match output.write_all(text.as_bytes()) {
+        Ok(()) => Ok(Status::Done),
+        Err(error) => ending(Status::TalkFault, &[], Some(Failure::Output(error)), None),
     }
 }
 
-// The line for standard error, and the exit status.
-fn ending(done: Result<Status, Stop>) -> (&'static str, u8) {
-    let line = match done {
-        Ok(Status::Done) | Ok(Status::Refused) => "",
-        Ok(Status::Usage) | Err(Stop::Usage) => "ldm: usage: ldm JOB on IMAGE...\n",
-        Ok(Status::DiskFault) => "ldm: disk fault\n",
-        Ok(Status::NoMemory) | Err(Stop::NoMemory) => "ldm: no memory\n",
-        Ok(Status::TalkFault) => "ldm: talk fault\n",
-        Err(Stop::CannotOpen) => "ldm: cannot open\n",
-    };
+// Does what the words of the command line ask.
+fn do_words<'a>(rt: &HostRuntime, words: &'a [String]) -> Result<Status, Stop<'a>> {
+    match told(words) {
+        Some(text) => tell(rt.stdout(), text),
+        None => {
+            let input = rt.stdin();
+            let at_terminal = input.is_terminal();
+            run_words(rt, words, input, rt.stdout(), at_terminal)
+        }
+    }
+}
+
+// Says how the program ends where it isn't with an answer.
+fn exit_code(rt: &HostRuntime, done: Result<Status, Stop<'_>>) -> ExitCode {
     let status = match done {
         Ok(status) => status,
-        Err(Stop::Usage) => Status::Usage,
-        Err(Stop::CannotOpen) => Status::DiskFault,
-        Err(Stop::NoMemory) => Status::NoMemory,
+        Err(stop) => {
+            let _ = eprint!(rt; "{stop}");
+            stop.status()
+        }
     };
-    (line, status as u8)
+    ExitCode::from(status as u8)
 }
 
 fn main(rt: HostRuntime) -> ExitCode {
     // Where it fails, an image that gets the descriptor of a closed stream is refused.
     let _ = take_closed_streams(&rt);
-    let done = words_of(rt.alloc(), &rt).and_then(|words| run_words(
-        &rt,
-        &words,
-        rt.stdin(),
-        rt.stdout(),
-    ));
-    let (line, status) = ending(done);
-    let _ = eprint!(rt; "{line}");
-    ExitCode::from(status)
+    match words_of(rt.alloc(), &rt) {
+        Ok(words) => exit_code(&rt, do_words(&rt, &words)),
+        Err(stop) => exit_code(&rt, Err(stop)),
+    }
 }
 
 #[cfg(test)]

@@ -2,7 +2,8 @@
 ghost use Rattle.std.specs.Prelude.{◌<◌, ◌≤◌, ◌+◌, ◌*◌, length, slice_index, IsTrue};
 
 use super::*;
-use ldm_host::{Failed, Host};
+use ldm_files::DiskCall;
+use ldm_host::{Failed, Host, MemoryHost};
 use ldm_images::usual_images;
 use ldm_vectors::sample_images;
 use std::fs;
@@ -60,18 +61,43 @@ fn usual_folder(rt: &HostRuntime, name: &str) -> Result<PathBuf, Fail> {
     folder_with(rt, name, &usual_images(rt.alloc())?)
 }
 
-// Runs a job on the files of these names with this input, and answers how it ends and what is said.
+// How a job ends: its status, what is said on standard error, and what is said.
+#[derive(Drop)]
+struct End {
+    status: Status,
+    error: String,
+    said: Vec<u8>,
+}
+
+// Runs words with this input and output.
+fn end_of<O: Write + Drop>(
+    rt: &HostRuntime,
+    words: &[String],
+    input: &[u8],
+    output: O,
+) -> Result<(Status, String), Fail> {
+    match run_words(rt, words, input, output, false) {
+        Ok(status) => Ok((status, String::new(rt.alloc()))),
+        Err(stop) => Ok((stop.status(), format!(in rt.alloc(); "{stop}")?)),
+    }
+}
+
+// Runs a job on the files of these names with this input.
 fn run_on(
     rt: &HostRuntime,
     job: &str,
     folder: &PathBuf,
     names: &[&str],
     input: &[u8],
-) -> Result<(Result<Status, Stop>, Vec<u8>), Fail> {
+) -> Result<End, Fail> {
     let words = words_on(rt, job, folder, names)?;
     let mut said = Vec::new(rt.alloc());
-    let done = run_words(rt, &words, input, &mut said);
-    Ok((done, said))
+    let (status, error) = end_of(rt, &words, input, &mut said)?;
+    Ok(End {
+        status,
+        error,
+        said,
+    })
 }
 
 // The front of what is said of the usual group.
@@ -85,11 +111,9 @@ disk 1027 Disk3 33333333-3333-3333-3333-333333333333 image 0 free 4869
 #[test]
 fn takes_the_images_in_the_order_of_the_words(rt: HostRuntime) -> Result<(), Fail> {
     let folder = usual_folder(&rt, "order")?;
-    let (done, said) = run_on(&rt, "show", &folder, &["c.img", "a.img", "b.img"], b"")?;
-    assert_eq!(rt;
-        (done, said.get(..IN_ORDER.len())),
-        (Ok(Status::Done), Some(IN_ORDER))
-    );
+    let end = run_on(&rt, "show", &folder, &["c.img", "a.img", "b.img"], b"")?;
+    assert_eq!(rt; end.status, Status::Done);
+    assert!(rt; end.said.get(..IN_ORDER.len()) == Some(IN_ORDER));
     fs::remove_dir_all(&rt, &folder)?;
     Ok(())
 }
@@ -122,26 +146,54 @@ ok: editable
 ";
 
 // A job on files, its input, what is said of it, and how it ends.
-type Row = (
-    &'static str,
-    &'static [u8],
-    &'static [u8],
-    Result<Status, Stop>,
-);
+type Row = (&'static str, &'static [u8], &'static [u8], Status);
 
 const EDITS: [Row; 4] = [
-    ("try", SCRIPT, REPLIES, Ok(Status::Refused)),
-    ("edit", SCRIPT, REPLIES, Ok(Status::Refused)),
-    ("show", b"", EDITED, Ok(Status::Done)),
-    ("check", b"", EQUAL, Ok(Status::Done)),
+    ("try", SCRIPT, REPLIES, Status::Refused),
+    ("edit", SCRIPT, REPLIES, Status::Refused),
+    ("show", b"", EDITED, Status::Done),
+    ("check", b"", EQUAL, Status::Done),
 ];
 
 #[test]
 fn edits_files(rt: HostRuntime) -> Result<(), Fail> {
     let folder = folder_with(&rt, "edit", &sample_images(rt.alloc(), 3, 64)?)?;
-    for (job, input, text, end) in EDITS {
-        let (done, said) = run_on(&rt, job, &folder, &NAMES, input)?;
-        assert_eq!(rt; (done, said.as_slice()), (end, text), "{job}");
+    for (job, input, text, status) in EDITS {
+        let end = run_on(&rt, job, &folder, &NAMES, input)?;
+        assert_eq!(rt; end.said.as_slice(), text, "{job}");
+        assert_eq!(rt; end.status, status, "{job}");
+        assert_eq!(rt; end.error.as_str(), "", "{job}");
+    }
+    fs::remove_dir_all(&rt, &folder)?;
+    Ok(())
+}
+
+// Runs words over disks in memory, which are as many as the words name.
+fn run_in_memory(
+    rt: &HostRuntime,
+    words: &[String],
+    host: &mut MemoryHost,
+) -> Result<Status, Fail> {
+    match read_words(rt.alloc(), words) {
+        Ok((_, count)) if count == host.disks() => Ok(run(rt.alloc(), words, host)),
+        _ => Err(Fail::from("other words")),
+    }
+}
+
+#[test]
+fn leaves_in_files_the_bytes_of_disks_in_memory(rt: HostRuntime) -> Result<(), Fail> {
+    let alloc = rt.alloc();
+    let folder = folder_with(&rt, "bytes", &sample_images(alloc, 3, 64)?)?;
+    let end = run_on(&rt, "edit", &folder, &NAMES, SCRIPT)?;
+    assert_eq!(rt; end.status, Status::Refused);
+    let words = words_on(&rt, "edit", &folder, &NAMES)?;
+    let script = SCRIPT.to_vec(alloc)?;
+    let mut host = MemoryHost::new(alloc, sample_images(alloc, 3, 64)?, script)?;
+    assert_eq!(rt; run_in_memory(&rt, &words, &mut host)?, Status::Refused);
+    for (disk, name) in NAMES.iter().enumerate() {
+        assert!(rt; disk < host.disks());
+        let bytes = fs::read(&rt, path_in(&rt, &folder, name)?.as_str())?;
+        assert!(rt; bytes.as_slice() == host.image(disk), "{name}");
     }
     fs::remove_dir_all(&rt, &folder)?;
     Ok(())
@@ -150,25 +202,44 @@ fn edits_files(rt: HostRuntime) -> Result<(), Fail> {
 #[test]
 fn ends_with_a_talk_fault_where_nothing_can_be_said(rt: HostRuntime) -> Result<(), Fail> {
     let folder = usual_folder(&rt, "closed")?;
-    let words = words_on(&rt, "disk", &folder, &["a.img"])?;
-    let input: &[u8] = b"";
-    // As standard output is where the program was started without one.
-    let null = File::open(&rt, "/dev/null")?;
-    assert_eq!(rt; run_words(&rt, &words, input, null), Ok(Status::TalkFault));
+    for (job, name) in [("disk", "a.img"), ("delete Volume1", "a.img")] {
+        let words = words_on(&rt, job, &folder, &[name])?;
+        // As standard output is where the program was started without one.
+        let null = File::open(&rt, "/dev/null")?;
+        let (status, error) = end_of(&rt, &words, b"", null)?;
+        assert_eq!(rt; status, Status::TalkFault);
+        assert_eq!(rt;
+            error.as_str(),
+            "ldm: talk fault: standard output: Bad file descriptor (os error 9)\n"
+        );
+    }
     fs::remove_dir_all(&rt, &folder)?;
     Ok(())
 }
 
+// What an image may not be, and why.
+const UNOPENED: [(&str, &str); 3] = [
+    (
+        ".",
+        "it is a directory, and neither a regular file nor a block device",
+    ),
+    ("missing", "there is no such file"),
+    (
+        "../../../../../../../../dev/null",
+        "it is a character device, and neither a regular file nor a block device",
+    ),
+];
+
 #[test]
 fn opens_nothing_but_files_and_block_devices(rt: HostRuntime) -> Result<(), Fail> {
     let folder = folder_for(&rt, "kinds")?;
-    for name in [".", "missing", "../../../../../../../../dev/null"] {
-        let (done, said) = run_on(&rt, "disk", &folder, &[name], b"")?;
-        assert_eq!(rt;
-            (done, said.as_slice()),
-            (Err(Stop::CannotOpen), b"".as_slice()),
-            "{name}"
-        );
+    for (name, why) in UNOPENED {
+        let path = path_in(&rt, &folder, name)?;
+        let text = format!(in rt.alloc(); "ldm: cannot open: image 0 ({path}): {why}\n")?;
+        let end = run_on(&rt, "disk", &folder, &[name], b"")?;
+        assert_eq!(rt; end.status, Status::DiskFault, "{name}");
+        assert_eq!(rt; end.error.as_str(), text.as_str(), "{name}");
+        assert_eq!(rt; end.said.len(), 0, "{name}");
     }
     fs::remove_dir_all(&rt, &folder)?;
     Ok(())
@@ -283,22 +354,82 @@ fn hears_the_input_to_its_end(rt: HostRuntime) -> Result<(), Fail> {
     Ok(())
 }
 
-// How the program ends, the line for it and the exit status.
-const ENDINGS: [(Result<Status, Stop>, &str, u8); 9] = [
-    (Ok(Status::Done), "", 0),
-    (Ok(Status::Refused), "", 1),
-    (Ok(Status::Usage), "ldm: usage: ldm JOB on IMAGE...\n", 2),
-    (Err(Stop::Usage), "ldm: usage: ldm JOB on IMAGE...\n", 2),
-    (Ok(Status::DiskFault), "ldm: disk fault\n", 3),
-    (Err(Stop::CannotOpen), "ldm: cannot open\n", 3),
-    (Ok(Status::NoMemory), "ldm: no memory\n", 4),
-    (Err(Stop::NoMemory), "ldm: no memory\n", 4),
-    (Ok(Status::TalkFault), "ldm: talk fault\n", 5),
-];
+// An error of the system.
+fn no_space() -> io::Error {
+    io::Error::from_raw_os_error(28)
+}
+
+// A fault of a job that writes, over an image of this name.
+fn fault(names: &[String], failure: Failure) -> Fault<'_> {
+    Fault {
+        failure: Some(failure),
+        names,
+        answered: Some(2),
+    }
+}
+
+const FULL: &str = "\
+ldm: disk fault: image 0 (a\\x0ab): write: No space left on device (os error 28)
+ldm: 2 lines were answered; the next may be done: run check, then edit again
+";
+
+const UNSAID: &str = "\
+ldm: talk fault: standard output: No space left on device (os error 28)
+ldm: 2 lines were answered; the next may be done: run check, then edit again
+";
+
+const UNHEARD: &str = "\
+ldm: talk fault: standard input: No space left on device (os error 28)
+ldm: nothing was written
+";
+
+const NO_MEMORY: &str = "\
+ldm: no memory
+ldm: 1 line was answered; the next may be done: run check, then edit again
+";
+
+const NOT_UTF8: &str = "\
+ldm: usage: ldm JOB on IMAGE...
+ldm: a word is not UTF-8; an image whose path isn't can be named by a link to it
+ldm: ldm --help says more
+";
 
 #[test]
-fn ends_with_a_status_and_a_line(rt: HostRuntime) {
-    for (done, line, status) in ENDINGS {
-        assert_eq!(rt; ending(done), (line, status));
+fn says_why_there_is_no_answer(rt: HostRuntime) -> Result<(), Fail> {
+    let alloc = rt.alloc();
+    let mut names = Vec::new(alloc);
+    names.push(String::from_str(alloc, "a\nb")?)?;
+    let disk = Failure::Disk {
+        image: 0,
+        call: DiskCall::Write,
+        error: no_space(),
+    };
+    let output = Failure::Output(no_space());
+    let input = Failure::Input(no_space());
+    let rows = [
+        (Stop::Disk(fault(&names, disk)), FULL, 3),
+        (Stop::Talk(fault(&names, output)), UNSAID, 5),
+        (Stop::Talk(fault(&names, input)), UNHEARD, 5),
+        (Stop::NoMemory(Some(1)), NO_MEMORY, 4),
+        (Stop::NoMemory(None), "ldm: no memory\n", 4),
+        (Stop::Usage(UsageError::NotUtf8), NOT_UTF8, 2),
+    ];
+    for (stop, text, status) in rows {
+        assert_eq!(rt; format!(in alloc; "{stop}")?.as_str(), text);
+        assert_eq!(rt; stop.status() as u8, status);
     }
+    Ok(())
+}
+
+#[test]
+fn tells_the_help_and_the_version(rt: HostRuntime) -> Result<(), Fail> {
+    let alloc = rt.alloc();
+    for (word, text) in [("--help", HELP), ("-h", HELP), ("--version", VERSION)] {
+        let mut words = Vec::new(alloc);
+        words.push(String::from_str(alloc, word)?)?;
+        assert!(rt; told(&words) == Some(text), "{word}");
+        words.push(String::from_str(alloc, "x")?)?;
+        assert!(rt; told(&words).is_none(), "{word}");
+    }
+    Ok(())
 }

@@ -1,6 +1,6 @@
 -- What a command line says: JOB on IMAGE.., where the first word `on` separates, or a job without images. A word is one
 -- token.
-use Rattle.std.specs.Prelude.{◌≡◌, ◌≤◌, ℕ, ◌==◌, ◌&&◌, nat_le, Bool, false, List, [], ◌∷◌, length, map, position, codes, bytes_eq, if◌then◌else◌, Option, Some, None, is_some, String, string_bytes}
+use Rattle.std.specs.Prelude.{◌≡◌, ◌≤◌, ℕ, ◌==◌, ◌&&◌, nat_le, Bool, true, false, List, [], ◌∷◌, length, map, position, codes, bytes_eq, if◌then◌else◌, Option, Some, None, is_some, String, string_bytes}
 use Rattle.std.specs.List.{before_first, after_first}
 use Rattle.std.specs.Option.{option_map}
 use Rattle.std.specs.declared.alloc.Global.{Global}
@@ -102,3 +102,15 @@ HasCount (Sample seed) images = images ≡ 0
 abbrev pub KeepsLimits : Job → Type 0
 KeepsLimits (One command) = IsCommand command
 KeepsLimits job = Unit {0}
+
+-- whether a job writes to its images
+abbrev pub edits_disks : Job → Bool
+edits_disks Disk = false
+edits_disks Records = false
+edits_disks Show = false
+edits_disks Check = false
+edits_disks (Map name first count) = false
+edits_disks Try = false
+edits_disks Edit = true
+edits_disks (One command) = true
+edits_disks (Sample seed) = false

@@ -1,6 +1,7 @@
+//! Command lines: the words of a job, and its images.
 ghost use Rattle.std.specs.Prelude.{◌≡◌, ◌≤◌, IfOk, length};
 ghost use Rattle.std.specs.List.{position_or_len};
-ghost use Rattle.ldm_words.specs.Jobs.{texts, is_on, images_of, images_behind, on_one, is_group, on_group, map_form, sample_form, command_form, job_form, job_of, HasCount, KeepsLimits};
+ghost use Rattle.ldm_words.specs.Jobs.{texts, is_on, images_of, images_behind, on_one, is_group, on_group, map_form, sample_form, command_form, job_form, job_of, edits_disks, HasCount, KeepsLimits};
 ghost use Rattle.ldm_words.specs.Commands.{bytes_of};
 ghost use Rattle.ldm_words.specs.Readings.{Reads};
 
@@ -10,6 +11,7 @@ use crate::number::read_number;
 use crate::reading::read_command;
 use ldm_bytes::{Bytes, NoMemory};
 use std::alloc::Global;
+use thiserror::Error;
 
 /// What a command line asks for.
 #[derive(Drop)]
@@ -34,11 +36,30 @@ pub enum Job {
     Sample(u64),
 }
 
+impl Job {
+    /// Whether the job writes to its images.
+    pub fn edits(&self) -> bool
+        ensures { result ≡ edits_disks self.now }
+    {
+        match self {
+            Job::Edit | Job::One(_) => true,
+            Job::Disk
+            | Job::Records
+            | Job::Show
+            | Job::Check
+            | Job::Map { .. }
+            | Job::Try
+            | Job::Sample(_) => false,
+        }
+    }
+}
+
 /// Why words give no job.
-#[derive(Clone, Copy)]
+#[derive(Clone, Copy, Debug, Drop, Error)]
 pub enum WordsError {
-    /// The words have no reading.
+    #[error("the words have no reading")]
     Usage,
+    #[error("no memory")]
     NoMemory,
 }
 

@@ -1,3 +1,4 @@
+//! Lines of a script.
 ghost use Rattle.std.specs.Prelude.{◌≡◌, [], IfOk, MatchOption};
 ghost use Rattle.ldm_words.specs.Commands.{bytes_of, command_of};
 ghost use Rattle.ldm_words.specs.Limits.{IsCommand};
@@ -7,12 +8,14 @@ use crate::command::Command;
 use crate::reading::read_command;
 use ldm_bytes::NoMemory;
 use std::alloc::Global;
+use thiserror::Error;
 
 /// Why a line gives no command.
-#[derive(Clone, Copy)]
+#[derive(Clone, Copy, Debug, Drop, Error)]
 pub enum LineError {
-    /// The line has no reading.
+    #[error("the line has no reading")]
     BadLine,
+    #[error("no memory")]
     NoMemory,
 }
 

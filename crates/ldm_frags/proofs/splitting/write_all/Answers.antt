@@ -7,12 +7,12 @@ pub returns : goal.returns
 returns c =
     let payloads = c.args.payloads.now in
     let before = c.write_records-next.new.out in
-    let after = c.write_unused.new.out in
+    let after = c.write_rest.new.out in
     let next = c.write_records-next.ensures.next in
     let placed : All (IsPlaced after) (in_order 4 payloads) = λ k d lt.
-    placed_kept before after (get_or (in_order 4 payloads) k d) c.write_unused.auto.out (λ i li.
+    placed_kept before after (get_or (in_order 4 payloads) k d) c.write_rest.auto.out (λ i li.
     let within = in_order_within 4 payloads k d lt i li in
     let low = within.0 in
     let high = within.1 in
-    c.write_unused.ensures.below (slot (get_or (in_order 4 payloads) k d) i) low (omega arith)) (c.write_records-next.ensures.placed k d lt) in
-    order_holds after payloads c.requires.sized placed (λ b from lt. c.write_unused.ensures.unused b (omega arith) (omega arith))
+    c.write_rest.ensures.below (slot (get_or (in_order 4 payloads) k d) i) low (omega arith)) (c.write_records-next.ensures.placed k d lt) in
+    order_holds after payloads c.requires.sized placed (λ b from lt. c.write_rest.ensures.unused b (omega arith) (omega arith))

@@ -5,8 +5,8 @@ use Rattle.ldm_frags.specs.Written.{parts_of, need_of, IsSized, IsPlaced, in_ord
 use Rattle.ldm_frags.proofs.OrderLaws.{need_next, need_within, need_push, placed_more}
 use Rattle.ldm_frags.proofs.splitting.write_records.Goals as goal
 
-pub write_record-requires-clause-within : goal.write_record-requires-clause-within
-write_record-requires-clause-within c =
+pub write_next-requires-clause-within : goal.write_next-requires-clause-within
+write_next-requires-clause-within c =
     let payloads = c.args.payloads.now in
     let bytes = ap (λ (b : List ℕ). parts_of (length b)) c.as_slice-bytes.ensures in
     let within = need_within payloads c.loop-payload.payload-index c.payload-item.result c.loop-payload-test.true c.payload-item.is in
@@ -22,10 +22,10 @@ loop-payload-preserved c =
     let need = ap need_of next ∙ need_push (take i payloads) bytes in
     let within = need_within payloads i bytes c.loop-payload-test.true item in
     let sized : IsSized bytes = subst IsSized (sym item) (c.requires.sized i bytes c.loop-payload-test.true) in
-    let room : c.loop-payload.number + parts_of (length bytes) ≤ count c.write_record.new.out + 4 = omega arith in
+    let room : c.loop-payload.number + parts_of (length bytes) ≤ count c.write_next.new.out + 4 = omega arith in
     record {
       next = omega arith;
-      placed = subst (λ (before : List (List ℕ)). All (IsPlaced c.write_record.new.out) (in_order 4 before)) (sym next)
-          (placed_more c.loop-payload.out c.write_record.new.out (take i payloads) bytes c.loop-payload.number c.write_record.auto.out sized c.loop-payload.invariant.next room
-          c.loop-payload.invariant.placed c.write_record.ensures.below c.write_record.ensures.written);
+      placed = subst (λ (before : List (List ℕ)). All (IsPlaced c.write_next.new.out) (in_order 4 before)) (sym next)
+          (placed_more c.loop-payload.out c.write_next.new.out (take i payloads) bytes c.loop-payload.number c.write_next.auto.out sized c.loop-payload.invariant.next room
+          c.loop-payload.invariant.placed c.write_next.ensures.below c.write_next.ensures.written);
     }

@@ -1,0 +1,173 @@
+//! Images that are open for their disks.
+ghost use Rattle.std.specs.Prelude.{◌<◌, ◌^◌, ◌≤ℤ◌};
+ghost use Rattle.std.specs.Fd.{file_raw_fd};
+ghost use Rattle.ldm_files.specs.declared.streams.TheConstants.{STREAMS};
+
+use crate::device::{has_byte_locks, hindrance};
+use crate::streams::STREAMS;
+use std::fs::{File, Metadata, TryLockError};
+use std::io::{self, ErrorKind, Seek, SeekFrom};
+use std::os::fd::AsRawFd;
+use std::os::unix::fs::{FileTypeExt, MetadataExt};
+use thiserror::Error;
+
+/// What a job does with its images.
+#[derive(Clone, Copy, PartialEq, Eq)]
+pub enum Access {
+    /// They are read alone.
+    Read,
+    /// They are written to as well.
+    Edit,
+}
+
+/// Why an image can't be had.
+#[derive(Clone, Copy, Debug, Drop, Error)]
+pub enum ImageError {
+    #[error("there is no such file")]
+    Missing,
+    #[error("no permission")]
+    Forbidden,
+    #[error("it is {0}, and neither a regular file nor a block device")]
+    NoDisk(&'static str),
+    #[error("read-only")]
+    ReadOnly,
+    #[error("held by another program")]
+    Held,
+    #[error("it or a partition of it is mounted")]
+    Mounted,
+    #[error("it or a partition of it is used as swap")]
+    Swap,
+    #[error("another device stands on it or on a partition of it, as of md or dm")]
+    Below,
+    #[error("the system does not tell in /sys and /proc who uses it")]
+    Untold,
+    #[error("a standard stream is closed, and the image would take its place")]
+    Stream,
+    #[error("no memory")]
+    NoMemory,
+    #[error("{0}")]
+    System(io::Error),
+}
+
+impl From<io::Error> for ImageError {
+    fn from(error: io::Error) -> ImageError {
+        match error.kind() {
+            ErrorKind::NotFound => ImageError::Missing,
+            ErrorKind::PermissionDenied => ImageError::Forbidden,
+            ErrorKind::ReadOnlyFilesystem => ImageError::ReadOnly,
+            ErrorKind::WouldBlock | ErrorKind::ResourceBusy => ImageError::Held,
+            ErrorKind::OutOfMemory => ImageError::NoMemory,
+            _ => ImageError::System(error),
+        }
+    }
+}
+
+/// A file by the device that it is on, and its number there.
+#[derive(Clone, Copy, PartialEq, Eq)]
+struct FileId {
+    device: u64,
+    number: u64,
+}
+
+/// An image that is open for its disk, and how long it is. It is on no standard stream.
+#[derive(Drop)]
+pub struct ImageFile {
+    pub(crate) file: File,
+    id: FileId,
+    pub(crate) sectors: u64,
+    ghost small: { sectors < 2 ^ 55 },
+    ghost apart: { STREAMS ≤ℤ file_raw_fd file },
+}
+
+// Refuses what holds no disk: only a regular file and a block device do.
+fn require_disk(metadata: &Metadata) -> Result<(), ImageError> {
+    let kind = metadata.file_type();
+    if kind.is_file() || kind.is_block_device() {
+        Ok(())
+    } else if kind.is_dir() {
+        Err(ImageError::NoDisk("a directory"))
+    } else if kind.is_fifo() {
+        Err(ImageError::NoDisk("a pipe"))
+    } else if kind.is_socket() {
+        Err(ImageError::NoDisk("a socket"))
+    } else {
+        Err(ImageError::NoDisk("a character device"))
+    }
+}
+
+// The system doesn't tell who uses an image, or there is no memory for it.
+fn untold(error: io::Error) -> ImageError {
+    if error.kind() == ErrorKind::OutOfMemory {
+        ImageError::NoMemory
+    } else {
+        ImageError::Untold
+    }
+}
+
+// Refuses a block device that is used or may not be written.
+fn require_unused(rt: &HostRuntime, metadata: &Metadata) -> Result<(), ImageError> {
+    if !metadata.file_type().is_block_device() {
+        return Ok(());
+    }
+    match hindrance(rt, metadata.rdev()) {
+        Ok(None) => Ok(()),
+        Ok(Some(error)) => Err(error),
+        Err(error) => Err(untold(error)),
+    }
+}
+
+impl ImageFile {
+    /// Opens an image for reading, and for writing too where the job edits. What holds no disk isn't even
+    /// opened, since a named pipe would wait for a writer; what was opened is looked at again, since the name
+    /// may stand for another file by then. A block device that is to be edited may be used by nothing else.
+    pub fn open(rt: &HostRuntime, path: &str, access: Access) -> Result<ImageFile, ImageError> {
+        require_disk(&std::fs::metadata(rt, path)?)?;
+        let file = File::options()
+            .read(true)
+            .write(access == Access::Edit)
+            .open(rt, path)?;
+        let metadata = file.metadata()?;
+        require_disk(&metadata)?;
+        if access == Access::Edit {
+            require_unused(rt, &metadata)?;
+        }
+        ImageFile::of(file)
+    }
+
+    /// Locks the image against other programs that edit, for as long as it is open, and fails where one of
+    /// them holds it, or where any program holds bytes of it. An image that is among those already open is left to
+    /// the lock of the first, so that it is found to be named twice.
+    pub fn lock_beside(&self, rt: &HostRuntime, others: &[ImageFile]) -> Result<(), ImageError> {
+        if others.iter().any(|other| other.id == self.id) {
+            return Ok(());
+        }
+        match self.file.try_lock() {
+            Ok(()) => self.require_no_byte_locks(rt),
+            Err(TryLockError::Error(error)) => Err(ImageError::from(error)),
+            Err(TryLockError::WouldBlock) => Err(ImageError::Held),
+        }
+    }
+
+    fn require_no_byte_locks(&self, rt: &HostRuntime) -> Result<(), ImageError> {
+        match has_byte_locks(rt, self.id.device, self.id.number) {
+            Ok(false) => Ok(()),
+            Ok(true) => Err(ImageError::Held),
+            Err(error) => Err(untold(error)),
+        }
+    }
+
+    /// Takes an open file for an image, but none that is on a standard stream. Its length is where it
+    /// ends, since the metadata of a block device has none; whole sectors count.
+    pub fn of(file: File) -> Result<ImageFile, ImageError> {
+        if file.as_raw_fd() < STREAMS {
+            return Err(ImageError::Stream);
+        }
+        let metadata = file.metadata()?;
+        let id = FileId {
+            device: metadata.dev(),
+            number: metadata.ino(),
+        };
+        let sectors = (&file).seek(SeekFrom::End(0))? / 512;
+        Ok(ImageFile { file, id, sectors })
+    }
+}

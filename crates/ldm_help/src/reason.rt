@@ -1,0 +1,346 @@
+//! The grammar of command lines once more, read in its order up to the first word that is wrong.
+use crate::shown::{Shown, UsageError};
+use ldm_bytes::{NoMemory, read_guid};
+use ldm_words::{image_count, read_name, read_number};
+use std::alloc::{AllocError, Global};
+use strsim::levenshtein;
+
+// A part of the words that is right, or why not.
+type Read<'a> = Result<(), UsageError<'a>>;
+
+impl From<NoMemory> for UsageError<'_> {
+    fn from(_error: NoMemory) -> Self {
+        UsageError::NoMemory
+    }
+}
+
+impl From<AllocError> for UsageError<'_> {
+    fn from(_error: AllocError) -> Self {
+        UsageError::NoMemory
+    }
+}
+
+const JOBS: [&str; 11] = [
+    "disk", "records", "show", "check", "map", "try", "edit", "sample", "create", "extend",
+    "delete",
+];
+
+// The job whose name takes the fewest changes to be this word.
+fn nearest(alloc: Global, word: &str) -> Result<&'static str, AllocError> {
+    let mut best = ("show", usize::MAX);
+    for job in JOBS {
+        let changes = levenshtein(alloc, word, job)?;
+        if changes < best.1 {
+            best = (job, changes);
+        }
+    }
+    Ok(best.0)
+}
+
+fn number<'a>(what: &'static str, word: &'a str) -> Read<'a> {
+    match read_number(word.as_bytes()) {
+        Some(_) => Ok(()),
+        None => Err(UsageError::Number {
+            what,
+            word: Shown(word),
+        }),
+    }
+}
+
+fn name<'a>(alloc: Global, what: &'static str, word: &'a str) -> Read<'a> {
+    match read_name(alloc, word.as_bytes())? {
+        Some(_) => Ok(()),
+        None => Err(UsageError::Name {
+            what,
+            word: Shown(word),
+        }),
+    }
+}
+
+// The name of a new volume.
+fn new_name<'a>(alloc: Global, word: &'a str) -> Read<'a> {
+    let Some(name) = read_name(alloc, word.as_bytes())? else {
+        return Err(UsageError::Name {
+            what: "NAME",
+            word: Shown(word),
+        });
+    };
+    let len = name.as_slice().len();
+    if (1..=63).contains(&len) {
+        Ok(())
+    } else {
+        Err(UsageError::NewName {
+            word: Shown(word),
+            len,
+        })
+    }
+}
+
+fn guid(word: &str) -> Read<'_> {
+    match read_guid(word.as_bytes()) {
+        Some(_) => Ok(()),
+        None => Err(UsageError::Guid { word: Shown(word) }),
+    }
+}
+
+// DISK=SECTORS, split at the last `=`.
+fn piece<'a>(alloc: Global, word: &'a str) -> Read<'a> {
+    let bytes = word.as_bytes();
+    let wrong = Err(UsageError::Piece { word: Shown(word) });
+    let Some(place) = bytes.iter().rposition(|c| *c == b'=') else {
+        return wrong;
+    };
+    if read_number(&bytes[place + 1..]).is_none() || read_name(alloc, &bytes[..place])?.is_none() {
+        return wrong;
+    }
+    Ok(())
+}
+
+// As many as a form takes.
+fn counted<'a>(kind: &'static str, least: usize, what: &'static str, count: usize) -> Read<'a> {
+    if (least..=64).contains(&count) {
+        Ok(())
+    } else {
+        Err(UsageError::Count {
+            kind,
+            least,
+            what,
+            count,
+        })
+    }
+}
+
+fn pieces<'a>(alloc: Global, kind: &'static str, words: &'a [String]) -> Read<'a> {
+    counted(kind, 1, "pieces", words.len())?;
+    for word in words {
+        piece(alloc, word.as_str())?;
+    }
+    Ok(())
+}
+
+fn disks<'a>(alloc: Global, kind: &'static str, least: usize, words: &'a [String]) -> Read<'a> {
+    counted(kind, least, "disks", words.len())?;
+    for word in words {
+        name(alloc, "DISK", word.as_str())?;
+    }
+    Ok(())
+}
+
+// Wants each word that a form names: the form, its words and what stands for them.
+fn all_there<'a>(form: &'static str, names: &[&'static str], words: &[String]) -> Read<'a> {
+    match names.get(words.len()) {
+        Some(what) => Err(UsageError::Missing { form, what: *what }),
+        None => Ok(()),
+    }
+}
+
+// Refuses what stands behind the words of a form.
+fn no_more<'a>(form: &'static str, rest: &'a [String]) -> Read<'a> {
+    match rest {
+        [word, ..] => Err(UsageError::Extra {
+            form,
+            word: Shown(word.as_str()),
+        }),
+        [] => Ok(()),
+    }
+}
+
+// The image behind `on`.
+fn image<'a>(job: &'static str, on: Option<usize>) -> Read<'a> {
+    match on {
+        None => Err(UsageError::NoOn { job }),
+        Some(0) => Err(UsageError::NoImages),
+        Some(1) => Ok(()),
+        Some(count) => Err(UsageError::OneImage { job, count }),
+    }
+}
+
+// The images of a group behind `on`.
+fn images<'a>(job: &'static str, on: Option<usize>) -> Read<'a> {
+    match on {
+        None => Err(UsageError::NoOn { job }),
+        Some(0) => Err(UsageError::NoImages),
+        Some(1..=64) => Ok(()),
+        Some(count) => Err(UsageError::ManyImages { count }),
+    }
+}
+
+// A job that takes no words of its own, where there is an `on`: without one its images stand there.
+fn plain<'a>(form: &'static str, rest: &'a [String], on: Option<usize>) -> Read<'a> {
+    match on {
+        Some(_) => no_more(form, rest),
+        None => Ok(()),
+    }
+}
+
+// A job of one image.
+fn on_one<'a>(
+    form: &'static str,
+    job: &'static str,
+    rest: &'a [String],
+    on: Option<usize>,
+) -> Read<'a> {
+    plain(form, rest, on)?;
+    image(job, on)
+}
+
+// A job of the images of a group.
+fn on_group<'a>(
+    form: &'static str,
+    job: &'static str,
+    rest: &'a [String],
+    on: Option<usize>,
+) -> Read<'a> {
+    plain(form, rest, on)?;
+    images(job, on)
+}
+
+fn map<'a>(alloc: Global, rest: &'a [String], on: Option<usize>) -> Read<'a> {
+    let form = "map VOLUME FIRST COUNT on IMAGE...";
+    all_there(form, &["VOLUME", "FIRST", "COUNT"], rest)?;
+    if let [volume, first, count, more @ ..] = rest {
+        name(alloc, "VOLUME", volume.as_str())?;
+        number("FIRST", first.as_str())?;
+        number("COUNT", count.as_str())?;
+        plain(form, more, on)?;
+    }
+    images("map", on)
+}
+
+fn sample<'a>(rest: &'a [String], on: Option<usize>) -> Read<'a> {
+    let form = "sample SEED";
+    all_there(form, &["SEED"], rest)?;
+    if let [seed, more @ ..] = rest {
+        number("SEED", seed.as_str())?;
+        no_more(form, more)?;
+    }
+    match on {
+        Some(_) => Err(UsageError::Images),
+        None => Ok(()),
+    }
+}
+
+// CHUNK SECTORS DISK..
+fn columns<'a>(
+    alloc: Global,
+    form: &'static str,
+    kind: &'static str,
+    least: usize,
+    words: &'a [String],
+) -> Read<'a> {
+    all_there(form, &["CHUNK", "SECTORS"], words)?;
+    if let [chunk, sectors, rest @ ..] = words {
+        number("CHUNK", chunk.as_str())?;
+        number("SECTORS", sectors.as_str())?;
+        disks(alloc, kind, least, rest)?;
+    }
+    Ok(())
+}
+
+// SECTORS DISK..
+fn copies<'a>(alloc: Global, words: &'a [String]) -> Read<'a> {
+    let form = "create NAME GUID mirror SECTORS DISK DISK... on IMAGE...";
+    all_there(form, &["SECTORS"], words)?;
+    if let [sectors, rest @ ..] = words {
+        number("SECTORS", sectors.as_str())?;
+        disks(alloc, "mirror", 2, rest)?;
+    }
+    Ok(())
+}
+
+fn layout<'a>(alloc: Global, kind: &'a str, words: &'a [String]) -> Read<'a> {
+    match kind {
+        "span" => pieces(alloc, "span", words),
+        "stripe" => {
+            let form = "create NAME GUID stripe CHUNK SECTORS DISK DISK... on IMAGE...";
+            columns(alloc, form, "stripe", 2, words)
+        }
+        "mirror" => copies(alloc, words),
+        "raid5" => {
+            let form = "create NAME GUID raid5 CHUNK SECTORS DISK DISK DISK... on IMAGE...";
+            columns(alloc, form, "raid5", 3, words)
+        }
+        _ => Err(UsageError::Kind { word: Shown(kind) }),
+    }
+}
+
+fn create<'a>(alloc: Global, rest: &'a [String]) -> Read<'a> {
+    let form = "create NAME GUID span|stripe|mirror|raid5 .. on IMAGE...";
+    all_there(form, &["NAME", "GUID", "the kind of volume"], rest)?;
+    if let [name, id, kind, words @ ..] = rest {
+        new_name(alloc, name.as_str())?;
+        guid(id.as_str())?;
+        layout(alloc, kind.as_str(), words)?;
+    }
+    Ok(())
+}
+
+fn extend<'a>(alloc: Global, rest: &'a [String]) -> Read<'a> {
+    let form = "extend NAME DISK=SECTORS... on IMAGE...";
+    all_there(form, &["NAME"], rest)?;
+    if let [volume, words @ ..] = rest {
+        name(alloc, "NAME", volume.as_str())?;
+        pieces(alloc, "span", words)?;
+    }
+    Ok(())
+}
+
+fn delete<'a>(alloc: Global, rest: &'a [String], on: Option<usize>) -> Read<'a> {
+    let form = "delete NAME on IMAGE...";
+    all_there(form, &["NAME"], rest)?;
+    if let [volume, more @ ..] = rest {
+        name(alloc, "NAME", volume.as_str())?;
+        plain(form, more, on)?;
+    }
+    Ok(())
+}
+
+// The words before `on`, and how many stand behind it.
+fn job<'a>(alloc: Global, words: &'a [String], on: Option<usize>) -> Read<'a> {
+    let [word, rest @ ..] = words else {
+        return Err(UsageError::NoJob);
+    };
+    match word.as_str() {
+        "disk" => on_one("disk on IMAGE", "disk", rest, on),
+        "records" => on_one("records on IMAGE", "records", rest, on),
+        "show" => on_group("show on IMAGE...", "show", rest, on),
+        "check" => on_group("check on IMAGE...", "check", rest, on),
+        "map" => map(alloc, rest, on),
+        "try" => on_group("try on IMAGE...", "try", rest, on),
+        "edit" => on_group("edit on IMAGE...", "edit", rest, on),
+        "sample" => sample(rest, on),
+        "create" => {
+            create(alloc, rest)?;
+            images("create", on)
+        }
+        "extend" => {
+            extend(alloc, rest)?;
+            images("extend", on)
+        }
+        "delete" => {
+            delete(alloc, rest, on)?;
+            images("delete", on)
+        }
+        word => Err(UsageError::UnknownJob {
+            word: Shown(word),
+            nearest: nearest(alloc, word)?,
+        }),
+    }
+}
+
+/// Why words that have no reading have none: the first that is wrong in the order of the grammar. Of words that
+/// have one it says nothing of use.
+pub fn usage_error(alloc: Global, words: &[String]) -> UsageError<'_> {
+    let on = words.iter().position(|word| word.as_str() == "on");
+    let read = match on {
+        Some(place) => job(alloc, &words[..place], Some(image_count(words))),
+        None => job(alloc, words, None),
+    };
+    match read {
+        Ok(()) => UsageError::NoReading,
+        Err(error) => error,
+    }
+}
+
+#[cfg(test)]
+mod tests;

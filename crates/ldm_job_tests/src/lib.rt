@@ -1,0 +1,21 @@
+//! Tests of the jobs over disks in memory, of what no clause of theirs says.
+#![tactic(auto)]
+
+#[cfg(test)]
+mod copies;
+#[cfg(test)]
+mod edit;
+#[cfg(test)]
+mod group;
+#[cfg(test)]
+mod hostile;
+#[cfg(test)]
+mod jobs;
+#[cfg(test)]
+mod labels;
+#[cfg(test)]
+mod sample;
+#[cfg(test)]
+mod scripts;
+#[cfg(test)]
+mod stop;
