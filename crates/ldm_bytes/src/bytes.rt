@@ -1,3 +1,4 @@
+//! Owned bytes, and want of memory.
 ghost use Rattle.std.specs.Prelude.{◌≡◌, IfOk, List, ℕ};
 
 use std::alloc::{AllocError, AllocFailed, Global};

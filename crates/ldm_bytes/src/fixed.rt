@@ -1,3 +1,4 @@
+//! Big-endian numbers of 16, 32 and 64 bits at plain offsets.
 ghost use Rattle.std.specs.Prelude.{◌≡◌, ◌+◌, ◌≤◌, length};
 ghost use Rattle.byteorder.specs.Endian.{big_bytes};
 ghost use Rattle.ldm_bytes.specs.Places.{u16_at, u32_at, u64_at, put};

@@ -1,3 +1,4 @@
+//! GUID texts: 32 hexadecimal digits with hyphens between them.
 ghost use Rattle.std.specs.Prelude.{◌≡◌, ◌≤◌, ◌<◌, ◌++◌, length, drop, Some};
 ghost use Rattle.ldm_bytes.specs.Guid.{own_guid, guid_of};
 

@@ -1,3 +1,4 @@
+//! Variable numbers and texts, which a length byte begins.
 ghost use Rattle.std.specs.Prelude.{◌≡◌, ℕ, ◌+◌, ◌≤◌, ◌++◌, ◌<◌, ◌^◌, List, length, drop, Some, IfSome};
 ghost use Rattle.byteorder.specs.Endian.{big_bytes};
 ghost use Rattle.ldm_bytes.specs.Numbers.{IsBytes, IsNumber, IsText, width, own_number, number_at, text_at, Reads};

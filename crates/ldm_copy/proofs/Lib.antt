@@ -13,3 +13,9 @@ pub mod GateLaws
 pub mod LeftLaws
 pub mod RewriteLaws
 pub mod AlikeLaws
+pub mod StoredLaws
+pub mod FindLaws
+pub mod PlaceLaws
+pub mod AllLaws
+pub mod SortLaws
+pub mod CoreLaws

@@ -1,7 +1,7 @@
 -- The copy of a database as it is written: a header sector, whose first byte is the gate, and written blocks up to the last in
 -- use. Any places will do for the records, so what was read as a copy without a fault, each record in its own spelling, is a
 -- body too.
-use Rattle.std.specs.Prelude.{◌≡◌, ◌⊎◌, ℕ, ◌+◌, ◌*◌, ◌/◌, ◌<◌, ◌≤◌, ◌==◌, List, map, length, drop, slice_index, count_by, None, Ok}
+use Rattle.std.specs.Prelude.{◌≡◌, ◌⊎◌, ℕ, ◌+◌, ◌*◌, ◌/◌, ◌<◌, ◌≤◌, ◌==◌, List, [], ◌∷◌, map, length, drop, slice_index, count_by, None, Ok}
 use Rattle.std.specs.List.{All}
 use Rattle.std.specs.List.Sorted.{IsPermutation}
 use Rattle.ldm_vmdb.specs.Headers.{vmdb_fault, IsHeaderOf, written}
@@ -23,6 +23,12 @@ pub record Stored : Type 0 where
 
 abbrev pub placed_of : Stored → Placed
 placed_of s = record { payload = own_spelling (plain_of s.record_is); slots = s.slots }
+
+-- records with the numbers of their blocks, which a table has in the same order
+abbrev pub stored_at : List Record → List (List ℕ) → List Stored
+stored_at [] slots = []
+stored_at (r ∷ records) [] = []
+stored_at (r ∷ records) (s ∷ slots) = record { record_is = r; slots = s } ∷ stored_at records slots
 
 -- Each record stands once in written blocks, wherever these are, in its own spelling; all other blocks are unused.
 pub record Store (blocks : List ℕ) (records : List Record) : Type 0 where

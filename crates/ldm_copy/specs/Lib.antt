@@ -5,3 +5,5 @@ pub mod Answers
 pub mod Errors
 pub mod Steps
 pub mod Alike
+pub mod Table
+pub mod Finding

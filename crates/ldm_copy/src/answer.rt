@@ -1,3 +1,4 @@
+//! What is answered of a copy: closed, valid, or its first fault.
 ghost use Rattle.std.specs.Prelude.{◌≡◌};
 ghost use Rattle.ldm_copy.specs.Errors.{of_vmdb, of_frag};
 ghost use Rattle.ldm_copy.specs.declared.answer.CopyError.TheVariants as errors;

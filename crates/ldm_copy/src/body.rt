@@ -1,3 +1,4 @@
+//! The body of a copy: the header sector of a database, and its blocks.
 ghost use Rattle.std.specs.Prelude.{◌≡◌, ◌≤◌, ◌*◌, ◌++◌, length, All, IfOk, OnOk};
 ghost use Rattle.ldm_frags.specs.Written.{IsSized, Holds, in_order};
 ghost use Rattle.ldm_frags.specs.Written as written;
@@ -7,8 +8,9 @@ ghost use Rattle.ldm_group.specs.Room.{IsFitting, need_of};
 ghost use Rattle.ldm_copy.specs.Answers.{FitsHeader};
 ghost use Rattle.ldm_copy.specs.Body.{IsBodyOf, IsMadeOf, count_of, counts_of, spellings};
 
+use crate::bodies::with_table;
 use ldm_bytes::{Bytes, NoMemory};
-use ldm_frags::{SplitError, split};
+use ldm_frags::{Slots, SplitError, split};
 use ldm_group::{Db, kind_of};
 use ldm_records::{Record, spelling};
 use ldm_vmdb::{Counts, write_header};
@@ -16,26 +18,37 @@ use std::alloc::Global;
 use std::marker::Model;
 
 /// The bytes of a written copy, from its gate on up to the last block in use. Contracts see them as that
-/// list.
+/// list. It also keeps the numbers of the blocks that hold each record.
 #[derive(Drop)]
 pub struct Body {
     bytes: Bytes,
+    table: Vec<Slots>,
 }
 
 impl Model for Body {
     ghost use Rattle.std.specs.Prelude.{List, ℕ};
-    ghost use Rattle.ldm_copy.specs.Body.{IsSomeBody};
+    ghost use Rattle.ldm_copy.specs.Table.{IsTabled};
 
     ghost Value = { List ℕ };
 
     ghost view = { λ body. body.bytes };
 
-    ghost invariant = { λ body. IsSomeBody body.bytes };
+    ghost invariant = { λ body. IsTabled body.bytes body.table.items };
 }
 
 impl Body {
-    ghost use Rattle.std.specs.Prelude.{◌≡◌};
+    ghost use Rattle.std.specs.Prelude.{◌≡◌, ◌↔◌, IsTrue};
     ghost use Rattle.ldm_copy.specs.Body.{IsSomeBody};
+    ghost use Rattle.ldm_copy.specs.Table.{IsTabled};
+
+    /// The body of these bytes, with the numbers of the blocks that hold each record, in the order of the
+    /// records.
+    pub fn new(bytes: Bytes, table: Vec<Slots>) -> Body
+        requires { IsTabled bytes table.items }
+        ensures { result ≡ bytes }
+    {
+        Body { bytes, table }
+    }
 
     /// The bytes, the first of which is the gate of an open copy.
     pub fn as_slice(&self) -> &[u8]
@@ -43,6 +56,20 @@ impl Body {
         ensures body { IsSomeBody self.now }
     {
         self.bytes.as_slice()
+    }
+
+    /// The numbers of the blocks that hold each record, in the order of the records.
+    pub fn table(&self) -> &[Slots]
+        ensures { IsTabled self.now result.now }
+    {
+        &self.table
+    }
+
+    /// Whether both have the same bytes.
+    pub fn same(&self, other: &Body) -> bool
+        ensures { IsTrue result ↔ (self.now ≡ other.now) }
+    {
+        self.bytes.as_slice() == other.bytes.as_slice()
     }
 }
 
@@ -54,8 +81,8 @@ fn count_of(kind: u8, records: &[Record]) -> u32
     records.iter().filter(|r| kind_of(r) == kind).count() as u32
 }
 
-// The counts of the records by their kinds.
-fn counts_of(records: &[Record]) -> Counts
+/// The counts of the records by their kinds.
+pub fn counts_of(records: &[Record]) -> Counts
     requires { length records.now ≤ 8192 }
     ensures { result ≡ counts_of records.now }
 {
@@ -106,8 +133,8 @@ fn blocks_with(alloc: Global, records: &[Record], blocks: u32) -> Result<Bytes, 
     blocks_of(alloc, &payloads, blocks)
 }
 
-// The sector, and the blocks behind it.
-fn joined(alloc: Global, sector: &[u8; 512], blocks: &[u8]) -> Result<Bytes, NoMemory>
+/// The sector, and the blocks behind it.
+pub fn joined(alloc: Global, sector: &[u8; 512], blocks: &[u8]) -> Result<Bytes, NoMemory>
     ensures { IfOk result (λ bytes. bytes ≡ sector.now ++ blocks.now) }
 {
     let mut bytes = Vec::new(alloc);
@@ -130,7 +157,6 @@ pub fn body_of(alloc: Global, db: &Db) -> Result<Body, NoMemory>
     let mut sector = [0u8; 512];
     write_header(header, header.seq, counts_of(records), &mut sector);
     let blocks = blocks_with(alloc, records, db.room() as u32)?;
-    Ok(Body {
-        bytes: joined(alloc, &sector, blocks.as_slice())?,
-    })
+    let bytes = joined(alloc, &sector, blocks.as_slice())?;
+    with_table(alloc, bytes, db)
 }

@@ -1,3 +1,4 @@
+//! The gate of a copy, and what is written behind it.
 ghost use Rattle.std.specs.Prelude.{◌≡◌, ◌≢◌, ◌+◌, ◌-◌, ◌*◌, ◌^◌, ◌<◌, ◌≤◌, List, ℕ, length, slice_index, OnOk, IsErr};
 ghost use Rattle.ldm_host.specs.Moves.{Rose, Settled, Writes};
 ghost use Rattle.ldm_host.specs.Seen.{image};
@@ -10,12 +11,12 @@ use crate::body::Body;
 use ldm_host::{Failed, Host};
 use ldm_label::Label;
 
-// The place of the gate byte of the copy on a disk.
-fn gate<H: Host>(host: &H, disk: usize, label: &Label) -> u64
+/// The place of the gate byte of the copy on a disk.
+pub fn gate_at<H: Host>(host: &H, disk: usize, label: &Label) -> u64
     requires disk { disk < length (H.seen host.now).sizes }
     requires fits { Fits label.now (slice_index (H.seen host.now).sizes disk) }
     ensures is { result ≡ gate_at label.now }
-    ensures small { result < 2 ^ 64 - 1 }
+    ensures small { result + 512 * label.now.area_sectors < 2 ^ 64 }
 {
     let sectors = host.sectors(disk);
     // The label fits, so the area lies on the disk, and its places fit their type.
@@ -34,7 +35,7 @@ pub fn close<H: Host>(host: &mut H, disk: usize, label: &Label) -> Result<(), Fa
     ensures writes { Writes disk (gate_at label.now) 1 (H.seen host.old) (H.seen host.new) }
     ensures cause { IsErr result → Rose (H.seen host.old).disk_faults (H.seen host.new).disk_faults }
 {
-    let at = gate(host, disk, label);
+    let at = gate_at(host, disk, label);
     host.write_at(disk, at, &[0])?;
     host.sync(disk)
 }
@@ -50,7 +51,7 @@ pub fn fill<H: Host>(host: &mut H, disk: usize, label: &Label, body: &Body) -> R
     ensures writes { Writes disk (gate_at label.now + 1) (length body.now - 1) (H.seen host.old) (H.seen host.new) }
     ensures cause { IsErr result → Rose (H.seen host.old).disk_faults (H.seen host.new).disk_faults }
 {
-    let at = gate(host, disk, label);
+    let at = gate_at(host, disk, label);
     host.write_at(disk, at + 1, &body.as_slice()[1..])?;
     host.sync(disk)
 }
@@ -68,7 +69,7 @@ pub fn unseal<H: Host>(host: &mut H, disk: usize, label: &Label) -> Result<(), F
     ensures writes { Writes disk (gate_at label.now) 1 (H.seen host.old) (H.seen host.new) }
     ensures cause { IsErr result → Rose (H.seen host.old).disk_faults (H.seen host.new).disk_faults }
 {
-    let at = gate(host, disk, label);
+    let at = gate_at(host, disk, label);
     host.write_at(disk, at, &[0x56])?;
     host.sync(disk)
 }

@@ -1,3 +1,4 @@
+//! What a written copy reads as.
 ghost use Rattle.std.specs.Prelude.{◌≡◌, ◌+◌, ◌*◌, ◌≤◌, ℕ, List, Result, length, take, slice_index};
 ghost use Rattle.ldm_label.specs.declared.Label.{Label};
 ghost use Rattle.ldm_group.specs.Database.{Database};

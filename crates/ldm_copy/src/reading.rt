@@ -1,3 +1,4 @@
+//! Reads the copy on a disk.
 ghost use Rattle.std.specs.Prelude.{◌≡◌, ◌+◌, ◌-◌, ◌*◌, ◌/◌, ◌^◌, ◌<◌, ◌≤◌, ◌++◌, ℕ, List, [], Result, Err, length, slice_index, IfOk, IfErr, IfSome, OnOk, IsErrOf};
 ghost use Rattle.ldm_host.specs.Moves.{Rose, Still, Quiet};
 ghost use Rattle.ldm_host.specs.Seen.{image};
@@ -175,7 +176,8 @@ fn copy_at<H: Host>(
 /// failed.
 ///
 /// It reads the first sector of the area, and where the copy is open the blocks in use, eight sectors at a time. So of
-/// blocks that have a fault, no piece of eight sectors behind the first fault is read. It takes memory for the heads of these blocks, for their payloads and for the records.
+/// blocks that have a fault, no piece of eight sectors behind the first fault is read. It takes memory for the heads of
+/// these blocks, for their payloads and for the records.
 pub fn read_copy<H: Host>(
     alloc: Global,
     host: &mut H,

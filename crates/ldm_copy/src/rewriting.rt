@@ -1,3 +1,4 @@
+//! Rewrites a copy behind its closed gate.
 ghost use Rattle.std.specs.Prelude.{◌+◌, ◌*◌, ◌<◌, ◌≤◌, List, ℕ, length, slice_index, OnOk, IsErr};
 ghost use Rattle.ldm_host.specs.Moves.{Changes, Rose, Settled};
 ghost use Rattle.ldm_host.specs.Seen.{image};

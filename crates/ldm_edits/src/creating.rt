@@ -1,3 +1,4 @@
+//! `create`: a new volume, or the first refusal.
 ghost use Rattle.std.specs.Prelude.{◌≡◌, ◌+◌, ◌^◌, ◌≤◌, false, length, map, IfOk};
 ghost use Rattle.ldm_rules.specs.Ends.{data_size};
 ghost use Rattle.ldm_rules.specs.Facts.{IsSoundOn};

@@ -1,3 +1,4 @@
+//! `delete`: a volume and all that it has leave the group.
 ghost use Rattle.ldm_group.specs.Looks.{volume_named};
 ghost use Rattle.ldm_rules.specs.Facts.{IsSoundOn};
 ghost use Rattle.ldm_edits.specs.Answers.{StepsTo};

@@ -1,3 +1,4 @@
+//! Why a command gives no next group.
 ghost use Rattle.std.specs.Prelude.{◌≡◌};
 ghost use Rattle.ldm_edits.specs.declared.error.StepError.TheVariants as errors;
 

@@ -1,3 +1,4 @@
+//! `extend`: more pieces at the end of a span, or the first refusal.
 ghost use Rattle.std.specs.Prelude.{◌≡◌, ◌+◌, ◌^◌, ◌<◌, ◌≤◌, Contains, Some, None, Ok, find, length, option_copied, sum_by, true, is_some, IfOk};
 ghost use Rattle.ldm_records.specs.declared.types.Record.TheVariants as kinds;
 ghost use Rattle.ldm_made.specs.Made.{resized, with_children};

@@ -1,3 +1,4 @@
+//! How the sequence counts the lines that are done.
 ghost use Rattle.ldm_edits.specs.Counting.{SequenceCounts};
 
 /// That the sequence counts the lines that are done: each takes it one further, and one that is refused

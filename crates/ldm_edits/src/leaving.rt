@@ -1,3 +1,4 @@
+//! Which records leave the group, and those that stay.
 ghost use Rattle.std.specs.Prelude.{◌≡◌, IfOk};
 ghost use Rattle.ldm_group.specs.Looks.{is_at};
 ghost use Rattle.ldm_group.specs.Order.{Rising};

@@ -1,3 +1,4 @@
+//! The limits of ids, records, blocks and the sequence.
 ghost use Rattle.std.specs.Prelude.{◌≡◌, min, unwrap_or, ◌+◌, ◌-◌, ◌^◌, ◌≤◌, ◌<◌, All, MatchOption, nat_le};
 ghost use Rattle.std.specs.Option.{option_map};
 ghost use Rattle.ldm_bytes.specs.Tables.{first_of};

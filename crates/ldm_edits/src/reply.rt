@@ -1,3 +1,4 @@
+//! Refusals of a command, and the reply to a line.
 /// Why a command is refused, in the order in which the reasons are looked for.
 #[derive(Clone, Copy, PartialEq, Eq)]
 pub enum Refusal {

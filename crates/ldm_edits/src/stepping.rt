@@ -1,3 +1,4 @@
+//! One command: the next group, or the first refusal.
 ghost use Rattle.std.specs.Prelude.{◌≡◌, IfOk, All, ◌<◌, ◌≤◌, ◌^◌};
 ghost use Rattle.ldm_group.specs.Order.{Rising};
 ghost use Rattle.ldm_rules.specs.Facts.{IsSoundOn};

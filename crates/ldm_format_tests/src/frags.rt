@@ -1,3 +1,4 @@
+//! Blocks: groups of fragments, and each fault of a list of blocks.
 use crate::made::check;
 use ldm_bytes::{Bytes, put_bytes, put_u16, put_u32};
 use ldm_frags::{FragError, FragFault, Joined, Joiner, SplitError, join, parts_of, split};

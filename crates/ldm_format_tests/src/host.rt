@@ -1,3 +1,4 @@
+//! Hosts in memory: what is handed to them, and which of their calls fail.
 use crate::made::check;
 use ldm_host::{Failed, Host, MemoryHost};
 use std::alloc::Global;

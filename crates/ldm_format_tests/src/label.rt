@@ -1,3 +1,4 @@
+//! Labels: usual ones, each first fault, and what is written and read back.
 use crate::made::{bytes_of, check};
 use ldm_bytes::put_bytes;
 use ldm_host::{Host, MemoryHost};

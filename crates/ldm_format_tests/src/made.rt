@@ -1,3 +1,4 @@
+//! Rows of the tests: bytes from short texts.
 use ldm_words::read_number;
 use std::alloc::Global;
 use std::fmt::Debug;

@@ -1,3 +1,4 @@
+//! Headers of the database: each first fault, and what a new sequence changes.
 use crate::made::check;
 use ldm_bytes::{put_bytes, put_u16, put_u32, put_u64};
 use ldm_vmdb::{Counts, Header, VmdbError, VmdbFault, read_header, write_header};

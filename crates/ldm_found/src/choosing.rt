@@ -1,3 +1,4 @@
+//! The group of the copies that were read: its faults in their order.
 ghost use Rattle.std.specs.Prelude.{◌≡◌, None, length, position, is_none, All, IfOk, IfSome, OnOk};
 ghost use Rattle.ldm_bytes.specs.Tables.{first_of};
 ghost use Rattle.ldm_group.specs.Partitions.{EndsInRange};

@@ -1,3 +1,4 @@
+//! The copies of several images: the newest, and whether another differs from it.
 ghost use Rattle.std.specs.Prelude.{◌≡◌, ◌+◌, ◌<◌, [], ◌∷◌, ◌++◌, List, length, take, zip, slice_index, Ok, IfOk, IfErr, IfSome, IsErrOf};
 ghost use Rattle.ldm_host.specs.Seen.{image};
 ghost use Rattle.ldm_host.specs.Moves.{Rose, Still, Quiet};

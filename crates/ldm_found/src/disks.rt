@@ -1,3 +1,4 @@
+//! The labels of several images, no two of which may be of one disk.
 ghost use Rattle.std.specs.Prelude.{◌<◌, length, slice_index, IfOk, IsErrOf, Some};
 ghost use Rattle.ldm_host.specs.Seen.{image};
 ghost use Rattle.ldm_host.specs.Moves.{Rose, Still, Quiet};

@@ -1,3 +1,4 @@
+//! The first reason that a group may not be edited.
 ghost use Rattle.std.specs.Prelude.{◌≡◌, find, option_copied, position};
 ghost use Rattle.std.specs.Option.{option_map};
 ghost use Rattle.ldm_group.specs.Order.{id_of};

@@ -1,3 +1,4 @@
+//! Why no group is found.
 ghost use Rattle.std.specs.Prelude.{◌≡◌};
 ghost use Rattle.ldm_found.specs.declared.fault.OpenError.TheVariants as errors;
 

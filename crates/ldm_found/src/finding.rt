@@ -1,3 +1,4 @@
+//! The group that the images of a host hold.
 ghost use Rattle.std.specs.Prelude.{◌≡◌, ◌<◌, length, IfOk, IsErrOf, Result};
 ghost use Rattle.ldm_host.specs.Moves.{Rose, Still, Quiet};
 ghost use Rattle.ldm_found.specs.declared.fault.OpenFault.{OpenFault};

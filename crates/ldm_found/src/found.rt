@@ -1,3 +1,4 @@
+//! A group that was found, with its labels and a note for each image.
 ghost use Rattle.std.specs.Prelude.{◌≡◌};
 ghost use Rattle.ldm_rules.specs.Present.{image_with};
 ghost use Rattle.ldm_found.specs.Labels.{image_of};

@@ -1,3 +1,4 @@
+//! What a group, its faults and its editing depend on.
 ghost use Rattle.std.specs.Prelude.{◌≡◌, List, Result};
 ghost use Rattle.ldm_label.specs.declared.Label.{Label};
 ghost use Rattle.ldm_group.specs.Database.{Database, IsSameCore};

@@ -1,3 +1,4 @@
+//! What was noted of the copy on each image.
 ghost use Rattle.std.specs.Prelude.{◌≡◌, List};
 ghost use Rattle.ldm_found.specs.declared.notes.Note.{Note};
 

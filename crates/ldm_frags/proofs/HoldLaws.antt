@@ -161,7 +161,7 @@ has_magic_held : (blocks : List ℕ) (records : List Placed) (k : ℕ) → Stand
 has_magic_held blocks records k (in_record m i lm li e has) = has.magic
 has_magic_held blocks records k (free none has) = has.magic
 
-few_held : (blocks : List ℕ) (records : List Placed) (k : ℕ) → Holds blocks records → Stands blocks records k → parts blocks k ≤ 4
+pub few_held : (blocks : List ℕ) (records : List Placed) (k : ℕ) → Holds blocks records → Stands blocks records k → parts blocks k ≤ 4
 few_held blocks records k holds (in_record m i lm li e has) =
     let few = few_slots blocks (record_at records m) (holds.placed m nowhere lm) in
     let few_1 = few.1 in

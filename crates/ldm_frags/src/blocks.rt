@@ -1,3 +1,4 @@
+//! Blocks (VBLKs) as they are read: the head, and the payload of one in use.
 ghost use Rattle.std.specs.Prelude.{◌≡◌, ◌≤◌, ◌<◌, All, length, IfOk};
 ghost use Rattle.ldm_frags.specs.Blocks.{count, parts, payload, has_magic};
 ghost use Rattle.ldm_frags.specs.Kept.{head_at, blocks_of, IsPiece, IsWhole};

@@ -1,3 +1,4 @@
+//! Faults of a list of blocks, and the records that they hold.
 ghost use Rattle.std.specs.Prelude.{◌≡◌};
 
 use ldm_bytes::{Bytes, NoMemory};

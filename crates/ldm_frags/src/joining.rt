@@ -1,3 +1,4 @@
+//! The records of all blocks, once the last was taken.
 ghost use Rattle.std.specs.Prelude.{◌≡◌, ◌≤◌, ◌<◌, ◌++◌, true, None, length, IfOk, OnOk};
 ghost use Rattle.ldm_frags.specs.Blocks.{count, has_parts};
 ghost use Rattle.ldm_frags.specs.Faults.{missing_fault, first_below};

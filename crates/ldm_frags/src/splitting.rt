@@ -1,3 +1,4 @@
+//! Payloads as blocks, one after another without gaps.
 ghost use Rattle.std.specs.Prelude.{◌≡◌, ◌+◌, ◌*◌, ◌≤◌, ◌<◌, length, map, All, IfOk};
 ghost use Rattle.ldm_frags.specs.Blocks.{count};
 ghost use Rattle.ldm_frags.specs.Joins.{Joins};

@@ -1,3 +1,4 @@
+//! Blocks as they are written, and whether they are written so.
 ghost use Rattle.std.specs.Prelude.{◌≡◌, ◌≢◌, ◌↔◌, ℕ, ◌+◌, ◌-◌, ◌*◌, ◌≤◌, ◌<◌, ◌++◌, length, replicate, IsTrue, All, AllPairs};
 ghost use Rattle.ldm_bytes.specs.Places.{put};
 ghost use Rattle.ldm_frags.specs.Blocks.{count};

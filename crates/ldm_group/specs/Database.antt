@@ -11,6 +11,13 @@ pub record Database : Type 0 where
   pub header : Header
   pub records : List Record
 
+-- both headers are the same but for the carried bytes
+pub record IsSameHeader (a b : Header) : Type 0 where
+  pub last : a.last ≡ b.last
+  pub seq : a.seq ≡ b.seq
+  pub name : a.name ≡ b.name
+  pub guid : a.guid ≡ b.guid
+
 -- all of a database but the carried bytes of its header
 pub record Core : Type 0 where
   pub last : ℕ

@@ -1,3 +1,4 @@
+//! Records with the tables of their places.
 ghost use Rattle.std.specs.Prelude.{◌≡◌, List, IfOk};
 ghost use Rattle.ldm_records.specs.declared.types.Record.{Record};
 ghost use Rattle.ldm_group.specs.Index.{IsIndexOf};

@@ -1,3 +1,4 @@
+//! The database of a group.
 use crate::catalog::Catalog;
 use crate::error::DbError;
 use crate::index::Index;

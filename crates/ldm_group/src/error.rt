@@ -1,3 +1,4 @@
+//! Why records make no database.
 use ldm_bytes::NoMemory;
 use std::alloc::AllocError;
 

@@ -1,3 +1,4 @@
+//! Tables of the places of records, by what they are looked up by.
 ghost use Rattle.std.specs.Prelude.{◌≡◌, ◌+◌, ◌<◌, ◌^◌, ℕ, List, Some, if◌then◌else◌, bytes_eq, nat_eq, length, take, OnOk};
 ghost use Rattle.indexmap.specs.IndexMap.{get, Updates};
 ghost use Rattle.ldm_group.specs.Hits.{hits, count_in, one_more, at_name, at_object};

@@ -1,3 +1,4 @@
+//! Records by id, name, GUID and parent.
 ghost use Rattle.std.specs.Prelude.{◌≡◌, true, Bool, List, find, count_by, option_copied, IfSome, Some, Contains};
 ghost use Rattle.ldm_records.specs.declared.types.Record.{Record};
 ghost use Rattle.ldm_records.specs.declared.types.Record.TheVariants as kinds;

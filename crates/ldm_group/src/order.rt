@@ -1,3 +1,4 @@
+//! The order of records: by kind, and then by id.
 ghost use Rattle.std.specs.Prelude.{◌≡◌, MatchOption};
 ghost use Rattle.ldm_group.specs.Order.{kind_of, id_of, place, place_of, IsFirstTwice, NoneTwice};
 

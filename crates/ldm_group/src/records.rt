@@ -1,3 +1,4 @@
+//! A list of records.
 ghost use Rattle.std.specs.Prelude.{◌≡◌, List};
 ghost use Rattle.ldm_records.specs.declared.types.Record.{Record};
 

@@ -1,3 +1,4 @@
+//! How many blocks the records of a group need, and how many it has.
 ghost use Rattle.std.specs.Prelude.{◌≡◌, ◌≤◌, All};
 ghost use Rattle.ldm_frags.specs.Written.{parts_of};
 ghost use Rattle.ldm_group.specs.Room.{own_len, IsFitting, need_of, room_of};

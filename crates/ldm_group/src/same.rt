@@ -1,15 +1,14 @@
+//! Whether two databases are the same group.
 ghost use Rattle.std.specs.Prelude.{◌≡◌, ◌↔◌, IsTrue};
-ghost use Rattle.ldm_group.specs.Database.{IsSameCore};
+ghost use Rattle.ldm_group.specs.Database.{IsSameHeader, IsSameCore};
 
 use crate::db::Db;
 use ldm_records::Record;
 use ldm_vmdb::Header;
 
-// All but the carried bytes.
-fn is_same_header(a: &Header, b: &Header) -> bool
-    ensures { IsTrue result ↔
-        ((a.now.last ≡ b.now.last) × (a.now.seq ≡ b.now.seq)
-        × (a.now.name ≡ b.now.name) × (a.now.guid ≡ b.now.guid)) }
+/// Whether both headers are the same but for the carried bytes.
+pub fn is_same_header(a: &Header, b: &Header) -> bool
+    ensures { IsTrue result ↔ IsSameHeader a.now b.now }
 {
     a.last == b.last && a.seq == b.seq && a.name.as_slice() == b.name.as_slice() && a.guid == b.guid
 }

@@ -1,3 +1,4 @@
+//! How many sectors the partitions of each disk use.
 ghost use Rattle.std.specs.Prelude.{◌≡◌, ℕ, nat_eq, IfOk, unwrap_or};
 ghost use Rattle.indexmap.specs.IndexMap as map;
 ghost use Rattle.ldm_group.specs.Partitions.{used_on};

@@ -1,3 +1,4 @@
+//! Copies of the database: valid, closed, and each first fault.
 use crate::made::{host_with, kinds_of};
 use ldm_copy::{CopyError, CopyFault, CopyState, read_copy};
 use ldm_frags::FragFault;
@@ -131,13 +132,13 @@ fn first_faults(rt: HostRuntime) -> Result<(), Fail> {
     Ok(())
 }
 
-// A label takes eight reads, and a copy one for each of its 16 sectors.
+// A label takes eight reads, and a copy three: one for its header, and two for its 15 sectors of blocks.
 #[test]
 fn failing_disks(rt: HostRuntime) -> Result<(), Fail> {
-    for call in &[9, 10, 24] {
+    for call in &[9, 10, 11] {
         let error = error_with(rt.alloc(), &[], &[*call])?;
         assert!(rt; error == Some(CopyError::Disk), "call {call}");
     }
-    assert!(rt; error_with(rt.alloc(), &[], &[25])?.is_none());
+    assert!(rt; error_with(rt.alloc(), &[], &[12])?.is_none());
     Ok(())
 }

@@ -1,3 +1,4 @@
+//! Databases: the order of records, look-ups, and ids that two records have.
 use crate::made::{database, database_error, kinds_of};
 use ldm_group::{Db, DbError};
 use std::alloc::Global;

@@ -1,3 +1,4 @@
+//! Layouts at the edge of each fault.
 use crate::made::database;
 use ldm_layout::{LayoutFault, faults};
 use std::alloc::Global;

@@ -1,3 +1,4 @@
+//! Places in a RAID-5, whose parity goes round.
 ghost use Rattle.std.specs.Prelude.{IsTrue, IsSome, All};
 ghost use Rattle.ldm_group.specs.Partitions.{EndsInRange};
 ghost use Rattle.ldm_layout.specs.Volumes.{volume_with};

@@ -1,3 +1,4 @@
+//! Rows of the tests: records, databases and hosts from short texts.
 use ldm_bytes::{put_bytes, put_u16, put_u32, put_u64};
 use ldm_group::{Db, DbError, id_of, kind_of};
 use ldm_host::MemoryHost;

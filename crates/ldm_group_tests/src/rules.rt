@@ -1,3 +1,4 @@
+//! The first broken rule, and the least id at which it is broken.
 use crate::made::database;
 use ldm_label::{Label, Labels};
 use ldm_rules::{RuleError, check};

@@ -133,7 +133,11 @@ const FITS: [(u64, u64, Option<u64>); 7] = [
 fn fits_first_behind_partitions(rt: HostRuntime) -> Result<(), Fail> {
     let group = group(rt.alloc())?;
     for (sectors, size, start) in FITS {
-        let found = if size == 0 { None } else { first_fit(&group, 2, sectors, size) };
+        let found = if size == 0 {
+            None
+        } else {
+            first_fit(&group, 2, sectors, size)
+        };
         assert!(rt; found == start, "{size} of {sectors}");
     }
     Ok(())

@@ -1,3 +1,4 @@
+//! The text of each fault of a label.
 use ldm_label::LabelFault;
 use ldm_text::label_fault_text;
 use std::test::Fail;

@@ -1,3 +1,4 @@
+//! The images of the sample group, byte by byte.
 use ldm_found::find_group;
 use ldm_host::{Host, MemoryHost};
 use ldm_vectors::sample_images;

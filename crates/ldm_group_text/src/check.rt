@@ -1,3 +1,4 @@
+//! The text of `check`.
 ghost use Rattle.std.specs.Prelude.{◌≡◌, ◌++◌, OnOk, IfOk, flat_map};
 ghost use Rattle.std.specs.List.{enumerate_from};
 ghost use Rattle.ldm_group_text.specs.Check.{text_of_note, text_of_blocked, text_of_check};

@@ -1,3 +1,4 @@
+//! The text of `map`.
 ghost use Rattle.std.specs.Prelude.{◌≡◌, ◌++◌, ◌+◌, ◌<◌, ◌≤◌, nat_eq, OnOk, IfOk, flat_map};
 ghost use Rattle.std.specs.HashMap as hash;
 ghost use Rattle.std.specs.List.{range_with_len};

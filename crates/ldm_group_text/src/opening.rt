@@ -1,3 +1,4 @@
+//! The text of each fault of opening a group.
 ghost use Rattle.std.specs.Prelude.{◌≡◌, ◌++◌, IfOk, codes, decimal};
 ghost use Rattle.ldm_text.specs.Texts.{text_of_label_fault, text_of_image_fault};
 ghost use Rattle.ldm_text.specs.Records.{text_of_copy_fault};

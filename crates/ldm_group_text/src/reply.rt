@@ -1,3 +1,4 @@
+//! The text of a reply to a line.
 ghost use Rattle.std.specs.Prelude.{◌≡◌, ◌++◌, OnOk, IfOk};
 ghost use Rattle.ldm_group_text.specs.Reply.{text_of_reason, text_of_reply};
 

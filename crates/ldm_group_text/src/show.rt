@@ -1,3 +1,4 @@
+//! The text of `show`.
 ghost use Rattle.std.specs.Prelude.{◌≡◌, ◌++◌, ◌-◌, ◌<◌, nat_eq, length, slice_get, Some, All, OnOk, IfOk, unwrap_or};
 ghost use Rattle.indexmap.specs.IndexMap as map;
 ghost use Rattle.ldm_group.specs.Partitions.{used_on};

@@ -1,3 +1,4 @@
+//! The calls that a host in memory keeps a list of.
 /// What a call did, as a host in memory keeps it.
 #[derive(Drop)]
 pub enum Call {

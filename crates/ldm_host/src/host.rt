@@ -1,3 +1,4 @@
+//! Disks, an input and an output: what each call promises, also of stops.
 ghost use Rattle.std.specs.Prelude.{◌≡◌, ◌^◌, ◌+◌, ◌-◌, ◌*◌, ◌/◌, ◌<◌, ◌≤◌, ◌++◌, min, List, ℕ, length, take, set, slice_index, slice_range, IfOk, OnOk, OnErr, IsErr, is_ok, Bool, ⊤};
 ghost use Rattle.ldm_bytes.specs.Numbers.{IsBytes};
 ghost use Rattle.ldm_bytes.specs.Places.{put};

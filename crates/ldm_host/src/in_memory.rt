@@ -1,3 +1,4 @@
+//! The calls of a host in memory.
 // A host in memory is a host that tells everything.
 use crate::outcome::{hand, next_outcome, read_in};
 use crate::steps::{end_call, hear_part, say_part, sync_part, write_part};

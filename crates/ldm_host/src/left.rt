@@ -1,3 +1,4 @@
+//! One list of images that a stop may leave of a host in memory.
 // What a stop may leave of the disks of a host in memory.
 ghost use Rattle.std.specs.Prelude.{◌≡◌, ◌+◌, ◌<◌, ◌≤◌, ℕ, length, IfOk, Vec};
 ghost use Rattle.std.specs.declared.alloc.Global.{Global};

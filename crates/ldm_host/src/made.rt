@@ -1,3 +1,4 @@
+//! Images of zeros, and copies of images.
 // How a host in memory is made and looked at.
 ghost use Rattle.std.specs.Prelude.{◌≡◌, ◌<◌, ◌++◌, ◌∷◌, [], ℕ, length, replicate, slice_index, IfOk, OnOk, Ok, Vec};
 ghost use Rattle.std.specs.declared.alloc.Global.{Global};

@@ -1,3 +1,4 @@
+//! A host in memory, which keeps a list of its calls.
 ghost use Rattle.ldm_host.specs.Images.{items_of};
 ghost use Rattle.ldm_host.specs.Kept.{IsKept};
 

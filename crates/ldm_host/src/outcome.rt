@@ -1,3 +1,4 @@
+//! Which calls of a host in memory fail, and what they take.
 // How a call ends, and what its bytes do.
 ghost use Rattle.std.specs.Prelude.{◌≡◌, ◌≤◌, ◌<◌, ◌+◌, ◌-◌, ◌^◌, length, min, set, slice_index, slice_range};
 ghost use Rattle.ldm_bytes.specs.Places.{put};

@@ -1,3 +1,4 @@
+//! What each call of a host in memory adds to what it keeps.
 // What the calls of a host in memory do, one by one.
 ghost use Rattle.std.specs.Prelude.{◌≡◌, ◌≤◌, ◌<◌, ◌+◌, ◌&&◌, length, IfOk, OnErr, is_ok, not, if◌then◌else◌};
 ghost use Rattle.ldm_host.specs.declared.outcome.Outcome.TheVariants.{Whole};

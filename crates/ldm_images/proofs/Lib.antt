@@ -1,1 +1,2 @@
 pub mod SampleLaws
+pub mod UsualLaws

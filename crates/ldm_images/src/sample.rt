@@ -1,3 +1,4 @@
+//! Labels of the disks of the sample groups.
 ghost use Rattle.std.specs.Prelude.{◌≡◌, ◌<◌, IfOk};
 ghost use Rattle.ldm_images.specs.Sample.{guid_with, sample_label, IsZeros};
 

@@ -10,7 +10,9 @@ use std::test::Fail;
 fn sectors_of(name: &str) -> &'static [usize] {
     match name {
         "mbr" => &[0],
+        "head" => &[6],
         "heads" => &[6, 8000, 8191],
+        "toc" => &[6145],
         "tocs" => &[6145, 6146, 8189, 8190],
         "copy" => &[6161],
         _ => &[],
@@ -50,15 +52,18 @@ fn bytes_of(alloc: Global, digits: &str) -> Result<Vec<u8>, Fail> {
     Ok(bytes)
 }
 
-// Changes an image at a place SECTORS+OFFSET to these bytes.
-fn change(image: &mut [u8], place: &str, bytes: &[u8]) -> Result<(), Fail> {
+// Changes an image at a place SECTORS+OFFSET to these bytes, or cuts it at this sector.
+fn change(image: &mut Vec<u8>, place: &str, bytes: &[u8]) -> Result<(), Fail> {
     let Some((name, offset)) = place.split_once('+') else {
         return Err(Fail::from("no place"));
     };
     let offset = number_of(offset)?;
+    if name == "cut" {
+        image.truncate(offset.saturating_mul(512));
+    }
     for sector in sectors_of(name) {
         put(
-            image,
+            image.as_mut_slice(),
             offset.saturating_add(sector.saturating_mul(512)),
             bytes,
         );
@@ -76,7 +81,7 @@ fn is_named(which: &str, image: usize) -> bool {
     }
 }
 
-// Does a change IMAGE.SECTORS+OFFSET=BYTES, or one of all images where IMAGE is a star.
+// Does a change IMAGE.SECTORS+OFFSET=BYTES or IMAGE.cut+SECTOR=, or one of all images where IMAGE is a star.
 pub(crate) fn change_images(alloc: Global, images: &mut [Vec<u8>], text: &str) -> Result<(), Fail> {
     let Some((which, rest)) = text.split_once('.') else {
         return Err(Fail::from("no image"));
@@ -87,7 +92,7 @@ pub(crate) fn change_images(alloc: Global, images: &mut [Vec<u8>], text: &str) -
     let bytes = bytes_of(alloc, digits)?;
     for (number, image) in images.iter_mut().enumerate() {
         if is_named(which, number) {
-            change(image.as_mut_slice(), place, &bytes)?;
+            change(image, place, &bytes)?;
         }
     }
     Ok(())
@@ -110,7 +115,7 @@ fn images_on(
 }
 
 // Compares the last line of what is said, and the status by how that line begins.
-fn expect_last(
+pub(crate) fn expect_last(
     alloc: Global,
     rt: &impl Abort,
     group: &[Vec<u8>],
@@ -120,7 +125,7 @@ fn expect_last(
 ) -> Result<(), Fail> {
     let images = images_on(alloc, group, words, changes)?;
     let (status, mut said) = answer_of(alloc, words, images, b"")?;
-    let wanted = if line.starts_with("refused") {
+    let wanted = if line.starts_with("refused") || line.starts_with("1 refused") {
         Status::Refused
     } else {
         Status::Done
@@ -166,7 +171,12 @@ check on A B C;1.copy+0=00 2.tocs+56=05d9;ok: not editable: image 2: area clash
 check on A B C;1.copy+0=00;ok: editable";
 
 // Each row of a text is such words, changes and a line.
-fn expect_rows(alloc: Global, rt: &impl Abort, group: &[Vec<u8>], rows: &str) -> Result<(), Fail> {
+pub(crate) fn expect_rows(
+    alloc: Global,
+    rt: &impl Abort,
+    group: &[Vec<u8>],
+    rows: &str,
+) -> Result<(), Fail> {
     for row in rows.lines() {
         let mut parts = row.split(';');
         let (Some(words), Some(changes), Some(line)) = (parts.next(), parts.next(), parts.next())
@@ -229,7 +239,7 @@ disk 4 Disk3 33333333-3333-3333-3333-333333333333 image 0 free 6081
 ";
 
 // Compares all that is said of a job that is done.
-fn expect_all(
+pub(crate) fn expect_all(
     alloc: Global,
     rt: &impl Abort,
     group: &[Vec<u8>],

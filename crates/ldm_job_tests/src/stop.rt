@@ -1,4 +1,4 @@
-//! What a stop at each call of an edit leaves of a group.
+//! What a stop at each call of an edit leaves of a group, and edits that begin again where calls failed.
 use crate::jobs::{run_over, sample_group, words_in};
 use ldm_host::{Filling, MemoryHost};
 use ldm_run::Status;
@@ -58,13 +58,6 @@ ok: editable
 // For each number of replies that are whole: the groups that may open.
 const OPENS: [[usize; 2]; 4] = [[0, 1], [1, 1], [1, 2], [2, 2]];
 
-const FILLINGS: [Filling; 4] = [
-    Filling::Old,
-    Filling::New,
-    Filling::Fill(0x56),
-    Filling::Fill(0x00),
-];
-
 // Which group this says.
 fn group_said(said: &[u8]) -> Option<usize> {
     GROUPS.iter().position(|group| said == group.as_bytes())
@@ -80,41 +73,197 @@ fn opens(alloc: Global, rt: &impl Abort, images: Vec<Vec<u8>>) -> Result<Option<
     Ok(group_said(host.said()))
 }
 
-// How many replies are whole.
-fn count_replies(said: &[u8]) -> usize {
-    said.iter().filter(|byte| **byte == b'\n').count()
+// How many lines have this text in them, of those that are whole.
+fn count_lines(said: &[u8], text: &str) -> usize {
+    let mut count: usize = 0;
+    for line in said.split_inclusive(|byte| *byte == b'\n') {
+        if line.ends_with(b"\n") && has_part(line, text.as_bytes()) {
+            count = count.saturating_add(1);
+        }
+    }
+    count
 }
 
-// Edits the sample group, stopped after so many calls.
-fn stopped_edit(alloc: Global, calls: u64) -> Result<(MemoryHost, Option<Status>), Fail> {
+fn has_part(line: &[u8], part: &[u8]) -> bool {
+    line.windows(part.len().max(1)).any(|window| window == part)
+}
+
+// A host of the sample group, with the script to be heard.
+fn fresh_host(alloc: Global) -> Result<MemoryHost, Fail> {
     let script = SCRIPT.as_bytes().to_vec(alloc)?;
-    let host = MemoryHost::new(alloc, sample_group(alloc, 3, 64)?, script)?;
-    let mut host = host.stop_after(calls);
-    let status = run_over(alloc, &words_in(alloc, "edit on A B C")?, &mut host);
-    Ok((host, status))
+    Ok(MemoryHost::new(alloc, sample_group(alloc, 3, 64)?, script)?)
 }
 
-// Looks at what such an edit leaves with each filling, and answers whether it was whole.
-fn stops(alloc: Global, rt: &impl Abort, calls: u64) -> Result<bool, Fail> {
-    let (host, status) = stopped_edit(alloc, calls)?;
-    let Some(may_open) = OPENS.get(count_replies(host.said())) else {
+// Edits the disks of the host by what is left of its input.
+fn edit(alloc: Global, host: &mut MemoryHost) -> Result<Option<Status>, Fail> {
+    Ok(run_over(alloc, &words_in(alloc, "edit on A B C")?, host))
+}
+
+// Whether the edit ended as it does where no call fails.
+fn is_whole(host: &MemoryHost, status: Option<Status>) -> bool {
+    status == Some(Status::Refused) && host.said() == SAID.as_bytes()
+}
+
+fn is_fault(status: Option<Status>) -> bool {
+    matches!(status, Some(Status::DiskFault) | Some(Status::TalkFault))
+}
+
+// Looks at what an edit leaves that is stopped after so many calls, with this filling, and answers whether it was whole.
+fn stops(alloc: Global, rt: &impl Abort, calls: u64, filling: Filling) -> Result<bool, Fail> {
+    let mut host = fresh_host(alloc)?.stop_after(calls);
+    let status = edit(alloc, &mut host)?;
+    let Some(may_open) = OPENS.get(count_lines(host.said(), "\n")) else {
         return Err(Fail::from("too many replies"));
     };
-    for filling in FILLINGS {
-        let Some(group) = opens(alloc, rt, host.left(alloc, filling)?)? else {
-            return Err(Fail::from("another group"));
-        };
-        assert!(rt; may_open.contains(&group), "{calls}");
-    }
-    Ok(status == Some(Status::Refused) && host.said() == SAID.as_bytes())
+    let Some(group) = opens(alloc, rt, host.left(alloc, filling)?)? else {
+        return Err(Fail::from("another group"));
+    };
+    assert!(rt; may_open.contains(&group), "{calls}");
+    Ok(is_whole(&host, status))
 }
 
-#[test]
-fn opens_after_a_stop_at_each_call(rt: HostRuntime) -> Result<(), Fail> {
+// Stops the edit after each of its calls.
+fn stops_each(alloc: Global, rt: &impl Abort, filling: Filling) -> Result<(), Fail> {
     for calls in 0..1000 {
-        if stops(rt.alloc(), &rt, calls)? {
+        if stops(alloc, rt, calls, filling)? {
             return Ok(());
         }
     }
     Err(Fail::from("no edit was whole"))
+}
+
+#[test]
+fn opens_after_a_stop_where_old_bytes_are_left(rt: HostRuntime) -> Result<(), Fail> {
+    stops_each(rt.alloc(), &rt, Filling::Old)
+}
+
+#[test]
+fn opens_after_a_stop_where_new_bytes_are_left(rt: HostRuntime) -> Result<(), Fail> {
+    stops_each(rt.alloc(), &rt, Filling::New)
+}
+
+#[test]
+fn opens_after_a_stop_where_open_gates_are_left(rt: HostRuntime) -> Result<(), Fail> {
+    stops_each(rt.alloc(), &rt, Filling::Fill(0x56))
+}
+
+#[test]
+fn opens_after_a_stop_where_zeros_are_left(rt: HostRuntime) -> Result<(), Fail> {
+    stops_each(rt.alloc(), &rt, Filling::Fill(0x00))
+}
+
+// Edits a second time on the host of an edit in which a call failed, by what is left of the script. Then all copies are
+// open with one group, not before the last line that was answered with ok.
+fn edits_again(alloc: Global, rt: &impl Abort, host: MemoryHost, call: u64) -> Result<(), Fail> {
+    let mut host = host;
+    let unheard = call == 1;
+    let status = edit(alloc, &mut host)?;
+    let whole = if unheard {
+        Status::Refused
+    } else {
+        Status::Done
+    };
+    assert_eq!(rt; status, Some(whole), "{call}");
+    let answered = count_lines(host.said(), " ok ");
+    let Some(group) = opens(alloc, rt, host.left(alloc, Filling::Fill(0x00))?)? else {
+        return Err(Fail::from("another group"));
+    };
+    assert!(rt; answered <= group, "{call}");
+    let said = host.said().len();
+    for job in ["show on A B C", "check on A B C"] {
+        let status = run_over(alloc, &words_in(alloc, job)?, &mut host);
+        assert_eq!(rt; status, Some(Status::Done), "{call}: {job}");
+    }
+    assert_eq!(rt;
+        group_said(host.said().get(said..).unwrap_or_default()),
+        Some(group),
+        "{call}"
+    );
+    Ok(())
+}
+
+// One call of an edit fails; answers whether the edit didn't come so far.
+fn fails_at(alloc: Global, rt: &impl Abort, call: u64) -> Result<bool, Fail> {
+    let mut host = fresh_host(alloc)?.with_failures(vec![in alloc; call]?);
+    let status = edit(alloc, &mut host)?;
+    if is_whole(&host, status) {
+        return Ok(true);
+    }
+    assert!(rt; is_fault(status), "{call}");
+    edits_again(alloc, rt, host, call)?;
+    Ok(false)
+}
+
+#[test]
+fn edits_again_after_a_call_that_failed(rt: HostRuntime) -> Result<(), Fail> {
+    for call in 1..1000 {
+        if fails_at(rt.alloc(), &rt, call)? {
+            return Ok(());
+        }
+    }
+    Err(Fail::from("no edit was whole"))
+}
+
+// What a stop leaves of the host with this filling opens, not before the last line that was answered with ok.
+fn opens_answered(
+    alloc: Global,
+    rt: &impl Abort,
+    host: &MemoryHost,
+    filling: Filling,
+    call: u64,
+) -> Result<(), Fail> {
+    let answered = count_lines(host.said(), " ok ");
+    let Some(group) = opens(alloc, rt, host.left(alloc, filling)?)? else {
+        return Err(Fail::from("another group"));
+    };
+    assert!(rt; answered <= group, "{call}");
+    Ok(())
+}
+
+// Four calls in a row fail, and the edit is begun again until no call fails in it. Answers whether the first didn't come so
+// far.
+fn fails_from(alloc: Global, rt: &impl Abort, call: u64, filling: Filling) -> Result<bool, Fail> {
+    let mut calls = Vec::new(alloc);
+    for more in 0..4u64 {
+        calls.push(call.saturating_add(more))?;
+    }
+    let mut host = fresh_host(alloc)?.with_failures(calls);
+    for run in 0..5 {
+        let status = edit(alloc, &mut host)?;
+        opens_answered(alloc, rt, &host, filling, call)?;
+        if !is_fault(status) {
+            return Ok(run == 0);
+        }
+    }
+    Err(Fail::from("more than five edits"))
+}
+
+// Lets the calls fail from each call of the edit on.
+fn fails_from_each(alloc: Global, rt: &impl Abort, filling: Filling) -> Result<(), Fail> {
+    for call in 1..1000 {
+        if fails_from(alloc, rt, call, filling)? {
+            return Ok(());
+        }
+    }
+    Err(Fail::from("no edit was whole"))
+}
+
+#[test]
+fn edits_again_after_four_failures_where_old_bytes_are_left(rt: HostRuntime) -> Result<(), Fail> {
+    fails_from_each(rt.alloc(), &rt, Filling::Old)
+}
+
+#[test]
+fn edits_again_after_four_failures_where_new_bytes_are_left(rt: HostRuntime) -> Result<(), Fail> {
+    fails_from_each(rt.alloc(), &rt, Filling::New)
+}
+
+#[test]
+fn edits_again_after_four_failures_where_open_gates_are_left(rt: HostRuntime) -> Result<(), Fail> {
+    fails_from_each(rt.alloc(), &rt, Filling::Fill(0x56))
+}
+
+#[test]
+fn edits_again_after_four_failures_where_zeros_are_left(rt: HostRuntime) -> Result<(), Fail> {
+    fails_from_each(rt.alloc(), &rt, Filling::Fill(0x00))
 }

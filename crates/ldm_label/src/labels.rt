@@ -1,3 +1,4 @@
+//! The labels of several disks.
 ghost use Rattle.std.specs.Prelude.{◌≡◌, List};
 ghost use Rattle.ldm_label.specs.declared.Label.{Label};
 

@@ -1,3 +1,4 @@
+//! What a label depends on, and that one which was written reads back.
 ghost use Rattle.ldm_label.specs.Laws.{LabelsFit, LabelsStay, WrittenLabelsRead, WrittenLabelsStay};
 
 /// A law, which does nothing: what is written in the config area of a disk leaves its label as it is,

@@ -1,3 +1,4 @@
+//! The master boot record.
 ghost use Rattle.std.specs.Prelude.{◌≡◌};
 ghost use Rattle.ldm_label.specs.Answer.{answer};
 ghost use Rattle.ldm_label.specs.Fields.{has_signature, has_ldm_entry};

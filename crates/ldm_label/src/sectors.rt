@@ -1,3 +1,4 @@
+//! Sectors of a disk, as they are read.
 ghost use Rattle.std.specs.Prelude.{◌≡◌, ◌+◌, ◌*◌, ◌^◌, ◌<◌, ◌≤◌, length, slice_index, slice_range, IfOk, IsErr};
 ghost use Rattle.std.specs.Str.{bytes_eq};
 ghost use Rattle.ldm_host.specs.Moves.{Rose, Still, Quiet};

@@ -1,3 +1,4 @@
+//! Tables of contents (TOCBLOCK).
 ghost use Rattle.std.specs.Prelude.{◌≡◌, IfOk};
 ghost use Rattle.ldm_label.specs.Fields.{parses, toc_of, is_out_of_database, same_toc};
 ghost use Rattle.ldm_label.specs.Parts.{joined, in_database, TocFits};

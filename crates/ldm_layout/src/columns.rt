@@ -1,3 +1,4 @@
+//! Columns of a stripe or a RAID-5: their capacity, and places in them.
 ghost use Rattle.std.specs.Prelude.{◌≡◌, ◌<◌, ◌≤◌, Some, map, fold, min, length};
 ghost use Rattle.std.specs.Option.{option_map};
 ghost use Rattle.ldm_layout.specs.Places.{stripe_capacity, raid5_capacity};

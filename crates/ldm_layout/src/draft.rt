@@ -1,3 +1,4 @@
+//! The extents of a volume's components, before they are laid out.
 ghost use Rattle.std.specs.Prelude.{◌≡◌, fold, min};
 ghost use Rattle.std.specs.List.{list_all};
 ghost use Rattle.ldm_layout.specs.Parts.{tiles};

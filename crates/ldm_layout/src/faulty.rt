@@ -1,3 +1,4 @@
+//! All volumes of a group that have a fault of layout.
 ghost use Rattle.std.specs.Prelude.{◌≡◌, List, IfOk};
 ghost use Rattle.ldm_records.specs.declared.types.Record.{Record};
 ghost use Rattle.ldm_layout.specs.Grouped.{IsListsOf};

@@ -1,3 +1,4 @@
+//! From components and extents to a layout, or its first fault.
 ghost use Rattle.std.specs.Prelude.{◌≡◌, IfOk, map};
 ghost use Rattle.std.specs.List.{list_all};
 ghost use Rattle.ldm_layout.specs.Parts.{plexes_at, extents_at, tile_key, in_rising};

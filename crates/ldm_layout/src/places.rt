@@ -1,3 +1,4 @@
+//! Where a sector of a volume lies, and its parity.
 ghost use Rattle.std.specs.Prelude.{◌≡◌, ◌<◌, ◌↔◌, IsSome, Some, slice_get};
 ghost use Rattle.ldm_layout.specs.Layouts.{capacity_of, copies_of, place_in, parity_in};
 ghost use Rattle.ldm_layout.specs.Answers.{IsPlan, IsPlexOf};

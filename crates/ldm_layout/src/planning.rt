@@ -1,3 +1,4 @@
+//! The layout of one volume of a group.
 ghost use Rattle.std.specs.Prelude.{◌≡◌, true, IsSome, All, IfOk, IfSome, option_copied};
 ghost use Rattle.ldm_group.specs.Partitions.{EndsInRange};
 ghost use Rattle.ldm_layout.specs.Parts.{is_partition_of, plexes_at, extents_at};

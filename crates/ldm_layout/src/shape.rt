@@ -1,3 +1,4 @@
+//! Shapes of volumes, places, and faults of layouts.
 ghost use Rattle.std.specs.Prelude.{◌≡◌};
 ghost use Rattle.ldm_layout.specs.declared.shape.LayoutError.TheVariants as errors;
 

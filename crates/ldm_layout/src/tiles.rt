@@ -1,3 +1,4 @@
+//! Extents that lie one after another.
 ghost use Rattle.std.specs.Prelude.{◌≡◌, ◌<◌, ◌≤◌, ◌+◌, ◌^◌, Some, find, sum_by, IsTrue};
 ghost use Rattle.std.specs.Option.{option_map};
 ghost use Rattle.ldm_layout.specs.Parts.{tiles};

@@ -1,3 +1,4 @@
+//! Records with another size or another number of children.
 ghost use Rattle.std.specs.Prelude.{◌≡◌, is_some, true, Some, IfOk};
 ghost use Rattle.ldm_made.specs.Made.{with_children, resized};
 

@@ -1,3 +1,4 @@
+//! The records that are made from nothing.
 ghost use Rattle.std.specs.Prelude.{◌≡◌, ◌≤◌, ◌<◌, ◌^◌, [], length, unwrap_or, Some, IfOk};
 ghost use Rattle.ldm_bytes.specs.Guid.{own_guid};
 ghost use Rattle.ldm_made.specs.Made.{new_partition, part_name, index_flags, IsStriping, new_component, component_name, striping_flags, active, new_volume, volume_kind, volume_fixed21, new_disk, new_group};

@@ -1,3 +1,4 @@
+//! Component records (CMP3) from payloads.
 ghost use Rattle.std.specs.Prelude.{◌≡◌, ◌≤◌, ◌<◌, ◌^◌, drop, is_some, length, IfSome};
 ghost use Rattle.ldm_bytes.specs.Numbers.{Reads};
 ghost use Rattle.ldm_records.specs.Values.{values_len};

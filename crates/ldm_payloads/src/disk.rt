@@ -1,3 +1,4 @@
+//! Disk records (DSK3, DSK4) from payloads.
 ghost use Rattle.std.specs.Prelude.{◌≡◌, ◌≤◌, drop, length, IfSome};
 ghost use Rattle.ldm_bytes.specs.Numbers.{Reads};
 ghost use Rattle.ldm_records.specs.Table.{disk3_kinds, disk4_kinds};

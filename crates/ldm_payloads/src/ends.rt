@@ -1,3 +1,4 @@
+//! What the end of a record's fields leaves: its tail.
 ghost use Rattle.std.specs.Prelude.{◌≡◌, ◌<◌, ◌+◌, ◌^◌, ℕ, List, length, IfOk};
 ghost use Rattle.ldm_bytes.specs.Numbers.{own_number};
 ghost use Rattle.ldm_records.specs.Values.{Value, values_len};

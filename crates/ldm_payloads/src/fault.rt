@@ -1,3 +1,4 @@
+//! Why a payload gives no record.
 ghost use Rattle.std.specs.Prelude.{◌≡◌};
 ghost use Rattle.ldm_payloads.specs.declared.fault.RecordError.TheVariants as errors;
 

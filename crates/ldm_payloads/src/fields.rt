@@ -1,3 +1,4 @@
+//! The fields of a record, one after another.
 ghost use Rattle.std.specs.Prelude.{◌≡◌, ◌≤◌, ◌+◌, ◌∷◌, [], length, IfOk, IfSome, is_some, unwrap_or};
 ghost use Rattle.ldm_records.specs.Values.{Fixed, Wide, GuidText, Number, Text, WideKind, GuidKind, FixedKind, NumberKind, TextKind, When, value_len};
 ghost use Rattle.ldm_bytes.specs.Numbers.{Reads};

@@ -1,3 +1,4 @@
+//! Group records (DGR3, DGR4) from payloads.
 ghost use Rattle.std.specs.Prelude.{◌≡◌, ◌≤◌, drop, is_some, length, IfSome};
 ghost use Rattle.ldm_bytes.specs.Numbers.{Reads};
 ghost use Rattle.ldm_records.specs.Table.{group3_kinds, group4_kinds, has_flag};

@@ -1,3 +1,4 @@
+//! The two texts of ids that a group record may have.
 ghost use Rattle.std.specs.Prelude.{◌≤◌, length};
 
 /// Two texts of a group where they stand.

@@ -1,3 +1,4 @@
+//! The beginning of a record: its mark, flags, type, length, id and name.
 ghost use Rattle.std.specs.Prelude.{◌≤◌, length};
 
 /// What every record begins with, and the bytes that its payload has.

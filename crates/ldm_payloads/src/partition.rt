@@ -1,3 +1,4 @@
+//! Partition records (PRT3) from payloads.
 ghost use Rattle.std.specs.Prelude.{◌≡◌, ◌<◌, ◌^◌, drop, is_some, IfSome};
 ghost use Rattle.ldm_bytes.specs.Numbers.{Reads};
 ghost use Rattle.ldm_records.specs.Values.{values_len};

@@ -1,3 +1,4 @@
+//! Records from payloads, by their type.
 ghost use Rattle.std.specs.Prelude.{◌≡◌, slice_index, IfOk};
 ghost use Rattle.ldm_records.specs.Table.{is_known};
 ghost use Rattle.ldm_records.specs.Plain.{Spells};

@@ -1,3 +1,4 @@
+//! Volume records (VOL5) from payloads.
 ghost use Rattle.std.specs.Prelude.{◌≡◌, ◌+◌, ◌<◌, ◌^◌, is_some, IfOk, IfSome};
 ghost use Rattle.ldm_bytes.specs.Numbers.{Reads};
 ghost use Rattle.ldm_records.specs.Values.{values_len};

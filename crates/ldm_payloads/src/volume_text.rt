@@ -1,3 +1,4 @@
+//! The fields of a volume record while they are read.
 ghost use Rattle.std.specs.Prelude.{◌≤◌, length, unwrap_or, []};
 ghost use Rattle.ldm_payloads.specs.Seen.{seen};
 

@@ -1,3 +1,4 @@
+//! Equal copies of records.
 ghost use Rattle.std.specs.Prelude.{◌≡◌, IfOk};
 
 use crate::pieces::{Head, TwoIds};

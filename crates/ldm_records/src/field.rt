@@ -1,3 +1,4 @@
+//! One field of a record, by its form.
 /// The value of a field, as it is written.
 #[derive(Clone, Copy)]
 pub enum Field<'a> {

@@ -1,3 +1,4 @@
+//! The fields of each type of record, in their order.
 ghost use Rattle.std.specs.Prelude.{◌≡◌, ◌∷◌, [], ◌<◌, ◌^◌, length, IfSome};
 ghost use Rattle.ldm_records.specs.Values.{Number, Text, GuidText, Wide, Fixed};
 ghost use Rattle.ldm_records.specs.FieldViews.{value_of, values_of};

@@ -1,3 +1,4 @@
+//! A record as its head, type, fields and tail.
 ghost use Rattle.std.specs.Prelude.{◌≡◌};
 ghost use Rattle.ldm_records.specs.Outlines.{filled_plain, listed};
 ghost use Rattle.ldm_records.specs.Views.{plain_disk, plain_group, plain_of};

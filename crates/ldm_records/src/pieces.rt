@@ -1,3 +1,4 @@
+//! Parts that records have in common.
 ghost use Rattle.std.specs.Prelude.{◌≡◌, ◌≤◌, length, IfOk};
 
 use crate::cloning::both_clone;

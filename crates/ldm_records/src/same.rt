@@ -1,3 +1,4 @@
+//! Whether two records are equal.
 ghost use Rattle.std.specs.Prelude.{◌≡◌, ◌↔◌, IsTrue};
 ghost use Rattle.ldm_records.specs.FieldViews.{value_of, values_of};
 ghost use Rattle.ldm_records.specs.Outlines.{listed};

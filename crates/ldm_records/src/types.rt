@@ -1,3 +1,4 @@
+//! The kinds of records.
 ghost use Rattle.std.specs.Prelude.{◌≡◌, ◌≤◌, ◌<◌, ◌^◌, ◌+◌, length, is_some, unwrap_or, [], IfOk};
 ghost use Rattle.ldm_records.specs.Values.{values_len};
 ghost use Rattle.ldm_records.specs.Table.{has_flag};

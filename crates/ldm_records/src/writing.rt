@@ -1,3 +1,4 @@
+//! The own spelling of a record.
 ghost use Rattle.std.specs.Prelude.{◌≡◌, ◌+◌, ◌<◌, ◌≤◌, ◌^◌, ◌++◌, ◌∷◌, List, ℕ, length, OnOk, IfOk};
 ghost use Rattle.byteorder.specs.Endian.{big_bytes};
 ghost use Rattle.ldm_records.specs.Values.{Number, Text, GuidText, own_value, own_values, value_len, values_len, IsShort, AreShort};

@@ -1,3 +1,4 @@
+//! The rules that are looked for at each record alone.
 ghost use Rattle.std.specs.Prelude.{◌≡◌};
 ghost use Rattle.ldm_rules.specs.Rules.{first_broken};
 ghost use Rattle.ldm_rules.specs.Breaks.{breaks};

@@ -1,3 +1,4 @@
+//! Rule 10: partitions that end behind their disk.
 ghost use Rattle.std.specs.Prelude.{◌≡◌, All, false, None};
 ghost use Rattle.ldm_group.specs.Partitions.{EndsInRange};
 ghost use Rattle.ldm_rules.specs.Rules.{first_broken, passes_end};

@@ -1,3 +1,4 @@
+//! A broken rule, and the least id at which it is broken.
 ghost use Rattle.std.specs.Prelude.{◌≡◌};
 ghost use Rattle.ldm_rules.specs.declared.fault.RuleError.TheVariants as errors;
 

@@ -1,3 +1,4 @@
+//! The id of a record that was found.
 ghost use Rattle.std.specs.Prelude.{◌≡◌, option_copied};
 ghost use Rattle.std.specs.Option.{option_map};
 ghost use Rattle.ldm_group.specs.Order.{id_of};

@@ -1,3 +1,4 @@
+//! What a sound group promises, and that a new one is sound.
 ghost use Rattle.ldm_rules.specs.Disjoint.{SoundIsDisjoint, SoundEndsInRange};
 ghost use Rattle.ldm_rules.specs.New.{NewIsSound};
 

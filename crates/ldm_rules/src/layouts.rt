@@ -1,3 +1,4 @@
+//! Rules 12 and 13: volumes with a fault of layout.
 ghost use Rattle.std.specs.Prelude.{◌≡◌, List, if◌then◌else◌, not, find, option_copied};
 ghost use Rattle.std.specs.Option.{option_map};
 ghost use Rattle.ldm_records.specs.declared.types.Record.{Record};

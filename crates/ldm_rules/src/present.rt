@@ -1,3 +1,4 @@
+//! Which image is that of a disk.
 ghost use Rattle.std.specs.Prelude.{◌≡◌, option_copied, option_and_then, slice_get};
 ghost use Rattle.ldm_rules.specs.Present.{image_with, label_with};
 

@@ -1,3 +1,4 @@
+//! Rules 1 and 9: one group record, and no volume or partition of size 0.
 ghost use Rattle.std.specs.Prelude.{◌≡◌};
 ghost use Rattle.std.specs.List.{filter_map};
 ghost use Rattle.ldm_rules.specs.Rules.{group_id, group_fault, is_empty};

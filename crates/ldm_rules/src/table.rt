@@ -1,3 +1,4 @@
+//! The first broken rule of all.
 ghost use Rattle.std.specs.Prelude.{◌≡◌, List, [], ◌∷◌, All, OnOk};
 ghost use Rattle.ldm_bytes.specs.Tables.{first_of};
 ghost use Rattle.ldm_group.specs.Partitions.{EndsInRange};

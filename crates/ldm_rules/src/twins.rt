@@ -1,3 +1,4 @@
+//! Rules 2 and 3: GUIDs of disks and names of volumes that two have.
 ghost use Rattle.std.specs.Prelude.{◌≡◌, count_by};
 ghost use Rattle.ldm_group.specs.Looks.{is_disk_with, is_volume_named};
 ghost use Rattle.ldm_rules.specs.Rules.{has_twin_guid, has_namesake};

@@ -1,5 +1,5 @@
 -- The moments of one line: while it is done on all disks, and while the reply is said.
-use Rattle.std.proofs.Common.{◌≡◌, ◌⊎◌, inl, inr, ⊎_elim, ℕ, ◌≤◌, List, ◌++◌, take, drop, refl, sym, ap, subst, ◌∙◌, append_assoc, arith, Option}
+use Rattle.std.proofs.Common.{◌≡◌, ◌⊎◌, inl, inr, ⊎_elim, ℕ, ◌≤◌, List, ◌++◌, take, drop, refl, sym, ap, subst, ◌∙◌, append_assoc, arith, Option, Some, Result, Ok, Err}
 use Rattle.std.proofs.lemmas.List.{take-append-drop}
 use Rattle.ldm_host.specs.Seen.{Seen, Leaves, image}
 use Rattle.ldm_host.specs.Moves.{Begins, Later, Quiet, Still}
@@ -8,16 +8,21 @@ use Rattle.ldm_host.proofs.Relations.{moments_trans, begins_trans}
 use Rattle.ldm_label.specs.declared.Label.{Label}
 use Rattle.ldm_group.specs.Database.{Database}
 use Rattle.ldm_words.specs.declared.command.Command.{Command}
+use Rattle.ldm_copy.specs.declared.answer.CopyState.TheVariants.{Valid}
+use Rattle.ldm_edits.specs.declared.reply.Refusal.{Refusal}
 use Rattle.ldm_edits.specs.declared.reply.Reply.{Reply}
+use Rattle.ldm_edits.specs.declared.reply.Reply.TheVariants as replies
+use Rattle.ldm_edits.specs.Steps.{State, next_of, turn_by}
 use Rattle.ldm_found.specs.Facts.{LieOn}
 use Rattle.ldm_found.specs.Labels.{AreSameOutside}
 use Rattle.ldm_store.specs.Kept.{IsKept, AlwaysKept, Opens}
+use Rattle.ldm_store.specs.Turning.{AllHave}
 use Rattle.ldm_store.specs.Sessions.{IsEditable, IsNextFor, IsTurnOf, Opened, RestsOn, HoldsGroup}
 use Rattle.ldm_store.proofs.OpensLaws.{editable_opens}
 use Rattle.ldm_store.proofs.ApplyLaws.{untouched}
 use Rattle.ldm_group_text.specs.Reply.{text_of_reply}
 use Rattle.ldm_run.specs.Kinds.{SameInput}
-use Rattle.ldm_run.specs.Editing.{turn_on, IsDoing, IsAnswering}
+use Rattle.ldm_run.specs.Editing.{turn_on, IsDoing, IsAnswering, AreWritten}
 use Rattle.ldm_run.proofs.OpenLaws.{outside_trans}
 
 -- while nothing is written, the disks of a session rest as they did
@@ -45,6 +50,21 @@ doing_kept session line start editable holds next now always images said left =
       opens = editable_opens session.labels session.db (turn_on session line).state.db start.content images holds.labelled editable next.editable next.next kept.one_each kept.outside kept.recoverable;
       said_is = kept.said_is;
     }
+
+-- ---- the copies
+
+-- a refusal leaves the group
+refused_stays : (state : State) (step : Result Database Refusal) (refusal : Refusal) → (turn_by state step).reply ≡ replies.Refused refusal → (turn_by state step).state.db ≡ state.db
+refused_stays state (Ok next) refusal is = absurd cc
+refused_stays state (Err other) refusal is = refl
+
+-- each is just that of the group after the command, or no disk is changed
+pub command_written : (session next : Opened) (command : Command) (reply : Reply) (old new : Seen) → IsTurnOf (turn_on session (Some command)) session.labels next reply
+    → ((seq : ℕ) → reply ≡ replies.Done seq → AllHave session.labels new.content (λ copy. copy ≡ Valid next.db)) → ((refusal : Refusal) → reply ≡ replies.Refused refusal → Still old new)
+    → AreWritten session.labels session.db next.db old.content new.content
+command_written session next command (replies.Done seq) old new turned done refused = inl (done seq refl)
+command_written session next command (replies.Refused refusal) old new turned done refused =
+    inr (turned.db ∙ refused_stays (record { db = session.db }) (next_of session.db session.labels command) refusal (sym turned.reply_is), (refused refusal refl).content)
 
 -- ---- while nothing is written
 

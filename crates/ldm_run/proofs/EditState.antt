@@ -7,11 +7,15 @@ use Rattle.ldm_host.specs.Seen.{Seen, Leaves}
 use Rattle.ldm_host.specs.Moves.{Begins, Later}
 use Rattle.ldm_host.specs.StoryLaws.{begins_itself}
 use Rattle.ldm_host.proofs.Relations.{later_trans, moments_trans, rose_sooner, begins_trans}
+use Rattle.ldm_label.specs.declared.Label.{Label}
+use Rattle.ldm_group.specs.Database.{Database}
+use Rattle.ldm_copy.specs.declared.answer.CopyState.TheVariants.{Valid}
 use Rattle.ldm_words.specs.declared.command.Command.{Command}
 use Rattle.ldm_edits.specs.declared.reply.Reply.{Reply}
 use Rattle.ldm_edits.specs.Steps.{turns_of, group_after, replies_to}
 use Rattle.ldm_found.specs.Labels.{AreSameOutside}
 use Rattle.ldm_store.specs.Kept.{Opens}
+use Rattle.ldm_store.specs.Turning.{AllHave}
 use Rattle.ldm_store.specs.Sessions.{IsEditable, Opened, RestsOn, HoldsGroup}
 use Rattle.ldm_group_text.specs.Reply.{text_of_reply, text_of_replies}
 use Rattle.ldm_run.specs.declared.running.Status.{Status}
@@ -21,7 +25,7 @@ use Rattle.ldm_run.specs.Scripts.{is_refused, status_of, replies_from}
 use Rattle.ldm_run.specs.Kinds.{SameInput, SaysLines}
 use Rattle.ldm_run.specs.Stops.{Reopens}
 use Rattle.ldm_run.specs.Runs.{Causes}
-use Rattle.ldm_run.specs.Editing.{EditFails, turn_on, IsDoing, IsAnswering, IsAnswered, DoesLines}
+use Rattle.ldm_run.specs.Editing.{EditFails, turn_on, IsDoing, IsAnswering, IsAnswered, AreWritten, DoesLines}
 use Rattle.ldm_run.proofs.ReplyLaws.{not_usage, not_disk, not_talk, has_answer}
 use Rattle.ldm_run.proofs.TurnLists.{after_lines, no_lines_after, db_more, replies_more, text_more, text_front}
 use Rattle.ldm_run.proofs.LineCounts.{ends_in_line}
@@ -50,7 +54,7 @@ edited_none first all start same reopen = record {
   session_is = no_lines_after first;
   number_is = refl;
   refused_is = refl;
-  comes = λ told. record { said_is = sym (append-nil start.said); outside = same told };
+  comes = λ told. record { said_is = sym (append-nil start.said); outside = same told; written = inr (refl, refl) };
   reopen = reopen;
 }
 
@@ -76,6 +80,13 @@ all_done {before = before} state = sym (state.all_is ∙ append-nil before)
 any_one : (b : Bool) → (b || false) ≡ b
 any_one true = refl
 any_one false = refl
+
+-- lines after others
+written_on : (labels : List Label) (first mid last : Database) (old now new : List (List ℕ)) → AreWritten labels first mid old now → AreWritten labels mid last now new → AreWritten labels first last old new
+written_on labels first mid last old now new before (inl all) = inl all
+written_on labels first mid last old now new (inl all) (inr (same, still)) =
+    inl (subst (λ (db : Database). AllHave labels new (λ copy. copy ≡ Valid db)) (sym same) (subst (λ (l : List (List ℕ)). AllHave labels l (λ copy. copy ≡ Valid mid)) (sym still) all))
+written_on labels first mid last old now new (inr (same, still)) (inr (more, stays)) = inr (more ∙ same, stays ∙ still)
 
 -- ---- texts of whole lines
 
@@ -136,6 +147,7 @@ stops_with {tells} {first} {all} {start} {now} {status} later input fails front 
   whole_lines = lines;
   stops = reopen;
   current = λ told has. absurd (fails.none has);
+  written = λ told has. absurd (fails.none has);
   settled = λ has. absurd (fails.none has);
 }
 
@@ -181,6 +193,7 @@ ended {tells} {first} {all} {before} {start} {now} {session} {number} {refused} 
       whole_lines = λ told disk. absurd (not_disk status has disk);
       stops = state.reopen;
       current = λ told _. (subst (λ (s : Opened). HoldsGroup s now.content) is (holds told)).current;
+      written = λ told _. subst (λ (lines : List (Option Command)). AreWritten first.labels first.db (group_after first.labels first.db lines) start.content now.content) done (state.comes told).written;
       settled = λ _. (subst (λ (s : Opened). RestsOn s now) is rests).settled;
     }
 
@@ -233,23 +246,31 @@ module _ {tells : Type 0} {first : Opened} {all before after : List (Option Comm
 
   -- the line is done and answered
   pub line_done : {next : Opened} {was : Bool} → IsAnswered session line next was → (tells → now.said ≡ mid.said ++ text_of_reply (number, (turn_on session line).reply))
-      → (tells → Leaves now now.content) → ((t : ℕ) (images : List (List ℕ)) → t ≤ now.clock → Leaves now images → now.left_since t images now.said)
+      → (tells → AreWritten session.labels session.db next.db mid.content now.content) → (tells → Leaves now now.content)
+      → ((t : ℕ) (images : List (List ℕ)) → t ≤ now.clock → Leaves now images → now.left_since t images now.said)
       → IsEditedTo tells first all (before ++ line ∷ []) after start now next (number + 1) (refused || was)
-  line_done {next} {was} answered said stays counts = record {
+  line_done {next} {was} answered said written stays counts = record {
     all_is = state.all_is ∙ sym (append_assoc before (line ∷ []) after);
-    session_is = same_session (answered.db ∙ ap (λ (s : Opened). (turn_on s line).state.db) state.session_is ∙ db_more first before line) (answered.labels_stay ∙ ap (λ (s : Opened). s.labels) state.session_is);
+    session_is = same_session next_db (answered.labels_stay ∙ ap (λ (s : Opened). s.labels) state.session_is);
     number_is = let more = length-append before (line ∷ []) in omega (arith, more, state.number_is);
     refused_is = (λ i. state.refused_is i || was_is i) ∙ sym (list_any-append is_refused (replies_to first.labels first.db before) ((turn_on (after_lines first before) line).reply ∷ []))
         ∙ ap (λ (rs : List Reply). list_any is_refused rs) (sym (replies_more first before line));
     comes = λ told. record {
       said_is = said told ∙ said_with told;
       outside = (line_reopens told now.content now.said (counts start.clock now.content clock (stays told))).outside;
+      written = subst (λ (db : Database). AreWritten first.labels first.db db start.content now.content) next_db
+          (written_on first.labels first.db session.db next.db start.content mid.content now.content
+          (subst (λ (s : Opened). AreWritten first.labels first.db s.db start.content mid.content) (sym state.session_is) (state.comes told).written)
+          (subst (λ (labels : List Label). AreWritten labels session.db next.db mid.content now.content) (ap (λ (s : Opened). s.labels) state.session_is) (written told)));
     };
     reopen = line_reopens;
   }
     where
       clock : start.clock ≤ now.clock
       clock = omega (arith, sooner.clock, later.clock)
+
+      next_db : next.db ≡ (after_lines first (before ++ line ∷ [])).db
+      next_db = answered.db ∙ ap (λ (s : Opened). (turn_on s line).state.db) state.session_is ∙ db_more first before line
 
       was_is : was ≡ list_any is_refused ((turn_on (after_lines first before) line).reply ∷ [])
       was_is = answered.refused_is ∙ ap (λ (s : Opened). is_refused (turn_on s line).reply) state.session_is ∙ sym (any_one (is_refused (turn_on (after_lines first before) line).reply))

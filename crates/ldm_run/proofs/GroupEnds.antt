@@ -1,5 +1,5 @@
 -- How a job ends that does lines to the group which the disks hold.
-use Rattle.std.proofs.Common.{◌≡◌, ◌≢◌, ◌⊎◌, inl, inr, ⊎_elim, ℕ, ◌+◌, true, false, List, length, sym, ap, subst, ◌∙◌, arith, Option, Some, None, Ok, Err}
+use Rattle.std.proofs.Common.{◌≡◌, ◌⊎◌, inl, inr, ⊎_elim, ℕ, ◌+◌, true, false, List, length, sym, ap, subst, ◌∙◌, arith, Option, Some, None, Ok, Err}
 use Rattle.std.specs.Prelude.{count_by, min, drop, ◌==◌}
 use Rattle.ldm_host.specs.Seen.{Seen, Leaves}
 use Rattle.ldm_host.specs.Moves.{Later, Quiet, Settles}
@@ -13,23 +13,22 @@ use Rattle.ldm_found.specs.declared.found.Found.{Found}
 use Rattle.ldm_found.specs.Labels.{AreSameOutside}
 use Rattle.ldm_found.specs.Opening.{IsGroupIn}
 use Rattle.ldm_found.proofs.FoundLaws.{holds_group, one_image}
-use Rattle.ldm_found.proofs.GroupLaws.{one_group}
-use Rattle.ldm_store.specs.Kept.{IsCurrent, AlwaysKept}
-use Rattle.ldm_store.specs.Turning.{AllHave, AllSettled}
+use Rattle.ldm_store.specs.Kept.{IsCurrent, IsKept, AlwaysKept, HoldsNone}
+use Rattle.ldm_store.specs.Turning.{AllHave, AllSettled, AreRewritten}
+use Rattle.ldm_store.specs.Healing.{OnlyStill, OneGroup}
 use Rattle.ldm_store.specs.Sessions.{Opened, IsOpenedFrom, RestsOn}
-use Rattle.ldm_store.proofs.SettleLaws.{same_found}
+use Rattle.ldm_store.proofs.SettleLaws.{same_found, not_none}
 use Rattle.ldm_group_text.specs.Opening.{text_of_open_fault}
 use Rattle.ldm_text.specs.Texts.{text_of_refusal}
 use Rattle.ldm_run.specs.declared.running.Status.{Status}
-use Rattle.ldm_run.specs.declared.running.Status.TheVariants.{Refused, DiskFault}
+use Rattle.ldm_run.specs.declared.running.Status.TheVariants.{Refused}
 use Rattle.ldm_run.specs.Said.{Answer, SaysNothing}
 use Rattle.ldm_run.specs.Scripts.{replies_from, unless_blocked, try_answer}
 use Rattle.ldm_run.specs.Answer.{IsGroupAnswer}
 use Rattle.ldm_run.specs.Kinds.{NothingPending}
-use Rattle.ldm_run.specs.Stops.{answered, Reopens, EveryStopReopens}
-use Rattle.ldm_run.specs.Written.{HoldsNone}
+use Rattle.ldm_run.specs.Stops.{answered, Reopens, EveryStopReopens, EveryStopSinceSyncs}
 use Rattle.ldm_run.specs.Runs.{OnlyReads}
-use Rattle.ldm_run.specs.Editing.{DoesLines, DoesGroup}
+use Rattle.ldm_run.specs.Editing.{AreWritten, DoesLines, DoesGroup}
 use Rattle.ldm_run.proofs.Saying.{answers_as}
 use Rattle.ldm_run.proofs.DoingLaws.{Counts}
 use Rattle.ldm_run.proofs.EditState.{Failing, causes_since, lines_sooner}
@@ -38,13 +37,6 @@ use Rattle.ldm_run.proofs.OpenLaws.{outside_trans, reopens_first}
 -- nothing is pending on a disk that has a label
 pub settled_all : (old : Seen) (found : Found) → length old.content ≡ length old.sizes → IsGroupIn old.content (Ok found) → NothingPending old → AllSettled found.labels old
 settled_all old found one_each is nothing disk lt = nothing disk (let same = one_image old.content found (holds_group old.content found is) in omega (arith, lt, same, one_each))
-
--- a group that may be edited is one
-not_none : {A : Type 0} (images : List (List ℕ)) (found : Found) → IsGroupIn images (Ok found) → found.blocked ≡ None → HoldsNone images → A
-not_none images found is editable (inl fault) = absurd (let e : Ok found ≡ Err fault.0 = one_group images (Ok found) (Err fault.0) is fault.1 in cc)
-not_none images found is editable (inr other) =
-    let same = same_found images other.0 found other.2 is in
-    absurd (let e : Some other.1 ≡ None = sym other.3 ∙ ap (λ (f : Found). f.blocked) same ∙ editable in cc)
 
 -- what reopens since a later moment reopens since a sooner one, where nothing was said between
 pub reopens_sooner : (labels : List Label) (group : Database) (lines : List (Option Command)) (old mid : Seen) (images : List (List ℕ)) (said : List ℕ) → AreSameOutside labels old.content mid.content → mid.said ≡ old.said
@@ -69,11 +61,23 @@ session_found images session found opened is =
     let same = same_found images opened.found found opened.is is in
     (λ i. record { db = opened.db i; labels = opened.labels i }) ∙ ap session_of same
 
+-- from the end of the syncs on it reopens
+since_reopens : (old new : Seen) (lines : List (Option Command)) → OnlyStill old new ⊎ OneGroup old new → EveryStopSinceSyncs lines old new
+since_reopens old new lines (inl only) found is editable = inl only
+since_reopens old new lines (inr one) found is editable = inr (record {
+  time = one.time;
+  not_before = one.not_before;
+  until = one.until;
+  since = λ images said left.
+      let kept = subst (λ (f : Found). IsKept f.labels f.db f.db old images said) (same_found old.content one.found found one.is is) (one.since images said left) in
+      reopens_first old found lines images said is editable kept;
+})
+
 -- ---- a group that is opened, and then its lines
 
 module _ {tells : Type 0} {old mid new : Seen} {session : Opened} {lines : List (Option Command)} {status : Status} (opened : tells → IsOpenedFrom old.content session)
     (kept : tells → (found : Found) → IsGroupIn old.content (Ok found) → found.blocked ≡ None → NothingPending old → AlwaysKept found.labels found.db found.db old mid)
-    (rests : RestsOn session mid) (later : Later old mid) (quiet : Quiet old mid) (stays : tells → Leaves mid mid.content) (counts : Counts mid) (does : DoesLines tells session lines mid new status) where
+    (one : tells → (found : Found) → IsGroupIn old.content (Ok found) → found.blocked ≡ None → OneGroup old mid) (healed : tells → AreRewritten session.labels session.db old.content mid.content) (rests : RestsOn session mid) (later : Later old mid) (quiet : Quiet old mid) (stays : tells → Leaves mid mid.content) (counts : Counts mid) (does : DoesLines tells session lines mid new status) where
   is_answer : tells → (answer : Answer) → answer ≡ replies_from 1 (replies_to session.labels session.db lines) → IsGroupAnswer (try_answer lines) old.content answer
   is_answer told answer is =
       let from = opened told in
@@ -93,6 +97,33 @@ module _ {tells : Type 0} {old mid new : Seen} {session : Opened} {lines : List 
       (λ images said left. reopens_first old found lines images said is editable (always images said left))
       (λ images said left. reopens_sooner found.labels found.db lines old mid images said outside quiet.said (subst (λ (s : Opened). Reopens s.labels s.db lines mid images said) same (does.stops told images said left)))
 
+  since_syncs : tells → EveryStopSinceSyncs lines old new
+  since_syncs told found is editable =
+      let from = one told found is editable in
+      let found_is = same_found old.content from.found found from.is is in
+      let now = from.since mid.content mid.said (counts from.time mid.content from.not_after (stays told)) in
+      let outside = subst (λ (f : Found). AreSameOutside f.labels old.content mid.content) found_is now.outside in
+      let same = session_found old.content session found (opened told) is in
+      inr (record {
+        time = from.time;
+        not_before = from.not_before;
+        until = λ images said left. ⊎_elim
+            (λ sooner. ⊎_elim (λ start. inl start) (λ moment. inr (does.later.keeps from.time images said from.not_after moment)) (from.until images said sooner))
+            (λ moment. inr (does.later.adds from.time images said from.not_after moment))
+            (does.later.nothing_else old.clock images said later.clock left);
+        since = λ images said left. ⊎_elim
+            (λ sooner. let kept = subst (λ (f : Found). IsKept f.labels f.db f.db old images said) found_is (from.since images said sooner) in reopens_first old found lines images said is editable kept)
+            (λ moment. reopens_sooner found.labels found.db lines old mid images said outside quiet.said (subst (λ (s : Opened). Reopens s.labels s.db lines mid images said) same (does.stops told images said moment)))
+            (does.later.nothing_else from.time images said from.not_after left);
+      })
+
+  -- the copies that were healed are rewritten by the lines, or stand as they are
+  rewritten : AreRewritten session.labels session.db old.content mid.content → AreWritten session.labels session.db (group_after session.labels session.db lines) mid.content new.content
+      → AreRewritten session.labels (group_after session.labels session.db lines) old.content new.content
+  rewritten first (inl all) = λ disk lt. inl (all disk lt)
+  rewritten first (inr (same, still)) =
+      subst (λ (db : Database). AreRewritten session.labels db old.content new.content) (sym same) (subst (λ (l : List (List ℕ)). AreRewritten session.labels session.db old.content l) (sym still) first)
+
   pub grouped : DoesGroup tells lines old new status
   grouped = record {
     input = record { input = does.input.input ∙ quiet.input; heard = does.input.heard ∙ quiet.heard };
@@ -101,29 +132,37 @@ module _ {tells : Type 0} {old mid new : Seen} {session : Opened} {lines : List 
     answers = λ told. answers_as old mid new _ (IsGroupAnswer (try_answer lines) old.content) status quiet.said (is_answer told) (does.answers told);
     whole_lines = λ told is. lines_sooner old mid new quiet.said (does.whole_lines told is);
     stops = every_stop;
+    since_syncs = since_syncs;
     disks = record {
       later = later_trans old mid new later does.later;
       done = λ told has short found is editable. record {
         current = subst (λ (s : Opened). AllHave s.labels new.content (IsCurrent (group_after s.labels s.db lines))) (session_found old.content session found (opened told) is) (does.current told has);
+        each = subst (λ (s : Opened). AreRewritten s.labels (group_after s.labels s.db lines) old.content new.content) (session_found old.content session found (opened told) is)
+            (rewritten (healed told) (does.written told has));
         settled = λ disk lt. does.settled has disk (let sizes = ap length does.later.sizes in omega (arith, lt, sizes, rests.lie.one_label));
       };
-      unwritten = λ told ne none. ⊎_elim (λ long. absurd (let e : false ≡ true = long in cc)) (λ none. let from = opened told in not_none old.content from.found from.is from.editable none) none;
+      unwritten = λ told none. ⊎_elim (λ long. absurd (let e : false ≡ true = long in cc)) (λ none. let from = opened told in not_none old.content from.found from.is from.editable none) none;
     };
   }
 
 -- ---- no group is opened
 
 -- a disk or memory failed
-pub unopened : {tells : Type 0} {old new : Seen} {status : Status} (lines : List (Option Command)) → Failing old new status → Later old new → Quiet old new → (status ≢ DiskFault → new.wrote ≡ old.wrote)
-    → (tells → (found : Found) → IsGroupIn old.content (Ok found) → found.blocked ≡ None → NothingPending old → AlwaysKept found.labels found.db found.db old new) → DoesGroup tells lines old new status
-unopened {tells} {old} {new} {status} lines fails later quiet wrote kept = record {
+pub unopened : {tells : Type 0} {old new : Seen} {status : Status} (lines : List (Option Command)) → Failing old new status → Later old new → Quiet old new → (tells → HoldsNone old.content → new.wrote ≡ old.wrote)
+    → (tells → (found : Found) → IsGroupIn old.content (Ok found) → found.blocked ≡ None → NothingPending old → AlwaysKept found.labels found.db found.db old new) → (tells → OnlyStill old new ⊎ OneGroup old new) → DoesGroup tells lines old new status
+unopened {tells} {old} {new} {status} lines fails later quiet wrote kept moments = record {
   input = record { input = quiet.input; heard = quiet.heard };
   no_usage = fails.no_usage;
   causes = fails.causes;
   answers = λ told. record { whole = λ has. absurd (fails.none has); since = later.said; front = inl quiet.said };
   whole_lines = λ told is. inl quiet.said;
   stops = λ told nothing found is editable images said left. reopens_first old found lines images said is editable (kept told found is editable nothing images said left);
-  disks = record { later = later; done = λ told has. absurd (fails.none has); unwritten = λ told ne none. wrote ne };
+  since_syncs = λ told. since_reopens old new lines (moments told);
+  disks = record {
+    later = later;
+    done = λ told has. absurd (fails.none has);
+    unwritten = λ told none. ⊎_elim (λ long. absurd (let e : false ≡ true = long in cc)) (wrote told) none;
+  };
 }
 
 -- it has a fault, or is blocked
@@ -137,10 +176,11 @@ refused_group {tells} {talks} {old} {mid} {new} {status} {fault} lines settles r
   answers = λ told. answers_as old mid new _ (IsGroupAnswer (try_answer lines) old.content) status settles.quiet.said (is_answer told) (reads.answers (both told));
   whole_lines = λ told is. inl (reads.silent (subst (λ (s : Status). SaysNothing s) (sym is) tt) ∙ settles.quiet.said);
   stops = λ told nothing found is editable. not_none old.content found is editable (none told);
+  since_syncs = λ told found is editable. not_none old.content found is editable (none told);
   disks = record {
     later = later_trans old mid new settles.later reads.still.later;
     done = λ told has short found is editable. not_none old.content found is editable (none told);
-    unwritten = λ told ne holds. reads.still.wrote ∙ settles.wrote;
+    unwritten = λ told holds. reads.still.wrote ∙ settles.wrote;
   };
 }
   where

@@ -4,14 +4,16 @@ use Rattle.std.proofs.lemmas.Bool.{lt-ltb, le-ltb}
 use Rattle.ldm_host.specs.Seen.{Seen, Leaves, image}
 use Rattle.ldm_host.specs.Moves.{Begins, Still}
 use Rattle.ldm_host.specs.StoryLaws.{begins_both}
-use Rattle.ldm_host.proofs.Relations.{later_trans, moments_trans, still_trans}
+use Rattle.ldm_host.proofs.Relations.{later_trans, moments_trans, still_trans, leaves_still}
+use Rattle.ldm_label.specs.declared.Label.{Label}
 use Rattle.ldm_words.specs.declared.command.Command.{Command}
 use Rattle.ldm_words.specs.declared.job.Job.{Job}
 use Rattle.ldm_words.specs.declared.job.Job.TheVariants.{Disk, Records, Show, Check, Map, Try, Edit, One, Sample}
 use Rattle.ldm_found.specs.declared.found.Found.{Found}
 use Rattle.ldm_found.specs.Opening.{IsGroupIn}
 use Rattle.ldm_found.proofs.FoundLaws.{holds_group, one_image}
-use Rattle.ldm_store.specs.Kept.{IsKept}
+use Rattle.ldm_store.specs.Kept.{IsKept, HoldsNone}
+use Rattle.ldm_store.specs.Healing.{OnlyStill}
 use Rattle.ldm_store.proofs.HealLaws.{still_kept}
 use Rattle.ldm_store.proofs.HasLaws.{outside_is, outside_itself}
 use Rattle.ldm_found.specs.Labels.{AreSameOutside}
@@ -22,9 +24,9 @@ use Rattle.ldm_run.specs.Scripts.{is_long, commands_in}
 use Rattle.ldm_run.specs.Answer.{IsAnswerToScript}
 use Rattle.ldm_run.specs.Kinds.{NothingPending}
 use Rattle.ldm_run.specs.Heard.{Takes, TalkFails}
-use Rattle.ldm_run.specs.Stops.{lines_unless, Reopens, EveryStopReopens, JobStops}
-use Rattle.ldm_run.specs.Written.{HoldsNone, HoldsAfter}
-use Rattle.ldm_run.specs.Runs.{OnlyReads, StopsAfter}
+use Rattle.ldm_run.specs.Stops.{lines_unless, Reopens, EveryStopReopens, EveryStopSinceSyncs, JobStops, JobSinceSyncs}
+use Rattle.ldm_run.specs.Written.{HoldsAfter}
+use Rattle.ldm_run.specs.Runs.{OnlyReads, StopsAfter, StopsSinceSyncs}
 use Rattle.ldm_run.specs.Editing.{DoesGroup, HearsAndEdits}
 use Rattle.ldm_run.proofs.Saying.{answers_as, causes_sooner}
 use Rattle.ldm_run.proofs.ReplyLaws.{fails}
@@ -32,6 +34,12 @@ use Rattle.ldm_run.proofs.ScriptLaws.{long_answer, whole_answer}
 use Rattle.ldm_run.proofs.OpenLaws.{reopens_first}
 use Rattle.ldm_run.proofs.EditState.{lines_sooner}
 use Rattle.ldm_run.proofs.GroupEnds.{settled_all, reopens_sooner}
+
+-- a moment while no disk is changed and nothing is said
+quiet_start : {old mid : Seen} → Still old mid → mid.said ≡ old.said → (images : List (List ℕ)) (said : List ℕ) → mid.left_since old.clock images said → Leaves old images × (said ≡ old.said)
+quiet_start {old} {mid} still silent images said left =
+    let m = still.moments images said left in
+    (m.0, begins_both old.said said m.1 (subst (λ (l : List ℕ). Begins said l) silent m.2))
 
 module _ {old mid : Seen} (still : Still old mid) (one_each : length old.content ≡ length old.sizes) where
   -- what a stop leaves while no disk is changed, and nothing was pending
@@ -65,6 +73,21 @@ module _ {tells : Type 0} {host : Seen} (still : Still host host) (one_each : te
   job_stops (One command) = λ told nothing. silent_reopens still (one_each told) refl _ nothing
   job_stops (Sample seed) = tt
 
+  job_since : (job : Job) → JobSinceSyncs tells job host host
+  job_since Disk = tt
+  job_since Records = tt
+  job_since Show = tt
+  job_since Check = tt
+  job_since (Map name first count) = tt
+  job_since Try = tt
+  job_since Edit = λ told short found is editable. inl (quiet_start still refl)
+  job_since (One command) = λ told found is editable. inl (quiet_start still refl)
+  job_since (Sample seed) = tt
+
+  pub since_unchanged : (reading : Option (Job × ℕ)) → StopsSinceSyncs tells reading host host
+  since_unchanged None = tt
+  since_unchanged (Some reading) = job_since reading.0
+
   pub stops_unchanged : (reading : Option (Job × ℕ)) → StopsAfter tells reading host host
   stops_unchanged None = tt
   stops_unchanged (Some reading) = job_stops reading.0
@@ -80,8 +103,9 @@ unheard_edit {tells} {talks} {old} {new} {status} failed takes silent still one_
       answers = λ told. record { whole = λ is. absurd (end.none is); since = still.later.said; front = inl silent };
       whole_lines = λ told is. inl silent;
       stops = λ told nothing. silent_reopens still (one_each told) silent _ nothing;
-      disks = record { later = still.later; done = λ told has. absurd (end.none has); unwritten = λ told ne none. still.wrote };
-      input = λ told. record { taken = (takes told).0; takes = (takes told).1; whole = λ is. absurd (end.none is); no_disk = λ long. end.no_disk };
+      since_syncs = λ told short found is editable. inl (quiet_start still silent);
+      disks = record { later = still.later; done = λ told has. absurd (end.none has); unwritten = λ told none. still.wrote };
+      input = λ told. record { taken = (takes told).0; takes = (takes told).1; whole = λ is. absurd (end.none is); no_disk = λ long. end.no_disk; unwritten = λ some. still.wrote };
     }
 
 -- the script is too long
@@ -94,10 +118,11 @@ long_edit {tells} {talks} {old} {mid} {new} {status} reads takes silent still bo
   answers = λ told. answers_as old mid new _ (IsAnswerToScript (is_long old.input) old.input old.content) status silent (λ answer e. long_answer old.input old.content answer (long (both told)) e) (reads.answers (both told));
   whole_lines = λ told is. absurd (no_disk is);
   stops = λ told nothing. subst (λ (b : Bool). EveryStopReopens (lines_unless b old.input) old new) (sym (is_true told)) (no_line_reopens (still_trans old mid new still reads.still) (one_each told) nothing);
+  since_syncs = λ told short. absurd (let e : true ≡ false = sym (is_true told) ∙ short in cc);
   disks = record {
     later = later_trans old mid new still.later reads.still.later;
     done = λ told has short. absurd (let e : true ≡ false = sym (is_true told) ∙ short in cc);
-    unwritten = λ told ne none. reads.still.wrote ∙ still.wrote;
+    unwritten = λ told none. reads.still.wrote ∙ still.wrote;
   };
   input = λ told. record {
     taken = (takes told).0;
@@ -108,6 +133,7 @@ long_edit {tells} {talks} {old} {mid} {new} {status} reads takes silent still bo
     };
     whole = λ is. inr (long told);
     no_disk = λ is. no_disk;
+    unwritten = λ some. reads.still.wrote ∙ still.wrote;
   };
 }
   where
@@ -125,13 +151,14 @@ script_edit {tells} {talks} {old} {mid} {new} {script} {status} does takes silen
       (λ answer e. whole_answer script old.input mid.content old.content answer (heard (both told)).0 short still.content e) (does.answers told);
   whole_lines = λ told is. lines_sooner old mid new silent (does.whole_lines told is);
   stops = λ told nothing. subst (λ (lines : List (Option Command)). EveryStopReopens lines old new) (lines_are told) (every_stop told nothing);
+  since_syncs = λ told small. subst (λ (lines : List (Option Command)). EveryStopSinceSyncs lines old new) (lines_are told) (since_syncs told);
   disks = record {
     later = later_trans old mid new still.later does.disks.later;
-    done = λ told has small found is editable. subst (λ (lines : List (Option Command)). HoldsAfter found lines new) (lines_are told)
-        (does.disks.done told has refl found (subst (λ (l : List (List ℕ)). IsGroupIn l (Ok found)) (sym still.content) is) editable);
-    unwritten = λ told ne none. ⊎_elim
+    done = λ told has small found is editable. subst (λ (lines : List (Option Command)). HoldsAfter found lines old.content new) (lines_are told)
+        (subst (λ (l : List (List ℕ)). HoldsAfter found (commands_in script) l new) still.content (does.disks.done told has refl found (subst (λ (l : List (List ℕ)). IsGroupIn l (Ok found)) (sym still.content) is) editable));
+    unwritten = λ told none. ⊎_elim
         (λ long. absurd (let e : false ≡ true = sym (is_false told) ∙ long in cc))
-        (λ none. does.disks.unwritten told ne (inr (subst HoldsNone (sym still.content) none)) ∙ still.wrote)
+        (λ none. does.disks.unwritten told (inr (subst HoldsNone (sym still.content) none)) ∙ still.wrote)
         none;
   };
   input = λ told. record {
@@ -143,6 +170,7 @@ script_edit {tells} {talks} {old} {mid} {new} {script} {status} does takes silen
     };
     whole = λ is. inl (does.input.input ∙ (heard told).1);
     no_disk = λ long. absurd (let same = ap length (heard told).0 in omega (arith, long, short, same));
+    unwritten = ⊎_elim (λ long. absurd (let same = ap length (heard told).0 in omega (arith, long, short, same))) (λ some. absurd (some (does.input.input ∙ (heard told).1)));
   };
 }
   where
@@ -152,16 +180,38 @@ script_edit {tells} {talks} {old} {mid} {new} {script} {status} does takes silen
     lines_are : tells → commands_in script ≡ lines_unless (is_long old.input) old.input
     lines_are told = ap commands_in (heard (both told)).0 ∙ ap (λ (b : Bool). lines_unless b old.input) (sym (is_false told))
 
+    same_outside : (labels : List Label) → AreSameOutside labels old.content mid.content
+    same_outside labels disk label at =
+        outside_is label (image old.content disk) (image old.content disk) (image mid.content disk) (outside_itself label (image old.content disk)) (ap (λ (l : List (List ℕ)). image l disk) still.content)
+
+    at_start : (images : List (List ℕ)) (said : List ℕ) → Leaves mid images × (said ≡ mid.said) → Leaves old images × (said ≡ old.said)
+    at_start images said start = (leaves_still old mid images still start.0, start.1 ∙ silent)
+
+    only_start : OnlyStill mid new → OnlyStill old new
+    only_start only = moments_trans old mid new (λ images said. Leaves old images × (said ≡ old.said)) still.later does.disks.later (quiet_start still silent)
+        (λ images said left. at_start images said (only images said left))
+
+    since_syncs : tells → EveryStopSinceSyncs (commands_in script) old new
+    since_syncs told found is editable = ⊎_elim
+        (λ only. inl (only_start only))
+        (λ from. inr (record {
+          time = from.time;
+          not_before = let sooner = still.later.clock in let not_before = from.not_before in omega (arith, sooner, not_before);
+          until = λ images said left. ⊎_elim
+              (λ sooner. inl (quiet_start still silent images said sooner))
+              (λ moment. ⊎_elim (λ start. inl (at_start images said start)) (λ since. inr since) (from.until images said moment))
+              (does.disks.later.nothing_else old.clock images said still.later.clock left);
+          since = λ images said left. reopens_sooner found.labels found.db (commands_in script) old mid images said (same_outside found.labels) silent (from.since images said left);
+        }))
+        (does.since_syncs told found (subst (λ (l : List (List ℕ)). IsGroupIn l (Ok found)) (sym still.content) is) editable)
+
     every_stop : tells → NothingPending old → EveryStopReopens (commands_in script) old new
     every_stop told nothing found is editable =
         moments_trans old mid new (Reopens found.labels found.db (commands_in script) old) still.later does.disks.later
         (silent_reopens still (one_each told) silent (commands_in script) nothing found is editable)
-        (λ images said left. reopens_sooner found.labels found.db (commands_in script) old mid images said same silent
+        (λ images said left. reopens_sooner found.labels found.db (commands_in script) old mid images said (same_outside found.labels) silent
         (does.stops told now found (subst (λ (l : List (List ℕ)). IsGroupIn l (Ok found)) (sym still.content) is) editable images said left))
       where
-        same : AreSameOutside found.labels old.content mid.content
-        same disk label at = outside_is label (image old.content disk) (image old.content disk) (image mid.content disk) (outside_itself label (image old.content disk)) (ap (λ (l : List (List ℕ)). image l disk) still.content)
-
         now : NothingPending mid
         now disk lt x left =
             nothing disk (subst (λ (l : List ℕ). disk < length l) still.later.sizes lt) x ((still.left disk x).0 left) ∙ ap (λ (l : List (List ℕ)). image l disk) (sym still.content)

@@ -10,7 +10,7 @@ use Rattle.ldm_run.specs.declared.running.Status.TheVariants.{Usage, DiskFault}
 use Rattle.ldm_run.specs.Said.{Answer, SaysNothing}
 use Rattle.ldm_run.specs.Answer.{IsJobAnswer}
 use Rattle.ldm_run.specs.Kinds.{kind_of, SameInput, JobPremise, JobInput, JobSays}
-use Rattle.ldm_run.specs.Stops.{JobStops}
+use Rattle.ldm_run.specs.Stops.{JobStops, JobSinceSyncs}
 use Rattle.ldm_run.specs.Written.{JobDisks}
 use Rattle.ldm_run.specs.Editing.{DoesGroup, HearsAndEdits}
 use Rattle.ldm_run.specs.Runs.{Answers, Causes, OnlyReads, HearsAndReplies}
@@ -25,6 +25,7 @@ DoesJob tells talks job old new status = record {
   input : JobInput talks (kind_of job) old new status;
   silent : JobSays tells (kind_of job) old new status;
   stops : JobStops tells job old new;
+  since_syncs : JobSinceSyncs tells job old new;
 }
 
 -- what is said of a job, where it is this one
@@ -40,6 +41,7 @@ pub reads_job : {tells : Type 0} {old new : Seen} {IsOne : Answer → Type 0} {s
   input : SameInput old new;
   silent : SaysNothing status → new.said ≡ old.said;
   stops : Unit {0};
+  since_syncs : Unit {0};
 }
 reads_job reads = record {
   answers = λ told free. reads.answers told;
@@ -49,6 +51,7 @@ reads_job reads = record {
   input = reads.input;
   silent = reads.silent;
   stops = tt;
+  since_syncs = tt;
 }
 
 pub try_job : {tells talks : Type 0} {old new : Seen} {status : Status} → HearsAndReplies tells talks old new (IsJobAnswer Try old.content old.input) status → DoesJob tells talks Try old new status
@@ -60,6 +63,7 @@ try_job hears = record {
   input = hears.input;
   silent = hears.silent;
   stops = tt;
+  since_syncs = tt;
 }
 
 pub edit_job : {tells talks : Type 0} {old new : Seen} {status : Status} → HearsAndEdits tells talks old new status → DoesJob tells talks Edit old new status
@@ -71,6 +75,7 @@ edit_job edits = record {
   input = edits.input;
   silent = edits.whole_lines;
   stops = edits.stops;
+  since_syncs = edits.since_syncs;
 }
 
 pub one_job : {tells : Type 0} {old new : Seen} {status : Status} (talks : Type 0) (command : Command) → DoesGroup tells (Some command ∷ []) old new status → (status ≡ DiskFault → new.said ≡ old.said)
@@ -83,4 +88,5 @@ one_job talks command does silent = record {
   input = does.input;
   silent = silent;
   stops = does.stops;
+  since_syncs = does.since_syncs;
 }

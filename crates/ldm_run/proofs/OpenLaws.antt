@@ -20,12 +20,12 @@ use Rattle.ldm_found.specs.Labels.{AreSameOutside}
 use Rattle.ldm_found.specs.Opening.{IsGroupIn}
 use Rattle.ldm_found.proofs.FoundLaws.{HoldsGroup, holds_group, holder}
 use Rattle.ldm_found.proofs.GroupLaws.{sound_of}
-use Rattle.ldm_store.specs.Kept.{IsKept, MayEdit, Opens}
+use Rattle.ldm_store.specs.Kept.{IsKept, Opens}
 use Rattle.ldm_store.specs.Sessions.{Opened}
-use Rattle.ldm_store.proofs.OpensLaws.{kept_opens}
+use Rattle.ldm_store.proofs.OpensLaws.{kept_opens_found}
 use Rattle.ldm_group_text.specs.Reply.{text_of_reply, text_of_replies}
 use Rattle.ldm_run.specs.Stops.{answered, Reopens}
-use Rattle.ldm_run.specs.Editing.{turn_on, IsDoing, IsAnswering}
+use Rattle.ldm_run.specs.Editing.{turn_on, IsDoing, IsAnswering, AreWritten}
 use Rattle.ldm_run.proofs.LineCounts.{line_count, line_count-append, one_line, reply_lines}
 use Rattle.ldm_run.proofs.TurnLists.{after_lines, no_lines_after, db_more, replies_length, take_before, take_line}
 
@@ -48,15 +48,6 @@ pub found_apart : (images : List (List ℕ)) (found : Found) → IsGroupIn image
 found_apart images found is =
     let held = holds_group images found is in
     disjoint found.db.records found.labels (found_rising images found held) (sound_of found.db found.labels held.faultless)
-
--- images that keep a group which was found open as that group
-pub kept_opens_found : (start : Seen) (found : Found) (images : List (List ℕ)) (said : List ℕ) → IsGroupIn start.content (Ok found) → found.blocked ≡ None
-    → IsKept found.labels found.db found.db start images said → Opens images found.db
-kept_opens_found start found images said is editable kept =
-    let held = holds_group start.content found is in
-    let may : MayEdit found.db found.labels = record { faultless = held.faultless; unblocked = sym held.blocked_is ∙ editable } in
-    let opens = kept_opens found.labels found.db found.db start.content images held.labels_are held.apart may may (inl refl) kept.one_each kept.outside kept.recoverable in
-    record { found = opens.0; is = opens.1; editable = opens.2; same = ⊎_elim (λ same. same) (λ same. same) opens.3 }
 
 -- ---- how many lines are answered
 
@@ -89,10 +80,11 @@ reopens_first start found lines images said is editable kept =
 
 -- ---- while a line is done and answered
 
--- the lines before it were done and answered since the start, and no byte outside the areas was changed
+-- the lines before it were done on all copies and answered since the start, and no byte outside the areas was changed
 pub record ComesAfter (session : Opened) (before : List (Option Command)) (start old : Seen) : Type 0 where
   pub said_is : old.said ≡ start.said ++ text_of_replies 1 (replies_to session.labels session.db before)
   pub outside : AreSameOutside session.labels start.content old.content
+  pub written : AreWritten session.labels session.db (group_after session.labels session.db before) start.content old.content
 
 module _ (session : Opened) (before : List (Option Command)) (line : Option Command) (after : List (Option Command)) (start old : Seen) (comes : ComesAfter session before start old) where
   abbrev all : List (Option Command)

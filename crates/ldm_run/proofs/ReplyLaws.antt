@@ -159,7 +159,7 @@ unheard {tells} {talks} {old} {new} {IsOne} {status} failed takes silent still =
       causes = end.causes;
       silent = λ is. silent;
       still = still;
-      input = λ told. record { taken = (takes told).0; takes = (takes told).1; whole = λ is. absurd (end.none is); no_disk = λ long. end.no_disk };
+      input = λ told. record { taken = (takes told).0; takes = (takes told).1; whole = λ is. absurd (end.none is); no_disk = λ long. end.no_disk; unwritten = λ some. still.wrote };
     }
 
 -- Replies come after a script was heard. What becomes of the input goes by what the script is.
@@ -183,5 +183,6 @@ hears_first {talks} {tells} {own} {old} {mid} {new} {IsOne} {IsOther} {status} l
     };
     whole = λ is. ⊎_elim (λ none. inl (last.input.input ∙ none)) (λ long. inr long) (whole told);
     no_disk = no_disk told;
+    unwritten = λ some. last.still.wrote ∙ still.wrote;
   };
 }

@@ -121,7 +121,7 @@ module _ {seed : ℕ} {start : MemoryHost} (host : MemoryHost) {status : Status}
     input = heard_all;
     said = said_is;
     dry = dry;
-    disks = subst (λ (l : List (Option Command)). HoldsAfter found l (memory_seen host)) lines_are (does.disks.done tt has not_long found starts.holds starts.group.blocked_is);
+    disks = subst (λ (l : List (Option Command)). HoldsAfter found l (memory_seen start).content (memory_seen host)) lines_are (does.disks.done tt has not_long found starts.holds starts.group.blocked_is);
     first = does.disks.later.keeps 0 (memory_seen start).content [] (omega arith) (subst (λ (l : List ℕ). (memory_seen start).left_since 0 (memory_seen start).content l) starts.said first);
     stops = λ images said left.
         subst (λ (l : List (Option Command)). Reopens found.labels found.db l (memory_seen start) images said) lines_are

@@ -2,6 +2,9 @@
 use Rattle.std.specs.Prelude.{◌≡◌, ◌≢◌, ◌⊎◌, ℕ, Bool, false, List, ◌++◌, Option}
 use Rattle.ldm_host.specs.Seen.{Seen}
 use Rattle.ldm_host.specs.Moves.{Rose, Begins, Later}
+use Rattle.ldm_label.specs.declared.Label.{Label}
+use Rattle.ldm_group.specs.Database.{Database}
+use Rattle.ldm_copy.specs.declared.answer.CopyState.TheVariants.{Valid}
 use Rattle.ldm_words.specs.declared.command.Command.{Command}
 use Rattle.ldm_words.specs.declared.job.Job.TheVariants.{Edit}
 use Rattle.ldm_edits.specs.Steps.{Turn, turn_of, group_after, replies_to}
@@ -16,7 +19,7 @@ use Rattle.ldm_run.specs.Said.{HasAnswer}
 use Rattle.ldm_run.specs.Scripts.{is_refused, replies_from, try_answer}
 use Rattle.ldm_run.specs.Answer.{IsGroupAnswer, IsJobAnswer}
 use Rattle.ldm_run.specs.Kinds.{SameInput, SaysLines, NothingPending}
-use Rattle.ldm_run.specs.Stops.{Reopens, EveryStopReopens, JobStops}
+use Rattle.ldm_run.specs.Stops.{Reopens, EveryStopReopens, EveryStopSinceSyncs, JobStops, JobSinceSyncs}
 use Rattle.ldm_run.specs.Written.{EditsDisks, JobDisks}
 use Rattle.ldm_run.specs.Heard.{HearsScript}
 use Rattle.ldm_run.specs.Runs.{Answers, Causes}
@@ -55,6 +58,11 @@ pub record IsAnswered (session : Opened) (line : Option Command) (after : Opened
 
 -- ---- all lines
 
+-- What lines do to the copies: each is just that of the group after them, or this is the group before them and no disk is
+-- changed.
+abbrev pub AreWritten : (labels : List Label) (before after : Database) (old new : List (List ℕ)) → Type 0
+AreWritten labels before after old new = AllHave labels new (λ copy. copy ≡ Valid after) ⊎ ((after ≡ before) × (new ≡ old))
+
 -- What is done to the group of a session whose copies are open, with these lines.
 pub record DoesLines (tells : Type 0) (session : Opened) (lines : List (Option Command)) (old new : Seen) (status : Status) : Type 0 where
   pub later : Later old new
@@ -66,6 +74,7 @@ pub record DoesLines (tells : Type 0) (session : Opened) (lines : List (Option C
   pub whole_lines : tells → status ≡ DiskFault → SaysLines old new
   pub stops : tells → (images : List (List ℕ)) (said : List ℕ) → new.left_since old.clock images said → Reopens session.labels session.db lines old images said
   pub current : tells → HasAnswer status → AllHave session.labels new.content (IsCurrent (group_after session.labels session.db lines))
+  pub written : tells → HasAnswer status → AreWritten session.labels session.db (group_after session.labels session.db lines) old.content new.content
   pub settled : HasAnswer status → AllSettled session.labels new
 
 -- What is done to the group that the disks hold, with these lines.
@@ -76,6 +85,7 @@ pub record DoesGroup (tells : Type 0) (lines : List (Option Command)) (old new :
   pub answers : tells → Answers old new (IsGroupAnswer (try_answer lines) old.content) status
   pub whole_lines : tells → status ≡ DiskFault → SaysLines old new
   pub stops : tells → NothingPending old → EveryStopReopens lines old new
+  pub since_syncs : tells → EveryStopSinceSyncs lines old new
   pub disks : EditsDisks tells false lines old new status
 
 -- What an edit does, which hears a script first.
@@ -85,5 +95,6 @@ pub record HearsAndEdits (tells talks : Type 0) (old new : Seen) (status : Statu
   pub answers : tells → Answers old new (IsJobAnswer Edit old.content old.input) status
   pub whole_lines : tells → status ≡ DiskFault → SaysLines old new
   pub stops : JobStops tells Edit old new
+  pub since_syncs : JobSinceSyncs tells Edit old new
   pub disks : JobDisks tells Edit old new status
   pub input : talks → HearsScript old new status

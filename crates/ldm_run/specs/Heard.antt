@@ -24,9 +24,11 @@ TalkFails old new NoMemory = Unit {0}
 TalkFails old new _ = ⊥
 
 -- Some of the input is heard. Where there is an answer, it was heard to its end, or the script is too long. A script that is
--- too long is refused before any disk is called, so no disk fails then.
+-- too long is refused before any disk is called, so no disk fails then. No byte is handed to a disk where the script is too
+-- long, or where some of it is left.
 pub record HearsScript (old new : Seen) (status : Status) : Type 0 where
   pub taken : List ℕ
   pub takes : Takes old new taken
   pub whole : HasAnswer status → (new.input ≡ []) ⊎ (1048576 < length old.input)
   pub no_disk : 1048576 < length old.input → status ≢ DiskFault
+  pub unwritten : (1048576 < length old.input) ⊎ (new.input ≢ []) → new.wrote ≡ old.wrote

@@ -6,7 +6,7 @@ use Rattle.ldm_words.specs.declared.job.Job.{Job}
 use Rattle.ldm_run.specs.Said.{Answer, HasAnswer, SaysNothing}
 use Rattle.ldm_run.specs.Heard.{HearsScript}
 use Rattle.ldm_run.specs.Kinds.{kind_of, JobPremise, SameInput, JobInput, JobSays}
-use Rattle.ldm_run.specs.Stops.{JobStops}
+use Rattle.ldm_run.specs.Stops.{JobStops, JobSinceSyncs}
 use Rattle.ldm_run.specs.Written.{JobDisks}
 use Rattle.ldm_run.specs.declared.running.Status.{Status}
 use Rattle.ldm_run.specs.declared.running.Status.TheVariants.{Usage, DiskFault, TalkFault}
@@ -53,6 +53,11 @@ DisksAfter tells (Some reading) old new status = JobDisks tells reading.0 old ne
 abbrev pub StopsAfter : Type 0 → Option (Job × ℕ) → Seen → Seen → Type 0
 StopsAfter tells None old new = Unit {0}
 StopsAfter tells (Some reading) old new = JobStops tells reading.0 old new
+
+-- the same, where anything was pending at the start
+abbrev pub StopsSinceSyncs : Type 0 → Option (Job × ℕ) → Seen → Seen → Type 0
+StopsSinceSyncs tells None old new = Unit {0}
+StopsSinceSyncs tells (Some reading) old new = JobSinceSyncs tells reading.0 old new
 
 abbrev pub InputAfter : Type 0 → Option (Job × ℕ) → Seen → Seen → Status → Type 0
 InputAfter tells None old new status = SameInput old new

@@ -64,7 +64,7 @@ pub record IsSampleStart (seed : ℕ) (found : Found) (host : MemoryHost) : Type
   pub input : (memory_seen host).input ≡ script_of seed
 
 -- Such a host after the edit: the script is heard, and just the replies are said. Each copy is open with the group after all
--- lines, and nothing is pending. No call found too little memory. At each moment since the start what a stop could leave
+-- lines, with the carried bytes of the header that was found where it was rewritten, and nothing is pending. No call found too little memory. At each moment since the start what a stop could leave
 -- reopens, and one of these moments is the start itself.
 pub record IsSampleHost (seed : ℕ) (host : MemoryHost) : Type 0 where
   pub start : MemoryHost
@@ -75,7 +75,7 @@ pub record IsSampleHost (seed : ℕ) (host : MemoryHost) : Type 0 where
   pub input : (memory_seen host).input ≡ []
   pub said : (memory_seen host).said ≡ text_of_replies 1 (replies_to found.labels found.db (sample_lines seed))
   pub dry : (counts_of host).dry ≡ 0
-  pub disks : HoldsAfter found (sample_lines seed) (memory_seen host)
+  pub disks : HoldsAfter found (sample_lines seed) (memory_seen start).content (memory_seen host)
   pub first : (memory_seen host).left_since 0 (memory_seen start).content []
   pub stops : (images : List (List ℕ)) (said : List ℕ) → (memory_seen host).left_since 0 images said
       → Reopens found.labels found.db (sample_lines seed) (memory_seen start) images said

@@ -1,6 +1,6 @@
 -- What a stop leaves at any moment of a job that writes.
 use Rattle.std.specs.Prelude.{◌≡◌, ◌⊎◌, ℕ, ◌+◌, ◌≤◌, ◌==◌, min, Bool, true, false, List, [], ◌∷◌, length, take, drop, count_by, Option, Some, None, Ok}
-use Rattle.ldm_host.specs.Seen.{Seen}
+use Rattle.ldm_host.specs.Seen.{Seen, Leaves}
 use Rattle.ldm_label.specs.declared.Label.{Label}
 use Rattle.ldm_group.specs.Database.{Database}
 use Rattle.ldm_rules.specs.Disjoint.{HasDisjointPlaces}
@@ -12,6 +12,7 @@ use Rattle.ldm_found.specs.declared.found.Found.{Found}
 use Rattle.ldm_found.specs.Labels.{AreSameOutside}
 use Rattle.ldm_found.specs.Opening.{IsGroupIn}
 use Rattle.ldm_store.specs.Kept.{Opens}
+use Rattle.ldm_store.specs.Healing.{OnlyStill}
 use Rattle.ldm_run.specs.Scripts.{is_long, commands_in}
 use Rattle.ldm_run.specs.Kinds.{NothingPending}
 
@@ -51,3 +52,23 @@ abbrev pub JobStops : Type 0 → Job → Seen → Seen → Type 0
 JobStops tells Edit old new = tells → NothingPending old → EveryStopReopens (commands_of Edit old.input) old new
 JobStops tells (One command) old new = tells → NothingPending old → EveryStopReopens (commands_of (One command) old.input) old new
 JobStops tells job old new = Unit {0}
+
+-- From some time on, the end of the syncs, whatever a stop may leave reopens. Until then it leaves what it could leave at the
+-- start, and nothing is said.
+pub record ReopensFrom (found : Found) (commands : List (Option Command)) (start host : Seen) : Type 0 where
+  pub time : ℕ
+  pub not_before : start.clock ≤ time
+  pub until : (images : List (List ℕ)) (said : List ℕ) → host.left_since start.clock images said
+      → (Leaves start images × (said ≡ start.said)) ⊎ host.left_since time images said
+  pub since : (images : List (List ℕ)) (said : List ℕ) → host.left_since time images said → Reopens found.labels found.db commands start images said
+
+-- Where anything may be pending at the start, and the images then hold a group that may be edited: a stop leaves what it could
+-- leave at the start, or there is such a time.
+abbrev pub EveryStopSinceSyncs : List (Option Command) → Seen → Seen → Type 0
+EveryStopSinceSyncs commands start host = (found : Found) → IsGroupIn start.content (Ok found) → found.blocked ≡ None
+    → OnlyStill start host ⊎ ReopensFrom found commands start host
+
+abbrev pub JobSinceSyncs : Type 0 → Job → Seen → Seen → Type 0
+JobSinceSyncs tells Edit old new = tells → is_long old.input ≡ false → EveryStopSinceSyncs (commands_of Edit old.input) old new
+JobSinceSyncs tells (One command) old new = tells → EveryStopSinceSyncs (commands_of (One command) old.input) old new
+JobSinceSyncs tells job old new = Unit {0}

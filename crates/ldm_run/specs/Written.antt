@@ -1,40 +1,34 @@
 -- What a job leaves of the disks.
-use Rattle.std.specs.Prelude.{◌≡◌, ◌≢◌, ◌⊎◌, ℕ, Bool, true, false, List, Option, Some, None, Ok, Err}
+use Rattle.std.specs.Prelude.{◌≡◌, ◌⊎◌, ℕ, Bool, true, false, List, Option, None, Ok}
 use Rattle.ldm_host.specs.Seen.{Seen}
 use Rattle.ldm_host.specs.Moves.{Later, Still}
 use Rattle.ldm_words.specs.declared.command.Command.{Command}
 use Rattle.ldm_words.specs.declared.job.Job.{Job}
 use Rattle.ldm_words.specs.declared.job.Job.TheVariants.{Edit, One}
 use Rattle.ldm_edits.specs.Steps.{group_after}
-use Rattle.ldm_found.specs.declared.fault.OpenFault.{OpenFault}
 use Rattle.ldm_found.specs.declared.found.Found.{Found}
 use Rattle.ldm_found.specs.Opening.{IsGroupIn}
-use Rattle.ldm_store.specs.Kept.{IsCurrent}
-use Rattle.ldm_store.specs.Turning.{AllHave}
+use Rattle.ldm_store.specs.Kept.{IsCurrent, HoldsNone}
+use Rattle.ldm_store.specs.Turning.{AllHave, AreRewritten}
 use Rattle.ldm_run.specs.Said.{HasAnswer}
 use Rattle.ldm_run.specs.Scripts.{is_long}
 use Rattle.ldm_run.specs.Kinds.{NothingPending}
 use Rattle.ldm_run.specs.Stops.{commands_of}
 use Rattle.ldm_run.specs.declared.running.Status.{Status}
-use Rattle.ldm_run.specs.declared.running.Status.TheVariants.{DiskFault}
 
--- the images hold no group that may be edited
-abbrev pub HoldsNone : List (List ℕ) → Type 0
-HoldsNone images =
-    ((fault : OpenFault) × IsGroupIn images (Err fault))
-    ⊎ ((found : Found) × (fault : OpenFault) × IsGroupIn images (Ok found) × (found.blocked ≡ Some fault))
-
--- the copy on each disk is open with the group after these lines, and nothing is pending
-pub record HoldsAfter (found : Found) (commands : List (Option Command)) (host : Seen) : Type 0 where
+-- The copy on each disk is open with the group after these lines, and nothing is pending. A copy that was rewritten since
+-- the images held that group is just the one after the lines: its header carries the bytes that were found.
+pub record HoldsAfter (found : Found) (commands : List (Option Command)) (images : List (List ℕ)) (host : Seen) : Type 0 where
   pub current : AllHave found.labels host.content (IsCurrent (group_after found.labels found.db commands))
+  pub each : AreRewritten found.labels (group_after found.labels found.db commands) images host.content
   pub settled : NothingPending host
 
 -- What is written by a job that does these lines. Where there is an answer, each line was done, if the script isn't too
--- long and the group may be edited; otherwise nothing was written, also where memory or the talk failed.
+-- long and the group may be edited; otherwise nothing was written, whatever failed.
 pub record EditsDisks (tells : Type 0) (long : Bool) (commands : List (Option Command)) (old new : Seen) (status : Status) : Type 0 where
   pub later : Later old new
-  pub done : tells → HasAnswer status → long ≡ false → (found : Found) → IsGroupIn old.content (Ok found) → found.blocked ≡ None → HoldsAfter found commands new
-  pub unwritten : tells → status ≢ DiskFault → (long ≡ true) ⊎ HoldsNone old.content → new.wrote ≡ old.wrote
+  pub done : tells → HasAnswer status → long ≡ false → (found : Found) → IsGroupIn old.content (Ok found) → found.blocked ≡ None → HoldsAfter found commands old.content new
+  pub unwritten : tells → (long ≡ true) ⊎ HoldsNone old.content → new.wrote ≡ old.wrote
 
 -- What becomes of the disks, also where the host tells them: a job that only reads leaves them as they are.
 abbrev pub JobDisks : Type 0 → Job → Seen → Seen → Status → Type 0

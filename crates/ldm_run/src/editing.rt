@@ -6,11 +6,13 @@ ghost use Rattle.ldm_words.specs.Limits.{IsCommand};
 ghost use Rattle.ldm_found.specs.declared.found.Found.{Found};
 ghost use Rattle.ldm_found.specs.Opening.{IsGroupIn};
 ghost use Rattle.ldm_store.specs.Kept.{AlwaysKept};
+ghost use Rattle.ldm_store.specs.Turning.{AreRewritten};
+ghost use Rattle.ldm_store.specs.Healing.{OneGroup};
 ghost use Rattle.ldm_store.specs.Sessions.{RestsOn, HoldsGroup, IsTurnOf, IsOpenedFrom};
 ghost use Rattle.ldm_group_text.specs.Reply.{text_of_reply};
 ghost use Rattle.ldm_run.specs.Kinds.{SameInput, NothingPending};
 ghost use Rattle.ldm_run.specs.Scripts.{command_in, commands_in};
-ghost use Rattle.ldm_run.specs.Editing.{EditFails, turn_on, IsDoing, IsAnswering, IsAnswered, DoesLines, DoesGroup};
+ghost use Rattle.ldm_run.specs.Editing.{EditFails, turn_on, IsDoing, IsAnswering, IsAnswered, AreWritten, DoesLines, DoesGroup};
 
 use crate::replying::is_refused;
 use crate::running::{Status, refuse_opening};
@@ -38,6 +40,7 @@ fn apply_command<H: Host>(
     ensures turn { IfOk result (λ answer. IsTurnOf (turn_on session (Some command.now)) session.labels answer.0 answer.1) }
     ensures rests { IfOk result (λ answer. RestsOn answer.0 (H.seen host.new)) }
     ensures holds { H.tells_disks → IfOk result (λ answer. HoldsGroup answer.0 (H.seen host.new).content) }
+    ensures written { H.tells_disks → IfOk result (λ answer. AreWritten session.labels session.db answer.0.db (H.seen host.old).content (H.seen host.new).content) }
     ensures fault { IfErr result (EditFails (H.seen host.old) (H.seen host.new)) }
     ensures later { Later (H.seen host.old) (H.seen host.new) }
     ensures quiet { Quiet (H.seen host.old) (H.seen host.new) }
@@ -64,6 +67,7 @@ fn apply_line<H: Host>(
     ensures turn { IfOk result (λ answer. IsTurnOf (turn_on session line) session.labels answer.0 answer.1) }
     ensures rests { IfOk result (λ answer. RestsOn answer.0 (H.seen host.new)) }
     ensures holds { H.tells_disks → IfOk result (λ answer. HoldsGroup answer.0 (H.seen host.new).content) }
+    ensures written { H.tells_disks → IfOk result (λ answer. AreWritten session.labels session.db answer.0.db (H.seen host.old).content (H.seen host.new).content) }
     ensures fault { IfErr result (EditFails (H.seen host.old) (H.seen host.new)) }
     ensures later { Later (H.seen host.old) (H.seen host.new) }
     ensures quiet { Quiet (H.seen host.old) (H.seen host.new) }
@@ -90,6 +94,7 @@ fn edit_line<H: Host>(
     ensures turn { IfOk result (λ answer. IsAnswered session line answer.0 answer.1) }
     ensures rests { IfOk result (λ answer. RestsOn answer.0 (H.seen host.new)) }
     ensures holds { H.tells_disks → IfOk result (λ answer. HoldsGroup answer.0 (H.seen host.new).content) }
+    ensures written { H.tells_disks → IfOk result (λ answer. AreWritten session.labels session.db answer.0.db (H.seen host.old).content (H.seen host.new).content) }
     ensures said { H.tells_disks → OnOk result ((H.seen host.new).said ≡ (H.seen host.old).said ++ text_of_reply (number, (turn_on session line).reply)) }
     ensures front { H.tells_disks → Begins (H.seen host.new).said ((H.seen host.old).said ++ text_of_reply (number, (turn_on session line).reply)) }
     ensures silent { IfErr result (λ status. status ≡ Status.DiskFault → (H.seen host.new).said ≡ (H.seen host.old).said) }
@@ -163,8 +168,11 @@ fn open_session<H: Host>(alloc: Global, host: &mut H) -> Result<Session, Status>
     ensures opened { H.tells_disks → IfOk result (λ session. IsOpenedFrom (H.seen host.old).content session) }
     ensures kept { H.tells_disks → OnOk result ((found : Found) → IsGroupIn (H.seen host.old).content (Ok found) → found.blocked ≡ None
         → NothingPending (H.seen host.old) → AlwaysKept found.labels found.db found.db (H.seen host.old) (H.seen host.new)) }
+    ensures one_group { H.tells_disks → OnOk result ((found : Found) → IsGroupIn (H.seen host.old).content (Ok found) → found.blocked ≡ None
+        → OneGroup (H.seen host.old) (H.seen host.new)) }
     ensures rests { IfOk result (λ session. RestsOn session (H.seen host.new)) }
     ensures holds { H.tells_disks → IfOk result (λ session. HoldsGroup session (H.seen host.new).content) }
+    ensures each { H.tells_disks → IfOk result (λ session. AreRewritten session.labels session.db (H.seen host.old).content (H.seen host.new).content) }
     ensures later { OnOk result (Later (H.seen host.old) (H.seen host.new)) }
     ensures quiet { OnOk result (Quiet (H.seen host.old) (H.seen host.new)) }
     ensures silent { IfErr result (λ status. status ≡ Status.DiskFault → (H.seen host.new).said ≡ (H.seen host.old).said) }

@@ -1,3 +1,4 @@
+//! The jobs over a host, and `run`, which does the one that words ask for.
 ghost use Rattle.std.specs.Prelude.{◌≡◌, ◌≢◌, ◌↔◌, ◌<◌, ◌≤◌, List, ℕ, length, slice_index, IfOk, IfErr, OnOk, None, Ok};
 ghost use Rattle.ldm_host.specs.Seen.{image};
 ghost use Rattle.ldm_label.specs.LabelOf.{label_of, Fits};
@@ -14,10 +15,10 @@ ghost use Rattle.ldm_run.specs.Said.{Answer, HasAnswer};
 ghost use Rattle.ldm_run.specs.Answer.{IsAnswerTo, IsJobAnswer, IsCopyAnswer, IsGroupAnswer, refusal};
 ghost use Rattle.ldm_run.specs.Scripts.{commands_in, try_answer};
 ghost use Rattle.ldm_run.specs.Kinds.{kind_of, JobPremise, JobInput, JobSays};
-ghost use Rattle.ldm_run.specs.Stops.{JobStops};
+ghost use Rattle.ldm_run.specs.Stops.{JobStops, JobSinceSyncs};
 ghost use Rattle.ldm_run.specs.Written.{JobDisks};
 ghost use Rattle.ldm_run.specs.Editing.{HearsAndEdits};
-ghost use Rattle.ldm_run.specs.Runs.{Answers, Completes, Causes, NoFault, HasImages, Premise, DisksAfter, InputAfter, SaysBefore, StopsAfter, OnlyReads, Replies, HearsAndReplies};
+ghost use Rattle.ldm_run.specs.Runs.{Answers, Completes, Causes, NoFault, HasImages, Premise, DisksAfter, InputAfter, SaysBefore, StopsAfter, StopsSinceSyncs, OnlyReads, Replies, HearsAndReplies};
 
 use crate::editing::{edit_one, edit_script};
 use crate::mapping::mapped;
@@ -289,6 +290,7 @@ fn do_job<H: Host>(alloc: Global, job: Job, host: &mut H) -> Status
     ensures input { JobInput H.tells_talk (kind_of job) (H.seen host.old) (H.seen host.new) result }
     ensures silent { JobSays H.tells_disks (kind_of job) (H.seen host.old) (H.seen host.new) result }
     ensures stops { JobStops H.tells_disks job (H.seen host.old) (H.seen host.new) }
+    ensures since_syncs { JobSinceSyncs H.tells_disks job (H.seen host.old) (H.seen host.new) }
 {
     match job {
         Job::Disk => disk(alloc, host),
@@ -328,6 +330,9 @@ pub fn run<H: Host>(alloc: Global, words: &[String], host: &mut H) -> Status
     // Whatever a stop leaves at any moment of a job that writes, and after it, opens as the group after some first lines,
     // among them each that was answered.
     ensures stops { StopsAfter H.tells_disks (job_of (texts words.now)) (H.seen host.old) (H.seen host.new) }
+    // Where anything was pending at the start, so it is from the end of the syncs on; until then a stop leaves what it could
+    // leave before.
+    ensures since_syncs { StopsSinceSyncs H.tells_disks (job_of (texts words.now)) (H.seen host.old) (H.seen host.new) }
 {
     match read_words(alloc, words) {
         Err(WordsError::Usage) => Status::Usage,

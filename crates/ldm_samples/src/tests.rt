@@ -1,3 +1,4 @@
+//! What the program writes, and that it writes over no file.
 use super::*;
 use std::path::PathBuf;
 use std::test::Fail;

@@ -1,3 +1,4 @@
+//! The first free run of sectors of a disk, by a walk over its partitions.
 ghost use Rattle.std.specs.Prelude.{◌≡◌, ◌<◌, ◌≤◌, ℕ, All, true, false};
 ghost use Rattle.ldm_group.specs.Partitions.{EndsInRange};
 ghost use Rattle.ldm_space.specs.Free.{taken_by, taken_in, past, is_taken, first_free_start};

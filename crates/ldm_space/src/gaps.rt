@@ -1,3 +1,4 @@
+//! The gaps of a disk, from which runs of sectors are taken.
 ghost use Rattle.std.specs.Prelude.{◌≡◌, ◌+◌, ◌-◌, ◌^◌, ◌<◌, ℕ, List, All, IfOk, OnOk, IfNone, IsPermutation};
 ghost use Rattle.std.specs.List.{filter_map, position};
 ghost use Rattle.std.specs.List.Sorted.{IsNonDecreasingBy};

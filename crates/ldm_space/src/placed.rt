@@ -1,3 +1,4 @@
+//! Where the new partitions of one command lie.
 ghost use Rattle.std.specs.Prelude.{◌≡◌, ◌-◌, ◌^◌, ◌<◌, ◌∷◌, List, All, IfOk, IfSome, MatchOption};
 ghost use Rattle.ldm_group.specs.Partitions.{EndsInRange};
 ghost use Rattle.ldm_space.specs.Free.{Taken, taken_in, first_free_start};

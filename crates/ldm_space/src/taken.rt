@@ -1,3 +1,4 @@
+//! Sectors that are taken.
 ghost use Rattle.std.specs.Prelude.{◌≡◌, ◌+◌, ◌^◌, ◌<◌, Some};
 ghost use Rattle.ldm_space.specs.Free.{past};
 

@@ -1,12 +1,13 @@
 -- Images that stand between an older and a newer group, which is the older or has the next sequence: whatever a stop
 -- leaves of a command, or of the healing of copies.
-use Rattle.std.specs.Prelude.{◌≡◌, ◌⊎◌, ℕ, ◌+◌, ◌<◌, List, length, None, Ok}
+use Rattle.std.specs.Prelude.{◌≡◌, ◌⊎◌, ℕ, ◌+◌, ◌<◌, List, length, Some, None, Ok, Err}
 use Rattle.ldm_bytes.specs.Tables.{first_of}
 use Rattle.ldm_host.specs.Seen.{Seen}
 use Rattle.ldm_label.specs.declared.Label.{Label}
 use Rattle.ldm_group.specs.Database.{Database, IsSameCore}
 use Rattle.ldm_copy.specs.declared.answer.CopyState.{CopyState}
 use Rattle.ldm_copy.specs.declared.answer.CopyState.TheVariants.{Closed, Valid}
+use Rattle.ldm_found.specs.declared.fault.OpenFault.{OpenFault}
 use Rattle.ldm_found.specs.declared.found.Found.{Found}
 use Rattle.ldm_found.specs.Copies.{HasCopy, IsKnown}
 use Rattle.ldm_found.specs.Editing.{blocked_in}
@@ -49,3 +50,13 @@ pub record Opens (images : List (List ℕ)) (group : Database) : Type 0 where
   pub is : IsGroupIn images (Ok found)
   pub editable : found.blocked ≡ None
   pub same : IsSameCore found.db group
+
+-- the images hold no group that may be edited
+abbrev pub HoldsNone : List (List ℕ) → Type 0
+HoldsNone images =
+    ((fault : OpenFault) × IsGroupIn images (Err fault))
+    ⊎ ((found : Found) × (fault : OpenFault) × IsGroupIn images (Ok found) × (found.blocked ≡ Some fault))
+
+-- the images hold a group that may be edited
+abbrev pub HoldsEditable : List (List ℕ) → Type 0
+HoldsEditable images = (found : Found) × IsGroupIn images (Ok found) × (found.blocked ≡ None)

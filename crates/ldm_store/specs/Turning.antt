@@ -1,6 +1,6 @@
 -- The disks while one group takes the place of another.
-use Rattle.std.specs.Prelude.{◌≡◌, ℕ, ◌<◌, ◌≤◌, List, length, slice_get, Some}
-use Rattle.ldm_host.specs.Seen.{Seen}
+use Rattle.std.specs.Prelude.{◌≡◌, ◌⊎◌, ℕ, ◌<◌, ◌≤◌, List, length, slice_get, Some}
+use Rattle.ldm_host.specs.Seen.{Seen, image}
 use Rattle.ldm_host.specs.Moves.{Settled}
 use Rattle.ldm_label.specs.declared.Label.{Label}
 use Rattle.ldm_group.specs.Database.{Database}
@@ -22,6 +22,11 @@ AllSettled labels host = (disk : ℕ) → disk < length labels → Settled host 
 -- the copy on each disk is one that passes
 abbrev pub AllHave : List Label → List (List ℕ) → (CopyState → Type 0) → Type 0
 AllHave labels images Is = (disk : ℕ) → disk < length labels → HasCopy labels images disk Is
+
+-- The copy on each disk is just that of the group, the carried bytes of its header among it, or the disk is as it was.
+abbrev pub AreRewritten : List Label → Database → List (List ℕ) → List (List ℕ) → Type 0
+AreRewritten labels group old new =
+    (disk : ℕ) → disk < length labels → HasCopy labels new disk (λ copy. copy ≡ Valid group) ⊎ (image new disk ≡ image old disk)
 
 -- The disks below a number are written.
 pub record IsTurned (labels : List Label) (older newer : Database) (start host : Seen) (done : ℕ) : Type 0 where

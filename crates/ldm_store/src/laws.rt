@@ -1,3 +1,4 @@
+//! What images hold that are kept between two groups.
 ghost use Rattle.std.specs.Prelude.{◌≡◌, ◌⊎◌, List, Result, length, ℕ};
 ghost use Rattle.ldm_label.specs.declared.Label.{Label};
 ghost use Rattle.ldm_group.specs.Database.{Database};

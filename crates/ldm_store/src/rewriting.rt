@@ -1,3 +1,4 @@
+//! Rewrites the copies on all disks, one after another.
 ghost use Rattle.std.specs.Prelude.{◌≡◌, ◌+◌, ◌≤◌, ℕ, length, slice_index, OnOk, IsErr};
 ghost use Rattle.ldm_host.specs.Moves.{Later, Quiet, Rose};
 ghost use Rattle.ldm_group.specs.Database.{Database};

@@ -1,3 +1,4 @@
+//! A group that is being edited, one command after another.
 ghost use Rattle.std.specs.Prelude.{◌≡◌, ◌+◌, ◌*◌, ◌/◌, ◌<◌, ◌≤◌, ℕ, slice_index, IfOk, IsErrOf, None};
 ghost use Rattle.ldm_host.specs.Moves.{Later, Quiet, Rose, Still};
 ghost use Rattle.ldm_copy.specs.declared.answer.CopyState.{CopyState};

@@ -1,19 +1,18 @@
+//! Makes the group of the disks ready to be edited.
 ghost use Rattle.std.specs.Prelude.{◌≡◌, ◌≢◌, ◌⊎◌, ◌+◌, ◌*◌, ◌/◌, ◌<◌, ◌≤◌, List, ℕ, length, slice_index, Result, IfOk, IfErr, OnOk, IsErr, IsErrOf, Some, None};
 ghost use Rattle.ldm_host.specs.Moves.{Later, Quiet, Rose, Settled, Settles, Changes};
 ghost use Rattle.ldm_host.specs.Seen.{image};
 ghost use Rattle.ldm_label.specs.LabelOf.{Fits};
 ghost use Rattle.ldm_group.specs.Database.{Database};
-ghost use Rattle.ldm_copy.specs.declared.answer.CopyState.{CopyState};
 ghost use Rattle.ldm_copy.specs.Copy.{gate_at};
 ghost use Rattle.ldm_copy.specs.Body.{IsBodyOn, IsWritten, IsBetween};
 ghost use Rattle.ldm_found.specs.declared.fault.OpenFault.{OpenFault};
 ghost use Rattle.ldm_found.specs.declared.found.Found.{Found};
-ghost use Rattle.ldm_found.specs.Copies.{HasCopy};
 ghost use Rattle.ldm_found.specs.Facts.{LieOn};
 ghost use Rattle.ldm_found.specs.Labels.{AreSameOutside};
 ghost use Rattle.ldm_found.specs.Opening.{IsGroupIn};
-ghost use Rattle.ldm_store.specs.Kept.{IsCurrent, AlwaysKept};
-ghost use Rattle.ldm_store.specs.Turning.{IsBodyOnEach, AllSettled, AllHave};
+ghost use Rattle.ldm_store.specs.Kept.{IsCurrent, AlwaysKept, HoldsNone, HoldsEditable};
+ghost use Rattle.ldm_store.specs.Turning.{IsBodyOnEach, AllSettled, AllHave, AreRewritten};
 ghost use Rattle.ldm_store.specs.Healing.{is_behind, HasNote, AreSpared, OnlyStill, OneGroup};
 ghost use Rattle.ldm_store.specs.Sessions.{IsOpenedFrom, RestsOn, HoldsGroup};
 
@@ -84,9 +83,7 @@ fn heal_all<H: Host>(host: &mut H, found: &Found, body: &Body) -> Result<(), Fai
     requires is { H.tells_disks → IsGroupIn (H.seen host.old).content (Result.Ok found.now) }
     ensures any_moment { H.tells_disks → AlwaysKept found.now.labels found.now.db found.now.db (H.seen host.old) (H.seen host.new) }
     ensures current { H.tells_disks → OnOk result (AllHave found.now.labels (H.seen host.new).content (IsCurrent found.now.db)) }
-    ensures each { H.tells_disks → OnOk result ((disk : ℕ) → disk < length found.now.labels
-        → HasCopy found.now.labels (H.seen host.new).content disk (λ copy. copy ≡ CopyState.Valid found.now.db)
-        ⊎ (image (H.seen host.new).content disk ≡ image (H.seen host.old).content disk)) }
+    ensures each { H.tells_disks → OnOk result (AreRewritten found.now.labels found.now.db (H.seen host.old).content (H.seen host.new).content) }
     ensures outside { H.tells_disks → AreSameOutside found.now.labels (H.seen host.old).content (H.seen host.new).content }
     ensures settled { OnOk result (AllSettled found.now.labels (H.seen host.new)) }
     ensures later { Later (H.seen host.old) (H.seen host.new) }
@@ -107,28 +104,67 @@ fn heal_all<H: Host>(host: &mut H, found: &Found, body: &Body) -> Result<(), Fai
     Ok(())
 }
 
-/// Makes the group of the disks ready to be edited: syncs every disk, finds the group, and rewrites each copy that is closed
-/// or of a lower sequence, in the order of the disks, with the group's database. A copy that needs none of this is handed no
-/// byte. Anything may be pending before. All memory is taken before the first write.
-///
-/// A fault is one of those of `find_group`, or the reason that blocks editing; `Disk` comes only where a call of a disk
-/// failed. After a `Fault` and after `NoMemory` nothing was written.
-pub fn settle<H: Host>(alloc: Global, host: &mut H) -> Result<Session, OpenError>
-    requires { 0 < length (H.seen host.old).sizes }
-    // Until the syncs are over a stop leaves what it could leave before; from then on, images that hold one group.
-    ensures any_moment { H.tells_disks → OnlyStill (H.seen host.old) (H.seen host.new) ⊎ OneGroup (H.seen host.old) (H.seen host.new) }
+// Finds the group of disks on which nothing is pending, and rewrites each copy that is closed or of a lower sequence.
+fn settle_synced<H: Host>(alloc: Global, host: &mut H) -> Result<Session, OpenError>
+    requires images { 0 < length (H.seen host.old).sizes }
+    requires synced { (disk : ℕ) → disk < length (H.seen host.old).sizes → Settled (H.seen host.old) disk }
+    // From here on a stop leaves images that hold that one group, whatever is answered.
+    ensures kept { H.tells_disks → (found : Found) → IsGroupIn (H.seen host.old).content (Result.Ok found) → found.blocked ≡ None
+        → AlwaysKept found.labels found.db found.db (H.seen host.old) (H.seen host.new) }
+    ensures written { H.tells_disks → Settles (H.seen host.old) (H.seen host.new) ⊎ HoldsEditable (H.seen host.old).content }
     ensures opened { H.tells_disks → IfOk result (λ session. IsOpenedFrom (H.seen host.old).content session) }
     ensures fault { H.tells_disks → (fault : OpenFault) → IsErrOf result (OpenError.Fault fault)
         → IsGroupIn (H.seen host.old).content (Result.Err fault)
         ⊎ ((found : Found) × IsGroupIn (H.seen host.old).content (Result.Ok found) × (found.blocked ≡ Some fault)) }
     ensures unwritten { IfErr result (λ error. error ≢ OpenError.Disk → Settles (H.seen host.old) (H.seen host.new)) }
+    ensures holds { H.tells_disks → IfOk result (λ session. HoldsGroup session (H.seen host.new).content) }
+    ensures each { H.tells_disks → IfOk result (λ session. AreRewritten session.labels session.db (H.seen host.old).content (H.seen host.new).content) }
+    ensures spared { H.tells_disks → (found : Found) → IsGroupIn (H.seen host.old).content (Result.Ok found)
+        → AreSpared found.db.header.seq found.notes (H.seen host.old) (H.seen host.new) }
+    ensures wrote { H.tells_disks → (found : Found) → IsGroupIn (H.seen host.old).content (Result.Ok found) → (disk : ℕ)
+        → slice_index (H.seen host.new).wrote disk ≤ slice_index (H.seen host.old).wrote disk + (512 * (found.db.header.last / 4) + 1) }
+    ensures rests { IfOk result (λ session. RestsOn session (H.seen host.new)) }
+    ensures later { Later (H.seen host.old) (H.seen host.new) }
+    ensures quiet { Quiet (H.seen host.old) (H.seen host.new) }
+    ensures cause { IsErrOf result OpenError.Disk → Rose (H.seen host.old).disk_faults (H.seen host.new).disk_faults }
+{
+    let found = find_group(alloc, host)?;
+    if let Some(fault) = found.blocked {
+        return Err(OpenError::Fault(fault));
+    }
+    let body = body_of(alloc, &found.db)?;
+    let Ok(()) = heal_all(host, &found, &body) else {
+        return Err(OpenError::Disk);
+    };
+    Ok(Session::of(found))
+}
+
+/// Makes the group of the disks ready to be edited: syncs every disk, finds the group, and rewrites each copy that is closed
+/// or of a lower sequence, in the order of the disks, with the group's database. A copy that needs none of this is handed no
+/// byte. Anything may be pending before. All memory is taken before the first write.
+///
+/// A fault is one of those of `find_group`, or the reason that blocks editing; `Disk` comes only where a call of a disk
+/// failed. After a `Fault` and after `NoMemory` nothing was written, nor after `Disk` where there is no group that may be edited.
+pub fn settle<H: Host>(alloc: Global, host: &mut H) -> Result<Session, OpenError>
+    requires { 0 < length (H.seen host.old).sizes }
+    // Until the syncs are over a stop leaves what it could leave before; from then on, images that hold one group.
+    ensures any_moment { H.tells_disks → OnlyStill (H.seen host.old) (H.seen host.new) ⊎ OneGroup (H.seen host.old) (H.seen host.new) }
+    // So it is wherever the syncs came to their end, also where the call ends then before it heals.
+    ensures one_group { H.tells_disks → (found : Found) → IsGroupIn (H.seen host.old).content (Result.Ok found) → found.blocked ≡ None
+        → (IsErrOf result OpenError.Disk × OnlyStill (H.seen host.old) (H.seen host.new)) ⊎ OneGroup (H.seen host.old) (H.seen host.new) }
+    ensures opened { H.tells_disks → IfOk result (λ session. IsOpenedFrom (H.seen host.old).content session) }
+    ensures fault { H.tells_disks → (fault : OpenFault) → IsErrOf result (OpenError.Fault fault)
+        → IsGroupIn (H.seen host.old).content (Result.Err fault)
+        ⊎ ((found : Found) × IsGroupIn (H.seen host.old).content (Result.Ok found) × (found.blocked ≡ Some fault)) }
+    // Where the disks hold no group that may be edited, they are synced and handed no byte, whatever the answer.
+    ensures untouched { H.tells_disks → HoldsNone (H.seen host.old).content → Settles (H.seen host.old) (H.seen host.new) }
+    ensures unwritten { IfErr result (λ error. error ≢ OpenError.Disk → Settles (H.seen host.old) (H.seen host.new)) }
     // Where nothing was pending, each list of images that a stop leaves holds the group at every moment.
     ensures kept { H.tells_disks → (found : Found) → IsGroupIn (H.seen host.old).content (Result.Ok found) → found.blocked ≡ None
         → AllSettled found.labels (H.seen host.old) → AlwaysKept found.labels found.db found.db (H.seen host.old) (H.seen host.new) }
     ensures holds { H.tells_disks → IfOk result (λ session. HoldsGroup session (H.seen host.new).content) }
-    ensures each { H.tells_disks → IfOk result (λ session. (disk : ℕ) → disk < length session.labels
-        → HasCopy session.labels (H.seen host.new).content disk (λ copy. copy ≡ CopyState.Valid session.db)
-        ⊎ (image (H.seen host.new).content disk ≡ image (H.seen host.old).content disk)) }
+    // A copy that was rewritten is just that of the group, the carried bytes of its header among it.
+    ensures each { H.tells_disks → IfOk result (λ session. AreRewritten session.labels session.db (H.seen host.old).content (H.seen host.new).content) }
     ensures spared { H.tells_disks → (found : Found) → IsGroupIn (H.seen host.old).content (Result.Ok found)
         → AreSpared found.db.header.seq found.notes (H.seen host.old) (H.seen host.new) }
     // Each copy that is rewritten takes the bytes of a body, and one more.
@@ -142,13 +178,5 @@ pub fn settle<H: Host>(alloc: Global, host: &mut H) -> Result<Session, OpenError
     let Ok(()) = sync_all(host) else {
         return Err(OpenError::Disk);
     };
-    let found = find_group(alloc, host)?;
-    if let Some(fault) = found.blocked {
-        return Err(OpenError::Fault(fault));
-    }
-    let body = body_of(alloc, &found.db)?;
-    let Ok(()) = heal_all(host, &found, &body) else {
-        return Err(OpenError::Disk);
-    };
-    Ok(Session::of(found))
+    settle_synced(alloc, host)
 }

@@ -1,3 +1,4 @@
+//! The text of each fault of a copy.
 ghost use Rattle.std.specs.Prelude.{◌≡◌, ◌++◌, IfOk, codes, decimal};
 ghost use Rattle.ldm_words.specs.Names.{hex_byte};
 ghost use Rattle.ldm_text.specs.Records.{text_of_vmdb_fault, at_block, text_of_frag_fault, text_of_copy_fault};

@@ -1,3 +1,4 @@
+//! A text that grows.
 ghost use Rattle.std.specs.Prelude.{◌≡◌, ◌+◌, ◌++◌, List, [], ℕ, OnOk, decimal};
 ghost use Rattle.ldm_bytes.specs.Guid.{own_guid};
 

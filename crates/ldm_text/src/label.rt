@@ -1,3 +1,4 @@
+//! The text of a label, and of each of its faults.
 ghost use Rattle.std.specs.Prelude.{◌≡◌, ◌++◌, OnOk, IfOk, codes, decimal};
 ghost use Rattle.ldm_text.specs.Texts.{text_of_disk, text_of_privhead, text_of_areas, text_of_label, text_of_label_fault};
 

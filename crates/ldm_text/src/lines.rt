@@ -1,3 +1,4 @@
+//! The lines of components and partitions.
 ghost use Rattle.std.specs.Prelude.{◌≡◌, ◌==◌, ◌++◌, ℕ, [], nat_eq, OnOk, IfOk, unwrap_or, codes, if◌then◌else◌};
 ghost use Rattle.std.specs.HashMap as hash;
 ghost use Rattle.ldm_text.specs.Volumes.{text_of_index, text_of_partition, text_of_partitions, text_of_striping, text_of_layout, text_of_component, text_of_components};

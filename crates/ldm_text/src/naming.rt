@@ -1,3 +1,4 @@
+//! Names as they are said.
 ghost use Rattle.std.specs.Prelude.{◌≡◌, ◌<◌, ◌++◌, OnOk, codes, decimal};
 ghost use Rattle.ldm_bytes.specs.Guid.{own_guid};
 ghost use Rattle.ldm_words.specs.Names.{hex_digit, hex_byte, esc_byte, esc};

@@ -1,3 +1,4 @@
+//! Texts as lists of parts.
 ghost use Rattle.std.specs.Prelude.{◌≡◌, ◌++◌, OnOk, IfOk};
 ghost use Rattle.ldm_text.specs.Parts.{text_of_part, text_of_parts};
 

@@ -1,3 +1,4 @@
+//! The text of a copy: a line for its header and for each record.
 ghost use Rattle.std.specs.Prelude.{◌≡◌, ◌++◌, OnOk, IfOk, flat_map};
 ghost use Rattle.ldm_text.specs.Records.{type_of, name_of, text_of_record, text_of_header, text_of_copy};
 

@@ -1,3 +1,4 @@
+//! The line of a refusal.
 ghost use Rattle.std.specs.Prelude.{◌≡◌, IfOk};
 ghost use Rattle.ldm_text.specs.Texts.{text_of_image_fault, text_of_refusal};
 

@@ -1,3 +1,4 @@
+//! The lines of all volumes.
 ghost use Rattle.std.specs.Prelude.{◌≡◌, ◌++◌, [], nat_eq, OnOk, unwrap_or};
 ghost use Rattle.std.specs.HashMap as hash;
 ghost use Rattle.ldm_layout.specs.Parts.{plexes_at};

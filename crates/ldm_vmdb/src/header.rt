@@ -1,3 +1,4 @@
+//! The header of the database (VMDB), and its faults.
 ghost use Rattle.ldm_vmdb.specs.Sectors.{IsKept};
 
 use ldm_bytes::{Bytes, NoMemory};

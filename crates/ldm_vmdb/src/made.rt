@@ -1,3 +1,4 @@
+//! The header of a new group.
 ghost use Rattle.std.specs.Prelude.{◌≡◌, ◌≢◌, ◌≤◌, All, IfOk, length};
 ghost use Rattle.ldm_vmdb.specs.Made.{new_raw, IsNewHeader};
 

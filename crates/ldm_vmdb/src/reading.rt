@@ -1,3 +1,4 @@
+//! Reads a header, or its first fault.
 ghost use Rattle.std.specs.Prelude.{◌≡◌, ◌≤◌, ◌<◌, Some, None, MatchResult, length, IfOk, ◌==◌};
 ghost use Rattle.std.specs.List.{position_or_len};
 ghost use Rattle.ldm_vmdb.specs.Sectors.{has_magic, has_version, has_block_size, has_first_block, is_settled, fits_area, last_of, group_guid, group_name, carried};

@@ -1,3 +1,4 @@
+//! Writes a header with a sequence and counts.
 ghost use Rattle.std.specs.Prelude.{◌≡◌, ◌+◌, ◌*◌, ◌≤◌, ℕ, None, length};
 ghost use Rattle.ldm_bytes.specs.Places.{put};
 ghost use Rattle.ldm_vmdb.specs.Headers.{vmdb_fault, written, counts_bytes, ReadsBack};

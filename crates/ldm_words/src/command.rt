@@ -1,3 +1,4 @@
+//! Commands, and the lists that they have.
 ghost use Rattle.std.specs.Prelude.{◌≡◌};
 
 use ldm_bytes::Bytes;

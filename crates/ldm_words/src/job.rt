@@ -1,3 +1,4 @@
+//! Command lines: the words of a job, and its images.
 ghost use Rattle.std.specs.Prelude.{◌≡◌, ◌≤◌, IfOk, length};
 ghost use Rattle.std.specs.List.{position_or_len};
 ghost use Rattle.ldm_words.specs.Jobs.{texts, is_on, images_of, images_behind, on_one, is_group, on_group, map_form, sample_form, command_form, job_form, job_of, edits_disks, HasCount, KeepsLimits};

@@ -1,3 +1,4 @@
+//! Lines of a script.
 ghost use Rattle.std.specs.Prelude.{◌≡◌, [], IfOk, MatchOption};
 ghost use Rattle.ldm_words.specs.Commands.{bytes_of, command_of};
 ghost use Rattle.ldm_words.specs.Limits.{IsCommand};

@@ -1,3 +1,4 @@
+//! Numbers as they are written.
 ghost use Rattle.std.specs.Prelude.{◌≡◌};
 ghost use Rattle.std.specs.List.{list_all};
 ghost use Rattle.ldm_words.specs.Numbers.{number_of, is_digit};

@@ -33,18 +33,18 @@ returns-clause-writes g c =
     let d = seen c.sync.new.self in
     let bytes = c.as_slice.result.now in
     let size : length (rest bytes) ≡ length c.args.body.now - 1 = rest_length bytes ∙ ap (λ (l : List ℕ). length l - 1) c.as_slice.ensures.value in
-    let at : c.gate-at.result + 1 ≡ gate_at c.args.label.now + 1 = ap (λ (k : ℕ). k + 1) c.gate-at.ensures.is in
-    subst (λ (k : ℕ). Writes c.args.disk k (length c.args.body.now - 1) a d) at (subst (λ (k : ℕ). Writes c.args.disk (c.gate-at.result + 1) k a d) size
-    (writes_syncs c.args.disk (c.gate-at.result + 1) (length (rest bytes)) a (seen c.write_at.new.self) d c.requires.disk c.write_at.ensures.writes c.sync.ensures.syncs))
+    let at : c.gate_at-at.result + 1 ≡ gate_at c.args.label.now + 1 = ap (λ (k : ℕ). k + 1) c.gate_at-at.ensures.is in
+    subst (λ (k : ℕ). Writes c.args.disk k (length c.args.body.now - 1) a d) at (subst (λ (k : ℕ). Writes c.args.disk (c.gate_at-at.result + 1) k a d) size
+    (writes_syncs c.args.disk (c.gate_at-at.result + 1) (length (rest bytes)) a (seen c.write_at.new.self) d c.requires.disk c.write_at.ensures.writes c.sync.ensures.syncs))
 
 pub returns-clause-filled : goal.returns-clause-filled
 unfolding rest
 returns-clause-filled g c tells =
     let seen = g.H.Host.seen in
     let a = seen c.args.host.now in
-    let at = c.gate-at.result in
+    let at = c.gate_at-at.result in
     let bytes = c.as_slice.result.now in
-    let is : at ≡ gate_at c.args.label.now = c.gate-at.ensures.is in
+    let is : at ≡ gate_at c.args.label.now = c.gate_at-at.ensures.is in
     let value : bytes ≡ c.args.body.now = c.as_slice.ensures.value in
     let size : length (rest bytes) ≡ length c.args.body.now - 1 = rest_length bytes ∙ ap (λ (l : List ℕ). length l - 1) value in
     let on = area_on c.args.label.now (slice_index a.sizes c.args.disk) (image a.content c.args.disk) c.requires.fits (g.met.H.Host.lengths tells c.args.host.now c.args.disk c.requires.disk) in

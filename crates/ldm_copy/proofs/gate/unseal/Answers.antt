@@ -9,15 +9,15 @@ use Rattle.ldm_copy.proofs.gate.unseal.Goals as goal
 pub returns-clause-writes : goal.returns-clause-writes
 returns-clause-writes g c =
     let seen = g.H.Host.seen in
-    subst (λ (at : ℕ). Writes c.args.disk at 1 (seen c.args.host.now) (seen c.sync.new.self)) c.gate-at.ensures.is
-    (writes_syncs c.args.disk c.gate-at.result 1 (seen c.args.host.now) (seen c.write_at.new.self) (seen c.sync.new.self) c.requires.disk c.write_at.ensures.writes c.sync.ensures.syncs)
+    subst (λ (at : ℕ). Writes c.args.disk at 1 (seen c.args.host.now) (seen c.sync.new.self)) c.gate_at-at.ensures.is
+    (writes_syncs c.args.disk c.gate_at-at.result 1 (seen c.args.host.now) (seen c.write_at.new.self) (seen c.sync.new.self) c.requires.disk c.write_at.ensures.writes c.sync.ensures.syncs)
 
 pub returns-clause-opened : goal.returns-clause-opened
 returns-clause-opened g c tells =
     let seen = g.H.Host.seen in
     let a = seen c.args.host.now in
-    let at = c.gate-at.result in
-    let is : at ≡ gate_at c.args.label.now = c.gate-at.ensures.is in
+    let at = c.gate_at-at.result in
+    let is : at ≡ gate_at c.args.label.now = c.gate_at-at.ensures.is in
     let sectors = slice_index a.sizes c.args.disk in
     let on = area_on c.args.label.now sectors (image a.content c.args.disk) c.requires.fits (g.met.H.Host.lengths tells c.args.host.now c.args.disk c.requires.disk) in
     let some = some_sectors c.args.label.now sectors c.requires.fits in

@@ -1,6 +1,6 @@
 use Rattle.std.proofs.Common.{rules, Some}
 use Rattle.ldm_store.specs.Sessions.{IsEditable}
-use Rattle.ldm_run.proofs.DoingLaws.{doing_kept, doing_still}
+use Rattle.ldm_run.proofs.DoingLaws.{doing_kept, doing_still, command_written}
 use Rattle.ldm_run.proofs.editing.apply_command.Goals as goal
 
 pub returns-in-Ok-clause-any_moment : goal.returns-in-Ok-clause-any_moment
@@ -23,3 +23,8 @@ returns-clause-any_moment g c tells =
 
 pub returns-in-Err-Disk-clause-fault : goal.returns-in-Err-Disk-clause-fault
 returns-in-Err-Disk-clause-fault g c = c.apply.ensures.cause (search rules)
+
+pub returns-in-Ok-clause-written : goal.returns-in-Ok-clause-written
+returns-in-Ok-clause-written g c tells =
+    let answer = c.in-Ok.answer in
+    command_written c.args.session answer.0 c.args.command.now answer.1 (g.H.Host.seen c.args.host.now) (g.H.Host.seen c.apply.new.host) c.in-Ok.ensures.turn (c.in-Ok.ensures.done tells) c.in-Ok.ensures.refused

@@ -19,7 +19,7 @@ returns-clause-does g c =
     let state : IsEditedTo g.H.Host.tells_disks first lines [] lines start start first 1 false =
     edited_none first lines start (λ tells disk label at. outside_itself label (image start.content disk))
     (λ tells. reopens_none first lines start editable c.requires.rests (c.requires.holds tells) (g.met.H.Host.counts_now host) (g.met.H.Host.only_now host)) in
-    ended (line_done state same c.edit_line.ensures.later c.edit_line.ensures.any_moment c.in-Ok.ensures.turn c.in-Ok.ensures.said
+    ended (line_done state same c.edit_line.ensures.later c.edit_line.ensures.any_moment c.in-Ok.ensures.turn c.in-Ok.ensures.said c.in-Ok.ensures.written
     (λ tells. record { one_each = g.met.H.Host.one_each tells now; each = λ disk lt. g.met.H.Host.may_stay tells now disk lt }) (g.met.H.Host.counts_now now))
     c.edit_line.ensures.later c.edit_line.ensures.input c.in-Ok.ensures.rests c.in-Ok.ensures.holds c.status_of.ensures
 

@@ -2,6 +2,7 @@ use Rattle.std.proofs.Common.{rules, List, ℕ, refl, sym, ap, subst, ◌∙◌}
 use Rattle.ldm_host.proofs.Relations.{later_trans, rose_sooner}
 use Rattle.ldm_store.specs.Sessions.{IsEditable, HoldsGroup}
 use Rattle.ldm_run.specs.Scripts.{is_refused}
+use Rattle.ldm_run.specs.Editing.{AreWritten}
 use Rattle.ldm_run.proofs.DoingLaws.{answering, reply_front, reply_said, rests_still, unsaid, input_stays}
 use Rattle.ldm_run.proofs.editing.edit_line.Goals as goal
 
@@ -75,3 +76,8 @@ pub returns-clause-turn : goal.returns-clause-turn
 returns-clause-turn g c =
     let turned = c.in_ok-session.ensures.turn in
     record { db = turned.db; labels_stay = turned.labels_stay; refused_is = c.is_refused.ensures ∙ ap is_refused turned.reply_is }
+
+pub returns-clause-written : goal.returns-clause-written
+returns-clause-written g c tells =
+    subst (λ (images : List (List ℕ)). AreWritten c.args.session.labels c.args.session.db c.in_ok-session.session.db (g.H.Host.seen c.args.host.now).content images) (sym c.say.ensures.still.content)
+    (c.in_ok-session.ensures.written tells)

@@ -5,7 +5,7 @@ use Rattle.ldm_words.specs.Jobs.{texts, job_of}
 use Rattle.ldm_run.specs.declared.running.Status.TheVariants.{Usage}
 use Rattle.ldm_run.specs.Answer.{IsReadingAnswer}
 use Rattle.ldm_host.proofs.Relations.{still_itself}
-use Rattle.ldm_run.proofs.HearsEdits.{stops_unchanged}
+use Rattle.ldm_run.proofs.HearsEdits.{stops_unchanged, since_unchanged}
 use Rattle.ldm_run.proofs.running.run.Goals as goal
 
 pub returns-in-Err-Usage-clause-complete : goal.returns-in-Err-Usage-clause-complete
@@ -21,3 +21,8 @@ pub returns-in-Err-NoMemory-clause-stops : goal.returns-in-Err-NoMemory-clause-s
 returns-in-Err-NoMemory-clause-stops g c =
     let host = c.args.host.now in
     stops_unchanged (still_itself (g.H.Host.seen host) (g.met.H.Host.counts_now host) (g.met.H.Host.only_now host)) (λ tells. g.met.H.Host.one_each tells host) (job_of (texts c.args.words.now))
+
+pub returns-in-Err-NoMemory-clause-since_syncs : goal.returns-in-Err-NoMemory-clause-since_syncs
+returns-in-Err-NoMemory-clause-since_syncs g c =
+    let host = c.args.host.now in
+    since_unchanged (still_itself (g.H.Host.seen host) (g.met.H.Host.counts_now host) (g.met.H.Host.only_now host)) (λ tells. g.met.H.Host.one_each tells host) (job_of (texts c.args.words.now))

@@ -1,263 +1,138 @@
-use Rattle.std.proofs.Common.{◌≡◌, ◌≢◌, ◌≤◌, ◌+◌, ◌*◌, ◌/◌, ℕ, List, length, slice_index, inl, inr, ⊎_elim, Some, Result, Ok, Err, IfErr, sym, ◌∙◌, ap, subst, arith}
-use Rattle.ldm_host.specs.Seen.{Seen, image}
+use Rattle.std.proofs.Common.{◌≡◌, ◌≢◌, ◌⊎◌, ◌≤◌, ◌+◌, ◌*◌, ◌/◌, ℕ, List, slice_index, inl, inr, Some, Result, Ok, Err, IfOk, IfErr, sym, ◌∙◌, ap, subst}
 use Rattle.ldm_host.specs.Moves.{Settles}
-use Rattle.ldm_host.proofs.Relations.{later_trans}
-use Rattle.ldm_group.specs.Database.{Database}
-use Rattle.ldm_copy.specs.Body.{IsBodyOf}
+use Rattle.ldm_host.proofs.Relations.{later_trans, quiet_trans, settles_trans, rose_sooner}
 use Rattle.ldm_found.specs.declared.found.Found.{Found}
 use Rattle.ldm_found.specs.declared.fault.OpenError.TheVariants.{Disk}
-use Rattle.ldm_found.specs.Facts.{LieOn}
-use Rattle.ldm_found.specs.Labels.{AreSameOutside}
 use Rattle.ldm_found.specs.Opening.{IsGroupIn}
-use Rattle.ldm_found.proofs.FoundLaws.{holds_group, one_image}
-use Rattle.ldm_store.specs.Healing.{AreSpared}
-use Rattle.ldm_store.specs.Sessions.{Opened, HoldsGroup, RestsOn}
-use Rattle.ldm_store.proofs.EditLaws.{low_last, high_last, bodies_for}
-use Rattle.ldm_store.proofs.SettleLaws.{settles_still_only, one_group_since, settles_still, same_found, kept_from, session_is, holds_after, AreHealed}
+use Rattle.ldm_store.specs.Sessions.{IsOpenedFrom}
+use Rattle.ldm_store.specs.Turning.{AreRewritten}
+use Rattle.ldm_store.proofs.SettleLaws.{one_label, kept_from, group_since, moments_since, untouched_since}
 use Rattle.ldm_store.proofs.settling.settle.Goals as goal
 
--- one label for each disk
-one_label : (a : Seen) (found : Found) → length a.content ≡ length a.sizes → IsGroupIn a.content (Ok found) → length a.sizes ≡ length found.labels
-one_label a found one_each is = sym one_each ∙ one_image a.content found (holds_group a.content found is)
-
--- a body is as long as its database says, so that many bytes and one are handed over
-bound : (db : Database) (body : List ℕ) (old new : ℕ) → IsBodyOf db body → new ≤ old + (length body + 1) → new ≤ old + (512 * (db.header.last / 4) + 1)
-bound db body old new is le = let size = is.is.size in omega (arith, size, le)
-
--- what holds of every error
-any_error : {T E : Type 0} (result : Result T E) (Is : E → Type 0) → ((error : E) → Is error) → IfErr result Is
-any_error (Ok value) Is all = tt
-any_error (Err error) Is all = all error
+-- an error of which more is known
+more_error : {T E : Type 0} (result : Result T E) (P Q : E → Type 0) → ((error : E) → P error → Q error) → IfErr result P → IfErr result Q
+more_error (Ok value) P Q more is = tt
+more_error (Err error) P Q more is = more error is
 
 pub returns-in_default-clause-kept : goal.returns-in_default-clause-kept
 returns-in_default-clause-kept g c tells found is editable settled =
     let a = g.H.Host.seen c.args.host.now in
     kept_from a (g.H.Host.seen c.sync_all.new.host) found is (one_label a found (g.met.H.Host.one_each tells c.args.host.now) is) settled (inl c.sync_all.ensures.settles.moments)
 
-pub returns-in_err-found-clause-any_moment : goal.returns-in_err-found-clause-any_moment
-returns-in_err-found-clause-any_moment g c tells =
-    let seen = g.H.Host.seen in
-    inl (settles_still_only (seen c.args.host.now) (seen c.sync_all.new.host) (seen c.find_group.new.host) c.sync_all.ensures.settles c.find_group.ensures.still c.find_group.ensures.quiet)
-
-pub returns-in_err-found-clause-unwritten : goal.returns-in_err-found-clause-unwritten
-returns-in_err-found-clause-unwritten g c =
-    let seen = g.H.Host.seen in
-    any_error c.from_residual.result (λ error. error ≢ Disk → Settles (seen c.args.host.now) (seen c.find_group.new.host)) (λ error ne. settles_still (seen c.args.host.now) (seen c.sync_all.new.host) (seen c.find_group.new.host) c.sync_all.ensures.settles c.find_group.ensures.still c.find_group.ensures.quiet)
-
-pub returns-in_err-found-clause-kept : goal.returns-in_err-found-clause-kept
-returns-in_err-found-clause-kept g c tells found is editable settled =
-    let seen = g.H.Host.seen in
-    let a = seen c.args.host.now in
-    kept_from a (seen c.find_group.new.host) found is (one_label a found (g.met.H.Host.one_each tells c.args.host.now) is) settled
-    (inl (settles_still_only a (seen c.sync_all.new.host) (seen c.find_group.new.host) c.sync_all.ensures.settles c.find_group.ensures.still c.find_group.ensures.quiet))
-
-pub returns-in-Some-clause-any_moment : goal.returns-in-Some-clause-any_moment
-returns-in-Some-clause-any_moment g c tells =
-    let seen = g.H.Host.seen in
-    inl (settles_still_only (seen c.args.host.now) (seen c.sync_all.new.host) (seen c.find_group.new.host) c.sync_all.ensures.settles c.find_group.ensures.still c.find_group.ensures.quiet)
-
-pub returns-in-Some-clause-fault : goal.returns-in-Some-clause-fault
-returns-in-Some-clause-fault g c tells fault err =
-    inr (
-      c.in_ok-found.found,
-      subst (λ (l : List (List ℕ)). IsGroupIn l (Ok c.in_ok-found.found)) c.sync_all.ensures.settles.content (c.in_ok-found.ensures.found tells),
-      (let e : Some c.in-Some.fault ≡ Some fault = cc in c.in-Some.is ∙ e),
-    )
-
-pub returns-in-Some-clause-unwritten : goal.returns-in-Some-clause-unwritten
-returns-in-Some-clause-unwritten g c ne =
-    let seen = g.H.Host.seen in
-    settles_still (seen c.args.host.now) (seen c.sync_all.new.host) (seen c.find_group.new.host) c.sync_all.ensures.settles c.find_group.ensures.still c.find_group.ensures.quiet
-
-pub returns-in-Some-clause-kept : goal.returns-in-Some-clause-kept
-returns-in-Some-clause-kept g c tells found is editable settled =
-    let seen = g.H.Host.seen in
-    let a = seen c.args.host.now in
-    kept_from a (seen c.find_group.new.host) found is (one_label a found (g.met.H.Host.one_each tells c.args.host.now) is) settled
-    (inl (settles_still_only a (seen c.sync_all.new.host) (seen c.find_group.new.host) c.sync_all.ensures.settles c.find_group.ensures.still c.find_group.ensures.quiet))
-
-pub body_of-requires-clause-low : goal.body_of-requires-clause-low
-body_of-requires-clause-low g c = low_last c.in_ok-found.found.db c.in_ok-found.found.labels c.in_ok-found.ensures.sound.group
-
-pub body_of-requires-clause-high : goal.body_of-requires-clause-high
-body_of-requires-clause-high g c =
-    let found = c.in_ok-found.found in
-    high_last found.db found.labels (g.H.Host.seen c.sync_all.new.host).sizes c.in_ok-found.ensures.lies (sym c.in_ok-found.ensures.sound.blocked_is ∙ c.in_default-blocked.is)
-
-pub returns-in_err-body-clause-any_moment : goal.returns-in_err-body-clause-any_moment
-returns-in_err-body-clause-any_moment g c tells =
-    let seen = g.H.Host.seen in
-    inl (settles_still_only (seen c.args.host.now) (seen c.sync_all.new.host) (seen c.find_group.new.host) c.sync_all.ensures.settles c.find_group.ensures.still c.find_group.ensures.quiet)
-
-pub returns-in_err-body-clause-unwritten : goal.returns-in_err-body-clause-unwritten
-returns-in_err-body-clause-unwritten g c =
-    let seen = g.H.Host.seen in
-    any_error c.from_residual-in_err-body.result (λ error. error ≢ Disk → Settles (seen c.args.host.now) (seen c.find_group.new.host)) (λ error ne. settles_still (seen c.args.host.now) (seen c.sync_all.new.host) (seen c.find_group.new.host) c.sync_all.ensures.settles c.find_group.ensures.still c.find_group.ensures.quiet)
-
-pub returns-in_err-body-clause-kept : goal.returns-in_err-body-clause-kept
-returns-in_err-body-clause-kept g c tells found is editable settled =
-    let seen = g.H.Host.seen in
-    let a = seen c.args.host.now in
-    kept_from a (seen c.find_group.new.host) found is (one_label a found (g.met.H.Host.one_each tells c.args.host.now) is) settled
-    (inl (settles_still_only a (seen c.sync_all.new.host) (seen c.find_group.new.host) c.sync_all.ensures.settles c.find_group.ensures.still c.find_group.ensures.quiet))
-
-pub heal_all-requires-clause-body : goal.heal_all-requires-clause-body
-heal_all-requires-clause-body g c =
-    let found = c.in_ok-found.found in
-    bodies_for found.db found.labels (g.H.Host.seen c.sync_all.new.host).sizes c.in_ok-body.body c.in_ok-found.ensures.lies
-    (sym c.in_ok-found.ensures.sound.blocked_is ∙ c.in_default-blocked.is) c.in_ok-body.ensures.body
-
-pub returns-in_default-heal_all-clause-any_moment : goal.returns-in_default-heal_all-clause-any_moment
-returns-in_default-heal_all-clause-any_moment g c tells =
-    let seen = g.H.Host.seen in
-    let a = seen c.args.host.now in
-    let b = seen c.sync_all.new.host in
-    let m = seen c.find_group.new.host in
-    let d = seen c.heal_all.new.host in
-    let found = c.in_ok-found.found in
-    let settles = c.sync_all.ensures.settles in
-    let still = c.find_group.ensures.still in
-    let quiet = c.find_group.ensures.quiet in
-    inr (one_group_since found a m d (still.content ∙ settles.content) (quiet.said ∙ settles.quiet.said) (later_trans a b m settles.later still.later)
-    (settles_still_only a b m settles still quiet) (subst (λ (l : List (List ℕ)). IsGroupIn l (Ok found)) settles.content (c.in_ok-found.ensures.found tells)) c.in_default-blocked.is
-    c.heal_all.ensures.later (c.heal_all.ensures.any_moment tells))
-
-pub returns-in_default-heal_all-clause-kept : goal.returns-in_default-heal_all-clause-kept
-returns-in_default-heal_all-clause-kept g c tells other is editable pending =
-    let seen = g.H.Host.seen in
-    let a = seen c.args.host.now in
-    let b = seen c.sync_all.new.host in
-    let m = seen c.find_group.new.host in
-    let d = seen c.heal_all.new.host in
-    let found = c.in_ok-found.found in
-    let settles = c.sync_all.ensures.settles in
-    let still = c.find_group.ensures.still in
-    let quiet = c.find_group.ensures.quiet in
-    kept_from a d other is (one_label a other (g.met.H.Host.one_each tells c.args.host.now) is) pending
-    (inr (one_group_since found a m d (still.content ∙ settles.content) (quiet.said ∙ settles.quiet.said) (later_trans a b m settles.later still.later)
-    (settles_still_only a b m settles still quiet) (subst (λ (l : List (List ℕ)). IsGroupIn l (Ok found)) settles.content (c.in_ok-found.ensures.found tells)) c.in_default-blocked.is
-    c.heal_all.ensures.later (c.heal_all.ensures.any_moment tells)))
-
-pub returns-in_default-heal_all-clause-spared : goal.returns-in_default-heal_all-clause-spared
-returns-in_default-heal_all-clause-spared g c tells other is =
-    let seen = g.H.Host.seen in
-    let found = c.in_ok-found.found in
-    let settles = c.sync_all.ensures.settles in
-    let there = subst (λ (l : List (List ℕ)). IsGroupIn l (Ok found)) settles.content (c.in_ok-found.ensures.found tells) in
-    subst (λ (f : Found). AreSpared f.db.header.seq f.notes (seen c.args.host.now) (seen c.heal_all.new.host)) (same_found (seen c.args.host.now).content found other there is)
-    (λ disk note noted fails. c.heal_all.ensures.spared disk note noted fails ∙ ap (λ (l : List ℕ). slice_index l disk) (c.find_group.ensures.still.wrote ∙ settles.wrote))
-
-pub returns-in_default-heal_all-clause-wrote : goal.returns-in_default-heal_all-clause-wrote
-returns-in_default-heal_all-clause-wrote g c tells other is disk =
-    let seen = g.H.Host.seen in
-    let found = c.in_ok-found.found in
-    let settles = c.sync_all.ensures.settles in
-    let there = subst (λ (l : List (List ℕ)). IsGroupIn l (Ok found)) settles.content (c.in_ok-found.ensures.found tells) in
-    subst (λ (f : Found). slice_index (seen c.heal_all.new.host).wrote disk ≤ slice_index (seen c.args.host.now).wrote disk + (512 * (f.db.header.last / 4) + 1))
-    (same_found (seen c.args.host.now).content found other there is)
-    (bound found.db c.in_ok-body.body (slice_index (seen c.args.host.now).wrote disk) (slice_index (seen c.heal_all.new.host).wrote disk) c.in_ok-body.ensures.body
-    (subst (λ (l : List ℕ). slice_index (seen c.heal_all.new.host).wrote disk ≤ slice_index l disk + (length c.in_ok-body.body + 1)) (c.find_group.ensures.still.wrote ∙ settles.wrote) (c.heal_all.ensures.wrote disk)))
-
 pub returns-clause-any_moment : goal.returns-clause-any_moment
 returns-clause-any_moment g c tells =
-    let seen = g.H.Host.seen in
-    let a = seen c.args.host.now in
-    let b = seen c.sync_all.new.host in
-    let m = seen c.find_group.new.host in
-    let d = seen c.heal_all.new.host in
-    let found = c.in_ok-found.found in
+    let a = g.H.Host.seen c.args.host.now in
+    let b = g.H.Host.seen c.sync_all.new.host in
+    let d = g.H.Host.seen c.settle_synced.new.host in
     let settles = c.sync_all.ensures.settles in
-    let still = c.find_group.ensures.still in
-    let quiet = c.find_group.ensures.quiet in
-    inr (one_group_since found a m d (still.content ∙ settles.content) (quiet.said ∙ settles.quiet.said) (later_trans a b m settles.later still.later)
-    (settles_still_only a b m settles still quiet) (subst (λ (l : List (List ℕ)). IsGroupIn l (Ok found)) settles.content (c.in_ok-found.ensures.found tells)) c.in_default-blocked.is
-    c.heal_all.ensures.later (c.heal_all.ensures.any_moment tells))
+    let done = c.settle_synced.ensures in
+    moments_since a b d settles done.later (done.kept tells) (done.written tells)
+
+pub returns-clause-one_group : goal.returns-clause-one_group
+returns-clause-one_group g c tells found is editable =
+    let a = g.H.Host.seen c.args.host.now in
+    let b = g.H.Host.seen c.sync_all.new.host in
+    let d = g.H.Host.seen c.settle_synced.new.host in
+    let settles = c.sync_all.ensures.settles in
+    let done = c.settle_synced.ensures in
+    inr (group_since a b d settles done.later (done.kept tells) found is editable)
 
 pub returns-clause-opened : goal.returns-clause-opened
 returns-clause-opened g c tells =
-    let found = c.in_ok-found.found in
-    record {
-      found = found;
-      is = subst (λ (l : List (List ℕ)). IsGroupIn l (Ok found)) c.sync_all.ensures.settles.content (c.in_ok-found.ensures.found tells);
-      editable = c.in_default-blocked.is;
-      db = c.of.ensures.db;
-      labels = c.of.ensures.labels;
-    }
+    let a = g.H.Host.seen c.args.host.now in
+    let b = g.H.Host.seen c.sync_all.new.host in
+    let d = g.H.Host.seen c.settle_synced.new.host in
+    let settles = c.sync_all.ensures.settles in
+    let done = c.settle_synced.ensures in
+    subst (λ (l : List (List ℕ)). IfOk c.settle_synced.result (λ session. IsOpenedFrom l session)) settles.content (done.opened tells)
+
+pub returns-clause-fault : goal.returns-clause-fault
+returns-clause-fault g c tells fault err =
+    let a = g.H.Host.seen c.args.host.now in
+    let b = g.H.Host.seen c.sync_all.new.host in
+    let d = g.H.Host.seen c.settle_synced.new.host in
+    let settles = c.sync_all.ensures.settles in
+    let done = c.settle_synced.ensures in
+    subst (λ (l : List (List ℕ)). IsGroupIn l (Err fault) ⊎ ((found : Found) × IsGroupIn l (Ok found) × (found.blocked ≡ Some fault))) settles.content (done.fault tells fault err)
+
+pub returns-clause-untouched : goal.returns-clause-untouched
+returns-clause-untouched g c tells none =
+    let a = g.H.Host.seen c.args.host.now in
+    let b = g.H.Host.seen c.sync_all.new.host in
+    let d = g.H.Host.seen c.settle_synced.new.host in
+    let settles = c.sync_all.ensures.settles in
+    let done = c.settle_synced.ensures in
+    untouched_since a b d settles done.later (done.kept tells) (done.written tells) none
+
+pub returns-clause-unwritten : goal.returns-clause-unwritten
+returns-clause-unwritten g c =
+    let a = g.H.Host.seen c.args.host.now in
+    let b = g.H.Host.seen c.sync_all.new.host in
+    let d = g.H.Host.seen c.settle_synced.new.host in
+    let settles = c.sync_all.ensures.settles in
+    let done = c.settle_synced.ensures in
+    more_error c.settle_synced.result (λ error. error ≢ Disk → Settles b d) (λ error. error ≢ Disk → Settles a d) (λ error still ne. settles_trans a b d settles (still ne)) done.unwritten
 
 pub returns-clause-kept : goal.returns-clause-kept
-returns-clause-kept g c tells other is editable pending =
-    let seen = g.H.Host.seen in
-    let a = seen c.args.host.now in
-    let b = seen c.sync_all.new.host in
-    let m = seen c.find_group.new.host in
-    let d = seen c.heal_all.new.host in
-    let found = c.in_ok-found.found in
+returns-clause-kept g c tells found is editable settled =
+    let a = g.H.Host.seen c.args.host.now in
+    let b = g.H.Host.seen c.sync_all.new.host in
+    let d = g.H.Host.seen c.settle_synced.new.host in
     let settles = c.sync_all.ensures.settles in
-    let still = c.find_group.ensures.still in
-    let quiet = c.find_group.ensures.quiet in
-    kept_from a d other is (one_label a other (g.met.H.Host.one_each tells c.args.host.now) is) pending
-    (inr (one_group_since found a m d (still.content ∙ settles.content) (quiet.said ∙ settles.quiet.said) (later_trans a b m settles.later still.later)
-    (settles_still_only a b m settles still quiet) (subst (λ (l : List (List ℕ)). IsGroupIn l (Ok found)) settles.content (c.in_ok-found.ensures.found tells)) c.in_default-blocked.is
-    c.heal_all.ensures.later (c.heal_all.ensures.any_moment tells)))
-
-pub returns-clause-spared : goal.returns-clause-spared
-returns-clause-spared g c tells other is =
-    let seen = g.H.Host.seen in
-    let found = c.in_ok-found.found in
-    let settles = c.sync_all.ensures.settles in
-    let there = subst (λ (l : List (List ℕ)). IsGroupIn l (Ok found)) settles.content (c.in_ok-found.ensures.found tells) in
-    subst (λ (f : Found). AreSpared f.db.header.seq f.notes (seen c.args.host.now) (seen c.heal_all.new.host)) (same_found (seen c.args.host.now).content found other there is)
-    (λ disk note noted fails. c.heal_all.ensures.spared disk note noted fails ∙ ap (λ (l : List ℕ). slice_index l disk) (c.find_group.ensures.still.wrote ∙ settles.wrote))
-
-pub returns-clause-wrote : goal.returns-clause-wrote
-returns-clause-wrote g c tells other is disk =
-    let seen = g.H.Host.seen in
-    let found = c.in_ok-found.found in
-    let settles = c.sync_all.ensures.settles in
-    let there = subst (λ (l : List (List ℕ)). IsGroupIn l (Ok found)) settles.content (c.in_ok-found.ensures.found tells) in
-    subst (λ (f : Found). slice_index (seen c.heal_all.new.host).wrote disk ≤ slice_index (seen c.args.host.now).wrote disk + (512 * (f.db.header.last / 4) + 1))
-    (same_found (seen c.args.host.now).content found other there is)
-    (bound found.db c.in_ok-body.body (slice_index (seen c.args.host.now).wrote disk) (slice_index (seen c.heal_all.new.host).wrote disk) c.in_ok-body.ensures.body
-    (subst (λ (l : List ℕ). slice_index (seen c.heal_all.new.host).wrote disk ≤ slice_index l disk + (length c.in_ok-body.body + 1)) (c.find_group.ensures.still.wrote ∙ settles.wrote) (c.heal_all.ensures.wrote disk)))
-
-pub returns-clause-holds : goal.returns-clause-holds
-returns-clause-holds g c tells =
-    let seen = g.H.Host.seen in
-    let a = seen c.args.host.now in
-    let d = seen c.heal_all.new.host in
-    let found = c.in_ok-found.found in
-    let settles = c.sync_all.ensures.settles in
-    let still = c.find_group.ensures.still in
-    let one_each = g.met.H.Host.one_each tells in
-    let sizes = c.heal_all.ensures.later.sizes ∙ still.later.sizes ∙ settles.later.sizes in
-    subst (λ (s : Opened). HoldsGroup s d.content) (session_is found c.of.result c.of.ensures.db c.of.ensures.labels)
-    (holds_after found a.content d.content (subst (λ (l : List (List ℕ)). IsGroupIn l (Ok found)) settles.content (c.in_ok-found.ensures.found tells)) c.in_default-blocked.is
-    (one_each c.heal_all.new.host ∙ ap length sizes ∙ sym (one_each c.args.host.now))
-    (subst (λ (l : List (List ℕ)). AreSameOutside found.labels l d.content) (still.content ∙ settles.content) (c.heal_all.ensures.outside tells))
-    (c.in-Ok-heal_all.ensures.current tells))
+    let done = c.settle_synced.ensures in
+    kept_from a d found is (one_label a found (g.met.H.Host.one_each tells c.args.host.now) is) settled (inr (group_since a b d settles done.later (done.kept tells) found is editable))
 
 pub returns-clause-each : goal.returns-clause-each
 returns-clause-each g c tells =
-    let seen = g.H.Host.seen in
-    let same = c.find_group.ensures.still.content ∙ c.sync_all.ensures.settles.content in
-    subst (λ (s : Opened). AreHealed s (seen c.args.host.now).content (seen c.heal_all.new.host).content) (session_is c.in_ok-found.found c.of.result c.of.ensures.db c.of.ensures.labels)
-    (λ disk lt. ⊎_elim (λ has. inl has) (λ is. inr (is ∙ ap (λ (l : List (List ℕ)). image l disk) same)) (c.in-Ok-heal_all.ensures.each tells disk lt))
+    let a = g.H.Host.seen c.args.host.now in
+    let b = g.H.Host.seen c.sync_all.new.host in
+    let d = g.H.Host.seen c.settle_synced.new.host in
+    let settles = c.sync_all.ensures.settles in
+    let done = c.settle_synced.ensures in
+    subst (λ (l : List (List ℕ)). IfOk c.settle_synced.result (λ session. AreRewritten session.labels session.db l d.content)) settles.content (done.each tells)
+
+pub returns-clause-spared : goal.returns-clause-spared
+returns-clause-spared g c tells found is disk note noted fails =
+    let a = g.H.Host.seen c.args.host.now in
+    let b = g.H.Host.seen c.sync_all.new.host in
+    let d = g.H.Host.seen c.settle_synced.new.host in
+    let settles = c.sync_all.ensures.settles in
+    let done = c.settle_synced.ensures in
+    done.spared tells found (subst (λ (l : List (List ℕ)). IsGroupIn l (Ok found)) (sym settles.content) is) disk note noted fails ∙ ap (λ (l : List ℕ). slice_index l disk) settles.wrote
+
+pub returns-clause-wrote : goal.returns-clause-wrote
+returns-clause-wrote g c tells found is disk =
+    let a = g.H.Host.seen c.args.host.now in
+    let b = g.H.Host.seen c.sync_all.new.host in
+    let d = g.H.Host.seen c.settle_synced.new.host in
+    let settles = c.sync_all.ensures.settles in
+    let done = c.settle_synced.ensures in
+    subst (λ (l : List ℕ). slice_index d.wrote disk ≤ slice_index l disk + (512 * (found.db.header.last / 4) + 1)) settles.wrote
+    (done.wrote tells found (subst (λ (l : List (List ℕ)). IsGroupIn l (Ok found)) (sym settles.content) is) disk)
 
 pub returns-clause-later : goal.returns-clause-later
 returns-clause-later g c =
-    let seen = g.H.Host.seen in
-    let a = seen c.args.host.now in
-    let b = seen c.sync_all.new.host in
-    let m = seen c.find_group.new.host in
-    later_trans a m (seen c.heal_all.new.host) (later_trans a b m c.sync_all.ensures.settles.later c.find_group.ensures.still.later) c.heal_all.ensures.later
+    let a = g.H.Host.seen c.args.host.now in
+    let b = g.H.Host.seen c.sync_all.new.host in
+    let d = g.H.Host.seen c.settle_synced.new.host in
+    let settles = c.sync_all.ensures.settles in
+    let done = c.settle_synced.ensures in
+    later_trans a b d settles.later done.later
 
-pub returns-clause-rests : goal.returns-clause-rests
-returns-clause-rests g c =
-    let seen = g.H.Host.seen in
-    let d = seen c.heal_all.new.host in
-    let found = c.in_ok-found.found in
-    let sizes = c.heal_all.ensures.later.sizes ∙ c.find_group.ensures.still.later.sizes in
-    subst (λ (s : Opened). RestsOn s d) (session_is found c.of.result c.of.ensures.db c.of.ensures.labels) (record {
-      lie = subst (λ (l : List ℕ). LieOn found.labels l) (sym sizes) c.in_ok-found.ensures.lies;
-      settled = c.in-Ok-heal_all.ensures.settled;
-    })
+pub returns-clause-quiet : goal.returns-clause-quiet
+returns-clause-quiet g c =
+    let a = g.H.Host.seen c.args.host.now in
+    let b = g.H.Host.seen c.sync_all.new.host in
+    let d = g.H.Host.seen c.settle_synced.new.host in
+    let settles = c.sync_all.ensures.settles in
+    let done = c.settle_synced.ensures in
+    quiet_trans a b d settles.quiet done.quiet
+
+pub returns-clause-cause : goal.returns-clause-cause
+returns-clause-cause g c is =
+    let a = g.H.Host.seen c.args.host.now in
+    let b = g.H.Host.seen c.sync_all.new.host in
+    let d = g.H.Host.seen c.settle_synced.new.host in
+    let settles = c.sync_all.ensures.settles in
+    let done = c.settle_synced.ensures in
+    rose_sooner a.disk_faults b.disk_faults d.disk_faults settles.later.disk_faults (done.cause is)

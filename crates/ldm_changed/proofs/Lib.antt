@@ -1,0 +1,9 @@
+pub mod OwnLaws
+pub mod GoneLaws
+pub mod AddLaws
+pub mod StoreLaws
+pub mod WeaveLaws
+pub mod DiffLaws
+pub mod TableLaws
+pub mod FillLaws
+pub mod MomentLaws

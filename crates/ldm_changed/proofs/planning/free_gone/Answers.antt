@@ -1,0 +1,39 @@
+use Rattle.std.proofs.Common.{sym, arith}
+use Rattle.ldm_copy.specs.Body.{Stored}
+use Rattle.ldm_copy.specs.Body.{stored_at}
+use Rattle.ldm_copy.proofs.StoredLaws.{stored_length, stored_get}
+use Rattle.ldm_changed.proofs.GoneLaws.{freed_step, freed_all, slots_used}
+use Rattle.ldm_changed.proofs.planning.free_gone.Goals as goal
+
+pub keep_or_free-requires : goal.keep_or_free-requires
+keep_or_free-requires c =
+    let S = stored_at c.args.records.now c.args.table.now in
+    let x : Stored = record { record_is = c.index-records-i.result; slots = c.index-table-i.result } in
+    let size = stored_length c.args.records.now c.args.table.now c.requires.one_each in
+    let at = stored_get c.args.records.now c.args.table.now c.loop-i.i c.index-records-i.result c.index-table-i.result x c.loop-i-test.true c.requires.one_each c.index-records-i.is c.index-table-i.is in
+    record { within = slots_used S c.args.new.now.records c.loop-i.i x (omega (arith, size, c.loop-i-test.true)) at c.args.out.now c.loop-i.out c.loop-i.kept.items c.loop-i.invariant }
+
+pub loop-i-preserved : goal.loop-i-preserved
+loop-i-preserved c =
+    let S = stored_at c.args.records.now c.args.table.now in
+    let x : Stored = record { record_is = c.index-records-i.result; slots = c.index-table-i.result } in
+    let size = stored_length c.args.records.now c.args.table.now c.requires.one_each in
+    let at = stored_get c.args.records.now c.args.table.now c.loop-i.i c.index-records-i.result c.index-table-i.result x c.loop-i-test.true c.requires.one_each c.index-records-i.is c.index-table-i.is in
+    freed_step S c.args.new.now.records c.loop-i.i x (omega (arith, size, c.loop-i-test.true)) at c.args.out.now c.loop-i.out c.keep_or_free.new.out c.loop-i.kept.items c.keep_or_free.new.kept.items
+    c.has-stays.result (omega (arith, c.keep_or_free.auto.out)) (omega (arith, c.loop-i.auto.out, c.requires.small)) (sym c.has-stays.ensures.is) (λ e. c.has-stays.ensures.there e) c.in_ok-keep_or_free.ensures c.loop-i.invariant
+
+pub returns-clause-kept : goal.returns-clause-kept
+returns-clause-kept c = (let size = stored_length c.args.records.now c.args.table.now c.requires.one_each in
+    freed_all (stored_at c.args.records.now c.args.table.now) c.args.new.now.records c.loop-i.i c.args.out.now c.loop-i.out c.loop-i.kept.items (omega (arith, size, c.loop-i-test.false)) c.loop-i.invariant).kept_is
+
+pub returns-clause-holds : goal.returns-clause-holds
+returns-clause-holds c = (let size = stored_length c.args.records.now c.args.table.now c.requires.one_each in
+    freed_all (stored_at c.args.records.now c.args.table.now) c.args.new.now.records c.loop-i.i c.args.out.now c.loop-i.out c.loop-i.kept.items (omega (arith, size, c.loop-i-test.false)) c.loop-i.invariant).holds
+
+pub returns-clause-others : goal.returns-clause-others
+returns-clause-others c = (let size = stored_length c.args.records.now c.args.table.now c.requires.one_each in
+    freed_all (stored_at c.args.records.now c.args.table.now) c.args.new.now.records c.loop-i.i c.args.out.now c.loop-i.out c.loop-i.kept.items (omega (arith, size, c.loop-i-test.false)) c.loop-i.invariant).others
+
+pub returns-clause-there : goal.returns-clause-there
+returns-clause-there c = (let size = stored_length c.args.records.now c.args.table.now c.requires.one_each in
+    freed_all (stored_at c.args.records.now c.args.table.now) c.args.new.now.records c.loop-i.i c.args.out.now c.loop-i.out c.loop-i.kept.items (omega (arith, size, c.loop-i-test.false)) c.loop-i.invariant).there

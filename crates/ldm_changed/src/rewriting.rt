@@ -1,0 +1,72 @@
+//! Rewrites a copy by its changed blocks.
+ghost use Rattle.std.specs.Prelude.{◌+◌, ◌*◌, ◌<◌, ◌≤◌, List, ℕ, length, slice_index, OnOk, IsErr};
+ghost use Rattle.ldm_host.specs.Moves.{Changes, Rose, Settled};
+ghost use Rattle.ldm_host.specs.Seen.{image};
+ghost use Rattle.ldm_label.specs.LabelOf.{Fits};
+ghost use Rattle.ldm_group.specs.Database.{Database};
+ghost use Rattle.ldm_copy.specs.Copy.{config_area, gate_at, IsOpen};
+ghost use Rattle.ldm_copy.specs.Body.{HasBody, IsBodyOn, IsShut, IsWritten, IsBetween};
+ghost use Rattle.ldm_changed.specs.Change.{ChangesFrom};
+
+use crate::change::Change;
+use crate::filling::fill_changed;
+use ldm_copy::{close, unseal};
+use ldm_host::{Failed, Host};
+use ldm_label::Label;
+
+/// Fills a closed copy, behind whose gate the old body stands, and opens it. At each moment,
+/// whatever the outcome, the copy is closed or that of the new body.
+pub fn refill_changed<H: Host>(
+    host: &mut H,
+    disk: usize,
+    label: &Label,
+    change: &Change,
+) -> Result<(), Failed>
+    requires disk { disk < length (H.seen host.old).sizes }
+    requires fits { Fits label.now (slice_index (H.seen host.old).sizes disk) }
+    requires body { (db : Database) × IsBodyOn db label.now change.now.body }
+    requires settled { Settled (H.seen host.old) disk }
+    requires closed { H.tells_disks → IsShut label.now (image (H.seen host.old).content disk) }
+    requires before { H.tells_disks → (old : List ℕ) × ChangesFrom old change.now × HasBody label.now old (image (H.seen host.old).content disk) }
+    ensures any_moment { H.tells_disks → (db : Database) → IsBodyOn db label.now change.now.body
+        → (images : List (List ℕ)) (said : List ℕ) → (H.seen host.new).left_since (H.seen host.old).clock images said
+        → IsBetween label.now db (image (H.seen host.old).content disk) (image images disk) }
+    ensures done { H.tells_disks → OnOk result ((db : Database) → IsBodyOn db label.now change.now.body
+        → IsWritten label.now db (image (H.seen host.new).content disk)) }
+    ensures settled { OnOk result (Settled (H.seen host.new) disk) }
+    ensures changes { Changes disk (gate_at label.now) (512 * label.now.area_sectors) (H.seen host.old) (H.seen host.new) }
+    ensures wrote { slice_index (H.seen host.new).wrote disk ≤ slice_index (H.seen host.old).wrote disk + (512 + 128 * length change.now.numbers) }
+    ensures cause { IsErr result → Rose (H.seen host.old).disk_faults (H.seen host.new).disk_faults }
+{
+    fill_changed(host, disk, label, change)?;
+    unseal(host, disk, label)
+}
+
+/// Closes an open copy whose bytes are those of the old body, fills it with what differs, and opens
+/// it. At each moment, whatever the outcome, the area is as it was, or the copy is closed or that
+/// of the new body.
+pub fn rewrite_changed<H: Host>(
+    host: &mut H,
+    disk: usize,
+    label: &Label,
+    change: &Change,
+) -> Result<(), Failed>
+    requires disk { disk < length (H.seen host.old).sizes }
+    requires fits { Fits label.now (slice_index (H.seen host.old).sizes disk) }
+    requires body { (db : Database) × IsBodyOn db label.now change.now.body }
+    requires settled { Settled (H.seen host.old) disk }
+    requires opened { H.tells_disks → IsOpen (config_area label.now (image (H.seen host.old).content disk)) }
+    requires before { H.tells_disks → (old : List ℕ) × ChangesFrom old change.now × HasBody label.now old (image (H.seen host.old).content disk) }
+    ensures any_moment { H.tells_disks → (db : Database) → IsBodyOn db label.now change.now.body
+        → (images : List (List ℕ)) (said : List ℕ) → (H.seen host.new).left_since (H.seen host.old).clock images said
+        → IsBetween label.now db (image (H.seen host.old).content disk) (image images disk) }
+    ensures done { H.tells_disks → OnOk result ((db : Database) → IsBodyOn db label.now change.now.body
+        → IsWritten label.now db (image (H.seen host.new).content disk)) }
+    ensures settled { OnOk result (Settled (H.seen host.new) disk) }
+    ensures changes { Changes disk (gate_at label.now) (512 * label.now.area_sectors) (H.seen host.old) (H.seen host.new) }
+    ensures wrote { slice_index (H.seen host.new).wrote disk ≤ slice_index (H.seen host.old).wrote disk + (513 + 128 * length change.now.numbers) }
+    ensures cause { IsErr result → Rose (H.seen host.old).disk_faults (H.seen host.new).disk_faults }
+{
+    close(host, disk, label)?;
+    refill_changed(host, disk, label, change)
+}
