@@ -69,7 +69,7 @@ pub enum UsageError<'a> {
         what: &'static str,
         word: Shown<'a>,
     },
-    #[error("{what} \"{word}\" is no name: a backslash, or a byte that isn't visible ASCII, is written \\xHH")]
+    #[error("{what} \"{word}\" is no name, of 255 bytes at most: a backslash, or a byte that isn't visible ASCII, is written \\xHH, and no byte \\e")]
     Name {
         what: &'static str,
         word: Shown<'a>,

@@ -35,7 +35,7 @@ const ROWS: [(&str, &str); 30] = [
     ),
     (
         "map|a b|1|2|on|a",
-        "VOLUME \"a b\" is no name: a backslash, or a byte that isn't visible ASCII, is written \\xHH",
+        "VOLUME \"a b\" is no name, of 255 bytes at most: a backslash, or a byte that isn't visible ASCII, is written \\xHH, and no byte \\e",
     ),
     ("map|V|1|2", "\"on\" is missing between map and its images"),
     ("sample", "SEED is missing: the form is sample SEED"),
