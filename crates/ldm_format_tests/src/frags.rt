@@ -1,7 +1,11 @@
-//! Blocks: groups of fragments, and each fault of a list of blocks.
+ghost use Rattle.std.specs.Prelude.{◌≡◌, ◌∷◌, [], IfOk};
+
 use crate::made::check;
-use ldm_bytes::{Bytes, put_bytes, put_u16, put_u32};
-use ldm_frags::{FragError, FragFault, Joined, Joiner, SplitError, join, parts_of, split};
+use ldm_bytes::{Bytes, NoMemory, put_bytes, put_u16, put_u32};
+use ldm_frags::{
+    FragError, FragFault, Joined, Joiner, Slots, SplitError, join, parts_of, split, write_record,
+    write_unused,
+};
 use std::alloc::Global;
 
 // A group, a part and a number of parts.
@@ -179,4 +183,36 @@ fn splits_a_long_record(rt: HostRuntime) {
 fn needs_three_blocks(rt: HostRuntime) {
     let error = split_long(rt.alloc(), 2).err();
     assert!(rt; error == Some(SplitError::NoRoom { need: 3, have: 2 }));
+}
+
+// The blocks 9, 5 and 7.
+fn slots_apart(alloc: Global) -> Result<Slots, NoMemory>
+    ensures { IfOk result (λ slots. slots ≡ 9 ∷ 5 ∷ 7 ∷ []) }
+{
+    Ok(Slots::from_vec(Vec::from_slice(alloc, &[9, 5, 7])?))
+}
+
+// What the blocks 4 to 9 join to, where that record stands in those three.
+fn joined_apart(alloc: Global) -> Result<Vec<Joined>, FragError> {
+    let slots = slots_apart(alloc)?;
+    let mut blocks = [0u8; 768];
+    for number in 4..10 {
+        write_unused(number, &mut blocks);
+    }
+    write_record(&long_record(), &slots, &mut blocks);
+    join(alloc, &blocks)
+}
+
+fn is_long_record(joined: &Joined) -> bool {
+    let payload = joined.payload.as_slice();
+    joined.block == 9
+        && payload.len() == 336
+        && payload.starts_with(&long_record())
+        && payload.ends_with(&[0u8; 35])
+}
+
+#[test]
+fn joins_a_record_out_of_order(rt: HostRuntime) {
+    let joined = joined_apart(rt.alloc());
+    assert!(rt; matches!(&joined, Ok(list) if list.len() == 1 && is_long_record(&list[0])));
 }
