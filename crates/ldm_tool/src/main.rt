@@ -1,5 +1,5 @@
-//! Looks at the disks of a Windows dynamic disk group, and edits its volumes: `ldm JOB on
-//! IMAGE...`.
+//! Looks at the disks of a Windows dynamic disk group, and edits its volumes:
+//! `ldm JOB on IMAGE...`.
 //!
 //! The jobs are those of `run`, whose contract is the theorem of the program; `main` and the
 //! `FileHost` that it makes are the trusted edge.
