@@ -91,8 +91,8 @@ fn stopped(alloc: Global, db: &Db, calls: u64) -> Result<MemoryHost, Fail>
 {
     let mut host = host_of(alloc, images_at(alloc, 7)?)?;
     let (label, _) = opened(alloc, &mut host)?;
-    // A label takes eight reads, and a copy one for each of its 16 sectors.
-    let mut host = host.stop_after(calls.saturating_add(24));
+    // A label takes eight reads, and a copy one for its first sector and one for every eight of the 15 behind it.
+    let mut host = host.stop_after(calls.saturating_add(11));
     rewrites(alloc, &mut host, &label, db)?;
     Ok(host)
 }
