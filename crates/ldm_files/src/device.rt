@@ -18,16 +18,16 @@ fn number_text(alloc: Global, device: u64) -> Result<String, AllocError> {
     format!(in alloc; "{}:{}", major(device), minor(device))
 }
 
-// Whether a line of the table of locks is of bytes of the file that is called so there. What waits for a lock has
-// none.
+// Whether a line of the table of locks is of bytes of the file that is called so there. What waits
+// for a lock has none.
 fn locks_bytes(line: &str, file: &str) -> bool {
     let mut words = line.split_whitespace().skip(1);
     let is_of_bytes = matches!(words.next(), Some("POSIX" | "OFDLCK"));
     is_of_bytes && words.nth(3) == Some(file)
 }
 
-/// Whether a program holds bytes of the file of this number on this device, as programs do that run virtual
-/// machines. A lock of the whole file is none of these.
+/// Whether a program holds bytes of the file of this number on this device, as programs do that run
+/// virtual machines. A lock of the whole file is none of these.
 pub(crate) fn has_byte_locks(rt: &HostRuntime, device: u64, number: u64) -> io::Result<bool> {
     let file = format!(in rt.alloc(); "{:02x}:{:02x}:{number}", major(device), minor(device))?;
     let table = fs::read_to_string(rt, "/proc/locks")?;
@@ -69,8 +69,8 @@ fn is_one_of(rt: &HostRuntime, numbers: &[String], path: &str) -> io::Result<boo
     }
 }
 
-// Whether one of the devices is mounted. A line has the number of the device as its third word, and its path
-// as the second behind a bar; of some file systems the number is none of a device.
+// Whether one of the devices is mounted. A line has the number of the device as its third word, and
+// its path as the second behind a bar; of some file systems the number is none of a device.
 fn is_mounted(rt: &HostRuntime, numbers: &[String]) -> io::Result<bool> {
     let table = fs::read_to_string(rt, "/proc/self/mountinfo")?;
     for line in table.as_str().lines() {
@@ -99,8 +99,9 @@ fn is_swap(rt: &HostRuntime, numbers: &[String]) -> io::Result<bool> {
     Ok(false)
 }
 
-/// What stands against an edit of this block device: that it may not be written, or that it or a partition of it is
-/// mounted, swapped to or under another device. An error where the system doesn't tell it.
+/// What stands against an edit of this block device: that it may not be written, or that it or a
+/// partition of it is mounted, swapped to or under another device. An error where the system
+/// doesn't tell it.
 pub(crate) fn hindrance(rt: &HostRuntime, device: u64) -> io::Result<Option<ImageError>> {
     let alloc = rt.alloc();
     let own = number_text(alloc, device)?;

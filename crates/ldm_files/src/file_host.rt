@@ -31,8 +31,8 @@ pub enum Failure {
 }
 
 /// The images are files. It tells nothing of what is in them, of what is said and of what is heard:
-/// what the clauses say of it is how long the files are, which counts rose, and what it was handed. Of calls that
-/// fail it keeps the last, and it counts the lines that were said.
+/// what the clauses say of it is how long the files are, which counts rose, and what it was handed.
+/// Of calls that fail it keeps the last, and it counts the lines that were said.
 #[derive(Drop)]
 pub struct FileHost<I, O> {
     images: Vec<ImageFile>,

@@ -117,9 +117,10 @@ fn require_unused(rt: &HostRuntime, metadata: &Metadata) -> Result<(), ImageErro
 }
 
 impl ImageFile {
-    /// Opens an image for reading, and for writing too where the job edits. What holds no disk isn't even
-    /// opened, since a named pipe would wait for a writer; what was opened is looked at again, since the name
-    /// may stand for another file by then. A block device that is to be edited may be used by nothing else.
+    /// Opens an image for reading, and for writing too where the job edits. What holds no disk
+    /// isn't even opened, since a named pipe would wait for a writer; what was opened is looked at
+    /// again, since the name may stand for another file by then. A block device that is to be
+    /// edited may be used by nothing else.
     pub fn open(rt: &HostRuntime, path: &str, access: Access) -> Result<ImageFile, ImageError> {
         require_disk(&std::fs::metadata(rt, path)?)?;
         let file = File::options()
@@ -134,9 +135,9 @@ impl ImageFile {
         ImageFile::of(file)
     }
 
-    /// Locks the image against other programs that edit, for as long as it is open, and fails where one of
-    /// them holds it, or where any program holds bytes of it. An image that is among those already open is left to
-    /// the lock of the first, so that it is found to be named twice.
+    /// Locks the image against other programs that edit, for as long as it is open, and fails where
+    /// one of them holds it, or where any program holds bytes of it. An image that is among those
+    /// already open is left to the lock of the first, so that it is found to be named twice.
     pub fn lock_beside(&self, rt: &HostRuntime, others: &[ImageFile]) -> Result<(), ImageError> {
         if others.iter().any(|other| other.id == self.id) {
             return Ok(());
@@ -156,8 +157,8 @@ impl ImageFile {
         }
     }
 
-    /// Takes an open file for an image, but none that is on a standard stream. Its length is where it
-    /// ends, since the metadata of a block device has none; whole sectors count.
+    /// Takes an open file for an image, but none that is on a standard stream. Its length is where
+    /// it ends, since the metadata of a block device has none; whole sectors count.
     pub fn of(file: File) -> Result<ImageFile, ImageError> {
         if file.as_raw_fd() < STREAMS {
             return Err(ImageError::Stream);

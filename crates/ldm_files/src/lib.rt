@@ -1,7 +1,8 @@
-//! Files as the outside of the program: images that are open for their disks, standard input and output.
+//! Files as the outside of the program: images that are open for their disks, standard input and
+//! output.
 //!
-//! `FileHost` is the host that `ldm` runs over. It tells nothing of what is in the files: what its calls do to them
-//! is trusted.
+//! `FileHost` is the host that `ldm` runs over. It tells nothing of what is in the files: what its
+//! calls do to them is trusted.
 #![tactic(auto)]
 
 mod device;

@@ -6,9 +6,9 @@ use std::os::fd::{AsRawFd, IntoRawFd, RawFd};
 /// The descriptors below this are those of standard input, output and error.
 pub const STREAMS: RawFd = 3;
 
-/// Takes the descriptors of the standard streams that are closed, for as long as the program runs, so
-/// that no image gets one. They are on the null device, open for reading alone: the input is at its
-/// end, and to say something fails.
+/// Takes the descriptors of the standard streams that are closed, for as long as the program runs,
+/// so that no image gets one. They are on the null device, open for reading alone: the input is at
+/// its end, and to say something fails.
 ///
 /// It rests on the system, which opens a file on the least descriptor that is free.
 pub fn take_closed_streams(rt: &HostRuntime) -> io::Result<()> {

@@ -328,8 +328,8 @@ fn job<'a>(alloc: Global, words: &'a [String], on: Option<usize>) -> Read<'a> {
     }
 }
 
-/// Why words that have no reading have none: the first that is wrong in the order of the grammar. Of words that
-/// have one it says nothing of use.
+/// Why words that have no reading have none: the first that is wrong in the order of the grammar.
+/// Of words that have one it says nothing of use.
 pub fn usage_error(alloc: Global, words: &[String]) -> UsageError<'_> {
     let on = words.iter().position(|word| word.as_str() == "on");
     let read = match on {

@@ -2,7 +2,8 @@
 use std::fmt;
 use thiserror::Error;
 
-/// A word or a path as it is said: each control character as `\x` and two digits, so that it stays on its line.
+/// A word or a path as it is said: each control character as `\x` and two digits, so that it stays
+/// on its line.
 #[derive(Clone, Copy)]
 pub struct Shown<'a>(pub &'a str);
 

@@ -1,4 +1,5 @@
-//! The help and the version. The script `ldm` takes the help from here too, from its first line to the one that ends it.
+//! The help and the version. The script `ldm` takes the help from here too, from its first line to
+//! the one that ends it.
 
 /// What `--version` says. The version stands here, and the manual page says the same.
 pub const VERSION: &str = "ldm 1.0.0\n";

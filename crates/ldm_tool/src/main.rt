@@ -1,7 +1,8 @@
-//! Looks at the disks of a Windows dynamic disk group, and edits its volumes: `ldm JOB on IMAGE...`.
+//! Looks at the disks of a Windows dynamic disk group, and edits its volumes:
+//! `ldm JOB on IMAGE...`.
 //!
-//! The jobs are those of `run`, whose contract is the theorem of the program; `main` and the `FileHost` that it makes
-//! are the trusted edge.
+//! The jobs are those of `run`, whose contract is the theorem of the program; `main` and the
+//! `FileHost` that it makes are the trusted edge.
 #![tactic(auto)]
 
 mod stop;
@@ -19,7 +20,8 @@ use std::io::{ErrorKind, IsTerminal, Read, Write};
 use std::process::ExitCode;
 use std::{env, io};
 
-// The words of the command line, without the program's name. A word that isn't UTF-8 has no reading.
+// The words of the command line, without the program's name. A word that isn't UTF-8 has no
+// reading.
 fn words_of(alloc: Global, rt: &HostRuntime) -> Result<Vec<String>, Stop<'static>> {
     let args = match env::args(rt) {
         Ok(args) => args,
@@ -44,7 +46,8 @@ fn told(words: &[String]) -> Option<&'static str> {
     }
 }
 
-// Opens an image. One that is to be edited is locked, but where it is among those that are already open.
+// Opens an image. One that is to be edited is locked, but where it is among those that are already
+// open.
 fn open_image(
     rt: &HostRuntime,
     path: &str,
@@ -109,7 +112,8 @@ fn stop_unopened(names: &[String], unopened: Unopened) -> Stop<'_> {
     }
 }
 
-// What a job asks of the outside before it begins: how it opens its images, and whether it hears a script.
+// What a job asks of the outside before it begins: how it opens its images, and whether it hears a
+// script.
 #[derive(Clone, Copy)]
 struct Needs {
     access: Access,
@@ -127,8 +131,8 @@ fn needs_of(job: &Job) -> Needs {
     }
 }
 
-// A job that writes needs an output that takes its replies, before it writes. To write nothing there fails where
-// it is closed, open for reading alone, or a device that is always full.
+// A job that writes needs an output that takes its replies, before it writes. To write nothing
+// there fails where it is closed, open for reading alone, or a device that is always full.
 fn try_output<O: Write>(needs: Needs, output: &mut O) -> io::Result<()> {
     if needs.access == Access::Edit {
         output.write(b"")?;
@@ -157,8 +161,8 @@ fn ending<'a>(
     }
 }
 
-// Opens the images, and runs the words over them and these streams. All images are open, and locked where the job
-// writes, before the first of its calls.
+// Opens the images, and runs the words over them and these streams. All images are open, and locked
+// where the job writes, before the first of its calls.
 fn run_words<'a, I, O>(
     rt: &HostRuntime,
     words: &'a [String],

@@ -4,8 +4,8 @@ use ldm_help::{Shown, UsageError};
 use ldm_run::Status;
 use std::fmt;
 
-/// A fault of a run: the call that failed last, the names of the images, and how many lines were answered, where the
-/// job writes.
+/// A fault of a run: the call that failed last, the names of the images, and how many lines were
+/// answered, where the job writes.
 #[derive(Clone, Copy, Debug)]
 pub struct Fault<'a> {
     pub failure: Option<Failure>,
