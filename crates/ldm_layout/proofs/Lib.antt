@@ -11,3 +11,4 @@ pub mod SpotLaws
 pub mod VolumeLaws
 pub mod ChildLaws
 pub mod LongerSpan
+pub mod StretchLaws

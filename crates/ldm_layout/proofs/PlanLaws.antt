@@ -1,12 +1,12 @@
 -- What a layout without faults has.
-use Rattle.std.proofs.Common.{◌≡◌, ℕ, zero, suc, ◌<◌, ◌≤◌, ◌==◌, ◌&&◌, not, Bool, true, false, List, [], ◌∷◌, length, get_or, refl, arith, nat_le, None}
+use Rattle.std.proofs.Common.{◌≡◌, ℕ, zero, suc, ◌<◌, ◌≤◌, ◌==◌, ◌&&◌, not, Bool, true, false, List, [], ◌∷◌, length, get_or, map, refl, ap, sym, subst, arith, nat_le, None}
 use Rattle.std.specs.List.{list_all}
 use Rattle.std.proofs.lemmas.Bool.{and_parts, leb-true, ltb-false, eqb-false}
 use Rattle.ldm_bytes.specs.Tables as tables
 use Rattle.ldm_layout.proofs.ColumnLaws.{least_at}
 use Rattle.ldm_layout.specs.Answers.{IsPlan, IsPlexOf}
 use Rattle.ldm_layout.specs.Layouts.{Layout, is_tiled, has_gap, lacks_chunk, lacks_columns, has_columns, is_short, fewest, plex_capacity, capacity_of, first_fault}
-use Rattle.ldm_layout.specs.Parts.{tiles, rises_from}
+use Rattle.ldm_layout.specs.Parts.{tiles, rises_from, least}
 use Rattle.ldm_layout.specs.declared.parts.Extent.{Extent}
 use Rattle.ldm_layout.specs.declared.shape.LayoutFault.{LayoutFault}
 use Rattle.ldm_layout.specs.declared.shape.LayoutFault.TheVariants.{Gap, Chunk, Columns, Short}
@@ -86,3 +86,14 @@ pub plex_of_plan : (l : Layout) (k : ℕ) (d : List Extent) → IsPlan l → k <
 plex_of_plan l k d plan h =
     let facts = plex_facts l k d plan.sound h in
     record { tiled = facts.tiled; chunked = facts.chunked; columned = facts.columned; holds = facts.holds; ends = plan.ends k d h }
+
+-- a volume with sectors has a component
+pub some_plex : (l : Layout) → IsPlan l → 0 < l.size → 0 < length l.plexes
+some_plex l plan some = go l.plexes refl
+  where
+    go : (ps : List (List Extent)) → l.plexes ≡ ps → 0 < length l.plexes
+    go [] e =
+        let whole : l.size ≤ capacity_of l = ltb-false (capacity_of l) l.size (has_none l plan.sound).short in
+        let nothing : capacity_of l ≡ 0 = ap (λ (ps : List (List Extent)). least (map (plex_capacity l.shape l.chunk) ps)) e in
+        absurd (omega (arith, whole, nothing, some))
+    go (p ∷ ps) e = subst (λ (qs : List (List Extent)). 0 < length qs) (sym e) (omega arith)

@@ -1,9 +1,10 @@
 //! Columns of a stripe or a RAID-5: their capacity, and places in them.
 ghost use Rattle.std.specs.Prelude.{◌≡◌, ◌<◌, ◌≤◌, Some, map, fold, min, length};
 ghost use Rattle.std.specs.Option.{option_map};
-ghost use Rattle.ldm_layout.specs.Places.{stripe_capacity, raid5_capacity};
+ghost use Rattle.ldm_layout.specs.Places.{stripe_capacity, raid5_capacity, raid5_column};
 ghost use Rattle.ldm_layout.specs.Parts.{rises_from, least};
 ghost use Rattle.ldm_layout.specs.Layouts.{stripe_spot, raid5_spot, parity_spot, sector_of};
+ghost use Rattle.ldm_layout.specs.Columns.{column_spot};
 ghost use Rattle.ldm_layout.specs.Answers.{AllEnd};
 
 use crate::parts::Extent;
@@ -108,6 +109,38 @@ pub fn parity_place(columns: &[Extent], chunk: u64, sector: u64) -> Place
     let count = columns.len() as u64;
     let row = sector / chunk / (count - 1);
     let e = columns[(count - 1 - row % count) as usize];
+    Place {
+        disk: e.disk,
+        sector: e.start + (row * chunk + sector % chunk),
+    }
+}
+
+/// The column of a RAID-5 in which a sector lies.
+pub fn own_column(columns: &[Extent], chunk: u64, sector: u64) -> usize
+    requires chunked { 0 < chunk }
+    requires many { 2 ≤ length columns.now }
+    ensures is { result ≡ raid5_column (length columns.now) chunk sector }
+    ensures there { result < length columns.now }
+{
+    let count = columns.len() as u64;
+    let number = sector / chunk;
+    let row = number / (count - 1);
+    let parity = count - 1 - row % count;
+    ((parity + 1 + number % (count - 1)) % count) as usize
+}
+
+/// Where a column of a RAID-5 is in the row of a sector, at the sector's offset in its chunk.
+pub fn column_place(columns: &[Extent], chunk: u64, sector: u64, column: usize) -> Place
+    requires chunked { 0 < chunk }
+    requires many { 2 ≤ length columns.now }
+    requires ends { AllEnd columns.now }
+    requires within { sector < raid5_capacity (length columns.now) chunk (least (map (λ e. e.size) columns.now)) }
+    requires there { column < length columns.now }
+    ensures { option_map sector_of (column_spot columns.now chunk sector column) ≡ Some result }
+{
+    let count = columns.len() as u64;
+    let row = sector / chunk / (count - 1);
+    let e = columns[column];
     Place {
         disk: e.disk,
         sector: e.start + (row * chunk + sector % chunk),

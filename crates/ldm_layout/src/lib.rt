@@ -9,6 +9,7 @@ mod parts;
 mod places;
 mod planning;
 mod shape;
+mod stretches;
 mod tiles;
 
 pub use faulty::{VolumeFault, faults};

@@ -1,13 +1,15 @@
-//! Where a sector of a volume lies, and its parity.
-ghost use Rattle.std.specs.Prelude.{◌≡◌, ◌<◌, ◌↔◌, IsSome, Some, slice_get};
-ghost use Rattle.ldm_layout.specs.Layouts.{capacity_of, copies_of, place_in, parity_in};
+//! Where a sector of a volume lies, its parity, and how many sectors lie side by side.
+ghost use Rattle.std.specs.Prelude.{◌≡◌, ◌<◌, ◌↔◌, false, IsSome, Some, length, slice_get};
+ghost use Rattle.ldm_layout.specs.Layouts.{is_tiled, capacity_of, copies_of, place_in, parity_in};
+ghost use Rattle.ldm_layout.specs.Columns.{columns_of, chunk_of, IsColumned, own_column, column_in, IsStretch};
 ghost use Rattle.ldm_layout.specs.Answers.{IsPlan, IsPlexOf};
 ghost use Rattle.ldm_layout.specs.declared.shape.Shape.TheVariants.{Raid5};
 
-use crate::columns::{parity_place, raid5_place, stripe_place};
-use crate::draft::Draft;
+use crate::columns::{column_place, own_column, parity_place, raid5_place, stripe_place};
+use crate::draft::{Draft, is_tiled};
 use crate::parts::Extent;
 use crate::shape::{Place, Shape};
+use crate::stretches::plex_stretch;
 use crate::tiles::tile_place;
 use std::marker::Model;
 
@@ -59,7 +61,8 @@ impl Plan {
 
     /// How many places each sector has: as many as a mirror has components, and one in other shapes.
     pub fn copies(&self) -> usize
-        ensures { result ≡ copies_of self.now }
+        ensures is { result ≡ copies_of self.now }
+        ensures some { 0 < self.now.size → 0 < result }
     {
         self.draft.plexes.len()
     }
@@ -98,5 +101,68 @@ impl Plan {
             Shape::Raid5 => Some(parity_place(self.plex(0), self.draft.chunk, sector)),
             _ => None,
         }
+    }
+
+    // The columns of a stripe or a RAID-5.
+    fn column_slice(&self) -> &[Extent]
+        ensures is { result.now ≡ columns_of self.now }
+        ensures holds { is_tiled self.now.shape ≡ false → IsPlexOf self.now result.now }
+        ensures there { is_tiled self.now.shape ≡ false → slice_get self.now.plexes 0 ≡ Some result.now }
+    {
+        if is_tiled(self.draft.shape) {
+            &[]
+        } else {
+            self.plex(0)
+        }
+    }
+
+    /// How many columns a stripe or a RAID-5 has; 0 for other shapes.
+    pub fn columns(&self) -> usize
+        ensures count { result ≡ length (columns_of self.now) }
+        ensures columned { is_tiled self.now.shape ≡ false → IsColumned self.now }
+    {
+        self.column_slice().len()
+    }
+
+    /// The sectors of a chunk of a stripe or a RAID-5; 0 for other shapes.
+    pub fn chunk(&self) -> u64
+        ensures is { result ≡ chunk_of self.now }
+        ensures some { is_tiled self.now.shape ≡ false → 0 < result }
+    {
+        if is_tiled(self.draft.shape) {
+            0
+        } else {
+            self.draft.chunk
+        }
+    }
+
+    /// The column of a RAID-5 in which a sector lies.
+    pub fn own_column(&self, sector: u64) -> usize
+        requires { self.now.shape ≡ Raid5 }
+        ensures is { result ≡ own_column self.now sector }
+        ensures there { result < length (columns_of self.now) }
+    {
+        own_column(self.column_slice(), self.draft.chunk, sector)
+    }
+
+    /// Where a column of a RAID-5 is in the row of a sector, at the sector's offset in its chunk.
+    pub fn column(&self, sector: u64, column: usize) -> Place
+        requires raid5 { self.now.shape ≡ Raid5 }
+        requires within { sector < self.now.size }
+        requires there { column < length (columns_of self.now) }
+        ensures { column_in self.now sector column ≡ Some result }
+    {
+        column_place(self.column_slice(), self.draft.chunk, sector, column)
+    }
+
+    /// How many sectors from this one on lie side by side in a copy: to the end of the partition, of the
+    /// chunk or of the volume.
+    pub fn stretch(&self, sector: u64, copy: usize) -> u64
+        requires within { sector < self.now.size }
+        requires copied { copy < copies_of self.now }
+        ensures { IsStretch self.now sector copy result }
+    {
+        let piece = plex_stretch(self.draft.shape, self.plex(copy), self.draft.chunk, sector);
+        piece.min(self.draft.size - sector)
     }
 }

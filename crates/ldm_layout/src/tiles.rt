@@ -33,8 +33,8 @@ pub fn total_size(extents: &[Extent]) -> u128
     total
 }
 
-// The partition in which a sector lies, among partitions that tile.
-fn tile_at(extents: &[Extent], sector: u64) -> Extent
+/// The partition in which a sector lies, among partitions that tile.
+pub fn tile_at(extents: &[Extent], sector: u64) -> Extent
     requires tiled { IsTrue (tiles extents.now) }
     requires ends { AllEnd extents.now }
     requires within { sector < sum_by (λ e. e.size) extents.now }
