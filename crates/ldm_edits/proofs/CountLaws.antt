@@ -5,7 +5,9 @@ use Rattle.ldm_bytes.specs.Tables.{first_of, unless}
 use Rattle.ldm_label.specs.declared.Label.{Label}
 use Rattle.ldm_records.specs.declared.types.Component.{Component}
 use Rattle.ldm_records.specs.declared.types.Volume.{Volume}
-use Rattle.ldm_group.specs.Database.{Database}
+use Rattle.ldm_vmdb.specs.declared.header.Header.{Header}
+use Rattle.ldm_vmdb.specs.Headers.{with_seq}
+use Rattle.ldm_group.specs.Database.{Database, at_seq}
 use Rattle.ldm_group.specs.Looks.{volume_named}
 use Rattle.ldm_group.proofs.Rise.{count_yes, count_no}
 use Rattle.ldm_layout.specs.Volumes.{layout_of}
@@ -15,7 +17,7 @@ use Rattle.ldm_space.specs.Placed.{taken_at}
 use Rattle.ldm_space.specs.Wanted.{placed}
 use Rattle.ldm_space.specs.declared.placed.Wanted.{Wanted}
 use Rattle.ldm_words.specs.declared.command.Command.{Command}
-use Rattle.ldm_words.specs.declared.command.Command.TheVariants.{Create, Extend, Delete}
+use Rattle.ldm_words.specs.declared.command.Command.TheVariants.{Create, Extend, Delete, Begin, Commit, Cancel}
 use Rattle.ldm_words.specs.declared.command.NewLayout.{NewLayout}
 use Rattle.ldm_words.specs.declared.command.Piece.{Piece}
 use Rattle.ldm_edits.specs.declared.reply.Refusal.{Refusal}
@@ -28,11 +30,14 @@ use Rattle.ldm_edits.specs.Counting.{is_done, SequenceCounts}
 use Rattle.ldm_edits.specs.Creating.{words_of, is_same_disk, is_bad_size, fresh_for, change_for, at_places, on_disks, created}
 use Rattle.ldm_edits.specs.Deleting.{without, deleted}
 use Rattle.ldm_edits.specs.Extending.{lengthened, held, component_of, refused_or, unlengthened, is_bad_length, lengthen, with_wanted, extended}
-use Rattle.ldm_edits.specs.Steps.{next_of, turn_by, turns_of}
+use Rattle.ldm_edits.specs.declared.batch.Draft.{Draft}
+use Rattle.ldm_edits.specs.declared.batch.Turn.{Turn as Verdict}
+use Rattle.ldm_edits.specs.declared.batch.Turn.TheVariants as verdicts
+use Rattle.ldm_edits.specs.Steps.{State, fresh, next_of, at_once, held_at, change_in, begun, committed, cancelled, verdict_of, state_by, reply_by, turns_of}
 
--- where there is a next group, its sequence is one more
+-- where there is a next group, its header is that of the group but for the sequence, which is one more
 abbrev IsUp : Database → Result Database Refusal → Type 0
-IsUp db (Ok next) = next.header.seq ≡ db.header.seq + 1
+IsUp db (Ok next) = next.header ≡ with_seq db.header (db.header.seq + 1)
 IsUp db (Err refusal) = Unit {0}
 
 unless_up : (db : Database) (refusal : Option Refusal) (change : Change) → IsUp db (unless refusal (changed db change))
@@ -104,28 +109,85 @@ unfolding next_of
 next_up db labels (Create name guid layout) = created_up db labels name guid layout
 next_up db labels (Extend name pieces) = extended_up db labels pieces (volume_named name db.records)
 next_up db labels (Delete name) = deleted_up db (volume_named name db.records)
+next_up db labels Begin = tt
+next_up db labels Commit = tt
+next_up db labels Cancel = tt
 
-not_done : (refusal : Refusal) (rest : List Reply) → count_by is_done rest ≡ count_by is_done (replies.Refused refusal ∷ rest)
-not_done refusal rest = let none = count_no is_done (replies.Refused refusal) rest refl in omega (arith, none)
+-- ---- batches
+
+-- where a line makes a next group, its sequence is one more
+abbrev IsFurther : ℕ → Verdict → Type 0
+IsFurther seq (verdicts.Next next) = next.header.seq ≡ seq + 1
+IsFurther seq (verdicts.Hold draft) = Unit {0}
+IsFurther seq verdicts.GiveUp = Unit {0}
+IsFurther seq (verdicts.Refused refusal) = Unit {0}
+
+once_further : (db : Database) (next : Result Database Refusal) → IsUp db next → IsFurther db.header.seq (at_once next)
+once_further db (Ok next) up = ap (λ (h : Header). h.seq) up
+once_further db (Err refusal) up = tt
+
+held_further : (seq : ℕ) (next : Result Database Refusal) → IsFurther seq (held_at seq next)
+held_further seq (Ok next) = tt
+held_further seq (Err refusal) = tt
+
+change_further : (labels : List Label) (db : Database) (command : Command) (draft : Option Draft) → IsFurther db.header.seq (change_in labels db command draft)
+change_further labels db command None = once_further db (next_of db labels command) (next_up db labels command)
+change_further labels db command (Some draft) = held_further db.header.seq (next_of draft.db labels command)
+
+begun_further : (db : Database) (draft : Option Draft) → IsFurther db.header.seq (begun db draft)
+begun_further db None = tt
+begun_further db (Some draft) = tt
+
+committed_further : (seq : ℕ) (draft : Option Draft) → IsFurther seq (committed seq draft)
+committed_further seq None = tt
+committed_further seq (Some draft) = elim draft.filled as (λ (b : Bool). IsFurther seq (if b then verdicts.Next (at_seq (seq + 1) draft.db) else verdicts.Refused refusals.EmptyBatch)) [ true ↦ refl | false ↦ tt ]
+
+cancelled_further : (seq : ℕ) (draft : Option Draft) → IsFurther seq (cancelled draft)
+cancelled_further seq None = tt
+cancelled_further seq (Some draft) = tt
+
+verdict_further : (labels : List Label) (db : Database) (draft : Option Draft) (command : Command) → IsFurther db.header.seq (verdict_of labels db draft command)
+unfolding verdict_of
+verdict_further labels db draft Begin = begun_further db draft
+verdict_further labels db draft Commit = committed_further db.header.seq draft
+verdict_further labels db draft Cancel = cancelled_further db.header.seq draft
+verdict_further labels db draft (Create name guid layout) = change_further labels db (Create name guid layout) draft
+verdict_further labels db draft (Extend name pieces) = change_further labels db (Extend name pieces) draft
+verdict_further labels db draft (Delete name) = change_further labels db (Delete name) draft
+
+-- ---- lines
+
+not_done : (reply : Reply) (rest : List Reply) → is_done reply ≡ false → count_by is_done rest ≡ count_by is_done (reply ∷ rest)
+not_done reply rest fails = let none = count_no is_done reply rest fails in omega (arith, none)
+
+-- the sequence of the group of a state, whatever its draft is
+counts_from : (labels : List Label) (state : State) (lines : List (Option Command))
+    → (turns_of labels state lines).state.db.header.seq ≡ state.db.header.seq + count_by is_done (turns_of labels state lines).replies
+unfolding turns_of
+counts_from labels state [] = let same : state.db.header.seq ≡ state.db.header.seq + 0 = omega arith in same
+counts_from labels state (None ∷ lines) =
+    counts_from labels state lines ∙ ap (λ (n : ℕ). state.db.header.seq + n) (not_done (replies.Refused refusals.BadLine) (turns_of labels state lines).replies refl)
+counts_from labels state (Some command ∷ lines) =
+    go (verdict_of labels state.db state.draft command) (verdict_further labels state.db state.draft command) (λ next. counts_from labels next lines)
+  where
+    go : (verdict : Verdict) → IsFurther state.db.header.seq verdict
+        → ((next : State) → (turns_of labels next lines).state.db.header.seq ≡ next.db.header.seq + count_by is_done (turns_of labels next lines).replies)
+        → (turns_of labels (state_by state verdict) lines).state.db.header.seq
+        ≡ state.db.header.seq + count_by is_done (reply_by verdict ∷ (turns_of labels (state_by state verdict) lines).replies)
+    go (verdicts.Next next) further rest =
+        let after = turns_of labels (fresh next) lines in
+        let more = rest (fresh next) in
+        let one = count_yes is_done (replies.Done next.header.seq) after.replies refl in
+        let all : after.state.db.header.seq ≡ state.db.header.seq + (1 + count_by is_done after.replies) = omega (arith, more, further) in
+        all ∙ ap (λ (n : ℕ). state.db.header.seq + n) (sym one)
+    go (verdicts.Hold draft) further rest =
+        let next : State = record { db = state.db; draft = Some draft } in
+        rest next ∙ ap (λ (n : ℕ). state.db.header.seq + n) (not_done replies.Held (turns_of labels next lines).replies refl)
+    go verdicts.GiveUp further rest =
+        let next : State = record { db = state.db; draft = None } in
+        rest next ∙ ap (λ (n : ℕ). state.db.header.seq + n) (not_done replies.Dropped (turns_of labels next lines).replies refl)
+    go (verdicts.Refused refusal) further rest =
+        rest state ∙ ap (λ (n : ℕ). state.db.header.seq + n) (not_done (replies.Refused refusal) (turns_of labels state lines).replies refl)
 
 pub sequence_counts : SequenceCounts
-unfolding turns_of
-sequence_counts labels db [] = let same : db.header.seq ≡ db.header.seq + 0 = omega arith in same
-sequence_counts labels db (None ∷ lines) =
-    let after = turns_of labels (record { db = db }) lines in
-    sequence_counts labels db lines ∙ ap (λ (n : ℕ). db.header.seq + n) (not_done refusals.BadLine after.replies)
-sequence_counts labels db (Some command ∷ lines) = go (next_of db labels command) (next_up db labels command) (λ next. sequence_counts labels next lines)
-  where
-    go : (next : Result Database Refusal) → IsUp db next
-        → ((d : Database) → (turns_of labels (record { db = d }) lines).state.db.header.seq ≡ d.header.seq + count_by is_done (turns_of labels (record { db = d }) lines).replies)
-        → (turns_of labels (turn_by (record { db = db }) next).state lines).state.db.header.seq
-        ≡ db.header.seq + count_by is_done ((turn_by (record { db = db }) next).reply ∷ (turns_of labels (turn_by (record { db = db }) next).state lines).replies)
-    go (Ok next) up rest =
-        let after = turns_of labels (record { db = next }) lines in
-        let more = rest next in
-        let one = count_yes is_done (replies.Done next.header.seq) after.replies refl in
-        let all : after.state.db.header.seq ≡ db.header.seq + (1 + count_by is_done after.replies) = omega (arith, more, up) in
-        all ∙ ap (λ (n : ℕ). db.header.seq + n) (sym one)
-    go (Err refusal) up rest =
-        let after = turns_of labels (record { db = db }) lines in
-        rest db ∙ ap (λ (n : ℕ). db.header.seq + n) (not_done refusal after.replies)
+sequence_counts labels db lines = counts_from labels (fresh db) lines

@@ -1,26 +1,34 @@
 -- What a command makes of a group, and what the lines of a script make of it one after another.
-use Rattle.std.specs.Prelude.{◌≡◌, ◌+◌, List, [], ◌∷◌, Option, Some, None, Result, Ok, Err}
+use Rattle.std.specs.Prelude.{◌≡◌, ◌+◌, ◌-◌, ◌^◌, ◌<◌, ℕ, true, false, List, [], ◌∷◌, Option, Some, None, Result, Ok, Err, if◌then◌else◌}
+use Rattle.std.specs.Option.{ForSome}
+use Rattle.ldm_vmdb.specs.Headers.{with_seq}
 use Rattle.ldm_label.specs.declared.Label.{Label}
-use Rattle.ldm_group.specs.Database.{Database}
+use Rattle.ldm_group.specs.Database.{Database, at_seq}
 use Rattle.ldm_group.specs.Looks.{volume_named, HasSameDisks}
 use Rattle.ldm_rules.specs.Facts.{IsSoundOn}
 use Rattle.ldm_words.specs.declared.command.Command.{Command}
-use Rattle.ldm_words.specs.declared.command.Command.TheVariants.{Create, Extend, Delete}
+use Rattle.ldm_words.specs.declared.command.Command.TheVariants.{Create, Extend, Delete, Begin, Commit, Cancel}
 use Rattle.ldm_edits.specs.declared.reply.Refusal.{Refusal}
-use Rattle.ldm_edits.specs.declared.reply.Refusal.TheVariants.{BadLine}
+use Rattle.ldm_edits.specs.declared.reply.Refusal.TheVariants.{BadLine, BatchOpen, NoBatch, EmptyBatch}
 use Rattle.ldm_edits.specs.declared.reply.Reply.{Reply}
 use Rattle.ldm_edits.specs.declared.reply.Reply.TheVariants as replies
 use Rattle.ldm_edits.specs.declared.stepping.Outcome.{Outcome}
 use Rattle.ldm_edits.specs.declared.stepping.Outcome.TheVariants as outcomes
+use Rattle.ldm_edits.specs.declared.batch.Draft.{Draft}
+use Rattle.ldm_edits.specs.declared.batch.Turn.{Turn as Verdict}
+use Rattle.ldm_edits.specs.declared.batch.Turn.TheVariants as verdicts
 use Rattle.ldm_edits.specs.Creating.{created}
 use Rattle.ldm_edits.specs.Extending.{extended}
 use Rattle.ldm_edits.specs.Deleting.{deleted}
 
--- the group after the command, or the first reason that it is refused
+-- the group after a change, or the first reason that it is refused; a word of a batch is no change
 unfoldable pub next_of : Database → List Label → Command → Result Database Refusal
 next_of db labels (Create name guid layout) = created db labels name guid layout
 next_of db labels (Extend name pieces) = extended db labels pieces (volume_named name db.records)
 next_of db labels (Delete name) = deleted db (volume_named name db.records)
+next_of db labels Begin = Err BadLine
+next_of db labels Commit = Err BadLine
+next_of db labels Cancel = Err BadLine
 
 -- exactly that is answered
 abbrev pub StepsAs : Outcome → Result Database Refusal → Type 0
@@ -35,12 +43,68 @@ pub record Keeps (labels : List Label) (old next : Database) : Type 0 where
   pub disks : HasSameDisks old.records next.records
   pub last : next.header.last ≡ old.header.last
   pub seq : next.header.seq ≡ old.header.seq + 1
+  pub header : next.header ≡ with_seq old.header (old.header.seq + 1)
+
+-- ---- batches
+
+-- what a change comes to where no batch is open
+abbrev pub at_once : Result Database Refusal → Verdict
+at_once (Ok next) = verdicts.Next next
+at_once (Err refusal) = verdicts.Refused refusal
+
+-- and in a batch, where it changes the draft alone, which keeps the sequence
+abbrev pub held_at : ℕ → Result Database Refusal → Verdict
+held_at seq (Ok next) = verdicts.Hold (record { db = at_seq seq next; filled = true })
+held_at seq (Err refusal) = verdicts.Refused refusal
+
+abbrev pub change_in : List Label → Database → Command → Option Draft → Verdict
+change_in labels db command None = at_once (next_of db labels command)
+change_in labels db command (Some draft) = held_at db.header.seq (next_of draft.db labels command)
+
+-- begin opens a batch
+abbrev pub begun : Database → Option Draft → Verdict
+begun db None = verdicts.Hold (record { db = db; filled = false })
+begun db (Some draft) = verdicts.Refused BatchOpen
+
+-- commit makes the draft the group, which goes one further
+abbrev pub committed : ℕ → Option Draft → Verdict
+committed seq None = verdicts.Refused NoBatch
+committed seq (Some draft) = if draft.filled then verdicts.Next (at_seq (seq + 1) draft.db) else verdicts.Refused EmptyBatch
+
+-- cancel gives the batch up
+abbrev pub cancelled : Option Draft → Verdict
+cancelled None = verdicts.Refused NoBatch
+cancelled (Some draft) = verdicts.GiveUp
+
+-- what a change or a word of a batch comes to, where this batch is open
+unfoldable pub verdict_of : List Label → Database → Option Draft → Command → Verdict
+verdict_of labels db draft Begin = begun db draft
+verdict_of labels db draft Commit = committed db.header.seq draft
+verdict_of labels db draft Cancel = cancelled draft
+verdict_of labels db draft (Create name guid layout) = change_in labels db (Create name guid layout) draft
+verdict_of labels db draft (Extend name pieces) = change_in labels db (Extend name pieces) draft
+verdict_of labels db draft (Delete name) = change_in labels db (Delete name) draft
+
+-- A draft of a group is as sound, on the same disks, with the same header. Where it has held a command, there is a next sequence.
+pub record IsDraftOf (labels : List Label) (db : Database) (draft : Draft) : Type 0 where
+  pub sound : IsSoundOn draft.db labels
+  pub disks : HasSameDisks db.records draft.db.records
+  pub header : draft.db.header ≡ db.header
+  pub unspent : draft.filled ≡ true → db.header.seq < 2 ^ 64 - 1
+
+-- what is kept of a group by what a line comes to
+abbrev pub VerdictKeeps : List Label → Database → Verdict → Type 0
+VerdictKeeps labels db (verdicts.Next next) = Keeps labels db next
+VerdictKeeps labels db (verdicts.Hold draft) = IsDraftOf labels db draft
+VerdictKeeps labels db verdicts.GiveUp = Unit {0}
+VerdictKeeps labels db (verdicts.Refused refusal) = Unit {0}
 
 -- ---- scripts
 
--- what is kept of a group from line to line
+-- what is kept of a group from line to line: where a batch is open, its draft too
 pub record State : Type 0 where
   pub db : Database
+  pub draft : Option Draft
 
 -- what lines do: the state after them, and the reply to each
 pub record Turns : Type 0 where
@@ -52,13 +116,24 @@ pub record Turn : Type 0 where
   pub state : State
   pub reply : Reply
 
-abbrev pub turn_by : State → Result Database Refusal → Turn
-turn_by state (Ok next) = record { state = record { db = next }; reply = replies.Done next.header.seq }
-turn_by state (Err refusal) = record { state = state; reply = replies.Refused refusal }
+abbrev pub state_by : State → Verdict → State
+state_by state (verdicts.Next next) = record { db = next; draft = None }
+state_by state (verdicts.Hold draft) = record { db = state.db; draft = Some draft }
+state_by state verdicts.GiveUp = record { db = state.db; draft = None }
+state_by state (verdicts.Refused refusal) = state
+
+abbrev pub reply_by : Verdict → Reply
+reply_by (verdicts.Next next) = replies.Done next.header.seq
+reply_by (verdicts.Hold draft) = replies.Held
+reply_by verdicts.GiveUp = replies.Dropped
+reply_by (verdicts.Refused refusal) = replies.Refused refusal
+
+abbrev pub turn_by : State → Verdict → Turn
+turn_by state verdict = record { state = state_by state verdict; reply = reply_by verdict }
 
 -- a line that has no reading changes nothing, as one that is refused
 abbrev pub turn_of : List Label → State → Option Command → Turn
-turn_of labels state (Some command) = turn_by state (next_of state.db labels command)
+turn_of labels state (Some command) = turn_by state (verdict_of labels state.db state.draft command)
 turn_of labels state None = record { state = state; reply = replies.Refused BadLine }
 
 abbrev pub after_turn : Turn → Turns → Turns
@@ -68,10 +143,23 @@ unfoldable pub turns_of : List Label → State → List (Option Command) → Tur
 turns_of labels state [] = record { state = state; replies = [] }
 turns_of labels state (line ∷ lines) = after_turn (turn_of labels state line) (turns_of labels (turn_of labels state line).state lines)
 
--- the group after these lines
+-- the replies to lines, from this state on
+abbrev pub replies_in : List Label → State → List (Option Command) → List Reply
+replies_in labels state lines = (turns_of labels state lines).replies
+
+-- a group where no batch is open
+abbrev pub fresh : Database → State
+fresh db = record { db = db; draft = None }
+
+-- the group after these lines, where a batch that is open counts for nothing
 abbrev pub group_after : List Label → Database → List (Option Command) → Database
-group_after labels db lines = (turns_of labels (record { db = db }) lines).state.db
+group_after labels db lines = (turns_of labels (fresh db) lines).state.db
 
 -- the replies to them
 abbrev pub replies_to : List Label → Database → List (Option Command) → List Reply
-replies_to labels db lines = (turns_of labels (record { db = db }) lines).replies
+replies_to labels db lines = replies_in labels (fresh db) lines
+
+-- the group of a state is sound, and a batch that is open is a draft of it
+pub record IsGood (labels : List Label) (state : State) : Type 0 where
+  pub sound : IsSoundOn state.db labels
+  pub draft : ForSome state.draft (IsDraftOf labels state.db)

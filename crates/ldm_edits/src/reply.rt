@@ -4,6 +4,12 @@
 pub enum Refusal {
     /// The line has no reading.
     BadLine,
+    /// A batch is begun, and one is open.
+    BatchOpen,
+    /// A batch is committed or cancelled, and none is open.
+    NoBatch,
+    /// The batch that is to be committed has held no command.
+    EmptyBatch,
     /// A volume has the name.
     NameTaken,
     /// No volume has the name.
@@ -35,5 +41,9 @@ pub enum Refusal {
 pub enum Reply {
     /// It was done, and the committed sequence is this.
     Done(u64),
+    /// It is held in the batch that is open, or opened one.
+    Held,
+    /// The batch was given up.
+    Dropped,
     Refused(Refusal),
 }

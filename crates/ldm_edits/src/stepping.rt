@@ -2,7 +2,7 @@
 ghost use Rattle.std.specs.Prelude.{◌≡◌, IfOk, All, ◌<◌, ◌≤◌, ◌^◌};
 ghost use Rattle.ldm_group.specs.Order.{Rising};
 ghost use Rattle.ldm_rules.specs.Facts.{IsSoundOn};
-ghost use Rattle.ldm_words.specs.Limits.{IsCommand};
+ghost use Rattle.ldm_words.specs.Limits.{IsCommand, IsChange};
 ghost use Rattle.ldm_edits.specs.Answers.{StepsTo};
 ghost use Rattle.ldm_edits.specs.Steps.{next_of, StepsAs, Keeps};
 ghost use Rattle.ldm_edits.specs.declared.stepping.Outcome.TheVariants.{Next};
@@ -47,6 +47,7 @@ fn types_hold(db: &Db, labels: &Labels)
 fn next_of(alloc: Global, db: &Db, labels: &Labels, command: &Command) -> Result<Db, StepError>
     requires sound { IsSoundOn db.now labels.now }
     requires limits { IsCommand command.now }
+    requires change { IsChange command.now }
     ensures { StepsTo result (next_of db.now labels.now command.now) }
 {
     match command {
@@ -66,13 +67,15 @@ fn next_of(alloc: Global, db: &Db, labels: &Labels, command: &Command) -> Result
             pieces.as_slice(),
         ),
         Command::Delete { name } => delete(alloc, db, labels, name.as_slice()),
+        Command::Begin | Command::Commit | Command::Cancel => unreachable!(),
     }
 }
 
-/// What a command makes of the group, whose images have these labels. It never answers BadLine.
+/// What a create, an extend or a delete makes of the group, whose images have these labels. It never answers BadLine.
 pub fn step(alloc: Global, db: &Db, labels: &Labels, command: &Command) -> Result<Outcome, NoMemory>
     requires sound { IsSoundOn db.now labels.now }
     requires limits { IsCommand command.now }
+    requires change { IsChange command.now }
     ensures is { IfOk result (λ outcome. StepsAs outcome (next_of db.now labels.now command.now)) }
     ensures keeps { IfOk result (λ outcome. (next : _) → outcome ≡ Next next → Keeps labels.now db.now next) }
 {

@@ -1,7 +1,9 @@
 //! Command lines that edit, and the sample: which have a reading, and what that is.
 use crate::made::check;
 use ldm_bytes::{Bytes, write_guid};
-use ldm_words::{Command, Job, NewLayout, Piece, WordsError, read_number, read_words};
+use ldm_words::{
+    Command, Job, LineError, NewLayout, Piece, WordsError, read_line, read_number, read_words,
+};
 use std::alloc::Global;
 use std::process::Abort;
 use std::test::Fail;
@@ -92,6 +94,9 @@ fn push_command(alloc: Global, text: &mut Vec<u8>, command: &Command) -> Result<
             push_bytes(text, b"delete")?;
             push_bytes(text, name.as_slice())
         }
+        Command::Begin => push_bytes(text, b"begin"),
+        Command::Commit => push_bytes(text, b"commit"),
+        Command::Cancel => push_bytes(text, b"cancel"),
     }
 }
 
@@ -145,6 +150,45 @@ fn reads_the_commands(rt: HostRuntime) -> Result<(), Fail> {
         let (line, want) = row.split_once(';').unwrap_or((row, ""));
         let read = reading(rt.alloc(), line)?;
         check(&rt, read.as_deref() == Some(want.as_bytes()), line);
+    }
+    Ok(())
+}
+
+// What a line of a script is read as.
+fn line_reading(alloc: Global, line: &str) -> Result<Option<Vec<u8>>, Fail> {
+    let command = match read_line(alloc, line.as_bytes()) {
+        Ok(command) => command,
+        Err(LineError::BadLine) => return Ok(None),
+        Err(LineError::NoMemory) => return Err(Fail::from("no memory")),
+    };
+    let mut text = Vec::new(alloc);
+    push_command(alloc, &mut text, &command)?;
+    Ok(Some(text))
+}
+
+// LINE;READING, or nothing behind the semicolon where the line has none
+const LINES: &str = "\
+begin; begin
+  commit ; commit
+cancel; cancel
+delete begin; delete begin
+begin begin;
+commit 1;
+cancel on A;
+Begin;
+beginning;
+commi;";
+
+#[test]
+fn reads_the_words_of_a_batch(rt: HostRuntime) -> Result<(), Fail> {
+    for row in LINES.lines() {
+        let (line, want) = row.split_once(';').unwrap_or((row, ""));
+        let read = line_reading(rt.alloc(), line)?;
+        check(
+            &rt,
+            read.as_deref().unwrap_or_default() == want.as_bytes(),
+            line,
+        );
     }
     Ok(())
 }

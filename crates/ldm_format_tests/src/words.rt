@@ -86,7 +86,11 @@ map Data -1 1 on A
 map Data 18446744073709551616 1 on A
 map Data 0 x on A
 map a\\X41 0 1 on A
-Map Data 0 1 on A";
+Map Data 0 1 on A
+begin
+begin on A
+commit on A
+cancel on A";
 
 #[test]
 fn refuses_other_words(rt: HostRuntime) {

@@ -2,6 +2,7 @@
 use Rattle.std.specs.Prelude.{◌≡◌, ℕ, List, IsPermutation, Result, Ok, Err}
 use Rattle.ldm_records.specs.declared.types.Record.{Record}
 use Rattle.ldm_vmdb.specs.declared.header.Header.{Header}
+use Rattle.ldm_vmdb.specs.Headers.{with_seq}
 use Rattle.ldm_group.specs.Order.{Rising, IsLeastTwice}
 use Rattle.ldm_group.specs.declared.error.DbError.{DbError}
 use Rattle.ldm_group.specs.declared.error.DbError.TheVariants.{SameId, NoMemory}
@@ -10,6 +11,10 @@ use Rattle.ldm_group.specs.declared.error.DbError.TheVariants.{SameId, NoMemory}
 pub record Database : Type 0 where
   pub header : Header
   pub records : List Record
+
+-- the database with this sequence
+abbrev pub at_seq : ℕ → Database → Database
+at_seq seq db = record db { header = with_seq db.header seq }
 
 -- both headers are the same but for the carried bytes
 pub record IsSameHeader (a b : Header) : Type 0 where

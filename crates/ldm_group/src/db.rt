@@ -1,8 +1,11 @@
 //! The database of a group.
+ghost use Rattle.std.specs.Prelude.{◌≡◌, IfOk};
+
 use crate::catalog::Catalog;
 use crate::error::DbError;
 use crate::index::Index;
 use crate::order::{first_twice, id_of, kind_of, place_of};
+use ldm_bytes::NoMemory;
 use ldm_records::Record;
 use ldm_vmdb::Header;
 use std::alloc::Global;
@@ -35,10 +38,21 @@ impl Model for Db {
     ghost invariant = { λ d. Rising d.records.value };
 }
 
+// Copies of records, in their order.
+fn copies_of(alloc: Global, records: &[Record]) -> Result<Vec<Record>, NoMemory>
+    ensures { IfOk result (λ copies. copies.items ≡ records.now) }
+{
+    let mut copies = Vec::new(alloc);
+    for r in records {
+        copies.push(r.clone_in(alloc)?)?;
+    }
+    Ok(copies)
+}
+
 impl Db {
-    ghost use Rattle.std.specs.Prelude.{◌≡◌, ◌<◌, length, slice_get, Some};
+    ghost use Rattle.std.specs.Prelude.{◌≡◌, ◌<◌, length, slice_get, Some, IfOk};
     ghost use Rattle.ldm_group.specs.Order.{Rising};
-    ghost use Rattle.ldm_group.specs.Database.{Database, MakesDb};
+    ghost use Rattle.ldm_group.specs.Database.{Database, MakesDb, at_seq};
     ghost use Rattle.ldm_group.specs.Index.{IsIndexOf};
 
     /// The database of this header, with the records in their order. Its maps are made in near linear time,
@@ -87,6 +101,40 @@ impl Db {
         ensures { IsIndexOf result.now self.now.records }
     {
         self.records.index()
+    }
+
+    /// An equal database.
+    pub fn clone_in(&self, alloc: Global) -> Result<Db, NoMemory>
+        ensures { IfOk result (λ copy. copy ≡ self.now) }
+    {
+        let header = self.header.with_seq(alloc, self.header.seq)?;
+        let records = copies_of(alloc, self.as_slice())?;
+        Ok(Db {
+            header,
+            records: Catalog::of(alloc, records)?,
+        })
+    }
+
+    /// The same database with this sequence. It takes no memory.
+    pub fn with_seq(self, seq: u64) -> Db
+        ensures { result ≡ at_seq seq self }
+    {
+        let Db { header, records } = self;
+        let Header {
+            last,
+            seq: _,
+            name,
+            guid,
+            raw,
+        } = header;
+        let header = Header {
+            last,
+            seq,
+            name,
+            guid,
+            raw,
+        };
+        Db { header, records }
     }
 
     /// The record at a place of the list.

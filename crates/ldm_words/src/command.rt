@@ -104,7 +104,8 @@ impl Drop for NewLayout {
     }
 }
 
-/// A change of the group that a line of a script, or the words of a command line, ask for.
+/// A change of the group that a line of a script, or the words of a command line, ask for; or a word of a batch, which
+/// stands in scripts alone.
 pub enum Command {
     /// A new volume, with its GUID.
     Create {
@@ -121,6 +122,12 @@ pub enum Command {
     Delete {
         name: Bytes,
     },
+    /// A batch is opened: the commands from here on are held.
+    Begin,
+    /// What the batch holds is done, as one change.
+    Commit,
+    /// The batch is given up.
+    Cancel,
 }
 
 // By hand, as that of a layout.
@@ -134,6 +141,7 @@ impl Drop for Command {
             } => {}
             Command::Extend { name: _, pieces: _ } => {}
             Command::Delete { name: _ } => {}
+            Command::Begin | Command::Commit | Command::Cancel => {}
         }
     }
 }

@@ -1,11 +1,11 @@
 //! Lines of a script.
 ghost use Rattle.std.specs.Prelude.{◌≡◌, [], IfOk, MatchOption};
-ghost use Rattle.ldm_words.specs.Commands.{bytes_of, command_of};
+ghost use Rattle.ldm_words.specs.Commands.{bytes_of, line_of};
 ghost use Rattle.ldm_words.specs.Limits.{IsCommand};
 ghost use Rattle.ldm_words.specs.Lines.{tokens_of, lines_of, IsFrontLine, ReadsLine};
 
 use crate::command::Command;
-use crate::reading::read_command;
+use crate::reading::read_script_line;
 use ldm_bytes::NoMemory;
 use std::alloc::Global;
 use thiserror::Error;
@@ -43,13 +43,13 @@ fn split_tokens(alloc: Global, line: &[u8]) -> Result<Vec<&[u8]>, NoMemory>
     Ok(tokens)
 }
 
-/// The command that a line of a script says. BadLine comes exactly where it has no reading.
+/// The command, or the word of a batch, that a line of a script says. BadLine comes exactly where it has no reading.
 pub fn read_line(alloc: Global, line: &[u8]) -> Result<Command, LineError>
-    ensures reads { ReadsLine result (command_of (tokens_of line.now)) }
+    ensures reads { ReadsLine result (line_of (tokens_of line.now)) }
     ensures limits { IfOk result IsCommand }
 {
     let tokens = split_tokens(alloc, line)?;
-    match read_command(alloc, &tokens)? {
+    match read_script_line(alloc, &tokens)? {
         Some(command) => Ok(command),
         None => Err(LineError::BadLine),
     }

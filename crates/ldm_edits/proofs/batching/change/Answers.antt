@@ -1,0 +1,14 @@
+use Rattle.std.proofs.Common.{ap, option_copied}
+use Rattle.ldm_edits.specs.Steps.{IsDraftOf, next_of}
+use Rattle.ldm_edits.proofs.BatchLaws.{held_kept}
+use Rattle.ldm_edits.proofs.batching.change.Goals as goal
+
+pub step-requires-in-Some-clause-sound : goal.step-requires-in-Some-clause-sound
+step-requires-in-Some-clause-sound c = (c.requires.draft c.in-Some.draft.now (ap option_copied c.in-Some.is)).sound
+
+pub returns-in_ok-outcome-in-Some-clause-keeps : goal.returns-in_ok-outcome-in-Some-clause-keeps
+returns-in_ok-outcome-in-Some-clause-keeps c =
+    let of : IsDraftOf c.args.labels.now c.args.db.now c.in-Some.draft.now = c.requires.draft c.in-Some.draft.now (ap option_copied c.in-Some.is) in
+    let step = next_of c.in-Some.draft.now.db c.args.labels.now c.args.command.now in
+    held_kept c.args.labels.now c.args.db.now c.in-Some.draft.now c.in_ok-outcome-in-Some.outcome step c.seq_of.result c.hold.result of c.in_ok-outcome-in-Some.ensures.is
+    c.in_ok-outcome-in-Some.ensures.keeps c.hold.ensures.low c.seq_of.ensures.is c.hold.ensures.is
