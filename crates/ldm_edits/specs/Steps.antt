@@ -13,7 +13,7 @@ use Rattle.ldm_edits.specs.declared.reply.Reply.TheVariants as replies
 use Rattle.ldm_edits.specs.declared.stepping.Outcome.{Outcome}
 use Rattle.ldm_edits.specs.declared.stepping.Outcome.TheVariants as outcomes
 use Rattle.ldm_edits.specs.Creating.{created}
-use Rattle.ldm_edits.specs.Extending.{extended}
+use Rattle.ldm_edits.specs.Extended.{extended}
 use Rattle.ldm_edits.specs.Deleting.{deleted}
 
 -- the group after the command, or the first reason that it is refused
