@@ -10,7 +10,7 @@ use Rattle.ldm_vmdb.specs.Headers.{with_seq}
 use Rattle.ldm_group.specs.Database.{Database, at_seq}
 use Rattle.ldm_group.specs.Looks.{volume_named}
 use Rattle.ldm_group.proofs.Rise.{count_yes, count_no}
-use Rattle.ldm_layout.specs.Volumes.{layout_of}
+use Rattle.ldm_layout.specs.Volumes.{layout_of, shape_of}
 use Rattle.ldm_rules.specs.Ends.{data_size}
 use Rattle.ldm_space.specs.Free.{taken_in}
 use Rattle.ldm_space.specs.Placed.{taken_at}
@@ -29,7 +29,12 @@ use Rattle.ldm_edits.specs.Changes.{Change, when, limits, changed}
 use Rattle.ldm_edits.specs.Counting.{is_done, SequenceCounts}
 use Rattle.ldm_edits.specs.Creating.{words_of, is_same_disk, is_bad_size, fresh_for, change_for, at_places, on_disks, created}
 use Rattle.ldm_edits.specs.Deleting.{without, deleted}
-use Rattle.ldm_edits.specs.Extending.{lengthened, held, component_of, refused_or, unlengthened, is_bad_length, lengthen, with_wanted, extended}
+use Rattle.ldm_layout.specs.declared.shape.Shape.{Shape}
+use Rattle.ldm_layout.specs.declared.shape.Shape.TheVariants.{Span, Stripe, Mirror, Raid5}
+use Rattle.ldm_layout.specs.Parts.{plexes_of}
+use Rattle.ldm_edits.specs.Mirroring.{grown}
+use Rattle.ldm_edits.specs.Extended.{len_of, mirror_placed, mirror_wanted, extended_as, extended}
+use Rattle.ldm_edits.specs.Extending.{lengthened, held, component_of, refused_or, unlengthened, is_bad_length, lengthen, with_wanted, extended_span}
 use Rattle.ldm_edits.specs.declared.batch.Draft.{Draft}
 use Rattle.ldm_edits.specs.declared.batch.Turn.{Turn as Verdict}
 use Rattle.ldm_edits.specs.declared.batch.Turn.TheVariants as verdicts
@@ -90,11 +95,36 @@ wanted_up db v (Ok wanted) =
     refused_up db (when (is_bad_length (held (layout_of db.records v)) wanted) refusals.BadSize) (lengthen db v (component_of v db.records) wanted places)
     (lengthen_up db v (component_of v db.records) wanted places)
 
-extended_up : (db : Database) (labels : List Label) (pieces : List Piece) (volume : Option Volume) → IsUp db (extended db labels pieces volume)
+extended_up : (db : Database) (labels : List Label) (pieces : List Piece) (volume : Option Volume) → IsUp db (extended_span db labels pieces volume)
 extended_up db labels pieces None = tt
 extended_up db labels pieces (Some v) =
     let asked = asked_for (data_size labels db.records) db.records 0 (map (λ (p : Piece). (p.disk, p.len)) pieces) in
     refused_up db (unlengthened db.records v) (with_wanted db v asked) (wanted_up db v asked)
+
+mirror_up : (db : Database) (v : Volume) (wanted : List Wanted) (places : Result (List ℕ) ℕ) → IsUp db (mirror_placed db v wanted places)
+mirror_up db v wanted (Err piece) = tt
+mirror_up db v wanted (Ok starts) =
+    let change = grown db.records v (held (layout_of db.records v) + len_of wanted) (taken_at wanted starts) in
+    unless_up db (first_of (limits db (length wanted) change)) change
+
+mirrors_up : (db : Database) (v : Volume) (asked : Result (List Wanted) ℕ) → IsUp db (mirror_wanted db v asked)
+mirrors_up db v (Err piece) = tt
+mirrors_up db v (Ok wanted) =
+    let places = placed (taken_in db.records) 0 wanted in
+    refused_up db _ (mirror_placed db v wanted places) (mirror_up db v wanted places)
+
+as_up : (db : Database) (labels : List Label) (pieces : List Piece) (v : Volume) (o : Option Shape) → IsUp db (extended_as o db labels pieces v)
+as_up db labels pieces v (Some Mirror) =
+    let asked = asked_for (data_size labels db.records) db.records 0 (map (λ (p : Piece). (p.disk, p.len)) pieces) in
+    refused_up db _ (mirror_wanted db v asked) (mirrors_up db v asked)
+as_up db labels pieces v (Some Span) = extended_up db labels pieces (Some v)
+as_up db labels pieces v (Some Stripe) = extended_up db labels pieces (Some v)
+as_up db labels pieces v (Some Raid5) = extended_up db labels pieces (Some v)
+as_up db labels pieces v None = extended_up db labels pieces (Some v)
+
+longer_up : (db : Database) (labels : List Label) (pieces : List Piece) (volume : Option Volume) → IsUp db (extended db labels pieces volume)
+longer_up db labels pieces None = tt
+longer_up db labels pieces (Some v) = as_up db labels pieces v (shape_of (plexes_of v.head.id db.records))
 
 -- ---- delete
 
@@ -107,7 +137,7 @@ deleted_up db (Some v) = unless_up db (first_of (limits db 0 (without v db.recor
 next_up : (db : Database) (labels : List Label) (command : Command) → IsUp db (next_of db labels command)
 unfolding next_of
 next_up db labels (Create name guid layout) = created_up db labels name guid layout
-next_up db labels (Extend name pieces) = extended_up db labels pieces (volume_named name db.records)
+next_up db labels (Extend name pieces) = longer_up db labels pieces (volume_named name db.records)
 next_up db labels (Delete name) = deleted_up db (volume_named name db.records)
 next_up db labels Begin = tt
 next_up db labels Commit = tt

@@ -1,5 +1,5 @@
 -- Extend: what it keeps of a group.
-use Rattle.std.proofs.Common.{◌≡◌, ℕ, ◌+◌, ◌^◌, ◌<◌, not, List, [], ◌∷◌, length, map, get_or, refl, sym, ap, subst, ◌∙◌, inl, inr, arith, Bool, true, false, Option, Some, None, Result, Ok, Err, Contains, sum_by, find}
+use Rattle.std.proofs.Common.{◌≡◌, ℕ, ◌+◌, ◌^◌, ◌<◌, not, List, [], ◌∷◌, length, map, get_or, refl, sym, ap, subst, ◌∙◌, inl, inr, arith, Bool, true, false, Option, Some, None, Result, Ok, Err, Contains, sum_by}
 use Rattle.std.specs.Prelude.{is_some}
 use Rattle.std.specs.List.{All}
 use Rattle.std.proofs.lemmas.Bool.{not-true, not-false}
@@ -11,12 +11,11 @@ use Rattle.ldm_records.specs.declared.types.Record.TheVariants as kinds
 use Rattle.ldm_records.specs.declared.types.Volume.{Volume}
 use Rattle.ldm_records.specs.declared.types.Component.{Component}
 use Rattle.ldm_group.specs.Order.{Rising}
-use Rattle.ldm_group.specs.Looks.{is_volume_named, volume_in, volume_named, max_id}
+use Rattle.ldm_group.specs.Looks.{volume_in, max_id}
 use Rattle.ldm_group.specs.Database.{Database}
 use Rattle.ldm_group.specs.Room.{IsFitting}
 use Rattle.ldm_group.proofs.InOrder.{member_next, stays_next, made_next}
 use Rattle.ldm_group.proofs.KinLaws.{filter_has, filter_keeps}
-use Rattle.ldm_group.proofs.LookLaws.{find_there}
 use Rattle.ldm_label.specs.declared.Label.{Label}
 use Rattle.ldm_layout.specs.declared.parts.Extent.{Extent}
 use Rattle.ldm_layout.specs.declared.shape.Shape.{Shape}
@@ -37,7 +36,7 @@ use Rattle.ldm_edits.specs.declared.reply.Refusal.{Refusal}
 use Rattle.ldm_edits.specs.declared.reply.Refusal.TheVariants as refusals
 use Rattle.ldm_edits.specs.Asked.{asked_for}
 use Rattle.ldm_edits.specs.Changes.{Change, when, limits, changed}
-use Rattle.ldm_edits.specs.Extending.{changes, lengthened, held, component_of, is_span, unlengthened, is_bad_length, lengthen, with_wanted, refused_or, extended}
+use Rattle.ldm_edits.specs.Extending.{changes, lengthened, held, component_of, is_span, unlengthened, is_bad_length, lengthen, with_wanted, refused_or, extended_span}
 use Rattle.ldm_edits.specs.Steps.{Keeps}
 use Rattle.ldm_edits.proofs.ExtendedFrom.{IsLonger, heads}
 use Rattle.ldm_edits.proofs.ExtendedMade.{new_part}
@@ -122,8 +121,8 @@ not_unlengthened records v h =
     let span : Bool = is_span (shape_of (plexes_of v.head.id records)) in
     span_is (shape_of (plexes_of v.head.id records)) (not-false span (not_when (not span) refusals.NotSpan (first_parts (when (not span) refusals.NotSpan) (when (is_some v.size2) refusals.ExtraSize ∷ []) h).0))
 
-extended_from : (db : Database) (labels : List Label) (pieces : List Piece) (o : Option Volume) (next : Database) → Rising db.records → All (λ l. l.data_size < 2 ^ 64) labels → IsSoundOn db labels
-    → ((v : Volume) → o ≡ Some v → Contains db.records (kinds.Volume v)) → extended db labels pieces o ≡ Ok next → Rising next.records × Keeps labels db next
+pub extended_from : (db : Database) (labels : List Label) (pieces : List Piece) (o : Option Volume) (next : Database) → Rising db.records → All (λ l. l.data_size < 2 ^ 64) labels → IsSoundOn db labels
+    → ((v : Volume) → o ≡ Some v → Contains db.records (kinds.Volume v)) → extended_span db labels pieces o ≡ Ok next → Rising next.records × Keeps labels db next
 extended_from db labels pieces None next up low ed at h = absurd cc
 extended_from db labels pieces (Some v) next up low ed at h =
     let words : List (List ℕ × ℕ) = map (λ (p : Piece). (p.disk, p.len)) pieces in
@@ -159,17 +158,10 @@ extended_from db labels pieces (Some v) next up low ed at h =
         lay words wanted e (not_when bad refusals.BadSize open'.0)
         (component_of v db.records) refl (placed (taken_in db.records) 0 wanted) refl open'.1 shape
 
-volume_is : (o : Option Record) (v : Volume) → volume_in o ≡ Some v → o ≡ Some (kinds.Volume v)
+pub volume_is : (o : Option Record) (v : Volume) → volume_in o ≡ Some v → o ≡ Some (kinds.Volume v)
 volume_is (Some (kinds.Volume x)) v e = (let same : x ≡ v = cc in ap (λ (y : Volume). Some (kinds.Volume y)) same)
 volume_is (Some (kinds.Group x)) v e = absurd cc
 volume_is (Some (kinds.Disk x)) v e = absurd cc
 volume_is (Some (kinds.Component x)) v e = absurd cc
 volume_is (Some (kinds.Partition x)) v e = absurd cc
 volume_is None v e = absurd cc
-
--- what extend makes of a sound group is as sound
-pub extended_keeps : (db : Database) (labels : List Label) (name : List ℕ) (pieces : List Piece) (next : Database) → Rising db.records → All (λ l. l.data_size < 2 ^ 64) labels → IsSoundOn db labels
-    → extended db labels pieces (volume_named name db.records) ≡ Ok next → Rising next.records × Keeps labels db next
-extended_keeps db labels name pieces next up low ed h =
-    extended_from db labels pieces (volume_named name db.records) next up low ed
-    (λ v e. (find_there (is_volume_named name) db.records (kinds.Volume v) (volume_is (find (is_volume_named name) db.records) v e)).0) h

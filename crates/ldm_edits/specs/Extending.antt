@@ -95,7 +95,7 @@ with_wanted db v (Ok wanted) =
     refused_or (when (is_bad_length (held (layout_of db.records v)) wanted) refusals.BadSize)
     (lengthen db v (component_of v db.records) wanted (placed (taken_in db.records) 0 wanted))
 
-abbrev pub extended : Database → List Label → List Piece → Option Volume → Result Database Refusal
-extended db labels pieces None = Err refusals.NoVolume
-extended db labels pieces (Some v) =
+abbrev pub extended_span : Database → List Label → List Piece → Option Volume → Result Database Refusal
+extended_span db labels pieces None = Err refusals.NoVolume
+extended_span db labels pieces (Some v) =
     refused_or (unlengthened db.records v) (with_wanted db v (asked_for (data_size labels db.records) db.records 0 (map (λ p. (p.disk, p.len)) pieces)))

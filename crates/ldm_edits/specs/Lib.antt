@@ -7,3 +7,5 @@ pub mod Staying
 pub mod Answers
 pub mod Steps
 pub mod Counting
+pub mod Mirroring
+pub mod Extended

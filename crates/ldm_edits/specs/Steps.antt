@@ -18,7 +18,7 @@ use Rattle.ldm_edits.specs.declared.batch.Draft.{Draft}
 use Rattle.ldm_edits.specs.declared.batch.Turn.{Turn as Verdict}
 use Rattle.ldm_edits.specs.declared.batch.Turn.TheVariants as verdicts
 use Rattle.ldm_edits.specs.Creating.{created}
-use Rattle.ldm_edits.specs.Extending.{extended}
+use Rattle.ldm_edits.specs.Extended.{extended}
 use Rattle.ldm_edits.specs.Deleting.{deleted}
 
 -- the group after a change, or the first reason that it is refused; a word of a batch is no change

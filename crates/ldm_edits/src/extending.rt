@@ -1,19 +1,23 @@
-//! `extend`: more pieces at the end of a span, or the first refusal.
+//! `extend`: more pieces at the end of a span or a mirror, or the first refusal.
 ghost use Rattle.std.specs.Prelude.{◌≡◌, ◌+◌, ◌^◌, ◌<◌, ◌≤◌, Contains, Some, None, Ok, find, length, option_copied, sum_by, true, is_some, IfOk};
 ghost use Rattle.ldm_records.specs.declared.types.Record.TheVariants as kinds;
 ghost use Rattle.ldm_made.specs.Made.{resized, with_children};
 ghost use Rattle.ldm_group.specs.Looks.{is_child, volume_named};
-ghost use Rattle.ldm_layout.specs.Volumes.{layout_of, volume_with};
+ghost use Rattle.ldm_layout.specs.Parts.{plexes_of};
+ghost use Rattle.ldm_layout.specs.Volumes.{layout_of, shape_of, volume_with};
 ghost use Rattle.ldm_rules.specs.Facts.{IsSoundOn};
 ghost use Rattle.ldm_words.specs.Limits.{ArePieces};
 ghost use Rattle.ldm_edits.specs.Answers.{StepsTo};
-ghost use Rattle.ldm_edits.specs.Extending.{component_in, held, unlengthened, longer_parts, extended};
+ghost use Rattle.ldm_edits.specs.Extending.{component_in, held, unlengthened, longer_parts, extended_span};
+ghost use Rattle.ldm_layout.specs.declared.shape.Shape.TheVariants as shapes;
+ghost use Rattle.ldm_edits.specs.Extended.{extended_mirror, extended};
 
 use crate::asked::{asked_pieces, is_bad_length};
 use crate::changing::change;
 use crate::error::StepError;
 use crate::leaving::Leaving;
 use crate::limits::first_new_id;
+use crate::mirroring::lengthen_mirror;
 use crate::reply::Refusal;
 use ldm_bytes::NoMemory;
 use ldm_group::Db;
@@ -94,13 +98,59 @@ pub fn extend(
         return Err(StepError::Refused(Refusal::NoVolume));
     };
     let plan = plan_of(alloc, db, labels, volume)?;
-    let Shape::Span = plan.shape() else {
+    let shape = plan.shape();
+    if let Shape::Mirror = shape {
+        return extend_mirror(alloc, db, labels, volume, plan.capacity(), pieces);
+    }
+    extend_span(alloc, db, labels, volume, shape, plan.capacity(), pieces)
+}
+
+// The group with a longer mirror.
+fn extend_mirror(
+    alloc: Global,
+    db: &Db,
+    labels: &Labels,
+    volume: &Volume,
+    capacity: u128,
+    pieces: &[Piece],
+) -> Result<Db, StepError>
+    requires sound { IsSoundOn db.now labels.now }
+    requires there { Contains db.now.records (kinds.Volume volume.now) }
+    requires limits { ArePieces pieces.now }
+    requires shape { shape_of (plexes_of volume.now.head.id db.now.records) ≡ Some shapes.Mirror }
+    requires held { capacity ≡ held (layout_of db.now.records volume.now) }
+    ensures { StepsTo result (extended_mirror db.now labels.now pieces.now volume.now) }
+{
+    if volume.size2.is_some() {
+        return Err(StepError::Refused(Refusal::ExtraSize));
+    }
+    lengthen_mirror(alloc, db, labels, volume, capacity, pieces)
+}
+
+// The group with a longer span, where this is the volume's shape.
+fn extend_span(
+    alloc: Global,
+    db: &Db,
+    labels: &Labels,
+    volume: &Volume,
+    shape: Shape,
+    capacity: u128,
+    pieces: &[Piece],
+) -> Result<Db, StepError>
+    requires sound { IsSoundOn db.now labels.now }
+    requires there { Contains db.now.records (kinds.Volume volume.now) }
+    requires limits { ArePieces pieces.now }
+    requires shape { shape_of (plexes_of volume.now.head.id db.now.records) ≡ Some shape }
+    requires held { capacity ≡ held (layout_of db.now.records volume.now) }
+    ensures { StepsTo result (extended_span db.now labels.now pieces.now (Some volume.now)) }
+{
+    let Shape::Span = shape else {
         return Err(StepError::Refused(Refusal::NotSpan));
     };
     if volume.size2.is_some() {
         return Err(StepError::Refused(Refusal::ExtraSize));
     }
-    lengthen(alloc, db, labels, volume, plan.capacity(), pieces)
+    lengthen(alloc, db, labels, volume, capacity, pieces)
 }
 
 // The group with a longer span of this capacity.
@@ -117,7 +167,7 @@ fn lengthen(
     requires limits { ArePieces pieces.now }
     requires span { unlengthened db.now.records volume.now ≡ None }
     requires held { capacity ≡ held (layout_of db.now.records volume.now) }
-    ensures { StepsTo result (extended db.now labels.now pieces.now (Some volume.now)) }
+    ensures { StepsTo result (extended_span db.now labels.now pieces.now (Some volume.now)) }
 {
     let wanted = match asked_pieces(alloc, db, labels, pieces)? {
         Ok(wanted) => wanted,

@@ -1,6 +1,6 @@
 //! Which records leave the group, and those that stay.
 ghost use Rattle.std.specs.Prelude.{◌≡◌, IfOk};
-ghost use Rattle.ldm_group.specs.Looks.{is_at};
+ghost use Rattle.ldm_group.specs.Looks.{is_at, is_child};
 ghost use Rattle.ldm_group.specs.Order.{Rising};
 ghost use Rattle.ldm_edits.specs.Deleting.{goes};
 ghost use Rattle.ldm_edits.specs.Staying.{is_component_of, leaves, staying};
@@ -16,6 +16,8 @@ pub enum Leaving {
     Nothing,
     /// A volume and a component, for changed ones in their places.
     Changed { volume: u64, component: u64 },
+    /// A volume and its components, for changed ones in their places.
+    Grown { volume: u64 },
     /// A volume with its components and their partitions.
     Deleted { volume: u64 },
 }
@@ -49,6 +51,16 @@ fn is_at(r: &Record, kind: u8, id: u64) -> bool
     kind_of(r) == kind && id_of(r) == id
 }
 
+// Whether the record is a component of this volume.
+fn is_in(r: &Record, volume: u64) -> bool
+    ensures { result ≡ is_child 3 volume r.now }
+{
+    match r {
+        Record::Component(c) => c.parent == volume,
+        _ => false,
+    }
+}
+
 impl Leaving {
     /// Whether a record of the group leaves it.
     pub fn takes(self, db: &Db, r: &Record) -> bool
@@ -58,6 +70,7 @@ impl Leaving {
         match self {
             Leaving::Nothing => false,
             Leaving::Changed { volume, component } => is_at(r, 3, volume) || is_at(r, 4, component),
+            Leaving::Grown { volume } => is_at(r, 3, volume) || is_in(r, volume),
             Leaving::Deleted { volume } => goes(db, volume, r),
         }
     }

@@ -14,13 +14,16 @@ pub enum Refusal {
     NameTaken,
     /// No volume has the name.
     NoVolume,
-    /// The volume that is to be extended is no span.
+    /// The volume that is to be extended is neither a span nor a mirror.
     NotSpan,
     /// It has a second size.
     ExtraSize,
+    /// The mirror that is to be extended has this many components, and the pieces aren't as many.
+    PieceCount(usize),
     /// The disk word of this number, from 0 on, names no disk.
     NoDisk(usize),
-    /// Two disk words of a stripe, mirror or RAID-5 name one disk.
+    /// Two disk words of a stripe, mirror or RAID-5 name one disk, or a mirror is to be extended on the disk of another
+    /// of its components.
     SameDisk,
     /// A length or chunk is 0, the sectors of a column are no whole number of chunks, or the volume's size is 2^64 or more.
     BadSize,

@@ -34,11 +34,13 @@ fn largest(labels: &[Label]) -> u64
     labels.iter().map(|l| l.data_size).max().unwrap_or(0)
 }
 
-// A law of the types: the records rise, and the sizes that the labels say are numbers of the format.
+// A law of the types: the records rise, and the sizes that the labels say and the last VBLK sequence are numbers of the format.
 fn types_hold(db: &Db, labels: &Labels)
     ensures rising { Rising db.now.records }
     ensures low { All (λ l. l.data_size < 2 ^ 64) labels.now }
+    ensures last { db.now.header.last < 2 ^ 32 }
 {
+    let _last = db.header().last;
     let _records = db.as_slice();
     let _largest = largest(labels.as_slice());
 }

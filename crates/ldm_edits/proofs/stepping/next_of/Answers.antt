@@ -5,7 +5,7 @@ use Rattle.ldm_edits.specs.declared.reply.Refusal.{Refusal}
 use Rattle.ldm_edits.specs.Answers.{StepsTo}
 use Rattle.ldm_edits.specs.Creating.{created}
 use Rattle.ldm_edits.specs.Deleting.{deleted}
-use Rattle.ldm_edits.specs.Extending.{extended}
+use Rattle.ldm_edits.specs.Extended.{extended}
 use Rattle.ldm_edits.specs.Steps.{next_of}
 use Rattle.ldm_edits.proofs.stepping.next_of.Goals as goal
 
