@@ -29,6 +29,9 @@ fn push_reason(text: &mut Text, refusal: &Refusal) -> Result<(), NoMemory>
 {
     match *refusal {
         Refusal::BadLine => text.push(b"bad line"),
+        Refusal::BatchOpen => text.push(b"batch open"),
+        Refusal::NoBatch => text.push(b"no batch"),
+        Refusal::EmptyBatch => text.push(b"empty batch"),
         Refusal::NameTaken => text.push(b"name taken"),
         Refusal::NoVolume => text.push(b"no volume"),
         Refusal::NotSpan => text.push(b"not a span"),
@@ -52,6 +55,8 @@ pub fn reply_text(alloc: Global, line: u64, reply: &Reply) -> Result<Bytes, NoMe
     text.push_number(line)?;
     match reply {
         Reply::Done(seq) => push_number(&mut text, b" ok ", *seq)?,
+        Reply::Held => text.push(b" held")?,
+        Reply::Dropped => text.push(b" dropped")?,
         Reply::Refused(refusal) => {
             text.push(b" refused: ")?;
             push_reason(&mut text, refusal)?;

@@ -79,12 +79,12 @@ kept_from start host found is one_each settled moments images said left = ⊎_el
     (kept_or_start start host found is moments images said left)
 
 -- the session of a group, by its parts
-abbrev pub session_is : (found : Found) (session : Opened) → session.db ≡ found.db → session.labels ≡ found.labels → record { db = found.db; labels = found.labels } ≡ session
-session_is found session db labels = λ i. record { db = sym db i; labels = sym labels i }
+abbrev pub session_is : (found : Found) (session : Opened) → session.db ≡ found.db → session.labels ≡ found.labels → session.draft ≡ None → record { db = found.db; labels = found.labels; draft = None } ≡ session
+session_is found session db labels none = λ i. record { db = sym db i; labels = sym labels i; draft = sym none i }
 
 -- after the healing the images have their labels, and hold the group
 pub holds_after : (found : Found) (old new : List (List ℕ)) → IsGroupIn old (Ok found) → found.blocked ≡ None → length new ≡ length old → AreSameOutside found.labels old new
-    → AllHave found.labels new (IsCurrent found.db) → HoldsGroup (record { db = found.db; labels = found.labels }) new
+    → AllHave found.labels new (IsCurrent found.db) → HoldsGroup (record { db = found.db; labels = found.labels; draft = None }) new
 holds_after found old new is editable same outside current =
     let held = holds_group old found is in
     record {

@@ -1,8 +1,11 @@
 //! A group that is being edited, one command after another.
-ghost use Rattle.std.specs.Prelude.{◌≡◌, ◌+◌, ◌*◌, ◌/◌, ◌<◌, ◌≤◌, ℕ, slice_index, IfOk, IsErrOf, None};
+ghost use Rattle.std.specs.Prelude.{◌≡◌, ◌+◌, ◌*◌, ◌/◌, ◌<◌, ◌≤◌, ℕ, slice_index, IfOk, IsErrOf, None, false, option_copied};
+ghost use Rattle.std.specs.Option.{ForSome};
 ghost use Rattle.ldm_host.specs.Moves.{Later, Quiet, Rose, Still};
 ghost use Rattle.ldm_copy.specs.declared.answer.CopyState.{CopyState};
 ghost use Rattle.ldm_edits.specs.declared.reply.Reply.{Reply};
+ghost use Rattle.ldm_edits.specs.Counting.{is_done};
+ghost use Rattle.ldm_edits.specs.Steps.{IsDraftOf};
 ghost use Rattle.ldm_words.specs.Limits.{IsCommand};
 ghost use Rattle.ldm_found.specs.Facts.{IsSoundGroup};
 ghost use Rattle.ldm_store.specs.Kept.{AlwaysKept};
@@ -11,7 +14,7 @@ ghost use Rattle.ldm_store.specs.Sessions.{IsEditable, IsNextFor, RestsOn, Holds
 
 use crate::rewriting::rewrite_all;
 use ldm_copy::body_of;
-use ldm_edits::{Outcome, Reply, step};
+use ldm_edits::{Draft, Reply, Turn, turn};
 use ldm_found::Found;
 use ldm_group::Db;
 use ldm_host::Host;
@@ -20,21 +23,22 @@ use ldm_words::Command;
 use std::alloc::Global;
 use std::marker::Model;
 
-/// A group that may be edited: its database and the labels of its images, in the order of the disks.
+/// A group that may be edited: its database and the labels of its images, in the order of the disks; and the batch that is open.
 #[derive(Drop)]
 pub struct Session {
     db: Db,
     labels: Labels,
+    draft: Option<Draft>,
 }
 
 impl Model for Session {
-    ghost use Rattle.ldm_store.specs.Sessions.{IsEditable, Opened};
+    ghost use Rattle.ldm_store.specs.Sessions.{IsInHand, Opened};
 
     ghost Value = { Opened };
 
-    ghost view = { λ s. record { db = s.db; labels = s.labels } };
+    ghost view = { λ s. record { db = s.db; labels = s.labels; draft = s.draft } };
 
-    ghost invariant = { λ s. IsEditable s.db s.labels };
+    ghost invariant = { λ s. IsInHand s.db s.labels s.draft };
 }
 
 /// Why a command has no answer.
@@ -47,10 +51,13 @@ pub enum ApplyError {
 }
 
 impl Session {
-    ghost use Rattle.std.specs.Prelude.{◌≡◌, ◌+◌, ◌*◌, ◌/◌, ◌<◌, ◌≤◌, ℕ, slice_index, IfOk, IsErrOf, None};
+    ghost use Rattle.std.specs.Prelude.{◌≡◌, ◌+◌, ◌*◌, ◌/◌, ◌<◌, ◌≤◌, ℕ, slice_index, IfOk, IsErrOf, None, false, option_copied};
+    ghost use Rattle.std.specs.Option.{ForSome};
     ghost use Rattle.ldm_host.specs.Moves.{Later, Quiet, Rose, Still};
     ghost use Rattle.ldm_copy.specs.declared.answer.CopyState.{CopyState};
     ghost use Rattle.ldm_edits.specs.declared.reply.Reply.{Reply};
+    ghost use Rattle.ldm_edits.specs.Counting.{is_done};
+    ghost use Rattle.ldm_edits.specs.Steps.{IsDraftOf};
     ghost use Rattle.ldm_words.specs.Limits.{IsCommand};
     ghost use Rattle.ldm_found.specs.Facts.{IsSoundGroup};
     ghost use Rattle.ldm_store.specs.Kept.{AlwaysKept};
@@ -63,10 +70,12 @@ impl Session {
         requires unblocked { found.blocked ≡ None }
         ensures db { result.db ≡ found.db }
         ensures labels { result.labels ≡ found.labels }
+        ensures draft { result.draft ≡ None }
     {
         Session {
             db: found.db,
             labels: found.labels,
+            draft: None,
         }
     }
 
@@ -78,7 +87,46 @@ impl Session {
         &self.db
     }
 
-    /// Does one command on all disks, in their order. All memory is taken before the first write.
+    // The same group, with this batch open.
+    fn with_draft(self, draft: Option<Draft>) -> Session
+        requires { ForSome draft (IsDraftOf self.labels self.db) }
+        ensures { result ≡ record { db = self.db; labels = self.labels; draft = draft } }
+    {
+        let Session {
+            db,
+            labels,
+            draft: _,
+        } = self;
+        Session { db, labels, draft }
+    }
+
+    // Another group on the same disks, with no batch open.
+    fn with_group(self, db: Db) -> Session
+        requires { IsEditable db self.labels }
+        ensures { result ≡ record { db = db; labels = self.labels; draft = None } }
+    {
+        let Session {
+            db: _,
+            labels,
+            draft: _,
+        } = self;
+        Session {
+            db,
+            labels,
+            draft: None,
+        }
+    }
+
+    /// The batch that is open.
+    pub fn draft(&self) -> Option<&Draft>
+        ensures is { option_copied result ≡ self.now.draft }
+        ensures drafted { ForSome self.now.draft (IsDraftOf self.now.labels self.now.db) }
+    {
+        self.draft.as_ref()
+    }
+
+    /// Does one command on all disks, in their order; while a batch is open, a command is held, and a commit is done. All memory is
+    /// taken before the first write.
     ///
     /// The host is the one that was settled, and nobody else wrote to its disks since. Its disks have the session's labels.
     pub fn apply<H: Host>(
@@ -96,7 +144,7 @@ impl Session {
         ensures next { IfOk result (λ answer. IsNextFor self (turn_in self command.now).state.db) }
         ensures torn { IsErrOf result ApplyError.Disk → IsNextFor self (turn_in self command.now).state.db }
         ensures turn { IfOk result (λ answer. IsTurnOf (turn_in self command.now) self.labels answer.0 answer.1) }
-        ensures refused { IfOk result (λ answer. (refusal : _) → answer.1 ≡ Reply.Refused refusal → Still (H.seen host.old) (H.seen host.new)) }
+        ensures unwritten { IfOk result (λ answer. is_done answer.1 ≡ false → Still (H.seen host.old) (H.seen host.new)) }
         ensures done { H.tells_disks → IfOk result (λ answer. (seq : ℕ) → answer.1 ≡ Reply.Done seq
             → AllHave self.labels (H.seen host.new).content (λ copy. copy ≡ CopyState.Valid answer.0.db)) }
         ensures rests { IfOk result (λ answer. RestsOn answer.0 (H.seen host.new)) }
@@ -110,12 +158,14 @@ impl Session {
         ensures quiet { Quiet (H.seen host.old) (H.seen host.new) }
         ensures cause { IsErrOf result ApplyError.Disk → Rose (H.seen host.old).disk_faults (H.seen host.new).disk_faults }
     {
-        let Ok(outcome) = step(alloc, &self.db, &self.labels, command) else {
+        let Ok(turned) = turn(alloc, &self.db, self.draft.as_ref(), &self.labels, command) else {
             return Err(ApplyError::NoMemory(self));
         };
-        let newer = match outcome {
-            Outcome::Refused(refusal) => return Ok((self, Reply::Refused(refusal))),
-            Outcome::Next(newer) => newer,
+        let newer = match turned {
+            Turn::Refused(refusal) => return Ok((self, Reply::Refused(refusal))),
+            Turn::Hold(draft) => return Ok((self.with_draft(Some(draft)), Reply::Held)),
+            Turn::GiveUp => return Ok((self.with_draft(None), Reply::Dropped)),
+            Turn::Next(newer) => newer,
         };
         let Ok(body) = body_of(alloc, &newer) else {
             return Err(ApplyError::NoMemory(self));
@@ -124,7 +174,6 @@ impl Session {
             return Err(ApplyError::Disk);
         };
         let seq = newer.header().seq;
-        let Session { db: _, labels } = self;
-        Ok((Session { db: newer, labels }, Reply::Done(seq)))
+        Ok((self.with_group(newer), Reply::Done(seq)))
     }
 }

@@ -124,6 +124,7 @@ fn settle_synced<H: Host>(alloc: Global, host: &mut H) -> Result<Session, OpenEr
     ensures wrote { H.tells_disks → (found : Found) → IsGroupIn (H.seen host.old).content (Result.Ok found) → (disk : ℕ)
         → slice_index (H.seen host.new).wrote disk ≤ slice_index (H.seen host.old).wrote disk + (512 * (found.db.header.last / 4) + 1) }
     ensures rests { IfOk result (λ session. RestsOn session (H.seen host.new)) }
+    ensures fresh { IfOk result (λ session. session.draft ≡ None) }
     ensures later { Later (H.seen host.old) (H.seen host.new) }
     ensures quiet { Quiet (H.seen host.old) (H.seen host.new) }
     ensures cause { IsErrOf result OpenError.Disk → Rose (H.seen host.old).disk_faults (H.seen host.new).disk_faults }
@@ -171,6 +172,7 @@ pub fn settle<H: Host>(alloc: Global, host: &mut H) -> Result<Session, OpenError
     ensures wrote { H.tells_disks → (found : Found) → IsGroupIn (H.seen host.old).content (Result.Ok found) → (disk : ℕ)
         → slice_index (H.seen host.new).wrote disk ≤ slice_index (H.seen host.old).wrote disk + (512 * (found.db.header.last / 4) + 1) }
     ensures rests { IfOk result (λ session. RestsOn session (H.seen host.new)) }
+    ensures fresh { IfOk result (λ session. session.draft ≡ None) }
     ensures later { Later (H.seen host.old) (H.seen host.new) }
     ensures quiet { Quiet (H.seen host.old) (H.seen host.new) }
     ensures cause { IsErrOf result OpenError.Disk → Rose (H.seen host.old).disk_faults (H.seen host.new).disk_faults }

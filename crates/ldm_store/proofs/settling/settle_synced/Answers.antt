@@ -159,7 +159,7 @@ returns-clause-wrote g c tells other is disk =
 pub returns-clause-opened : goal.returns-clause-opened
 returns-clause-opened g c tells =
     let found = c.in_ok-found.found in
-    record { found = found; is = c.in_ok-found.ensures.found tells; editable = c.in_default.is; db = c.of.ensures.db; labels = c.of.ensures.labels }
+    record { found = found; is = c.in_ok-found.ensures.found tells; editable = c.in_default.is; db = c.of.ensures.db; labels = c.of.ensures.labels; draft = c.of.ensures.draft }
 
 pub returns-clause-holds : goal.returns-clause-holds
 returns-clause-holds g c tells =
@@ -170,7 +170,7 @@ returns-clause-holds g c tells =
     let still = c.find_group.ensures.still in
     let one_each = g.met.H.Host.one_each tells in
     let sizes = c.heal_all.ensures.later.sizes ∙ still.later.sizes in
-    subst (λ (s : Opened). HoldsGroup s d.content) (session_is found c.of.result c.of.ensures.db c.of.ensures.labels)
+    subst (λ (s : Opened). HoldsGroup s d.content) (session_is found c.of.result c.of.ensures.db c.of.ensures.labels c.of.ensures.draft)
     (holds_after found a.content d.content (c.in_ok-found.ensures.found tells) c.in_default.is
     (one_each c.heal_all.new.host ∙ ap length sizes ∙ sym (one_each c.args.host.now))
     (subst (λ (l : List (List ℕ)). AreSameOutside found.labels l d.content) still.content (c.heal_all.ensures.outside tells))
@@ -179,7 +179,7 @@ returns-clause-holds g c tells =
 pub returns-clause-each : goal.returns-clause-each
 returns-clause-each g c tells =
     let seen = g.H.Host.seen in
-    subst (λ (s : Opened). AreRewritten s.labels s.db (seen c.args.host.now).content (seen c.heal_all.new.host).content) (session_is c.in_ok-found.found c.of.result c.of.ensures.db c.of.ensures.labels)
+    subst (λ (s : Opened). AreRewritten s.labels s.db (seen c.args.host.now).content (seen c.heal_all.new.host).content) (session_is c.in_ok-found.found c.of.result c.of.ensures.db c.of.ensures.labels c.of.ensures.draft)
     (λ disk lt. ⊎_elim (λ has. inl has) (λ is. inr (is ∙ ap (λ (l : List (List ℕ)). image l disk) c.find_group.ensures.still.content)) (c.in-Ok.ensures.each tells disk lt))
 
 pub returns-clause-later : goal.returns-clause-later
@@ -191,7 +191,7 @@ pub returns-clause-rests : goal.returns-clause-rests
 returns-clause-rests g c =
     let d = g.H.Host.seen c.heal_all.new.host in
     let found = c.in_ok-found.found in
-    subst (λ (s : Opened). RestsOn s d) (session_is found c.of.result c.of.ensures.db c.of.ensures.labels) (record {
+    subst (λ (s : Opened). RestsOn s d) (session_is found c.of.result c.of.ensures.db c.of.ensures.labels c.of.ensures.draft) (record {
       lie = subst (λ (l : List ℕ). LieOn found.labels l) (sym (c.heal_all.ensures.later.sizes ∙ c.find_group.ensures.still.later.sizes)) c.in_ok-found.ensures.lies;
       settled = c.in-Ok.ensures.settled;
     })
