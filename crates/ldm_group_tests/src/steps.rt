@@ -212,7 +212,19 @@ const FULL_NUMBERS: [Numbers; 11] = [
     [15, 14, 4, 0, 1, 0, 0],
 ];
 
-const DONE: [Case; 2] = [
+// A long mirror: 12 blocks with the disks.
+const MIRROR: &str =
+    "6.11.77.2.255 4.12.99.1.11.2 5.13.112.1.255.12.3 4.14.99.1.11.2 5.15.112.0.255.14.4";
+
+const MIRROR_NUMBERS: [Numbers; 5] = [
+    [11, 2, 255, 0, 0, 0, 0],
+    [12, 11, 2, 1, 0, 0, 0],
+    [14, 11, 2, 1, 0, 0, 0],
+    [13, 12, 3, 1, 255, 0, 0],
+    [15, 14, 4, 0, 255, 0, 0],
+];
+
+const DONE: [Case; 4] = [
     // Each layout, at the first fits.
     (
         3,
@@ -272,6 +284,49 @@ create C * span Disk1=6 Disk1=5 > 1 ok 14
             [15, 14, 2, 15, 10, 0, 0],
             [18, 17, 2, 25, 6, 0, 0],
             [19, 17, 2, 10, 5, 6, 0],
+        ],
+    ),
+    // A mirror gets a piece for each copy.
+    (
+        3,
+        "0.64",
+        "",
+        "\
+create M * mirror 100 Disk1 Disk2 > 1 ok 8
+extend M Disk1=50 > 1 refused: need 2 pieces
+extend M Disk1=50 Disk2=60 > 1 refused: bad size
+extend M Disk2=50 Disk1=50 > 1 refused: same disk twice
+extend M Disk1=50 Disk2=50 > 1 ok 9
+",
+        &[
+            [5, 2, 150, 0, 0, 0, 0],
+            [6, 5, 2, 2, 0, 0, 0],
+            [8, 5, 2, 2, 0, 0, 0],
+            [7, 6, 2, 0, 100, 0, 0],
+            [9, 8, 3, 0, 100, 0, 0],
+            [10, 6, 2, 100, 50, 100, 0],
+            [11, 8, 3, 100, 50, 100, 0],
+        ],
+    ),
+    // One copy holds 100 sectors and the other 120, and the volume has 90 of them.
+    (
+        3,
+        "0.64",
+        "3.5.77.2.90 4.6.99.1.5.2 5.7.112.0.100.6.2 4.8.99.1.5.2 5.9.112.10.120.8.3",
+        "\
+extend M Disk1=50 Disk2=50 > 1 ok 8
+extend M Disk1=5 Disk3=5 > 1 ok 9
+",
+        &[
+            [5, 2, 155, 0, 0, 0, 0],
+            [6, 5, 2, 3, 0, 0, 0],
+            [8, 5, 2, 3, 0, 0, 0],
+            [7, 6, 2, 0, 100, 0, 0],
+            [9, 8, 3, 10, 120, 0, 0],
+            [10, 6, 2, 100, 50, 100, 0],
+            [11, 8, 3, 130, 50, 120, 0],
+            [12, 6, 2, 150, 5, 150, 0],
+            [13, 8, 4, 0, 5, 170, 0],
         ],
     ),
 ];
@@ -373,7 +428,7 @@ extend D Disk1=1 > 1 refused: record 5 too long
 
 // Each refusal beside all later ones that can stand with it: the room and the sequence are spent, and of the first
 // group the ids too.
-const TOGETHER: [Case; 2] = [
+const TOGETHER: [Case; 4] = [
     (
         3,
         "0.28.255.255",
@@ -391,7 +446,7 @@ create N * span Disk1=6082 > 1 refused: no space 0
 create N * mirror 6081 Disk3 Disk1 > 1 refused: no space 0
 create N * span Disk1=1 > 1 refused: ids spent
 extend N Nope=0 > 1 refused: no volume
-extend M Nope=0 Disk1=6082 > 1 refused: not a span
+extend M Nope=0 > 1 refused: second size
 extend X Nope=0 Disk1=6082 > 1 refused: second size
 extend D Nope=0 Disk1=6082 > 1 refused: no disk 0
 extend D Disk2=6082 Disk1=0 > 1 refused: bad size
@@ -412,6 +467,33 @@ create N * span Disk1=1 > 1 refused: no room: need 27 have 24
 delete D > 1 refused: sequence spent
 ",
         &FULL_NUMBERS,
+    ),
+    (
+        3,
+        "0.16.255.255",
+        MIRROR,
+        "\
+extend M Nope=0 > 1 refused: need 2 pieces
+extend M Disk2=0 Disk3=0 Nope=0 > 1 refused: need 2 pieces
+extend M Disk2=0 Nope=1 > 1 refused: no disk 1
+extend M Disk1=0 Disk1=6082 > 1 refused: same disk twice
+extend M Disk3=0 Disk1=6082 > 1 refused: same disk twice
+extend M Disk1=0 Disk2=6082 > 1 refused: same disk twice
+extend M Disk2=6082 Disk3=1 > 1 refused: bad size
+extend M Disk2=0 Disk3=0 > 1 refused: bad size
+extend M Disk2=18446744073709551361 Disk3=18446744073709551361 > 1 refused: bad size
+extend M Disk2=18446744073709551360 Disk3=18446744073709551360 > 1 refused: no space 0
+extend M Disk1=6081 Disk3=6081 > 1 refused: no space 1
+extend M Disk2=1 Disk3=1 > 1 refused: ids spent
+",
+        &MIRROR_NUMBERS,
+    ),
+    (
+        3,
+        "0.16.255",
+        MIRROR,
+        "extend M Disk2=1 Disk3=1 > 1 refused: record 11 too long\n",
+        &MIRROR_NUMBERS,
     ),
 ];
 

@@ -15,6 +15,14 @@ fn push_too_long(text: &mut Text, id: u64) -> Result<(), NoMemory>
     text.push(b" too long")
 }
 
+// need COUNT pieces
+fn push_piece_count(text: &mut Text, count: usize) -> Result<(), NoMemory>
+    ensures { OnOk result (text.new ≡ text.old ++ text_of_reason (Refusal.PieceCount count)) }
+{
+    push_number(text, b"need ", count as u64)?;
+    text.push(b" pieces")
+}
+
 // no room: need NEED have HAVE
 fn push_no_room(text: &mut Text, need: u64, have: u64) -> Result<(), NoMemory>
     ensures { OnOk result (text.new ≡ text.old ++ text_of_reason (Refusal.NoRoom need have)) }
@@ -36,6 +44,7 @@ fn push_reason(text: &mut Text, refusal: &Refusal) -> Result<(), NoMemory>
         Refusal::NoVolume => text.push(b"no volume"),
         Refusal::NotSpan => text.push(b"not a span"),
         Refusal::ExtraSize => text.push(b"second size"),
+        Refusal::PieceCount(count) => push_piece_count(text, count),
         Refusal::NoDisk(place) => push_number(text, b"no disk ", place as u64),
         Refusal::SameDisk => text.push(b"same disk twice"),
         Refusal::BadSize => text.push(b"bad size"),

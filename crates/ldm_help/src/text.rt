@@ -31,7 +31,7 @@ A line of a script is a COMMAND:
   create NAME GUID stripe CHUNK SECTORS DISK DISK...      SECTORS on each of 2 to 64 disks
   create NAME GUID mirror SECTORS DISK DISK...            SECTORS on each of 2 to 64 disks
   create NAME GUID raid5 CHUNK SECTORS DISK DISK DISK...  SECTORS on each of 3 to 64 disks
-  extend NAME DISK=SECTORS...                             more pieces at the end of a span
+  extend NAME DISK=SECTORS...                             more pieces at the end of a span or a mirror
   delete NAME
 
 SECTORS and CHUNK are counted in sectors of 512 bytes. NAME and DISK are written as show says them. Each new

@@ -251,9 +251,24 @@ volume 5 E span 1 cccccccc-cccc-cccc-cccc-cccccccccccc
     partition 7 p7 disk 4 start 0 size 1 offset 0
 = 0";
 
+// A mirror gets a piece for each copy.
+const MIRROR: &str = "\
+$ edit on A B C
+< create M bbbbbbbb-bbbb-bbbb-bbbb-bbbbbbbbbbbb mirror 100 Disk1 Disk2
+< extend M Disk1=50
+< extend M Disk1=50 Disk2=50
+1 ok 8
+2 refused: need 2 pieces
+3 ok 9
+= 1 ABC
+$ map M 149 1 on A B C
+149 copy 0 Disk1 149 at 212
+149 copy 1 Disk2 149 at 212
+= 0";
+
 #[test]
 fn edits_the_group(rt: HostRuntime) -> Result<(), Fail> {
-    for text in [SPAN, RAID, FULL, SCRIPTS] {
+    for text in [SPAN, RAID, FULL, SCRIPTS, MIRROR] {
         play(rt.alloc(), &rt, 3, 64, text)?;
     }
     Ok(())

@@ -5,7 +5,7 @@ use Rattle.std.specs.Fmt.{digit_glyph, digits_onto, digits}
 use Rattle.std.proofs.lemmas.Bool.Decides.{nat_tests}
 use Rattle.std.proofs.lemmas.List.Sums.{sum_by-append}
 use Rattle.ldm_edits.specs.declared.reply.Refusal.{Refusal}
-use Rattle.ldm_edits.specs.declared.reply.Refusal.TheVariants.{BadLine, NameTaken, NoVolume, NotSpan, ExtraSize, NoDisk, SameDisk, BadSize, NoSpace, IdsSpent, TooLong, NoRoom, SequenceSpent}
+use Rattle.ldm_edits.specs.declared.reply.Refusal.TheVariants.{BadLine, NameTaken, NoVolume, NotSpan, ExtraSize, PieceCount, NoDisk, SameDisk, BadSize, NoSpace, IdsSpent, TooLong, NoRoom, SequenceSpent}
 use Rattle.ldm_edits.specs.declared.reply.Reply.{Reply}
 use Rattle.ldm_edits.specs.declared.reply.Reply.TheVariants.{Done, Refused}
 use Rattle.ldm_group_text.specs.Reply.{text_of_reason, text_of_reply, text_of_replies}
@@ -54,6 +54,10 @@ reason_no_end NameTaken = refl
 reason_no_end NoVolume = refl
 reason_no_end NotSpan = refl
 reason_no_end ExtraSize = refl
+reason_no_end (PieceCount count) =
+    let text = line_count-append (codes "need " ++ decimal count) (codes " pieces") in
+    let number = decimal_no_end count in
+    omega (arith, text, number)
 reason_no_end (NoDisk place) = decimal_no_end place
 reason_no_end SameDisk = refl
 reason_no_end BadSize = refl
