@@ -1,0 +1,287 @@
+-- A run of sectors: where they can be read moves along with them.
+use Rattle.std.proofs.Common.{◌≡◌, ℕ, ◌+◌, ◌-◌, ◌<◌, ◌≤◌, ◌==◌, inl, inr, min, not, Bool, true, false, List, map, length, refl, ap, sym, subst, ◌∙◌, arith, add_assoc, Option, Some, None, if◌then◌else◌, is_none}
+use Rattle.std.specs.Prelude.{◌&&◌, ◌||◌}
+use Rattle.std.specs.List.{range_with_len, list_all}
+use Rattle.std.specs.Option.{option_map, option_to_list}
+use Rattle.std.proofs.lemmas.Bool.{cases_lt, and_parts, eqb-true, eq-eqb}
+use Rattle.ldm_layout.specs.Layouts.{Layout, copies_of, copies_by, place_in}
+use Rattle.ldm_layout.specs.Columns.{columns_of, own_column, column_in, moved, IsStretch}
+use Rattle.ldm_layout.specs.declared.shape.Place.{Place}
+use Rattle.ldm_layout.specs.declared.shape.Shape.{Shape}
+use Rattle.ldm_layout.specs.declared.shape.Shape.TheVariants.{Span, Stripe, Mirror, Raid5}
+use Rattle.ldm_found.specs.declared.found.Found.{Found}
+use Rattle.ldm_found.specs.Labels.{image_of}
+use Rattle.ldm_dump.specs.Sources.{is_here, data_start, spot_at, first_copy, copy_spot, other_spot, other_spots, is_beside, is_raid5, can_rebuild, sources_by, sources_of, is_lost}
+use Rattle.ldm_dump.specs.Runs.{behind, IsRun}
+use Rattle.ldm_dump.specs.declared.spots.Spot.{Spot}
+use Rattle.ldm_dump.proofs.RangeLaws.{find_first, find_nothing, all_in, all_but, all_at, all_same, made_moved}
+
+-- ---- a place that is moved
+
+pub here_moved : (found : Found) (i : ℕ) (p : Option Place) → is_here found (option_map (moved i) p) ≡ is_here found p
+here_moved found i None = refl
+here_moved found i (Some place) = refl
+
+pub spot_moved : (found : Found) (i : ℕ) (p : Option Place) → spot_at found (option_map (moved i) p) ≡ option_map (behind i) (spot_at found p)
+spot_moved found i None = refl
+spot_moved found i (Some place) = go (image_of place.disk found.db.records found.labels)
+  where
+    go : (o : Option ℕ) → option_map {U = Spot} (λ image. record { image = image; sector = data_start found.labels image + (place.sector + i) }) o
+        ≡ option_map (behind i) (option_map {U = Spot} (λ image. record { image = image; sector = data_start found.labels image + place.sector }) o)
+    go None = refl
+    go (Some image) =
+        let make : ℕ → Option Spot = λ n. Some (record { image = image; sector = n }) in
+        ap make (sym (add_assoc (data_start found.labels image) place.sector i))
+
+pub list_moved : (i : ℕ) (o : Option Spot) → option_to_list (option_map (behind i) o) ≡ map (behind i) (option_to_list o)
+list_moved i None = refl
+list_moved i (Some s) = refl
+
+pub raid5_is : (s : Shape) → is_raid5 s ≡ true → s ≡ Raid5
+raid5_is Span h = absurd cc
+raid5_is Stripe h = absurd cc
+raid5_is Mirror h = absurd cc
+raid5_is Raid5 h = refl
+
+pub other_moved : (found : Found) (l : Layout) (x i column : ℕ) → own_column l (x + i) ≡ own_column l x → column_in l (x + i) column ≡ option_map (moved i) (column_in l x column)
+    → other_spot found l (x + i) column ≡ option_map (behind i) (other_spot found l x column)
+other_moved found l x i column own place =
+    ap (λ (o : ℕ). if column == o then None else spot_at found (column_in l (x + i) column)) own
+    ∙ (ap (λ (p : Option Place). if column == own_column l x then None else spot_at found p) place
+    ∙ (ap (λ (s : Option Spot). if column == own_column l x then None else s) (spot_moved found i (column_in l x column))
+    ∙ go (column == own_column l x) (spot_at found (column_in l x column))))
+  where
+    go : (b : Bool) (s : Option Spot) → (if b then None else option_map (behind i) s) ≡ option_map (behind i) (if b then None else s)
+    go true s = refl
+    go false s = refl
+
+pub beside_moved : (found : Found) (l : Layout) (x i column : ℕ) → own_column l (x + i) ≡ own_column l x → column_in l (x + i) column ≡ option_map (moved i) (column_in l x column)
+    → is_beside found l (x + i) column ≡ is_beside found l x column
+beside_moved found l x i column own place =
+    ap (λ (o : ℕ). (column == o) || is_here found (column_in l (x + i) column)) own
+    ∙ ap (λ (b : Bool). (column == own_column l x) || b) (ap (λ (p : Option Place). is_here found p) place ∙ here_moved found i (column_in l x column))
+
+pub rebuild_same : (found : Found) (l : Layout) (x y : ℕ) (s : Shape) → l.shape ≡ s → (s ≡ Raid5 → (c : ℕ) → is_beside found l y c ≡ is_beside found l x c) → can_rebuild found l y ≡ can_rebuild found l x
+unfolding can_rebuild
+rebuild_same found l x y Raid5 is same = ap (λ (b : Bool). is_raid5 l.shape && b) (all_same (is_beside found l y) (is_beside found l x) (range_with_len 0 (length (columns_of l))) (same refl))
+rebuild_same found l x y Span is same =
+    ap (λ (t : Shape). is_raid5 t && list_all (is_beside found l y) (range_with_len 0 (length (columns_of l)))) is
+    ∙ sym (ap (λ (t : Shape). is_raid5 t && list_all (is_beside found l x) (range_with_len 0 (length (columns_of l)))) is)
+rebuild_same found l x y Stripe is same =
+    ap (λ (t : Shape). is_raid5 t && list_all (is_beside found l y) (range_with_len 0 (length (columns_of l)))) is
+    ∙ sym (ap (λ (t : Shape). is_raid5 t && list_all (is_beside found l x) (range_with_len 0 (length (columns_of l)))) is)
+rebuild_same found l x y Mirror is same =
+    ap (λ (t : Shape). is_raid5 t && list_all (is_beside found l y) (range_with_len 0 (length (columns_of l)))) is
+    ∙ sym (ap (λ (t : Shape). is_raid5 t && list_all (is_beside found l x) (range_with_len 0 (length (columns_of l)))) is)
+
+pub rebuilds_raid5 : (found : Found) (l : Layout) (x : ℕ) → can_rebuild found l x ≡ true → l.shape ≡ Raid5
+unfolding can_rebuild
+rebuilds_raid5 found l x h = raid5_is l.shape (and_parts (is_raid5 l.shape) (list_all (is_beside found l x) (range_with_len 0 (length (columns_of l)))) h).0
+
+-- ---- sources
+
+pub sources_moved : (found : Found) (l : Layout) (x i : ℕ) (o : Option ℕ) (r : Bool) → first_copy found l (x + i) ≡ o → first_copy found l x ≡ o
+    → ((c : ℕ) → o ≡ Some c → copy_spot found l (x + i) c ≡ option_map (behind i) (copy_spot found l x c))
+    → can_rebuild found l (x + i) ≡ r → can_rebuild found l x ≡ r → (r ≡ true → other_spots found l (x + i) ≡ map (behind i) (other_spots found l x))
+    → sources_of found l (x + i) ≡ option_map (map (behind i)) (sources_of found l x)
+unfolding sources_of
+sources_moved found l x i (Some c) r a b spots p q others =
+    ap (λ (o : Option ℕ). sources_by found l (x + i) o (can_rebuild found l (x + i))) a
+    ∙ (ap (λ (s : Option Spot). some_list (option_to_list s)) (spots c refl)
+    ∙ (ap some_list (list_moved i (copy_spot found l x c))
+    ∙ sym (ap (λ (o : Option ℕ). option_map (map (behind i)) (sources_by found l x o (can_rebuild found l x))) b)))
+  where
+    some_list : List Spot → Option (List Spot)
+    some_list spots = Some spots
+sources_moved found l x i None true a b spots p q others =
+    ap (λ (o : Option ℕ). sources_by found l (x + i) o (can_rebuild found l (x + i))) a
+    ∙ (ap (λ (t : Bool). sources_by found l (x + i) None t) p
+    ∙ (ap (λ (s : List Spot). Some s) (others refl)
+    ∙ (sym (ap (λ (t : Bool). option_map (map (behind i)) (sources_by found l x None t)) q)
+    ∙ sym (ap (λ (o : Option ℕ). option_map (map (behind i)) (sources_by found l x o (can_rebuild found l x))) b))))
+sources_moved found l x i None false a b spots p q others =
+    ap (λ (o : Option ℕ). sources_by found l (x + i) o (can_rebuild found l (x + i))) a
+    ∙ (ap (λ (t : Bool). sources_by found l (x + i) None t) p
+    ∙ (sym (ap (λ (t : Bool). option_map (map (behind i)) (sources_by found l x None t)) q)
+    ∙ sym (ap (λ (o : Option ℕ). option_map (map (behind i)) (sources_by found l x o (can_rebuild found l x))) b)))
+
+-- a sector that is read from a copy isn't lost
+pub copy_kept : (found : Found) (l : Layout) (x c : ℕ) → Some c ≡ first_copy found l x → is_lost found l x ≡ false
+unfolding sources_of
+copy_kept found l x c is = sym (ap (λ (o : Option ℕ). is_none (sources_by found l x o (can_rebuild found l x))) is)
+
+-- and one that isn't is lost where it can't be made
+pub none_lost : (found : Found) (l : Layout) (x : ℕ) → None ≡ first_copy found l x → is_lost found l x ≡ not (can_rebuild found l x)
+unfolding sources_of
+none_lost found l x is = sym (ap (λ (o : Option ℕ). is_none (sources_by found l x o (can_rebuild found l x))) is) ∙ go (can_rebuild found l x)
+  where
+    go : (b : Bool) → is_none (sources_by found l x None b) ≡ not b
+    go true = refl
+    go false = refl
+
+-- ---- the copies so far
+
+-- so many sectors lie side by side in each copy so far
+pub record Along (l : Layout) (x copy n : ℕ) : Type 0 where
+  pub some : 0 < n
+  pub within : x + n ≤ l.size
+  pub places : (c i : ℕ) → c < copy → i < n → place_in l (x + i) c ≡ option_map (moved i) (place_in l x c)
+  pub own : (i : ℕ) → 0 < copy → i < n → l.shape ≡ Raid5 → own_column l (x + i) ≡ own_column l x
+  pub columns : (i column : ℕ) → 0 < copy → i < n → l.shape ≡ Raid5 → column_in l (x + i) column ≡ option_map (moved i) (column_in l x column)
+
+-- and none of them is on an image
+abbrev pub AllAbsent : Found → Layout → ℕ → ℕ → Type 0
+AllAbsent found l x copy = (c : ℕ) → c < copy → is_here found (place_in l x c) ≡ false
+
+pub along_first : (l : Layout) (x size : ℕ) → size ≡ l.size → x < l.size → Along l x 0 (size - x)
+along_first l x size is lt = record {
+  some = omega (arith, is, lt);
+  within = omega (arith, is, lt);
+  places = λ c i less _. absurd (omega (arith, less));
+  own = λ i less _ _. absurd (omega (arith, less));
+  columns = λ i column less _ _. absurd (omega (arith, less));
+}
+
+pub along_more : (l : Layout) (x copy s n : ℕ) → Along l x copy s → IsStretch l x copy n → Along l x (copy + 1) (min s n)
+along_more l x copy s n so st = record {
+  some = omega (arith, so.some, st.some);
+  within = omega (arith, so.within, st.within);
+  places = λ c i lt li. elim (cases_lt c copy) [
+    | inl less ↦ so.places c i less (omega (arith, li))
+    | inr ge ↦ (let e : copy ≡ c = omega (arith, lt, ge) in
+        subst (λ (d : ℕ). place_in l (x + i) d ≡ option_map (moved i) (place_in l x d)) e (st.places i (omega (arith, li))))
+  ];
+  own = λ i _ li raid5. st.own i (omega (arith, li)) raid5;
+  columns = λ i column _ li raid5. st.columns i column (omega (arith, li)) raid5;
+}
+
+pub absent_more : (found : Found) (l : Layout) (x copy : ℕ) → AllAbsent found l x copy → is_here found (place_in l x copy) ≡ false → AllAbsent found l x (copy + 1)
+absent_more found l x copy all here c lt = elim (cases_lt c copy) [
+  | inl less ↦ all c less
+  | inr ge ↦ (let e : copy ≡ c = omega (arith, lt, ge) in subst (λ (d : ℕ). is_here found (place_in l x d) ≡ false) e here)
+]
+
+-- ---- the run
+
+module _ (found : Found) (l : Layout) (x copy n : ℕ) (so : Along l x copy n) (some_copy : l.shape ≡ Raid5 → 0 < copy) where
+  here_along : (c i : ℕ) → c < copy → i < n → is_here found (place_in l (x + i) c) ≡ is_here found (place_in l x c)
+  here_along c i lc li = ap (λ (p : Option Place). is_here found p) (so.places c i lc li) ∙ here_moved found i (place_in l x c)
+
+  spot_along : (c i : ℕ) → c < copy → i < n → copy_spot found l (x + i) c ≡ option_map (behind i) (copy_spot found l x c)
+  spot_along c i lc li = ap (λ (p : Option Place). spot_at found p) (so.places c i lc li) ∙ spot_moved found i (place_in l x c)
+
+  column_along : (i column : ℕ) → i < n → l.shape ≡ Raid5 → other_spot found l (x + i) column ≡ option_map (behind i) (other_spot found l x column)
+  column_along i column li raid5 = other_moved found l x i column (so.own i (some_copy raid5) li raid5) (so.columns i column (some_copy raid5) li raid5)
+
+  rebuild_along : (i : ℕ) → i < n → can_rebuild found l (x + i) ≡ can_rebuild found l x
+  rebuild_along i li = rebuild_same found l x (x + i) l.shape refl (λ raid5 c. beside_moved found l x i c (so.own i (some_copy raid5) li raid5) (so.columns i c (some_copy raid5) li raid5))
+
+  others_along : (i : ℕ) → i < n → can_rebuild found l x ≡ true → other_spots found l (x + i) ≡ map (behind i) (other_spots found l x)
+  others_along i li rebuilds = made_moved (other_spot found l (x + i)) (other_spot found l x) (behind i) (range_with_len 0 (length (columns_of l)))
+      (λ c. column_along i c li (rebuilds_raid5 found l x rebuilds))
+
+first_at : (found : Found) (l : Layout) (x c : ℕ) → c < copies_of l → AllAbsent found l x c → is_here found (place_in l x c) ≡ true → first_copy found l x ≡ Some c
+unfolding first_copy
+first_at found l x c lt absent here = find_first (λ d. is_here found (place_in l x d)) 0 (copies_of l) c (omega arith) (omega (arith, lt)) (λ d _ less. absent d less) here
+
+first_none : (found : Found) (l : Layout) (x : ℕ) → AllAbsent found l x (copies_of l) → first_copy found l x ≡ None
+unfolding first_copy
+first_none found l x absent = find_nothing (λ d. is_here found (place_in l x d)) 0 (copies_of l) (λ d _ lt. absent d (omega (arith, lt)))
+
+pub run_found : (found : Found) (l : Layout) (x c n : ℕ) → Along l x (c + 1) n → c < copies_of l → AllAbsent found l x c → is_here found (place_in l x c) ≡ true
+    → IsRun found l x (record { copy = Some c; sectors = n })
+run_found found l x c n so lt absent here = record {
+  copy_is = sym now;
+  some = so.some;
+  within = so.within;
+  copies = λ i d li is. (let e : c ≡ d = cc in subst (λ (k : ℕ). copy_spot found l (x + i) k ≡ option_map (behind i) (copy_spot found l x k)) e (spot_along found l x (c + 1) n so (λ _. omega arith) c i (omega arith) li));
+  columns = λ i column li raid5. column_along found l x (c + 1) n so (λ _. omega arith) i column li raid5;
+  sources = λ i li. sources_moved found l x i (Some c) (can_rebuild found l x)
+      (first_at found l (x + i) c lt (λ d less. here_along found l x (c + 1) n so (λ _. omega arith) d i (omega (arith, less)) li ∙ absent d less) (here_along found l x (c + 1) n so (λ _. omega arith) c i (omega arith) li ∙ here))
+      now
+      (λ d is. (let e : c ≡ d = cc in subst (λ (k : ℕ). copy_spot found l (x + i) k ≡ option_map (behind i) (copy_spot found l x k)) e (spot_along found l x (c + 1) n so (λ _. omega arith) c i (omega arith) li)))
+      (rebuild_along found l x (c + 1) n so (λ _. omega arith) i li)
+      refl
+      (λ rebuilds. others_along found l x (c + 1) n so (λ _. omega arith) i li rebuilds);
+}
+  where
+    now : first_copy found l x ≡ Some c
+    now = first_at found l x c lt absent here
+
+pub run_none : (found : Found) (l : Layout) (x n : ℕ) → Along l x (copies_of l) n → AllAbsent found l x (copies_of l)
+    → IsRun found l x (record { copy = None; sectors = n })
+run_none found l x n so absent = record {
+  copy_is = sym now;
+  some = so.some;
+  within = so.within;
+  copies = λ i d li is. absurd cc;
+  columns = λ i column li raid5. column_along found l x (copies_of l) n so some i column li raid5;
+  sources = λ i li. sources_moved found l x i None (can_rebuild found l x)
+      (first_none found l (x + i) (λ d less. here_along found l x (copies_of l) n so some d i less li ∙ absent d less))
+      now
+      (λ d is. absurd cc)
+      (rebuild_along found l x (copies_of l) n so some i li)
+      refl
+      (λ rebuilds. others_along found l x (copies_of l) n so some i li rebuilds);
+}
+  where
+    now : first_copy found l x ≡ None
+    now = first_none found l x absent
+
+    some : l.shape ≡ Raid5 → 0 < copies_of l
+    some raid5 = subst (λ (s : Shape). 0 < copies_by s (length l.plexes)) (sym raid5) (omega arith)
+
+-- ---- the other columns
+
+pub beside_false : (c own : ℕ) (h : Bool) → (c ≡ own → ⊥) → h ≡ false → ((c == own) || h) ≡ false
+beside_false c own h ne is = go (c == own) refl
+  where
+    go : (b : Bool) → (c == own) ≡ b → ((c == own) || h) ≡ false
+    go true e = absurd (ne (eqb-true c own e))
+    go false e = ap (λ (b : Bool). b || h) e ∙ is
+
+pub beside_own : (c own : ℕ) (h : Bool) → c ≡ own → ((c == own) || h) ≡ true
+beside_own c own h is = ap (λ (b : Bool). b || h) (eq-eqb c own is)
+
+or_true : (b : Bool) → (b || true) ≡ true
+or_true true = refl
+or_true false = refl
+
+pub beside_here : (c own : ℕ) (h : Bool) → h ≡ true → ((c == own) || h) ≡ true
+beside_here c own h is = ap (λ (b : Bool). (c == own) || b) is ∙ or_true (c == own)
+
+pub others_in : (found : Found) (l : Layout) (x : ℕ) → l.shape ≡ Raid5 → ((c : ℕ) → c < length (columns_of l) → is_beside found l x c ≡ true) → can_rebuild found l x ≡ true
+unfolding can_rebuild
+others_in found l x raid5 here =
+    ap (λ (s : Shape). is_raid5 s && list_all (is_beside found l x) (range_with_len 0 (length (columns_of l)))) raid5
+    ∙ all_in (is_beside found l x) 0 (length (columns_of l)) (λ d _ lt. here d (omega (arith, lt)))
+
+pub others_out : (found : Found) (l : Layout) (x c : ℕ) → l.shape ≡ Raid5 → c < length (columns_of l) → is_beside found l x c ≡ false → can_rebuild found l x ≡ false
+unfolding can_rebuild
+others_out found l x c raid5 lt out =
+    ap (λ (s : Shape). is_raid5 s && list_all (is_beside found l x) (range_with_len 0 (length (columns_of l)))) raid5
+    ∙ all_but (is_beside found l x) 0 (length (columns_of l)) c (omega arith) (omega (arith, lt)) out
+
+pub not_rebuilt : (found : Found) (l : Layout) (x : ℕ) → (l.shape ≡ Raid5 → ⊥) → can_rebuild found l x ≡ false
+not_rebuilt found l x not_raid5 = go (can_rebuild found l x) refl
+  where
+    go : (b : Bool) → can_rebuild found l x ≡ b → can_rebuild found l x ≡ false
+    go true is = absurd (not_raid5 (rebuilds_raid5 found l x is))
+    go false is = is
+
+-- what holds below a number, and there
+pub more_below : (P : ℕ → Type 0) (n : ℕ) → ((c : ℕ) → c < n → P c) → P n → (c : ℕ) → c < n + 1 → P c
+more_below P n below here c lt = elim (cases_lt c n) [
+  | inl less ↦ below c less
+  | inr ge ↦ (let e : n ≡ c = omega (arith, lt, ge) in subst P e here)
+]
+
+-- where a sector can be made, each other column is there
+pub others_here : (found : Found) (l : Layout) (x c : ℕ) → can_rebuild found l x ≡ true → c < length (columns_of l) → (c ≡ own_column l x → ⊥) → is_here found (column_in l x c) ≡ true
+unfolding can_rebuild
+others_here found l x c made lt apart =
+    go (c == own_column l x) refl (all_at (is_beside found l x) 0 (length (columns_of l)) c (and_parts (is_raid5 l.shape) (list_all (is_beside found l x) (range_with_len 0 (length (columns_of l)))) made).1 (omega arith) (omega (arith, lt)))
+  where
+    go : (t : Bool) → (c == own_column l x) ≡ t → (t || is_here found (column_in l x c)) ≡ true → is_here found (column_in l x c) ≡ true
+    go true e h = absurd (apart (eqb-true c (own_column l x) e))
+    go false e h = h
