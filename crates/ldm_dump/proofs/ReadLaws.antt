@@ -11,10 +11,10 @@ use Rattle.ldm_found.specs.declared.found.Found.{Found}
 use Rattle.ldm_found.specs.Labels.{image_of}
 use Rattle.ldm_dump.specs.Sources.{is_here, data_start, spot_of, spot_at, first_copy, copy_spot, other_spot, other_spots, can_rebuild, sources_by, sources_of, is_lost}
 use Rattle.ldm_dump.specs.Bytes.{byte_at, joined_byte}
-use Rattle.ldm_dump.specs.Runs.{behind, IsOn, HasBytes, LiesOn, RowsLieOn}
+use Rattle.ldm_dump.specs.Runs.{behind, IsOn, HasBytes}
 use Rattle.ldm_dump.specs.declared.spots.Spot.{Spot}
 use Rattle.ldm_dump.proofs.RangeLaws.{range_more, made_more, found_in}
-use Rattle.ldm_dump.proofs.RunLaws.{none_lost, rebuilds_raid5, spot_moved}
+use Rattle.ldm_dump.proofs.RunLaws.{none_lost, rebuilds_raid5}
 use Rattle.ldm_dump.proofs.ByteLaws.{joined_more}
 
 pub on_ok : {T E : Type 0} (r : Result T E) (P Q : Type 0) → OnOk r P → (P → Q) → OnOk r Q

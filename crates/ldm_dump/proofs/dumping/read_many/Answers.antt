@@ -1,4 +1,4 @@
-use Rattle.std.proofs.Common.{◌≡◌, ◌+◌, ◌-◌, ◌*◌, ◌≤◌, ◌++◌, List, ℕ, length, take, refl, sym, subst, ◌∙◌, arith}
+use Rattle.std.proofs.Common.{◌*◌, ◌≤◌, length, refl, sym, arith}
 use Rattle.ldm_host.proofs.Relations.{still_itself, still_trans, quiet_trans}
 use Rattle.ldm_dump.proofs.ByteLaws.{no_text}
 use Rattle.ldm_dump.proofs.SayLaws.{text_step}

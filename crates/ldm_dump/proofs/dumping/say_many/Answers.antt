@@ -1,4 +1,4 @@
-use Rattle.std.proofs.Common.{◌≡◌, ◌*◌, ◌++◌, ℕ, List, take, ap, ◌∙◌}
+use Rattle.std.proofs.Common.{◌*◌, ◌++◌, ℕ, List, take, ap, ◌∙◌}
 use Rattle.ldm_host.proofs.Relations.{still_trans}
 use Rattle.ldm_dump.specs.Bytes.{text_of_sectors}
 use Rattle.ldm_dump.proofs.SayLaws.{begins_part}

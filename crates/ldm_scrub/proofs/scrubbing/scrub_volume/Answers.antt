@@ -1,0 +1,48 @@
+use Rattle.std.proofs.Common.{◌++◌, ℕ, List, length, take, ap, sym, ◌∙◌, append_assoc}
+use Rattle.ldm_host.proofs.Relations.{still_trans}
+use Rattle.ldm_dump.proofs.SayLaws.{begins_part, begins_all}
+use Rattle.ldm_scrub.specs.Compare.{places_of}
+use Rattle.ldm_scrub.specs.Lines.{lines_of, bad_of, text_of_end}
+use Rattle.ldm_scrub.proofs.LineLaws.{begins_more, end_text}
+use Rattle.ldm_scrub.proofs.scrubbing.scrub_volume.Goals as goal
+
+pub returns-in_err-bad-clause-front : goal.returns-in_err-bad-clause-front
+returns-in_err-bad-clause-front g c tells =
+    let old = g.H.Host.seen c.args.host.now in
+    let part = c.in_err-bad.ensures.front tells in
+    let lines = lines_of old.content c.args.found.now c.args.plan.now (places_of c.args.plan.now) in
+    let end = text_of_end c.args.front.now (length (places_of c.args.plan.now)) (bad_of old.content c.args.found.now c.args.plan.now (places_of c.args.plan.now)) in
+    let more = begins_more _ (old.said ++ lines) end part in
+    (more.0, sym (append_assoc old.said lines end) ∙ more.1)
+
+pub returns-in-Ok-clause-still : goal.returns-in-Ok-clause-still
+returns-in-Ok-clause-still g c = still_trans _ _ _ c.in_ok-bad.ensures.still c.in-Ok.ensures.still
+
+pub returns-in-Err-clause-still : goal.returns-in-Err-clause-still
+returns-in-Err-clause-still g c = still_trans _ _ _ c.in_ok-bad.ensures.still c.in-Err.ensures.still
+
+pub returns-in-Ok-clause-said : goal.returns-in-Ok-clause-said
+returns-in-Ok-clause-said g c tells =
+    let old = g.H.Host.seen c.args.host.now in
+    let lines = lines_of old.content c.args.found.now c.args.plan.now (places_of c.args.plan.now) in
+    let last = end_text old.content c.args.found.now c.args.plan.now c.args.front.now c.place_count-all.result c.in_ok-bad.bad c.place_count-all.ensures (c.in_ok-bad.ensures.count tells) in
+    let text = c.push_end-end.ensures.is ∙ last in
+    c.in-Ok.ensures.said (g.met.H.Host.tells_both tells)
+    ∙ (ap (λ (t : List ℕ). (g.H.Host.seen c.scrub_places.new.host).said ++ t) text
+    ∙ (ap (λ (s : List ℕ). s ++ text_of_end c.args.front.now (length (places_of c.args.plan.now)) (bad_of old.content c.args.found.now c.args.plan.now (places_of c.args.plan.now))) (c.in_ok-bad.ensures.said tells)
+    ∙ append_assoc old.said lines _))
+
+pub returns-in-Ok-clause-front : goal.returns-in-Ok-clause-front
+returns-in-Ok-clause-front g c tells = begins_all _ _ (returns-in-Ok-clause-said g c tells)
+
+pub returns-in-Err-clause-front : goal.returns-in-Err-clause-front
+returns-in-Err-clause-front g c tells =
+    let old = g.H.Host.seen c.args.host.now in
+    let mid = (g.H.Host.seen c.scrub_places.new.host).said in
+    let lines = lines_of old.content c.args.found.now c.args.plan.now (places_of c.args.plan.now) in
+    let end = text_of_end c.args.front.now (length (places_of c.args.plan.now)) (bad_of old.content c.args.found.now c.args.plan.now (places_of c.args.plan.now)) in
+    let text = c.push_end-end.ensures.is
+    ∙ end_text old.content c.args.found.now c.args.plan.now c.args.front.now c.place_count-all.result c.in_ok-bad.bad c.place_count-all.ensures (c.in_ok-bad.ensures.count tells) in
+    let said = c.in-Err.ensures.front in
+    let part = begins_part mid end _ said.0 (said.1 ∙ ap (λ (t : List ℕ). mid ++ take said.0 t) text) in
+    (part.0, sym (append_assoc old.said lines end) ∙ (ap (λ (s : List ℕ). s ++ end) (sym (c.in_ok-bad.ensures.said tells)) ∙ part.1))

@@ -1,0 +1,15 @@
+//! Mirrors whose copies differ, and RAID-5s whose parity fails.
+#![tactic(auto)]
+
+mod comparing;
+mod laws;
+mod lines;
+mod missing;
+mod places;
+mod scrubbing;
+
+pub use comparing::place_bad;
+pub use laws::clean_volumes_are_redundant;
+pub use lines::LINE;
+pub use missing::missing_disk;
+pub use scrubbing::{ScrubError, scrub_volume};
