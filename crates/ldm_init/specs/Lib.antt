@@ -1,0 +1,4 @@
+pub mod Bytes
+pub mod Beside
+pub mod Moments
+pub mod NewGroup

@@ -1,0 +1,14 @@
+//! A new group on empty images.
+#![tactic(auto)]
+
+mod database;
+mod laws;
+mod making;
+mod signing;
+mod writing;
+
+pub use database::new_database;
+pub use laws::new_group_moments;
+pub use making::{write_all, write_group};
+pub use signing::sign_all;
+pub use writing::write_disk;
