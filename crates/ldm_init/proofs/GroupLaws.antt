@@ -54,7 +54,6 @@ module _ (name : List ℕ) (guid : ℕ) (guids : List ℕ) where
   records = first_records name guid guids
 
   pub records_more : (disks : ℕ) (r : Record) → new_disk_at disks (slice_index guids disks) ≡ Some r → records (disks + 1) ≡ records disks ++ r ∷ []
-  
   records_more disks r is =
       let group = new_group 1 name guid in
       let at : ℕ → Option Record = λ place. new_disk_at place (slice_index guids place) in
@@ -142,7 +141,6 @@ module _ (name : List ℕ) (guid : ℕ) (guids : List ℕ) where
 
       pub made_is : (last seq : ℕ) (db : Database) (header : Header) (items : List Record) → IsNewHeader header name guid last seq
           → items ≡ records (length guids) → IsDatabaseOf db header items → IsNewGroup name guid guids last seq db
-      
       made_is last seq db header items new are is = record {
         header_is = subst (λ (h : Header). IsNewHeader h name guid last seq) (sym is.header_is) new;
         records_are =
@@ -151,7 +149,6 @@ module _ (name : List ℕ) (guid : ℕ) (guids : List ℕ) where
       }
 
       pub is_new : (last seq : ℕ) (db : Database) → IsNewGroup name guid guids last seq db → (labels : List Label) → map (λ label. label.disk_guid) labels ≡ guids → IsNewOn db.records labels
-      
       is_new last seq db is labels same = record {
         group = all.group;
         disks = all.made;
@@ -160,7 +157,6 @@ module _ (name : List ℕ) (guid : ℕ) (guids : List ℕ) where
       }
 
       pub fits_room : (last seq : ℕ) (db : Database) → IsNewGroup name guid guids last seq db → length guids + 1 ≤ room_of last → FitsHeader db
-      
       fits_room last seq db is room =
           let small : All (λ r. own_len r ≤ 112) db.records = subst (All (λ r. own_len r ≤ 112)) (sym is.records_are) all.small in
           let need = few_blocks db.records small in

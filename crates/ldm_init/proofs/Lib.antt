@@ -6,3 +6,4 @@ mod SignLaws
 mod UnsignedLaws
 mod WritingLaws
 mod GroupLaws
+mod FaultLaws

@@ -1,5 +1,5 @@
 -- A new group on empty disks: its labels and its records.
-use Rattle.std.specs.Prelude.{◌≡◌, ℕ, ◌+◌, ◌-◌, ◌≤◌, List, ◌∷◌, ◌++◌, map, length, slice_index, codes, Option}
+use Rattle.std.specs.Prelude.{◌≡◌, ℕ, ◌+◌, ◌-◌, List, ◌∷◌, ◌++◌, map, length, slice_index, codes, Option}
 use Rattle.std.specs.List.{filter_map, range_with_len}
 use Rattle.std.specs.Fmt.{decimal}
 use Rattle.ldm_records.specs.declared.types.Record.{Record}
