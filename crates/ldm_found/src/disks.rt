@@ -45,8 +45,8 @@ fn read_labels<H: Host>(alloc: Global, host: &mut H) -> Result<Labels, OpenError
     Ok(Labels::from_vec(labels))
 }
 
-// The first image whose disk a later image is of too, and the first such image.
-fn twins(labels: &[Label]) -> Option<(usize, usize)>
+/// The first image whose disk a later image is of too, and the first such image.
+pub fn twins(labels: &[Label]) -> Option<(usize, usize)>
     ensures { AreTwins labels.now result }
 {
     for (i, label) in labels.iter().enumerate() {

@@ -14,6 +14,7 @@ mod found;
 mod laws;
 mod notes;
 
+pub use disks::twins;
 pub use fault::{OpenError, OpenFault};
 pub use finding::find_group;
 pub use found::Found;

@@ -1,0 +1,17 @@
+use Rattle.std.proofs.Common.{arith}
+use Rattle.ldm_init.specs.Faults.{IsSmall}
+use Rattle.ldm_init.proofs.FaultLaws.{none_further, found_here, none_at_all}
+use Rattle.ldm_init.proofs.faults.first_small.Goals as goal
+
+pub returns-then-sectors-lt2112 : goal.returns-then-sectors-lt2112
+returns-then-sectors-lt2112 g c =
+    let sizes = (g.H.Host.seen c.args.host.now).sizes in
+    found_here IsSmall sizes c.loop-disk.disk 0 (omega (arith, c.loop-disk-test.true, c.disks-disk-end.ensures)) c.loop-disk.invariant (omega (arith, c.sectors.ensures.size, c.if-sectors-lt2112.true))
+
+pub loop-disk-preserved : goal.loop-disk-preserved
+loop-disk-preserved g c =
+    let sizes = (g.H.Host.seen c.args.host.now).sizes in
+    none_further IsSmall sizes c.loop-disk.disk 0 (omega (arith, c.loop-disk-test.true, c.disks-disk-end.ensures)) c.loop-disk.invariant (λ small. omega (arith, small, c.sectors.ensures.size, c.if-sectors-lt2112.false))
+
+pub returns : goal.returns
+returns g c = none_at_all IsSmall (g.H.Host.seen c.args.host.now).sizes c.loop-disk.disk (omega (arith, c.loop-disk-test.false, c.disks-disk-end.ensures)) c.loop-disk.invariant

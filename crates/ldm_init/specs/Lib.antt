@@ -1,0 +1,5 @@
+pub mod Bytes
+pub mod Beside
+pub mod Faults
+pub mod Moments
+pub mod NewGroup

@@ -1,0 +1,40 @@
+//! The last byte of the signature of each disk.
+ghost use Rattle.std.specs.Prelude.{◌≡◌, ◌<◌, ◌≤◌, List, ℕ, length, slice_index, OnOk, IsErr};
+ghost use Rattle.ldm_host.specs.Moves.{Later, Quiet, Rose, Settled, Writes};
+ghost use Rattle.ldm_group.specs.Database.{Database};
+ghost use Rattle.ldm_label.specs.declared.Label.{Label};
+ghost use Rattle.ldm_init.specs.Moments.{AreMade, IsSigning};
+
+use ldm_host::{Failed, Host};
+
+// Writes the last byte of the signature to a disk, then syncs.
+fn sign<H: Host>(host: &mut H, disk: usize) -> Result<(), Failed>
+    requires disk { disk < length (H.seen host.old).sizes }
+    requires room { 1 ≤ slice_index (H.seen host.old).sizes disk }
+    ensures signed { H.tells_disks → OnOk result ((c : List ℕ) → (H.seen host.new).may_leave disk c → slice_index c 0x1FF ≡ 0xAA) }
+    ensures settled { OnOk result (Settled (H.seen host.new) disk) }
+    ensures writes { Writes disk 0x1FF 1 (H.seen host.old) (H.seen host.new) }
+    ensures cause { IsErr result → Rose (H.seen host.old).disk_faults (H.seen host.new).disk_faults }
+{
+    host.write_at(disk, 0x1FF, &[0xAA])?;
+    host.sync(disk)
+}
+
+/// Writes the last byte of the signature to each disk in order, each in a write of its own and then synced. At each
+/// moment, whatever the outcome, each image has no signature or is whole, where all were ready before.
+pub fn sign_all<H: Host>(host: &mut H) -> Result<(), Failed>
+    requires { (disk : ℕ) → disk < length (H.seen host.old).sizes → 1 ≤ slice_index (H.seen host.old).sizes disk }
+    ensures any_moment { H.tells_disks → (db : Database) (labels : List Label) → IsSigning db labels 0 (H.seen host.old)
+        → (images : List (List ℕ)) (said : List ℕ) → (H.seen host.new).left_since (H.seen host.old).clock images said
+        → AreMade db labels images × (said ≡ (H.seen host.old).said) }
+    ensures done { H.tells_disks → OnOk result ((db : Database) (labels : List Label) → IsSigning db labels 0 (H.seen host.old)
+        → IsSigning db labels (length (H.seen host.old).sizes) (H.seen host.new)) }
+    ensures later { Later (H.seen host.old) (H.seen host.new) }
+    ensures quiet { Quiet (H.seen host.old) (H.seen host.new) }
+    ensures cause { IsErr result → Rose (H.seen host.old).disk_faults (H.seen host.new).disk_faults }
+{
+    'disks: for disk in 0..host.disks() {
+        sign(host, disk)?;
+    }
+    Ok(())
+}
