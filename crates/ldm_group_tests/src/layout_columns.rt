@@ -32,11 +32,10 @@ fn has_volume(db: &Db, id: u64) -> bool
     matches!(db.by_id(3, id), Some(Record::Volume(_)))
 }
 
-// The plan of the volume 5 of these records.
-fn plan_of(rt: &impl Abort, alloc: Global, records: &str) -> Result<Plan, Fail> {
-    let db = database(alloc, 64, records)?;
-    assert!(rt; all_end(db.as_slice()) && has_volume(&db, 5));
-    plan(alloc, &db, 5).map_err(|_| Fail::from("no plan"))
+// The plan of the volume 5 of this database.
+pub(crate) fn plan_in(rt: &impl Abort, alloc: Global, db: &Db) -> Result<Plan, Fail> {
+    assert!(rt; all_end(db.as_slice()) && has_volume(db, 5));
+    plan(alloc, db, 5).map_err(|_| Fail::from("no plan"))
 }
 
 // Three columns of 12 sectors on disks 2, 3 and 4, in chunks of 4. The records stand in another order,
@@ -69,7 +68,8 @@ fn lies_at(plan: &Plan, row: &(u64, u64, u64, u64)) -> bool {
 
 #[test]
 fn parity_goes_round(rt: HostRuntime) -> Result<(), Fail> {
-    let plan = plan_of(&rt, rt.alloc(), RAID5)?;
+    let db = database(rt.alloc(), 64, RAID5)?;
+    let plan = plan_in(&rt, rt.alloc(), &db)?;
     assert!(rt; plan.shape() == Shape::Raid5 && plan.size() == 24 && plan.copies() == 1);
     for row in &PLACES {
         assert!(rt; lies_at(&plan, row), "sector {}", row.0);

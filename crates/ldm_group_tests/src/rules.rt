@@ -5,7 +5,7 @@ use ldm_rules::{RuleError, check};
 use std::alloc::Global;
 use std::test::Fail;
 
-fn label(disk_guid: u128, data_size: u64) -> Label {
+pub(crate) fn label(disk_guid: u128, data_size: u64) -> Label {
     Label {
         disk_guid,
         minor: 12,
