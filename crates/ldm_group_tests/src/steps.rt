@@ -13,7 +13,7 @@ use ldm_host::{Host, MemoryHost};
 use ldm_label::Labels;
 use ldm_records::Record;
 use ldm_vectors::sample_images;
-use ldm_words::read_line;
+use ldm_words::{Command, read_line};
 use std::alloc::{AllocError, Global};
 use std::process::Abort;
 use std::test::Fail;
@@ -107,7 +107,10 @@ fn outcome_of(alloc: Global, db: &Db, labels: &Labels, line: &str) -> Result<Out
     let Ok(command) = read_line(alloc, line.as_bytes()) else {
         return Ok(Outcome::Refused(Refusal::BadLine));
     };
-    Ok(step(alloc, db, labels, &command)?)
+    match command {
+        Command::Begin | Command::Commit | Command::Cancel => Err(Fail::from("a word of a batch")),
+        _ => Ok(step(alloc, db, labels, &command)?),
+    }
 }
 
 // Its reply.

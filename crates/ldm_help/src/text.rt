@@ -25,7 +25,7 @@ These write, to all images of the group. No other program may write to them mean
   edit on IMAGE...                       does the lines of a script on standard input
   COMMAND on IMAGE...                    does one line, whose words these are
 
-A line of a script is a COMMAND:
+A line of a script is a COMMAND, or a word of a batch:
 
   create NAME GUID span DISK=SECTORS...                   1 to 64 pieces, one after another
   create NAME GUID stripe CHUNK SECTORS DISK DISK...      SECTORS on each of 2 to 64 disks
@@ -33,6 +33,9 @@ A line of a script is a COMMAND:
   create NAME GUID raid5 CHUNK SECTORS DISK DISK DISK...  SECTORS on each of 3 to 64 disks
   extend NAME DISK=SECTORS...                             more pieces at the end of a span or a mirror
   delete NAME
+  begin                                                   the commands from here on are held
+  commit                                                  they are done as one change, all or none
+  cancel                                                  they are given up
 
 SECTORS and CHUNK are counted in sectors of 512 bytes. NAME and DISK are written as show says them. Each new
 volume has a GUID of its own: uuidgen makes one.

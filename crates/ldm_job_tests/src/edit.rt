@@ -266,9 +266,70 @@ $ map M 149 1 on A B C
 149 copy 1 Disk2 149 at 212
 = 0";
 
+// Lines of a batch are one change of the group, with one new sequence, or none; one that is open at the end counts for nothing.
+const BATCHES: &str = "\
+$ edit on A B C
+< begin
+< commit
+< begin
+< create Data bbbbbbbb-bbbb-bbbb-bbbb-bbbbbbbbbbbb span Disk1=1
+< cancel
+< begin
+< create Data bbbbbbbb-bbbb-bbbb-bbbb-bbbbbbbbbbbb span Disk1=1
+1 held
+2 refused: empty batch
+3 refused: batch open
+4 held
+5 dropped
+6 held
+7 held
+= 1
+$ edit on A B C
+< begin
+< create Data bbbbbbbb-bbbb-bbbb-bbbb-bbbbbbbbbbbb span Disk1=2048
+< delete Nope
+< extend Data Disk2=100
+< commit
+< commit
+1 held
+2 held
+3 refused: no volume
+4 held
+5 ok 8
+6 refused: no batch
+= 1 ABC
+$ show on A B C
+group Dg0 aaaaaaaa-aaaa-aaaa-aaaa-aaaaaaaaaaaa sequence 8 blocks 8 of 60
+disk 2 Disk1 11111111-1111-1111-1111-111111111111 image 0 free 4033
+disk 3 Disk2 22222222-2222-2222-2222-222222222222 image 1 free 5981
+disk 4 Disk3 33333333-3333-3333-3333-333333333333 image 2 free 6081
+volume 5 Data span 2148 bbbbbbbb-bbbb-bbbb-bbbb-bbbbbbbbbbbb
+  component 6 c6 basic
+    partition 7 p7 disk 2 start 0 size 2048 offset 0
+    partition 8 p8 disk 3 start 0 size 100 offset 2048
+= 0
+$ edit on A B C
+< cancel
+< begin
+< create X cccccccc-cccc-cccc-cccc-cccccccccccc span Disk3=1
+< delete X
++ commit
+1 refused: no batch
+2 held
+3 held
+4 held
+5 ok 9
+= 1 ABC
+$ check on A B C
+image 0 sequence 9
+image 1 sequence 9
+image 2 sequence 9
+ok: editable
+= 0";
+
 #[test]
 fn edits_the_group(rt: HostRuntime) -> Result<(), Fail> {
-    for text in [SPAN, RAID, FULL, SCRIPTS, MIRROR] {
+    for text in [SPAN, RAID, FULL, SCRIPTS, MIRROR, BATCHES] {
         play(rt.alloc(), &rt, 3, 64, text)?;
     }
     Ok(())
@@ -313,6 +374,14 @@ $ create Data bbbbbbbb-bbbb-bbbb-bbbb-bbbbbbbbbbbb span Disk3=1 on A B C
 $ edit on A B C
 < delete Data
 1 refused: sequence spent
+= 1
+$ edit on A B C
+< begin
+< delete Data
+< commit
+1 held
+2 refused: sequence spent
+3 refused: empty batch
 = 1";
 
 // The blocks 8 to 13: a volume of 255 sectors, in four fragments, whose second text has 255 bytes and whose

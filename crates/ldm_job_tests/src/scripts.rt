@@ -201,11 +201,25 @@ create Data bbbbbbbb-bbbb-bbbb-bbbb-bbbbbbbbbbbb span Disk1=2048
 delete Data
 ";
 
-const SCRIPTS: [Replied; 4] = [
+const BATCH: &str = "\
+begin
+create Data bbbbbbbb-bbbb-bbbb-bbbb-bbbbbbbbbbbb span Disk1=2048
+commit
+delete Data
+begin
+cancel
+";
+
+const SCRIPTS: [Replied; 5] = [
     (FULL, FULL_SAID, Status::Refused),
     (REFUSALS, REFUSALS_SAID, Status::Refused),
     (LINES, LINES_SAID, Status::Refused),
     (DONE, "1 ok 8\n2 ok 9\n", Status::Done),
+    (
+        BATCH,
+        "1 held\n2 held\n3 ok 8\n4 ok 9\n5 held\n6 dropped\n",
+        Status::Done,
+    ),
 ];
 
 #[test]

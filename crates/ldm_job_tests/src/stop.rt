@@ -6,16 +6,37 @@ use std::alloc::Global;
 use std::process::Abort;
 use std::test::Fail;
 
-const SCRIPT: &str = "\
+// A script, what is said to it where no call fails, and for each number of replies that are whole the groups that may open.
+struct Script {
+    lines: &'static str,
+    said: &'static str,
+    opens: &'static [[usize; 2]],
+}
+
+const LINES: Script = Script {
+    lines: "\
 create Data bbbbbbbb-bbbb-bbbb-bbbb-bbbbbbbbbbbb span Disk1=2048
 delete Nope
-extend Data Disk2=100";
+extend Data Disk2=100",
+    said: "1 ok 8\n2 refused: no volume\n3 ok 9\n",
+    opens: &[[0, 1], [1, 1], [1, 2], [2, 2]],
+};
 
-const SAID: &str = "1 ok 8\n2 refused: no volume\n3 ok 9\n";
+const BATCH: Script = Script {
+    lines: "\
+begin
+create Data bbbbbbbb-bbbb-bbbb-bbbb-bbbbbbbbbbbb span Disk1=2048
+delete Nope
+extend Data Disk2=100
+commit
+commit",
+    said: "1 held\n2 held\n3 refused: no volume\n4 held\n5 ok 8\n6 refused: no batch\n",
+    opens: &[[0, 0], [0, 0], [0, 0], [0, 0], [0, 3], [3, 3], [3, 3]],
+};
 
-// What the group is before the script, after its first line and after its last: as it is shown, and then as it
-// is checked once all its copies are equal again.
-const GROUPS: [&str; 3] = [
+// What the group is before the scripts, after the first line of the first and after its last, and after the batch: as it is
+// shown, and then as it is checked once all its copies are equal again.
+const GROUPS: [&str; 4] = [
     "\
 group Dg0 aaaaaaaa-aaaa-aaaa-aaaa-aaaaaaaaaaaa sequence 7 blocks 4 of 60
 disk 2 Disk1 11111111-1111-1111-1111-111111111111 image 0 free 6081
@@ -53,10 +74,21 @@ image 1 sequence 9
 image 2 sequence 9
 ok: editable
 ",
+    "\
+group Dg0 aaaaaaaa-aaaa-aaaa-aaaa-aaaaaaaaaaaa sequence 8 blocks 8 of 60
+disk 2 Disk1 11111111-1111-1111-1111-111111111111 image 0 free 4033
+disk 3 Disk2 22222222-2222-2222-2222-222222222222 image 1 free 5981
+disk 4 Disk3 33333333-3333-3333-3333-333333333333 image 2 free 6081
+volume 5 Data span 2148 bbbbbbbb-bbbb-bbbb-bbbb-bbbbbbbbbbbb
+  component 6 c6 basic
+    partition 7 p7 disk 2 start 0 size 2048 offset 0
+    partition 8 p8 disk 3 start 0 size 100 offset 2048
+image 0 sequence 8
+image 1 sequence 8
+image 2 sequence 8
+ok: editable
+",
 ];
-
-// For each number of replies that are whole: the groups that may open.
-const OPENS: [[usize; 2]; 4] = [[0, 1], [1, 1], [1, 2], [2, 2]];
 
 // Which group this says.
 fn group_said(said: &[u8]) -> Option<usize> {
@@ -89,9 +121,9 @@ fn has_part(line: &[u8], part: &[u8]) -> bool {
 }
 
 // A host of the sample group, with the script to be heard.
-fn fresh_host(alloc: Global) -> Result<MemoryHost, Fail> {
-    let script = SCRIPT.as_bytes().to_vec(alloc)?;
-    Ok(MemoryHost::new(alloc, sample_group(alloc, 3, 64)?, script)?)
+fn fresh_host(alloc: Global, script: &Script) -> Result<MemoryHost, Fail> {
+    let lines = script.lines.as_bytes().to_vec(alloc)?;
+    Ok(MemoryHost::new(alloc, sample_group(alloc, 3, 64)?, lines)?)
 }
 
 // Edits the disks of the host by what is left of its input.
@@ -100,8 +132,8 @@ fn edit(alloc: Global, host: &mut MemoryHost) -> Result<Option<Status>, Fail> {
 }
 
 // Whether the edit ended as it does where no call fails.
-fn is_whole(host: &MemoryHost, status: Option<Status>) -> bool {
-    status == Some(Status::Refused) && host.said() == SAID.as_bytes()
+fn is_whole(host: &MemoryHost, script: &Script, status: Option<Status>) -> bool {
+    status == Some(Status::Refused) && host.said() == script.said.as_bytes()
 }
 
 fn is_fault(status: Option<Status>) -> bool {
@@ -109,23 +141,34 @@ fn is_fault(status: Option<Status>) -> bool {
 }
 
 // Looks at what an edit leaves that is stopped after so many calls, with this filling, and answers whether it was whole.
-fn stops(alloc: Global, rt: &impl Abort, calls: u64, filling: Filling) -> Result<bool, Fail> {
-    let mut host = fresh_host(alloc)?.stop_after(calls);
+fn stops(
+    alloc: Global,
+    rt: &impl Abort,
+    script: &Script,
+    calls: u64,
+    filling: Filling,
+) -> Result<bool, Fail> {
+    let mut host = fresh_host(alloc, script)?.stop_after(calls);
     let status = edit(alloc, &mut host)?;
-    let Some(may_open) = OPENS.get(count_lines(host.said(), "\n")) else {
+    let Some(may_open) = script.opens.get(count_lines(host.said(), "\n")) else {
         return Err(Fail::from("too many replies"));
     };
     let Some(group) = opens(alloc, rt, host.left(alloc, filling)?)? else {
         return Err(Fail::from("another group"));
     };
     assert!(rt; may_open.contains(&group), "{calls}");
-    Ok(is_whole(&host, status))
+    Ok(is_whole(&host, script, status))
 }
 
 // Stops the edit after each of its calls.
-fn stops_each(alloc: Global, rt: &impl Abort, filling: Filling) -> Result<(), Fail> {
+fn stops_each(
+    alloc: Global,
+    rt: &impl Abort,
+    script: &Script,
+    filling: Filling,
+) -> Result<(), Fail> {
     for calls in 0..1000 {
-        if stops(alloc, rt, calls, filling)? {
+        if stops(alloc, rt, script, calls, filling)? {
             return Ok(());
         }
     }
@@ -134,22 +177,35 @@ fn stops_each(alloc: Global, rt: &impl Abort, filling: Filling) -> Result<(), Fa
 
 #[test]
 fn opens_after_a_stop_where_old_bytes_are_left(rt: HostRuntime) -> Result<(), Fail> {
-    stops_each(rt.alloc(), &rt, Filling::Old)
+    stops_each(rt.alloc(), &rt, &LINES, Filling::Old)
 }
 
 #[test]
 fn opens_after_a_stop_where_new_bytes_are_left(rt: HostRuntime) -> Result<(), Fail> {
-    stops_each(rt.alloc(), &rt, Filling::New)
+    stops_each(rt.alloc(), &rt, &LINES, Filling::New)
 }
 
 #[test]
 fn opens_after_a_stop_where_open_gates_are_left(rt: HostRuntime) -> Result<(), Fail> {
-    stops_each(rt.alloc(), &rt, Filling::Fill(0x56))
+    stops_each(rt.alloc(), &rt, &LINES, Filling::Fill(0x56))
 }
 
 #[test]
 fn opens_after_a_stop_where_zeros_are_left(rt: HostRuntime) -> Result<(), Fail> {
-    stops_each(rt.alloc(), &rt, Filling::Fill(0x00))
+    stops_each(rt.alloc(), &rt, &LINES, Filling::Fill(0x00))
+}
+
+#[test]
+fn opens_after_a_stop_of_a_batch(rt: HostRuntime) -> Result<(), Fail> {
+    for filling in [
+        Filling::Old,
+        Filling::New,
+        Filling::Fill(0x56),
+        Filling::Fill(0x00),
+    ] {
+        stops_each(rt.alloc(), &rt, &BATCH, filling)?;
+    }
+    Ok(())
 }
 
 // Edits a second time on the host of an edit in which a call failed, by what is left of the script. Then all copies are
@@ -184,9 +240,9 @@ fn edits_again(alloc: Global, rt: &impl Abort, host: MemoryHost, call: u64) -> R
 
 // One call of an edit fails; answers whether the edit didn't come so far.
 fn fails_at(alloc: Global, rt: &impl Abort, call: u64) -> Result<bool, Fail> {
-    let mut host = fresh_host(alloc)?.with_failures(vec![in alloc; call]?);
+    let mut host = fresh_host(alloc, &LINES)?.with_failures(vec![in alloc; call]?);
     let status = edit(alloc, &mut host)?;
-    if is_whole(&host, status) {
+    if is_whole(&host, &LINES, status) {
         return Ok(true);
     }
     assert!(rt; is_fault(status), "{call}");
@@ -227,7 +283,7 @@ fn fails_from(alloc: Global, rt: &impl Abort, call: u64, filling: Filling) -> Re
     for more in 0..4u64 {
         calls.push(call.saturating_add(more))?;
     }
-    let mut host = fresh_host(alloc)?.with_failures(calls);
+    let mut host = fresh_host(alloc, &LINES)?.with_failures(calls);
     for run in 0..5 {
         let status = edit(alloc, &mut host)?;
         opens_answered(alloc, rt, &host, filling, call)?;

@@ -1,5 +1,5 @@
 -- The moments of one line: while it is done on all disks, and while the reply is said.
-use Rattle.std.proofs.Common.{◌≡◌, ◌⊎◌, inl, inr, ⊎_elim, ℕ, ◌≤◌, List, ◌++◌, take, drop, refl, sym, ap, subst, ◌∙◌, append_assoc, arith, Option, Some, Result, Ok, Err}
+use Rattle.std.proofs.Common.{◌≡◌, ◌⊎◌, inl, inr, ⊎_elim, ℕ, ◌≤◌, List, ◌++◌, take, drop, refl, sym, ap, subst, ◌∙◌, append_assoc, arith, Option, Some, false}
 use Rattle.std.proofs.lemmas.List.{take-append-drop}
 use Rattle.ldm_host.specs.Seen.{Seen, Leaves, image}
 use Rattle.ldm_host.specs.Moves.{Begins, Later, Quiet, Still}
@@ -9,15 +9,17 @@ use Rattle.ldm_label.specs.declared.Label.{Label}
 use Rattle.ldm_group.specs.Database.{Database}
 use Rattle.ldm_words.specs.declared.command.Command.{Command}
 use Rattle.ldm_copy.specs.declared.answer.CopyState.TheVariants.{Valid}
-use Rattle.ldm_edits.specs.declared.reply.Refusal.{Refusal}
+use Rattle.ldm_edits.specs.declared.batch.Turn.{Turn as Verdict}
+use Rattle.ldm_edits.specs.declared.batch.Turn.TheVariants as verdicts
 use Rattle.ldm_edits.specs.declared.reply.Reply.{Reply}
 use Rattle.ldm_edits.specs.declared.reply.Reply.TheVariants as replies
-use Rattle.ldm_edits.specs.Steps.{State, next_of, turn_by}
+use Rattle.ldm_edits.specs.Counting.{is_done}
+use Rattle.ldm_edits.specs.Steps.{State, verdict_of, turn_by}
 use Rattle.ldm_found.specs.Facts.{LieOn}
 use Rattle.ldm_found.specs.Labels.{AreSameOutside}
 use Rattle.ldm_store.specs.Kept.{IsKept, AlwaysKept, Opens}
 use Rattle.ldm_store.specs.Turning.{AllHave}
-use Rattle.ldm_store.specs.Sessions.{IsEditable, IsNextFor, IsTurnOf, Opened, RestsOn, HoldsGroup}
+use Rattle.ldm_store.specs.Sessions.{IsEditable, IsNextFor, IsTurnOf, Opened, RestsOn, HoldsGroup, state_in}
 use Rattle.ldm_store.proofs.OpensLaws.{editable_opens}
 use Rattle.ldm_store.proofs.ApplyLaws.{untouched}
 use Rattle.ldm_group_text.specs.Reply.{text_of_reply}
@@ -53,18 +55,29 @@ doing_kept session line start editable holds next now always images said left =
 
 -- ---- the copies
 
--- a refusal leaves the group
-refused_stays : (state : State) (step : Result Database Refusal) (refusal : Refusal) → (turn_by state step).reply ≡ replies.Refused refusal → (turn_by state step).state.db ≡ state.db
-refused_stays state (Ok next) refusal is = absurd cc
-refused_stays state (Err other) refusal is = refl
+-- what isn't done leaves the group
+undone_stays : (state : State) (verdict : Verdict) → is_done (turn_by state verdict).reply ≡ false → (turn_by state verdict).state.db ≡ state.db
+undone_stays state (verdicts.Next next) fails = absurd cc
+undone_stays state (verdicts.Hold draft) fails = refl
+undone_stays state verdicts.GiveUp fails = refl
+undone_stays state (verdicts.Refused refusal) fails = refl
+
+-- where it isn't done, no disk is changed
+undone_written : (session next : Opened) (command : Command) (reply : Reply) (old new : Seen) → IsTurnOf (turn_on session (Some command)) session.labels next reply
+    → is_done reply ≡ false → Still old new → AreWritten session.labels session.db next.db old.content new.content
+undone_written session next command reply old new turned fails still =
+    let verdict = verdict_of session.labels session.db session.draft command in
+    inr (turned.db ∙ undone_stays (state_in session) verdict (sym (ap is_done turned.reply_is) ∙ fails), still.content)
 
 -- each is just that of the group after the command, or no disk is changed
 pub command_written : (session next : Opened) (command : Command) (reply : Reply) (old new : Seen) → IsTurnOf (turn_on session (Some command)) session.labels next reply
-    → ((seq : ℕ) → reply ≡ replies.Done seq → AllHave session.labels new.content (λ copy. copy ≡ Valid next.db)) → ((refusal : Refusal) → reply ≡ replies.Refused refusal → Still old new)
+    → ((seq : ℕ) → reply ≡ replies.Done seq → AllHave session.labels new.content (λ copy. copy ≡ Valid next.db)) → (is_done reply ≡ false → Still old new)
     → AreWritten session.labels session.db next.db old.content new.content
-command_written session next command (replies.Done seq) old new turned done refused = inl (done seq refl)
-command_written session next command (replies.Refused refusal) old new turned done refused =
-    inr (turned.db ∙ refused_stays (record { db = session.db }) (next_of session.db session.labels command) refusal (sym turned.reply_is), (refused refusal refl).content)
+command_written session next command (replies.Done seq) old new turned done unwritten = inl (done seq refl)
+command_written session next command replies.Held old new turned done unwritten = undone_written session next command replies.Held old new turned refl (unwritten refl)
+command_written session next command replies.Dropped old new turned done unwritten = undone_written session next command replies.Dropped old new turned refl (unwritten refl)
+command_written session next command (replies.Refused refusal) old new turned done unwritten =
+    undone_written session next command (replies.Refused refusal) old new turned refl (unwritten refl)
 
 -- ---- while nothing is written
 

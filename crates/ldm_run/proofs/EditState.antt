@@ -1,5 +1,5 @@
 -- Line by line: what holds between two lines, and how lines end.
-use Rattle.std.proofs.Common.{◌≡◌, ◌≢◌, ◌⊎◌, inl, inr, ⊎_elim, ℕ, ◌+◌, ◌≤◌, Bool, true, false, ◌||◌, if◌then◌else◌, List, [], ◌∷◌, ◌++◌, length, refl, sym, ap, subst, ◌∙◌, append_assoc, arith, Option}
+use Rattle.std.proofs.Common.{◌≡◌, ◌≢◌, ◌⊎◌, inl, inr, ⊎_elim, ℕ, ◌+◌, ◌≤◌, Bool, true, false, ◌||◌, if◌then◌else◌, List, [], ◌∷◌, ◌++◌, length, refl, sym, ap, subst, ◌∙◌, append_assoc, arith, Option, None}
 use Rattle.std.specs.List.{list_any}
 use Rattle.std.proofs.lemmas.List.{append-nil, length-append}
 use Rattle.std.proofs.lemmas.List.Folds.{list_any-append}
@@ -27,7 +27,7 @@ use Rattle.ldm_run.specs.Stops.{Reopens}
 use Rattle.ldm_run.specs.Runs.{Causes}
 use Rattle.ldm_run.specs.Editing.{EditFails, turn_on, IsDoing, IsAnswering, IsAnswered, AreWritten, DoesLines}
 use Rattle.ldm_run.proofs.ReplyLaws.{not_usage, not_disk, not_talk, has_answer}
-use Rattle.ldm_run.proofs.TurnLists.{after_lines, no_lines_after, db_more, replies_more, text_more, text_front}
+use Rattle.ldm_run.proofs.TurnLists.{after_lines, no_lines_after, db_more, draft_more, replies_more, text_more, text_front}
 use Rattle.ldm_run.proofs.LineCounts.{ends_in_line}
 use Rattle.ldm_run.proofs.OpenLaws.{ComesAfter, found_apart, answered_is, doing_reopens, answering_reopens}
 use Rattle.ldm_run.proofs.DoingLaws.{Counts, Only, kept_leaves, opens_leaves}
@@ -46,23 +46,23 @@ pub record IsEditedTo (tells : Type 0) (first : Opened) (all before left : List 
   pub reopen : tells → AllReopen first all start now
 
 -- before the first line
-pub edited_none : {tells : Type 0} (first : Opened) (all : List (Option Command)) (start : Seen) → (tells → AreSameOutside first.labels start.content start.content)
+pub edited_none : {tells : Type 0} (first : Opened) (all : List (Option Command)) (start : Seen) → first.draft ≡ None → (tells → AreSameOutside first.labels start.content start.content)
     → (tells → AllReopen first all start start) → IsEditedTo tells first all [] all start start first 1 false
 unfolding turns_of
-edited_none first all start same reopen = record {
+edited_none first all start none same reopen = record {
   all_is = refl;
-  session_is = no_lines_after first;
+  session_is = no_lines_after first none;
   number_is = refl;
   refused_is = refl;
   comes = λ told. record { said_is = sym (append-nil start.said); outside = same told; written = inr (refl, refl) };
   reopen = reopen;
 }
 
-pub reopens_none : (first : Opened) (all : List (Option Command)) (start : Seen) → IsEditable first.db first.labels → RestsOn first start → HoldsGroup first start.content → Counts start → Only start
+pub reopens_none : (first : Opened) (all : List (Option Command)) (start : Seen) → first.draft ≡ None → IsEditable first.db first.labels → RestsOn first start → HoldsGroup first start.content → Counts start → Only start
     → AllReopen first all start start
-reopens_none first all start editable rests holds counts only images said left =
+reopens_none first all start none editable rests holds counts only images said left =
     let now = only images said left in
-    let there : Opens images (group_after first.labels first.db []) = subst (λ (s : Opened). Opens images s.db) (no_lines_after first) (opens_leaves first start editable rests holds counts only images now.0) in
+    let there : Opens images (group_after first.labels first.db []) = subst (λ (s : Opened). Opens images s.db) (no_lines_after first none) (opens_leaves first start editable rests holds counts only images now.0) in
     record {
       prefix = 0;
       few = omega arith;
@@ -251,7 +251,8 @@ module _ {tells : Type 0} {first : Opened} {all before after : List (Option Comm
       → IsEditedTo tells first all (before ++ line ∷ []) after start now next (number + 1) (refused || was)
   line_done {next} {was} answered said written stays counts = record {
     all_is = state.all_is ∙ sym (append_assoc before (line ∷ []) after);
-    session_is = same_session next_db (answered.labels_stay ∙ ap (λ (s : Opened). s.labels) state.session_is);
+    session_is = same_session next_db (answered.labels_stay ∙ ap (λ (s : Opened). s.labels) state.session_is)
+        (answered.draft ∙ ap (λ (s : Opened). (turn_on s line).state.draft) state.session_is ∙ draft_more first before line);
     number_is = let more = length-append before (line ∷ []) in omega (arith, more, state.number_is);
     refused_is = (λ i. state.refused_is i || was_is i) ∙ sym (list_any-append is_refused (replies_to first.labels first.db before) ((turn_on (after_lines first before) line).reply ∷ []))
         ∙ ap (λ (rs : List Reply). list_any is_refused rs) (sym (replies_more first before line));
@@ -275,5 +276,5 @@ module _ {tells : Type 0} {first : Opened} {all before after : List (Option Comm
       was_is : was ≡ list_any is_refused ((turn_on (after_lines first before) line).reply ∷ [])
       was_is = answered.refused_is ∙ ap (λ (s : Opened). is_refused (turn_on s line).reply) state.session_is ∙ sym (any_one (is_refused (turn_on (after_lines first before) line).reply))
 
-      same_session : {other : Opened} → next.db ≡ other.db → next.labels ≡ other.labels → next ≡ other
-      same_session {other} db labels = λ i. record { db = db i; labels = labels i }
+      same_session : {other : Opened} → next.db ≡ other.db → next.labels ≡ other.labels → next.draft ≡ other.draft → next ≡ other
+      same_session {other} db labels draft = λ i. record { db = db i; labels = labels i; draft = draft i }

@@ -54,12 +54,12 @@ reopens_sooner labels group lines old mid images said outside same is =
 
 -- the session of a group that was found
 abbrev pub session_of : Found → Opened
-session_of found = record { db = found.db; labels = found.labels }
+session_of found = record { db = found.db; labels = found.labels; draft = None }
 
 session_found : (images : List (List ℕ)) (session : Opened) (found : Found) → IsOpenedFrom images session → IsGroupIn images (Ok found) → session ≡ session_of found
 session_found images session found opened is =
     let same = same_found images opened.found found opened.is is in
-    (λ i. record { db = opened.db i; labels = opened.labels i }) ∙ ap session_of same
+    (λ i. record { db = opened.db i; labels = opened.labels i; draft = opened.draft i }) ∙ ap session_of same
 
 -- from the end of the syncs on it reopens
 since_reopens : (old new : Seen) (lines : List (Option Command)) → OnlyStill old new ⊎ OneGroup old new → EveryStopSinceSyncs lines old new

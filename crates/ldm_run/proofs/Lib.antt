@@ -13,5 +13,6 @@ pub mod EditState
 pub mod GroupEnds
 pub mod HearsEdits
 pub mod SampleLaws
+pub mod SampleLines
 pub mod JobLaws
 pub mod KindLaws

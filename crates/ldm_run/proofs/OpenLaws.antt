@@ -68,7 +68,7 @@ pub reopens_first : (start : Seen) (found : Found) (lines : List (Option Command
     → IsKept found.labels found.db found.db start images said → Reopens found.labels found.db lines start images said
 reopens_first start found lines images said is editable kept =
     let there : Opens images (group_after found.labels found.db []) =
-    subst (λ (s : Opened). Opens images s.db) (no_lines_after (record { db = found.db; labels = found.labels })) (kept_opens_found start found images said is editable kept) in
+    subst (λ (s : Opened). Opens images s.db) (no_lines_after (record { db = found.db; labels = found.labels; draft = None }) refl) (kept_opens_found start found images said is editable kept) in
     record {
       prefix = 0;
       few = omega arith;

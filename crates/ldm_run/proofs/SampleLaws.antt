@@ -1,5 +1,5 @@
 -- What a host in memory has been through that did the sample script, and its summary.
-use Rattle.std.proofs.Common.{◌≡◌, ⊎_elim, ℕ, ◌+◌, ◌-◌, ◌≤◌, ◌<◌, Bool, false, List, [], ◌∷◌, ◌++◌, length, take, refl, sym, ap, subst, ◌∙◌, arith, Option, Ok}
+use Rattle.std.proofs.Common.{not, ◌≡◌, ⊎_elim, ℕ, ◌+◌, ◌-◌, ◌≤◌, ◌<◌, Bool, true, false, List, [], ◌∷◌, ◌++◌, length, take, refl, sym, ap, subst, ◌∙◌, arith, Option, Ok}
 use Rattle.std.specs.Prelude.{⊤, count_by}
 use Rattle.std.proofs.Props.{props}
 use mathlib.Core.HLevel.{is_prop→PathP}
@@ -17,7 +17,6 @@ use Rattle.ldm_group.specs.Room.{need_of, room_of}
 use Rattle.ldm_words.specs.declared.command.Command.{Command}
 use Rattle.ldm_words.specs.declared.job.Job.TheVariants.{Edit}
 use Rattle.ldm_edits.specs.declared.reply.Reply.{Reply}
-use Rattle.ldm_edits.specs.declared.reply.Reply.TheVariants as replies
 use Rattle.ldm_edits.specs.Counting.{is_done, SequenceCounts}
 use Rattle.ldm_edits.specs.Steps.{group_after, replies_to}
 use Rattle.ldm_found.specs.declared.fault.OpenFault.{OpenFault}
@@ -40,6 +39,7 @@ use Rattle.ldm_run.specs.Written.{HoldsAfter}
 use Rattle.ldm_run.specs.Editing.{HearsAndEdits}
 use Rattle.ldm_run.specs.Sample.{text_of_summary, summary_of, sample_lines, IsSampleAnswer, IsSampleStart, IsSampleHost}
 use Rattle.ldm_run.proofs.LineCounts.{line_count, reply_lines}
+use Rattle.ldm_run.proofs.SampleLines.{is_undone, undone_refused}
 use Rattle.ldm_run.proofs.TurnLists.{replies_length}
 
 -- ---- one answer
@@ -152,18 +152,19 @@ some_disk {seed} {host} is =
 
 -- ---- the summary
 
-done_or_refused : (all : List Reply) → count_by is_done all + count_by is_refused all ≡ length all
-done_or_refused [] = refl
-done_or_refused (replies.Done seq ∷ all) =
-    let rest = done_or_refused all in
-    let one = count_yes is_done (replies.Done seq) all refl in
-    let none = count_no is_refused (replies.Done seq) all refl in
-    omega (arith, rest, one, none)
-done_or_refused (replies.Refused refusal ∷ all) =
-    let rest = done_or_refused all in
-    let one = count_yes is_refused (replies.Refused refusal) all refl in
-    let none = count_no is_done (replies.Refused refusal) all refl in
-    omega (arith, rest, one, none)
+done_or_undone : (all : List Reply) → count_by is_done all + count_by is_undone all ≡ length all
+done_or_undone [] = refl
+done_or_undone (reply ∷ all) = by (is_done reply) refl (done_or_undone all)
+  where
+    by : (b : Bool) → is_done reply ≡ b → count_by is_done all + count_by is_undone all ≡ length all → count_by is_done (reply ∷ all) + count_by is_undone (reply ∷ all) ≡ length (reply ∷ all)
+    by true e rest =
+        let one = count_yes is_done reply all e in
+        let none = count_no is_undone reply all (ap not e) in
+        omega (arith, rest, one, none)
+    by false e rest =
+        let one = count_yes is_undone reply all (ap not e) in
+        let none = count_no is_done reply all e in
+        omega (arith, rest, one, none)
 
 module _ {seed : ℕ} {host : MemoryHost} {other : Found} (is : IsSampleHost seed host) (holds : IsGroupIn (memory_seen host).content (Ok other))
     (now : (memory_seen host).left_since 0 (memory_seen host).content (memory_seen host).said) (counts : SequenceCounts) where
@@ -205,7 +206,7 @@ module _ {seed : ℕ} {host : MemoryHost} {other : Found} (is : IsSampleHost see
 
   pub lines_are_enough : other.db.header.seq ≤ 7 + line_count (memory_seen host).said
   lines_are_enough =
-      let all = done_or_refused (replies_to is.found.labels is.found.db (sample_lines seed)) in
+      let all = done_or_undone (replies_to is.found.labels is.found.db (sample_lines seed)) in
       let up = sequence_is in
       let said = lines_said in
       omega (arith, all, up, said)
@@ -213,11 +214,12 @@ module _ {seed : ℕ} {host : MemoryHost} {other : Found} (is : IsSampleHost see
   pub summarized : (text : List ℕ) (done refused : ℕ) → done ≡ other.db.header.seq - 7 → refused ≡ line_count (memory_seen host).said - done
       → text ≡ text_of_summary seed done refused other.db.header.seq (need_of other.db.records) (room_of other.db.header.last) → IsSampleAnswer seed (text, Done)
   summarized text done refused done_is refused_is text_is =
-      let all = done_or_refused (replies_to is.found.labels is.found.db (sample_lines seed)) in
+      let all = done_or_undone (replies_to is.found.labels is.found.db (sample_lines seed)) in
       let up = sequence_is in
       let said = lines_said in
       let one : done ≡ count_by is_done (replies_to is.found.labels is.found.db (sample_lines seed)) = omega (arith, up, done_is) in
-      let two : refused ≡ count_by is_refused (replies_to is.found.labels is.found.db (sample_lines seed)) = omega (arith, all, one, said, refused_is) in (
+      let undone = undone_refused is.found.labels is.found.db seed in
+      let two : refused ≡ count_by is_refused (replies_to is.found.labels is.found.db (sample_lines seed)) = omega (arith, all, one, said, refused_is, undone) in (
         is.found,
         is.starts.group,
         ap (λ (t : List ℕ). (t, Done)) (

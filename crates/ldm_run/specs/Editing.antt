@@ -11,7 +11,7 @@ use Rattle.ldm_edits.specs.Steps.{Turn, turn_of, group_after, replies_to}
 use Rattle.ldm_found.specs.Labels.{AreSameOutside}
 use Rattle.ldm_store.specs.Kept.{IsCurrent, Opens}
 use Rattle.ldm_store.specs.Turning.{AllSettled, AllHave}
-use Rattle.ldm_store.specs.Sessions.{Opened}
+use Rattle.ldm_store.specs.Sessions.{Opened, state_in}
 use Rattle.ldm_group_text.specs.Reply.{text_of_reply}
 use Rattle.ldm_run.specs.declared.running.Status.{Status}
 use Rattle.ldm_run.specs.declared.running.Status.TheVariants.{Usage, DiskFault, NoMemory, TalkFault}
@@ -35,7 +35,7 @@ EditFails old new _ = ⊥
 
 -- what a line makes of a session's group, and the reply to it
 abbrev pub turn_on : Opened → Option Command → Turn
-turn_on session line = turn_of session.labels (record { db = session.db }) line
+turn_on session line = turn_of session.labels (state_in session) line
 
 -- While a line is done: the images open as the group before it or the one after it, and nothing more was said.
 pub record IsDoing (session : Opened) (line : Option Command) (start : Seen) (images : List (List ℕ)) (said : List ℕ) : Type 0 where
@@ -53,6 +53,7 @@ pub record IsAnswering (session : Opened) (line : Option Command) (number : ℕ)
 -- the session after a line that was answered, and whether it was refused
 pub record IsAnswered (session : Opened) (line : Option Command) (after : Opened) (refused : Bool) : Type 0 where
   pub db : after.db ≡ (turn_on session line).state.db
+  pub draft : after.draft ≡ (turn_on session line).state.draft
   pub labels_stay : after.labels ≡ session.labels
   pub refused_is : refused ≡ is_refused (turn_on session line).reply
 
@@ -63,7 +64,7 @@ pub record IsAnswered (session : Opened) (line : Option Command) (after : Opened
 abbrev pub AreWritten : (labels : List Label) (before after : Database) (old new : List (List ℕ)) → Type 0
 AreWritten labels before after old new = AllHave labels new (λ copy. copy ≡ Valid after) ⊎ ((after ≡ before) × (new ≡ old))
 
--- What is done to the group of a session whose copies are open, with these lines.
+-- What is done to the group of a session whose copies are open and that has no batch open, with these lines.
 pub record DoesLines (tells : Type 0) (session : Opened) (lines : List (Option Command)) (old new : Seen) (status : Status) : Type 0 where
   pub later : Later old new
   pub input : SameInput old new

@@ -140,6 +140,7 @@ fn edit_each<H: Host>(alloc: Global, host: &mut H, first: Session, script: &[u8]
     requires rests { RestsOn first (H.seen host.old) }
     requires holds { H.tells_disks → HoldsGroup first (H.seen host.old).content }
     requires short { length script.now ≤ 1048576 }
+    requires fresh { first.draft ≡ None }
     ensures { DoesLines H.tells_disks first (commands_in script.now) (H.seen host.old) (H.seen host.new) result }
 {
     let mut session = first;
@@ -166,6 +167,7 @@ fn edit_each<H: Host>(alloc: Global, host: &mut H, first: Session, script: &[u8]
 fn open_session<H: Host>(alloc: Global, host: &mut H) -> Result<Session, Status>
     requires { 0 < length (H.seen host.old).sizes }
     ensures opened { H.tells_disks → IfOk result (λ session. IsOpenedFrom (H.seen host.old).content session) }
+    ensures fresh { IfOk result (λ session. session.draft ≡ None) }
     ensures kept { H.tells_disks → OnOk result ((found : Found) → IsGroupIn (H.seen host.old).content (Ok found) → found.blocked ≡ None
         → NothingPending (H.seen host.old) → AlwaysKept found.labels found.db found.db (H.seen host.old) (H.seen host.new)) }
     ensures one_group { H.tells_disks → OnOk result ((found : Found) → IsGroupIn (H.seen host.old).content (Ok found) → found.blocked ≡ None
@@ -203,6 +205,7 @@ fn edit_alone<H: Host>(alloc: Global, host: &mut H, session: Session, command: C
     requires rests { RestsOn session (H.seen host.old) }
     requires holds { H.tells_disks → HoldsGroup session (H.seen host.old).content }
     requires limits { IsCommand command }
+    requires fresh { session.draft ≡ None }
     ensures does { DoesLines H.tells_disks session (Some command ∷ []) (H.seen host.old) (H.seen host.new) result }
     ensures silent { result ≡ Status.DiskFault → (H.seen host.new).said ≡ (H.seen host.old).said }
 {

@@ -27,4 +27,4 @@ returns-in-Err-Disk-clause-fault g c = c.apply.ensures.cause (search rules)
 pub returns-in-Ok-clause-written : goal.returns-in-Ok-clause-written
 returns-in-Ok-clause-written g c tells =
     let answer = c.in-Ok.answer in
-    command_written c.args.session answer.0 c.args.command.now answer.1 (g.H.Host.seen c.args.host.now) (g.H.Host.seen c.apply.new.host) c.in-Ok.ensures.turn (c.in-Ok.ensures.done tells) c.in-Ok.ensures.refused
+    command_written c.args.session answer.0 c.args.command.now answer.1 (g.H.Host.seen c.args.host.now) (g.H.Host.seen c.apply.new.host) c.in-Ok.ensures.turn (c.in-Ok.ensures.done tells) c.in-Ok.ensures.unwritten

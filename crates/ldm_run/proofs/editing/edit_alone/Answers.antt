@@ -17,8 +17,8 @@ returns-clause-does g c =
     let editable : IsEditable first.db first.labels = search rules in
     let same = later_itself start (g.met.H.Host.counts_now host) (g.met.H.Host.only_now host) in
     let state : IsEditedTo g.H.Host.tells_disks first lines [] lines start start first 1 false =
-    edited_none first lines start (λ tells disk label at. outside_itself label (image start.content disk))
-    (λ tells. reopens_none first lines start editable c.requires.rests (c.requires.holds tells) (g.met.H.Host.counts_now host) (g.met.H.Host.only_now host)) in
+    edited_none first lines start c.requires.fresh (λ tells disk label at. outside_itself label (image start.content disk))
+    (λ tells. reopens_none first lines start c.requires.fresh editable c.requires.rests (c.requires.holds tells) (g.met.H.Host.counts_now host) (g.met.H.Host.only_now host)) in
     ended (line_done state same c.edit_line.ensures.later c.edit_line.ensures.any_moment c.in-Ok.ensures.turn c.in-Ok.ensures.said c.in-Ok.ensures.written
     (λ tells. record { one_each = g.met.H.Host.one_each tells now; each = λ disk lt. g.met.H.Host.may_stay tells now disk lt }) (g.met.H.Host.counts_now now))
     c.edit_line.ensures.later c.edit_line.ensures.input c.in-Ok.ensures.rests c.in-Ok.ensures.holds c.status_of.ensures
@@ -32,6 +32,6 @@ returns-in-Err-clause-does g c =
     let editable : IsEditable first.db first.labels = search rules in
     let same = later_itself start (g.met.H.Host.counts_now host) (g.met.H.Host.only_now host) in
     let state : IsEditedTo g.H.Host.tells_disks first lines [] lines start start first 1 false =
-    edited_none first lines start (λ tells disk label at. outside_itself label (image start.content disk))
-    (λ tells. reopens_none first lines start editable c.requires.rests (c.requires.holds tells) (g.met.H.Host.counts_now host) (g.met.H.Host.only_now host)) in
+    edited_none first lines start c.requires.fresh (λ tells disk label at. outside_itself label (image start.content disk))
+    (λ tells. reopens_none first lines start c.requires.fresh editable c.requires.rests (c.requires.holds tells) (g.met.H.Host.counts_now host) (g.met.H.Host.only_now host)) in
     line_fails state same c.edit_line.ensures.later c.edit_line.ensures.any_moment c.in-Err.ensures.fault c.edit_line.ensures.input c.edit_line.ensures.front c.in-Err.ensures.silent

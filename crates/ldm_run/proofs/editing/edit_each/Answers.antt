@@ -23,8 +23,8 @@ editing-init g c =
       holds = c.requires.holds;
       to = (
         [],
-        edited_none first (commands_in c.args.script.now) start (λ tells disk label at. outside_itself label (image start.content disk))
-            (λ tells. reopens_none first (commands_in c.args.script.now) start editable c.requires.rests (c.requires.holds tells) (g.met.H.Host.counts_now host) (g.met.H.Host.only_now host)),
+        edited_none first (commands_in c.args.script.now) start c.requires.fresh (λ tells disk label at. outside_itself label (image start.content disk))
+            (λ tells. reopens_none first (commands_in c.args.script.now) start c.requires.fresh editable c.requires.rests (c.requires.holds tells) (g.met.H.Host.counts_now host) (g.met.H.Host.only_now host)),
       );
     }
 

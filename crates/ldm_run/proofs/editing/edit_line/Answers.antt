@@ -75,7 +75,7 @@ returns-clause-holds g c tells =
 pub returns-clause-turn : goal.returns-clause-turn
 returns-clause-turn g c =
     let turned = c.in_ok-session.ensures.turn in
-    record { db = turned.db; labels_stay = turned.labels_stay; refused_is = c.is_refused.ensures ∙ ap is_refused turned.reply_is }
+    record { db = turned.db; draft = turned.draft; labels_stay = turned.labels_stay; refused_is = c.is_refused.ensures ∙ ap is_refused turned.reply_is }
 
 pub returns-clause-written : goal.returns-clause-written
 returns-clause-written g c tells =
