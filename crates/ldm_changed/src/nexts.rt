@@ -23,6 +23,21 @@ pub enum Next {
     Changed(Change),
 }
 
+impl Next {
+    ghost use Rattle.std.specs.Prelude.{◌≡◌};
+    ghost use Rattle.ldm_changed.specs.Nexts.{bytes_in};
+
+    /// The new body.
+    pub fn into_body(self) -> Body
+        ensures { result ≡ bytes_in self }
+    {
+        match self {
+            Next::Whole(body) => body,
+            Next::Changed(change) => change.into_body(),
+        }
+    }
+}
+
 /// Closes an open copy, writes what is next into it, and opens it. At each moment, whatever the
 /// outcome, the area is as it was, or the copy is closed or that of the new body.
 pub fn rewrite_next<H: Host>(
@@ -43,6 +58,7 @@ pub fn rewrite_next<H: Host>(
         → IsBetween label.now db (image (H.seen host.old).content disk) (image images disk) }
     ensures done { H.tells_disks → OnOk result ((db : Database) → IsBodyOn db label.now (bytes_in next.now)
         → IsWritten label.now db (image (H.seen host.new).content disk)) }
+    ensures has { H.tells_disks → OnOk result (HasBody label.now (bytes_in next.now) (image (H.seen host.new).content disk)) }
     ensures settled { OnOk result (Settled (H.seen host.new) disk) }
     ensures changes { Changes disk (gate_at label.now) (512 * label.now.area_sectors) (H.seen host.old) (H.seen host.new) }
     ensures wrote { slice_index (H.seen host.new).wrote disk ≤ slice_index (H.seen host.old).wrote disk + most_in next.now }

@@ -33,6 +33,7 @@ pub fn refill_changed<H: Host>(
         → IsBetween label.now db (image (H.seen host.old).content disk) (image images disk) }
     ensures done { H.tells_disks → OnOk result ((db : Database) → IsBodyOn db label.now change.now.body
         → IsWritten label.now db (image (H.seen host.new).content disk)) }
+    ensures has { H.tells_disks → OnOk result (HasBody label.now change.now.body (image (H.seen host.new).content disk)) }
     ensures settled { OnOk result (Settled (H.seen host.new) disk) }
     ensures changes { Changes disk (gate_at label.now) (512 * label.now.area_sectors) (H.seen host.old) (H.seen host.new) }
     ensures wrote { slice_index (H.seen host.new).wrote disk ≤ slice_index (H.seen host.old).wrote disk + (512 + 128 * length change.now.numbers) }
@@ -62,6 +63,7 @@ pub fn rewrite_changed<H: Host>(
         → IsBetween label.now db (image (H.seen host.old).content disk) (image images disk) }
     ensures done { H.tells_disks → OnOk result ((db : Database) → IsBodyOn db label.now change.now.body
         → IsWritten label.now db (image (H.seen host.new).content disk)) }
+    ensures has { H.tells_disks → OnOk result (HasBody label.now change.now.body (image (H.seen host.new).content disk)) }
     ensures settled { OnOk result (Settled (H.seen host.new) disk) }
     ensures changes { Changes disk (gate_at label.now) (512 * label.now.area_sectors) (H.seen host.old) (H.seen host.new) }
     ensures wrote { slice_index (H.seen host.new).wrote disk ≤ slice_index (H.seen host.old).wrote disk + (513 + 128 * length change.now.numbers) }

@@ -43,7 +43,7 @@ same_header a b last seq name guid raw = λ i. record {
   kept = is_prop→PathP (λ j. IsKept (last j) (name j) (guid j) (raw j)) (λ j. kept_prop (last j) (name j) (guid j) (raw j)) a.kept b.kept i;
 }
 
-one_header : (a b : Header) (sector : List ℕ) → IsHeaderOf a sector → IsHeaderOf b sector → a ≡ b
+pub one_header : (a b : Header) (sector : List ℕ) → IsHeaderOf a sector → IsHeaderOf b sector → a ≡ b
 one_header a b sector x y =
     same_header a b (x.last_is ∙ sym y.last_is) (x.seq_is ∙ sym y.seq_is) (x.name_is ∙ sym y.name_is)
     (some_is a.guid b.guid (sym x.guid_is ∙ y.guid_is)) (x.raw_is ∙ sym y.raw_is)

@@ -52,6 +52,13 @@ module _ (disk : ℕ) (label : Label) (some : 1 ≤ label.area_sectors) where
       let from = writes.left (image c.content disk) stays in
       written_is db label body (image c.content disk) is room (opened (image c.content disk) stays) (body_stays label some body from.0 (image c.content disk) (filled from.0 from.1) from.2)
 
+  -- the body stands there still
+  pub body_unsealed : (body : List ℕ) (b c : Seen) → c.may_leave disk (image c.content disk) → ((x : List ℕ) → b.may_leave disk x → HasBody label body x)
+      → Writes disk (gate_at label) 1 b c → HasBody label body (image c.content disk)
+  body_unsealed body b c stays filled writes =
+      let from = writes.left (image c.content disk) stays in
+      body_stays label some body from.0 (image c.content disk) (filled from.0 from.1) from.2
+
   -- the gate of a closed copy isn't pending
   pub settled_shut : (a : Seen) → Settled a disk → IsShut label (image a.content disk) → (x : List ℕ) → a.may_leave disk x → slice_index x (gate_at label) ≢ 0x56
   settled_shut a settled shut x left is = shut_gate label some (image a.content disk) shut (ap (λ (l : List ℕ). slice_index l (gate_at label)) (sym (settled x left)) ∙ is)

@@ -5,7 +5,7 @@ ghost use Rattle.ldm_host.specs.Seen.{image};
 ghost use Rattle.ldm_label.specs.LabelOf.{Fits};
 ghost use Rattle.ldm_group.specs.Database.{Database};
 ghost use Rattle.ldm_copy.specs.Copy.{config_area, gate_at, IsOpen};
-ghost use Rattle.ldm_copy.specs.Body.{IsBodyOn, IsShut, IsWritten, IsBetween};
+ghost use Rattle.ldm_copy.specs.Body.{HasBody, IsBodyOn, IsShut, IsWritten, IsBetween};
 
 use crate::body::Body;
 use crate::gate::{close, fill, unseal};
@@ -24,6 +24,7 @@ pub fn refill<H: Host>(host: &mut H, disk: usize, label: &Label, body: &Body) ->
         → IsBetween label.now db (image (H.seen host.old).content disk) (image images disk) }
     ensures done { H.tells_disks → OnOk result ((db : Database) → IsBodyOn db label.now body.now
         → IsWritten label.now db (image (H.seen host.new).content disk)) }
+    ensures has { H.tells_disks → OnOk result (HasBody label.now body.now (image (H.seen host.new).content disk)) }
     ensures settled { OnOk result (Settled (H.seen host.new) disk) }
     ensures changes { Changes disk (gate_at label.now) (512 * label.now.area_sectors) (H.seen host.old) (H.seen host.new) }
     ensures wrote { slice_index (H.seen host.new).wrote disk ≤ slice_index (H.seen host.old).wrote disk + length body.now }
@@ -46,6 +47,7 @@ pub fn rewrite<H: Host>(host: &mut H, disk: usize, label: &Label, body: &Body) -
         → IsBetween label.now db (image (H.seen host.old).content disk) (image images disk) }
     ensures done { H.tells_disks → OnOk result ((db : Database) → IsBodyOn db label.now body.now
         → IsWritten label.now db (image (H.seen host.new).content disk)) }
+    ensures has { H.tells_disks → OnOk result (HasBody label.now body.now (image (H.seen host.new).content disk)) }
     ensures settled { OnOk result (Settled (H.seen host.new) disk) }
     ensures changes { Changes disk (gate_at label.now) (512 * label.now.area_sectors) (H.seen host.old) (H.seen host.new) }
     ensures wrote { slice_index (H.seen host.new).wrote disk ≤ slice_index (H.seen host.old).wrote disk + length body.now + 1 }

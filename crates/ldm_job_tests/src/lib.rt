@@ -8,6 +8,8 @@ mod edit;
 #[cfg(test)]
 mod group;
 #[cfg(test)]
+mod handed;
+#[cfg(test)]
 mod hostile;
 #[cfg(test)]
 mod jobs;

@@ -8,7 +8,7 @@ ghost use Rattle.ldm_found.specs.Opening.{IsGroupIn};
 ghost use Rattle.ldm_store.specs.Kept.{AlwaysKept};
 ghost use Rattle.ldm_store.specs.Turning.{AreRewritten};
 ghost use Rattle.ldm_store.specs.Healing.{OneGroup};
-ghost use Rattle.ldm_store.specs.Sessions.{RestsOn, HoldsGroup, IsTurnOf, IsOpenedFrom};
+ghost use Rattle.ldm_store.specs.Sessions.{RestsOn, HoldsSession, IsTurnOf, IsOpenedFrom};
 ghost use Rattle.ldm_group_text.specs.Reply.{text_of_reply};
 ghost use Rattle.ldm_run.specs.Kinds.{SameInput, NothingPending};
 ghost use Rattle.ldm_run.specs.Scripts.{command_in, commands_in};
@@ -32,15 +32,15 @@ fn apply_command<H: Host>(
     session: Session,
     command: &Command,
 ) -> Result<(Session, Reply), Status>
-    requires rests { RestsOn session (H.seen host.old) }
-    requires holds { H.tells_disks → HoldsGroup session (H.seen host.old).content }
+    requires rests { RestsOn session.group (H.seen host.old) }
+    requires holds { H.tells_disks → HoldsSession session (H.seen host.old).content }
     requires limits { IsCommand command.now }
     ensures any_moment { H.tells_disks → (images : List (List ℕ)) (said : List ℕ) → (H.seen host.new).left_since (H.seen host.old).clock images said
-        → IsDoing session (Some command.now) (H.seen host.old) images said }
-    ensures turn { IfOk result (λ answer. IsTurnOf (turn_on session (Some command.now)) session.labels answer.0 answer.1) }
-    ensures rests { IfOk result (λ answer. RestsOn answer.0 (H.seen host.new)) }
-    ensures holds { H.tells_disks → IfOk result (λ answer. HoldsGroup answer.0 (H.seen host.new).content) }
-    ensures written { H.tells_disks → IfOk result (λ answer. AreWritten session.labels session.db answer.0.db (H.seen host.old).content (H.seen host.new).content) }
+        → IsDoing session.group (Some command.now) (H.seen host.old) images said }
+    ensures turn { IfOk result (λ answer. IsTurnOf (turn_on session.group (Some command.now)) session.group.labels answer.0.group answer.1) }
+    ensures rests { IfOk result (λ answer. RestsOn answer.0.group (H.seen host.new)) }
+    ensures holds { H.tells_disks → IfOk result (λ answer. HoldsSession answer.0 (H.seen host.new).content) }
+    ensures written { H.tells_disks → IfOk result (λ answer. AreWritten session.group.labels session.group.db answer.0.group.db (H.seen host.old).content (H.seen host.new).content) }
     ensures fault { IfErr result (EditFails (H.seen host.old) (H.seen host.new)) }
     ensures later { Later (H.seen host.old) (H.seen host.new) }
     ensures quiet { Quiet (H.seen host.old) (H.seen host.new) }
@@ -59,15 +59,15 @@ fn apply_line<H: Host>(
     session: Session,
     line: Option<Command>,
 ) -> Result<(Session, Reply), Status>
-    requires rests { RestsOn session (H.seen host.old) }
-    requires holds { H.tells_disks → HoldsGroup session (H.seen host.old).content }
+    requires rests { RestsOn session.group (H.seen host.old) }
+    requires holds { H.tells_disks → HoldsSession session (H.seen host.old).content }
     requires limits { IfSome line IsCommand }
     ensures any_moment { H.tells_disks → (images : List (List ℕ)) (said : List ℕ) → (H.seen host.new).left_since (H.seen host.old).clock images said
-        → IsDoing session line (H.seen host.old) images said }
-    ensures turn { IfOk result (λ answer. IsTurnOf (turn_on session line) session.labels answer.0 answer.1) }
-    ensures rests { IfOk result (λ answer. RestsOn answer.0 (H.seen host.new)) }
-    ensures holds { H.tells_disks → IfOk result (λ answer. HoldsGroup answer.0 (H.seen host.new).content) }
-    ensures written { H.tells_disks → IfOk result (λ answer. AreWritten session.labels session.db answer.0.db (H.seen host.old).content (H.seen host.new).content) }
+        → IsDoing session.group line (H.seen host.old) images said }
+    ensures turn { IfOk result (λ answer. IsTurnOf (turn_on session.group line) session.group.labels answer.0.group answer.1) }
+    ensures rests { IfOk result (λ answer. RestsOn answer.0.group (H.seen host.new)) }
+    ensures holds { H.tells_disks → IfOk result (λ answer. HoldsSession answer.0 (H.seen host.new).content) }
+    ensures written { H.tells_disks → IfOk result (λ answer. AreWritten session.group.labels session.group.db answer.0.group.db (H.seen host.old).content (H.seen host.new).content) }
     ensures fault { IfErr result (EditFails (H.seen host.old) (H.seen host.new)) }
     ensures later { Later (H.seen host.old) (H.seen host.new) }
     ensures quiet { Quiet (H.seen host.old) (H.seen host.new) }
@@ -86,17 +86,17 @@ fn edit_line<H: Host>(
     number: u64,
     line: Option<Command>,
 ) -> Result<(Session, bool), Status>
-    requires rests { RestsOn session (H.seen host.old) }
-    requires holds { H.tells_disks → HoldsGroup session (H.seen host.old).content }
+    requires rests { RestsOn session.group (H.seen host.old) }
+    requires holds { H.tells_disks → HoldsSession session (H.seen host.old).content }
     requires limits { IfSome line IsCommand }
     ensures any_moment { H.tells_disks → (images : List (List ℕ)) (said : List ℕ) → (H.seen host.new).left_since (H.seen host.old).clock images said
-        → IsDoing session line (H.seen host.old) images said ⊎ IsAnswering session line number (H.seen host.old) images said }
-    ensures turn { IfOk result (λ answer. IsAnswered session line answer.0 answer.1) }
-    ensures rests { IfOk result (λ answer. RestsOn answer.0 (H.seen host.new)) }
-    ensures holds { H.tells_disks → IfOk result (λ answer. HoldsGroup answer.0 (H.seen host.new).content) }
-    ensures written { H.tells_disks → IfOk result (λ answer. AreWritten session.labels session.db answer.0.db (H.seen host.old).content (H.seen host.new).content) }
-    ensures said { H.tells_disks → OnOk result ((H.seen host.new).said ≡ (H.seen host.old).said ++ text_of_reply (number, (turn_on session line).reply)) }
-    ensures front { H.tells_disks → Begins (H.seen host.new).said ((H.seen host.old).said ++ text_of_reply (number, (turn_on session line).reply)) }
+        → IsDoing session.group line (H.seen host.old) images said ⊎ IsAnswering session.group line number (H.seen host.old) images said }
+    ensures turn { IfOk result (λ answer. IsAnswered session.group line answer.0.group answer.1) }
+    ensures rests { IfOk result (λ answer. RestsOn answer.0.group (H.seen host.new)) }
+    ensures holds { H.tells_disks → IfOk result (λ answer. HoldsSession answer.0 (H.seen host.new).content) }
+    ensures written { H.tells_disks → IfOk result (λ answer. AreWritten session.group.labels session.group.db answer.0.group.db (H.seen host.old).content (H.seen host.new).content) }
+    ensures said { H.tells_disks → OnOk result ((H.seen host.new).said ≡ (H.seen host.old).said ++ text_of_reply (number, (turn_on session.group line).reply)) }
+    ensures front { H.tells_disks → Begins (H.seen host.new).said ((H.seen host.old).said ++ text_of_reply (number, (turn_on session.group line).reply)) }
     ensures silent { IfErr result (λ status. status ≡ Status.DiskFault → (H.seen host.new).said ≡ (H.seen host.old).said) }
     ensures fault { IfErr result (EditFails (H.seen host.old) (H.seen host.new)) }
     ensures later { Later (H.seen host.old) (H.seen host.new) }
@@ -137,11 +137,11 @@ fn command_in(alloc: Global, line: &[u8]) -> Result<Option<Command>, NoMemory>
 
 // Does the lines of a script, each after the reply to the one before.
 fn edit_each<H: Host>(alloc: Global, host: &mut H, first: Session, script: &[u8]) -> Status
-    requires rests { RestsOn first (H.seen host.old) }
-    requires holds { H.tells_disks → HoldsGroup first (H.seen host.old).content }
+    requires rests { RestsOn first.group (H.seen host.old) }
+    requires holds { H.tells_disks → HoldsSession first (H.seen host.old).content }
     requires short { length script.now ≤ 1048576 }
-    requires fresh { first.draft ≡ None }
-    ensures { DoesLines H.tells_disks first (commands_in script.now) (H.seen host.old) (H.seen host.new) result }
+    requires fresh { first.group.draft ≡ None }
+    ensures { DoesLines H.tells_disks first.group (commands_in script.now) (H.seen host.old) (H.seen host.new) result }
 {
     let mut session = first;
     let mut rest = script;
@@ -166,15 +166,15 @@ fn edit_each<H: Host>(alloc: Global, host: &mut H, first: Session, script: &[u8]
 // The group that the disks hold, made ready to be edited; or how the run ends where there is none.
 fn open_session<H: Host>(alloc: Global, host: &mut H) -> Result<Session, Status>
     requires { 0 < length (H.seen host.old).sizes }
-    ensures opened { H.tells_disks → IfOk result (λ session. IsOpenedFrom (H.seen host.old).content session) }
-    ensures fresh { IfOk result (λ session. session.draft ≡ None) }
+    ensures opened { H.tells_disks → IfOk result (λ session. IsOpenedFrom (H.seen host.old).content session.group) }
+    ensures fresh { IfOk result (λ session. session.group.draft ≡ None) }
     ensures kept { H.tells_disks → OnOk result ((found : Found) → IsGroupIn (H.seen host.old).content (Ok found) → found.blocked ≡ None
         → NothingPending (H.seen host.old) → AlwaysKept found.labels found.db found.db (H.seen host.old) (H.seen host.new)) }
     ensures one_group { H.tells_disks → OnOk result ((found : Found) → IsGroupIn (H.seen host.old).content (Ok found) → found.blocked ≡ None
         → OneGroup (H.seen host.old) (H.seen host.new)) }
-    ensures rests { IfOk result (λ session. RestsOn session (H.seen host.new)) }
-    ensures holds { H.tells_disks → IfOk result (λ session. HoldsGroup session (H.seen host.new).content) }
-    ensures each { H.tells_disks → IfOk result (λ session. AreRewritten session.labels session.db (H.seen host.old).content (H.seen host.new).content) }
+    ensures rests { IfOk result (λ session. RestsOn session.group (H.seen host.new)) }
+    ensures holds { H.tells_disks → IfOk result (λ session. HoldsSession session (H.seen host.new).content) }
+    ensures each { H.tells_disks → IfOk result (λ session. AreRewritten session.group.labels session.group.db (H.seen host.old).content (H.seen host.new).content) }
     ensures later { OnOk result (Later (H.seen host.old) (H.seen host.new)) }
     ensures quiet { OnOk result (Quiet (H.seen host.old) (H.seen host.new)) }
     ensures silent { IfErr result (λ status. status ≡ Status.DiskFault → (H.seen host.new).said ≡ (H.seen host.old).said) }
@@ -202,11 +202,11 @@ pub(crate) fn edit_script<H: Host>(alloc: Global, host: &mut H, script: &[u8]) -
 
 // Does one command, and says the reply.
 fn edit_alone<H: Host>(alloc: Global, host: &mut H, session: Session, command: Command) -> Status
-    requires rests { RestsOn session (H.seen host.old) }
-    requires holds { H.tells_disks → HoldsGroup session (H.seen host.old).content }
+    requires rests { RestsOn session.group (H.seen host.old) }
+    requires holds { H.tells_disks → HoldsSession session (H.seen host.old).content }
     requires limits { IsCommand command }
-    requires fresh { session.draft ≡ None }
-    ensures does { DoesLines H.tells_disks session (Some command ∷ []) (H.seen host.old) (H.seen host.new) result }
+    requires fresh { session.group.draft ≡ None }
+    ensures does { DoesLines H.tells_disks session.group (Some command ∷ []) (H.seen host.old) (H.seen host.new) result }
     ensures silent { result ≡ Status.DiskFault → (H.seen host.new).said ≡ (H.seen host.old).said }
 {
     let (_, refused) = match edit_line(alloc, host, session, 1, Some(command)) {

@@ -25,7 +25,7 @@ use Rattle.ldm_store.proofs.HasLaws.{has_image, has_more, known_current, valid_c
 use Rattle.ldm_store.proofs.Stepping.{IsEither, kept_now, kept_step, has_step, outside_step}
 use Rattle.ldm_found.proofs.FoundLaws.{HoldsGroup, copy_known, holder}
 
-one_note : {a b : Note} → Some a ≡ Some b → a ≡ b
+pub one_note : {a b : Note} → Some a ≡ Some b → a ≡ b
 one_note e = cc
 
 noted_closed : (c : CopyState) → notes.Closed ≡ note_of c → c ≡ Closed
@@ -50,7 +50,7 @@ current_seq : (a b : Database) → IsSameCore a b → a.header.seq ≡ b.header.
 current_seq a b same = ap (λ (c : Core). c.seq) same
 
 -- a known copy that isn't behind is current
-not_behind : (group : Database) (note : Note) (c : CopyState) → IsKnown group group c → note ≡ note_of c → is_behind group.header.seq note ≡ false → IsCurrent group c
+pub not_behind : (group : Database) (note : Note) (c : CopyState) → IsKnown group group c → note ≡ note_of c → is_behind group.header.seq note ≡ false → IsCurrent group c
 not_behind group notes.Closed c known is fails = absurd cc
 not_behind group (notes.Sequence held) Closed known is fails = absurd cc
 not_behind group (notes.Sequence held) (Valid e) (inl less) is fails =
@@ -178,10 +178,20 @@ module _ (found : Found) (a : Seen) (held : HoldsGroup a.content found) where
         always = healing_always;
       }
 
+-- a copy that is behind isn't at a disk of one that isn't
+pub other_disk : (seq : ℕ) (marks : List Note) (disk : ℕ) (note : Note) (k : ℕ) (mark : Note) → slice_get marks disk ≡ Some note → is_behind seq note ≡ true → slice_get marks k ≡ Some mark → is_behind seq mark ≡ false
+    → k ≢ disk
+other_disk seq marks disk note k mark noted behind marked fails is =
+    let same : mark ≡ note = one_note (sym marked ∙ ap (λ (d : ℕ). slice_get marks d) is ∙ noted) in
+    let bad : false ≡ true = sym fails ∙ ap (is_behind seq) same ∙ behind in cc
+
 pub spared_step : (seq : ℕ) (marks : List Note) (a b c : Seen) (disk at n : ℕ) (note : Note) → slice_get marks disk ≡ Some note → is_behind seq note ≡ true → Changes disk at n b c
     → AreSpared seq marks a b → AreSpared seq marks a c
 spared_step seq marks a b c disk at n note noted behind changes spared k mark marked fails =
-    let ne : k ≢ disk = λ is.
-    let same : mark ≡ note = one_note (sym marked ∙ ap (λ (d : ℕ). slice_get marks d) is ∙ noted) in
-    (let bad : false ≡ true = sym fails ∙ ap (is_behind seq) same ∙ behind in cc) in
-    changes.wrote_others k ne ∙ spared k mark marked fails
+    changes.wrote_others k (other_disk seq marks disk note k mark noted behind marked fails) ∙ spared k mark marked fails
+
+-- the other disks stay
+pub stays_step : (seq : ℕ) (marks : List Note) (a b c : Seen) (disk at n : ℕ) (note : Note) → slice_get marks disk ≡ Some note → is_behind seq note ≡ true → Changes disk at n b c
+    → ((k : ℕ) (mark : Note) → slice_get marks k ≡ Some mark → is_behind seq mark ≡ false → image b.content k ≡ image a.content k)
+    → (k : ℕ) (mark : Note) → slice_get marks k ≡ Some mark → is_behind seq mark ≡ false → image c.content k ≡ image a.content k
+stays_step seq marks a b c disk at n note noted behind changes stays k mark marked fails = changes.content.others k (other_disk seq marks disk note k mark noted behind marked fails) ∙ stays k mark marked fails

@@ -6,5 +6,6 @@ pub mod Stepping
 pub mod CallSteps
 pub mod TurnLaws
 pub mod HealLaws
+pub mod TidyLaws
 pub mod ApplyLaws
 pub mod SettleLaws

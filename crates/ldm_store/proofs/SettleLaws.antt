@@ -1,20 +1,30 @@
 -- The syncs and the look for a group, and what follows them.
-use Rattle.std.proofs.Common.{◌⊎◌, ◌≡◌, inl, inr, ⊎_elim, ℕ, List, length, Some, None, Ok, Err, sym, ◌∙◌, ap, subst}
+use Rattle.std.proofs.Common.{◌⊎◌, ◌≡◌, ◌≢◌, inl, inr, ⊎_elim, ℕ, Bool, true, false, if◌then◌else◌, List, length, slice_get, Option, Some, None, Ok, Err, refl, sym, ◌∙◌, ap, subst}
+use Rattle.std.specs.Prelude.{◌↔◌}
+use Rattle.std.proofs.lemmas.Option.{slice_get_within}
 use Rattle.ldm_host.specs.Seen.{Seen, Leaves, image}
 use Rattle.ldm_host.specs.Moves.{Later, Settles, Still, Quiet}
 use Rattle.ldm_host.proofs.Relations.{settles_trans, syncs_settles, still_syncs}
+use Rattle.ldm_label.specs.declared.Label.{Label}
 use Rattle.ldm_label.specs.LabelOf.{SameOutsideArea}
+use Rattle.ldm_copy.specs.Body.{HasBody}
+use Rattle.ldm_copy.specs.Table.{IsCoreBody}
+use Rattle.ldm_found.specs.declared.notes.Note.{Note}
+use Rattle.ldm_found.specs.Copies.{note_of, HasCopy, IsKnown}
 use Rattle.ldm_found.specs.declared.found.Found.{Found}
 use Rattle.ldm_found.specs.Opening.{IsGroupIn}
 use Rattle.ldm_store.specs.Kept.{AlwaysKept, IsKept, IsCurrent, HoldsNone, HoldsEditable}
-use Rattle.ldm_store.specs.Turning.{AllSettled, AllHave}
+use Rattle.ldm_store.specs.Turning.{IsBodyOnEach, AllSettled, AllHave}
 use Rattle.ldm_store.specs.Sessions.{Opened, HoldsGroup}
-use Rattle.ldm_store.specs.Healing.{OnlyStill, OneGroup}
+use Rattle.ldm_store.specs.Healing.{is_behind, OnlyStill, OneGroup}
+use Rattle.ldm_store.specs.Bodies.{BeginsWith, AllBegin, IsBegunBut, IsTidyBut, HoldsBody}
 use Rattle.ldm_found.specs.Labels.{AreSameOutside}
 use Rattle.ldm_found.proofs.ClearLaws.{clear_of, labels_stay}
-use Rattle.ldm_found.proofs.FoundLaws.{holds_group, one_image}
+use Rattle.ldm_found.proofs.FoundLaws.{holds_group, one_image, copy_known}
 use Rattle.ldm_found.proofs.GroupLaws.{one_group}
+use Rattle.ldm_store.proofs.HasLaws.{current_open}
 use Rattle.ldm_store.proofs.HealLaws.{still_kept}
+use Rattle.ldm_store.proofs.TidyLaws.{begins_open, tidy_before}
 use Rattle.ldm_store.proofs.OpensLaws.{kept_opens_found}
 
 -- from a state on that has the start's content, where only images of the start were left before
@@ -91,6 +101,37 @@ holds_after found old new is editable same outside current =
       labelled = labels_stay found.labels old new held.labels_are (same ∙ one_image old found held) outside (clear_of found.db found.labels (sym held.blocked_is ∙ editable)).clear;
       current = current;
     }
+
+-- ---- the body that is kept
+
+abbrev pub kept_if : Bool → List ℕ → Option (List ℕ)
+kept_if shared body = if shared then Some body else None
+
+module _ (found : Found) (old new : List (List ℕ)) (is : IsGroupIn old (Ok found)) (body : List ℕ) (core : IsCoreBody found.db body) (on : IsBodyOnEach found.db found.labels body)
+    (stays : (disk : ℕ) (note : Note) → slice_get found.notes disk ≡ Some note → is_behind found.db.header.seq note ≡ false → image new disk ≡ image old disk)
+    (has : (disk : ℕ) (label : Label) (note : Note) → slice_get found.labels disk ≡ Some label → slice_get found.notes disk ≡ Some note → is_behind found.db.header.seq note ≡ true
+    → HasBody label body (image new disk))
+    (current : AllHave found.labels new (IsCurrent found.db)) where
+  begun_all : IsBegunBut found old body → AllBegin found.labels new body
+  begun_all begun disk label at = at_note (note_of known.2.0) known.2.2.1 (is_behind found.db.header.seq (note_of known.2.0)) refl
+    where
+      known : HasCopy found.labels old disk (λ c. IsKnown found.db found.db c × (slice_get found.notes disk ≡ Some (note_of c)))
+      known = copy_known old found (holds_group old found is) disk (slice_get_within found.labels disk label at)
+
+      at_note : (note : Note) → slice_get found.notes disk ≡ Some note → (late : Bool) → is_behind found.db.header.seq note ≡ late → BeginsWith label body (image new disk)
+      at_note note noted true late = begins_open found.db label body (image new disk) (on disk label at)
+          (current_open found.labels new disk label found.db at (current disk (slice_get_within found.labels disk label at))) (has disk label note at noted late)
+      at_note note noted false late = subst (λ (x : List ℕ). BeginsWith label body x) (sym (stays disk note noted late)) (begun disk label note at noted late)
+
+  pub body_after : (shared : Bool) → (shared ≡ true → IsBegunBut found old body) → (shared ≡ false → IsTidyBut found old → ⊥) → HoldsBody (kept_if shared body) found.labels new
+  body_after true begun alone = ((core.0, core.2), begun_all (begun refl))
+  body_after false begun alone = λ tidy. alone refl (tidy_before found old new stays tidy)
+
+-- a body is kept exactly where the copies that stay are tidy among themselves
+pub tidy_kept : (found : Found) (old : List (List ℕ)) (body : List ℕ) → IsCoreBody found.db body → (shared : Bool) → (shared ≡ true → IsBegunBut found old body) → (shared ≡ false → IsTidyBut found old → ⊥)
+    → (kept_if shared body ≢ None) ↔ IsTidyBut found old
+tidy_kept found old body core true begun alone = (λ ne. (body, (core.0, core.2), begun refl), λ tidy e. absurd (let bad : Some body ≡ None = e in cc))
+tidy_kept found old body core false begun alone = (λ ne. absurd (ne refl), λ tidy. absurd (alone refl tidy))
 
 -- ---- what follows the syncs
 

@@ -11,7 +11,7 @@ use Rattle.ldm_copy.specs.declared.answer.CopyState.{CopyState}
 use Rattle.ldm_copy.specs.Copy.{config_area, gate_at}
 use Rattle.ldm_found.specs.Copies.{HasCopy, IsKnown}
 use Rattle.ldm_store.specs.Kept.{IsCurrent, IsKept}
-use Rattle.ldm_copy.specs.Body.{IsBetween}
+use Rattle.ldm_copy.specs.Body.{HasBody, IsBetween}
 use Rattle.ldm_store.specs.Turning.{AllSettled, AllHave}
 use Rattle.ldm_found.specs.Labels.{AreSameOutside}
 use Rattle.ldm_store.proofs.HasLaws.{has_image, has_area, has_between, outside_is, outside_torn, same_label}
@@ -95,6 +95,15 @@ module _ (labels : List Label) (b c : Seen) (disk : ℕ) (label : Label) (at : s
 
   pub has_step : (Is : CopyState → Type 0) (k : ℕ) → k ≢ disk → HasCopy labels b.content k Is → HasCopy labels c.content k Is
   has_step Is k ne has = has_image labels b.content c.content k Is (changes.content.others k ne) has
+
+  -- the bytes behind the gates of the disk that was written, and of the others
+  pub body_step : (body : List ℕ) → HasBody label body (image c.content disk) → (k : ℕ) (other : Label) → slice_get labels k ≡ Some other → (k ≢ disk → HasBody other body (image b.content k))
+      → HasBody other body (image c.content k)
+  body_step body here k other at_k was = ⊎_elim
+      (λ is. subst (λ (d : ℕ). HasBody other body (image c.content d)) (sym is)
+      (subst (λ (l : Label). HasBody l body (image c.content disk)) (same_label labels disk label other at (subst (λ (d : ℕ). slice_get labels d ≡ Some other) is at_k)) here))
+      (λ ne. subst (λ (x : List ℕ). HasBody other body x) (sym (changes.content.others k ne)) (was ne))
+      (cases_eq k disk)
 
   pub outside_step : (a : Seen) → AreSameOutside labels a.content b.content → AreSameOutside labels a.content c.content
   outside_step a outside k here at_k = ⊎_elim

@@ -6,6 +6,7 @@ mod laws;
 mod rewriting;
 mod session;
 mod settling;
+mod sharing;
 
 pub use laws::kept_images_open;
 pub use session::{ApplyError, Session};

@@ -1,19 +1,16 @@
 //! A group that is being edited, one command after another.
-ghost use Rattle.std.specs.Prelude.{◌≡◌, ◌+◌, ◌*◌, ◌/◌, ◌<◌, ◌≤◌, ℕ, slice_index, IfOk, IsErrOf, None, false, option_copied};
-ghost use Rattle.std.specs.Option.{ForSome};
-ghost use Rattle.ldm_host.specs.Moves.{Later, Quiet, Rose, Still};
-ghost use Rattle.ldm_copy.specs.declared.answer.CopyState.{CopyState};
-ghost use Rattle.ldm_edits.specs.declared.reply.Reply.{Reply};
-ghost use Rattle.ldm_edits.specs.Counting.{is_done};
-ghost use Rattle.ldm_edits.specs.Steps.{IsDraftOf};
-ghost use Rattle.ldm_words.specs.Limits.{IsCommand};
-ghost use Rattle.ldm_found.specs.Facts.{IsSoundGroup};
-ghost use Rattle.ldm_store.specs.Kept.{AlwaysKept};
-ghost use Rattle.ldm_store.specs.Turning.{AllHave};
-ghost use Rattle.ldm_store.specs.Sessions.{IsEditable, IsNextFor, RestsOn, HoldsGroup, IsTurnOf, turn_in};
+ghost use Rattle.std.specs.Prelude.{◌≡◌, ◌+◌, ◌*◌, ◌≤◌, ℕ, List, Some, length, IfOk, IfSome};
+ghost use Rattle.ldm_group.specs.Room.{FitsHeader};
+ghost use Rattle.ldm_copy.specs.Body.{IsBodyOf};
+ghost use Rattle.ldm_copy.specs.Table.{IsCoreBody};
+ghost use Rattle.ldm_changed.specs.Nexts.{bytes_in, most_in};
+ghost use Rattle.ldm_changed.specs.Plan.{touched_blocks};
+ghost use Rattle.ldm_store.specs.Bodies.{IsFrom};
 
 use crate::rewriting::rewrite_all;
-use ldm_copy::body_of;
+use ldm_bytes::NoMemory;
+use ldm_changed::{Next, next_body};
+use ldm_copy::{Body, body_of};
 use ldm_edits::{Draft, Reply, Turn, turn};
 use ldm_found::Found;
 use ldm_group::Db;
@@ -23,22 +20,24 @@ use ldm_words::Command;
 use std::alloc::Global;
 use std::marker::Model;
 
-/// A group that may be edited: its database and the labels of its images, in the order of the disks; and the batch that is open.
+/// A group that may be edited: its database, the labels of its images, in the order of the disks, and the batch that is open.
+/// It keeps the body with which all copies begin, where they begin with one.
 #[derive(Drop)]
 pub struct Session {
     db: Db,
     labels: Labels,
     draft: Option<Draft>,
+    body: Option<Body>,
 }
 
 impl Model for Session {
-    ghost use Rattle.ldm_store.specs.Sessions.{IsInHand, Opened};
+    ghost use Rattle.ldm_store.specs.Sessions.{Edited, IsSession};
 
-    ghost Value = { Opened };
+    ghost Value = { Edited };
 
-    ghost view = { λ s. record { db = s.db; labels = s.labels; draft = s.draft } };
+    ghost view = { λ s. record { group = record { db = s.db; labels = s.labels; draft = s.draft }; body = s.body } };
 
-    ghost invariant = { λ s. IsInHand s.db s.labels s.draft };
+    ghost invariant = { λ s. IsSession s.db s.labels s.draft s.body };
 }
 
 /// Why a command has no answer.
@@ -50,11 +49,32 @@ pub enum ApplyError {
     NoMemory(Session),
 }
 
+// What takes the place of each copy: what changes in the body that all begin with, or the whole body of the newer group.
+fn next_of(alloc: Global, body: &Option<Body>, older: &Db, newer: &Db) -> Result<Next, NoMemory>
+    requires core { IfSome body.now (IsCoreBody older.now) }
+    requires last { newer.now.header.last ≡ older.now.header.last }
+    requires room { FitsHeader newer.now }
+    requires low { 4 ≤ newer.now.header.last }
+    requires high { newer.now.header.last ≤ 8192 }
+    ensures body { IfOk result (λ next. IsBodyOf newer.now (bytes_in next)) }
+    ensures from { IfOk result (λ next. IsFrom body.now next) }
+    ensures most { IfOk result (λ next. most_in next ≤ length (bytes_in next) + 1) }
+    ensures few { IfOk result (λ next. (bytes : List ℕ) → body.now ≡ Some bytes
+        → most_in next ≤ 128 * touched_blocks older.now.records newer.now.records + 513) }
+{
+    match body {
+        None => Ok(Next::Whole(body_of(alloc, newer)?)),
+        Some(body) => Ok(Next::Changed(next_body(alloc, body, older, newer)?)),
+    }
+}
+
 impl Session {
-    ghost use Rattle.std.specs.Prelude.{◌≡◌, ◌+◌, ◌*◌, ◌/◌, ◌<◌, ◌≤◌, ℕ, slice_index, IfOk, IsErrOf, None, false, option_copied};
+    ghost use Rattle.std.specs.Prelude.{◌≡◌, ◌+◌, ◌*◌, ◌/◌, ◌<◌, ◌≤◌, ℕ, List, slice_index, Option, IfOk, IfSome, IsErrOf, Some, None, false, option_copied};
     ghost use Rattle.std.specs.Option.{ForSome};
     ghost use Rattle.ldm_host.specs.Moves.{Later, Quiet, Rose, Still};
     ghost use Rattle.ldm_copy.specs.declared.answer.CopyState.{CopyState};
+    ghost use Rattle.ldm_copy.specs.Table.{IsCoreBody};
+    ghost use Rattle.ldm_changed.specs.Plan.{touched_blocks};
     ghost use Rattle.ldm_edits.specs.declared.reply.Reply.{Reply};
     ghost use Rattle.ldm_edits.specs.Counting.{is_done};
     ghost use Rattle.ldm_edits.specs.Steps.{IsDraftOf};
@@ -62,65 +82,77 @@ impl Session {
     ghost use Rattle.ldm_found.specs.Facts.{IsSoundGroup};
     ghost use Rattle.ldm_store.specs.Kept.{AlwaysKept};
     ghost use Rattle.ldm_store.specs.Turning.{AllHave};
-    ghost use Rattle.ldm_store.specs.Sessions.{IsEditable, IsNextFor, RestsOn, HoldsGroup, IsTurnOf, turn_in};
+    ghost use Rattle.ldm_store.specs.Sessions.{IsEditable, IsNextFor, RestsOn, HoldsSession, IsTurnOf, turn_in};
 
-    // The session of a group that was found and that nothing blocks.
-    pub fn of(found: Found) -> Session
+    // The session of a group that was found and that nothing blocks, with the body that its copies begin with.
+    pub fn of(found: Found, body: Option<Body>) -> Session
         requires sound { IsSoundGroup found }
         requires unblocked { found.blocked ≡ None }
-        ensures db { result.db ≡ found.db }
-        ensures labels { result.labels ≡ found.labels }
-        ensures draft { result.draft ≡ None }
+        requires core { IfSome body (IsCoreBody found.db) }
+        ensures db { result.group.db ≡ found.db }
+        ensures labels { result.group.labels ≡ found.labels }
+        ensures draft { result.group.draft ≡ None }
+        ensures body { result.body ≡ body }
     {
         Session {
             db: found.db,
             labels: found.labels,
             draft: None,
+            body,
         }
     }
 
     /// The group's database.
     pub fn db(&self) -> &Db
-        ensures is { result.now ≡ self.now.db }
-        ensures editable { IsEditable self.now.db self.now.labels }
+        ensures is { result.now ≡ self.now.group.db }
+        ensures editable { IsEditable self.now.group.db self.now.group.labels }
     {
         &self.db
     }
 
     // The same group, with this batch open.
     fn with_draft(self, draft: Option<Draft>) -> Session
-        requires { ForSome draft (IsDraftOf self.labels self.db) }
-        ensures { result ≡ record { db = self.db; labels = self.labels; draft = draft } }
+        requires { ForSome draft (IsDraftOf self.group.labels self.group.db) }
+        ensures { result ≡ record { group = record { db = self.group.db; labels = self.group.labels; draft = draft }; body = self.body } }
     {
         let Session {
             db,
             labels,
             draft: _,
+            body,
         } = self;
-        Session { db, labels, draft }
+        Session {
+            db,
+            labels,
+            draft,
+            body,
+        }
     }
 
-    // Another group on the same disks, with no batch open.
-    fn with_group(self, db: Db) -> Session
-        requires { IsEditable db self.labels }
-        ensures { result ≡ record { db = db; labels = self.labels; draft = None } }
+    // Another group on the same disks, whose copies begin with this body, with no batch open.
+    fn with_group(self, db: Db, body: Body) -> Session
+        requires editable { IsEditable db self.group.labels }
+        requires core { IsCoreBody db body }
+        ensures { result ≡ record { group = record { db = db; labels = self.group.labels; draft = None }; body = Some body } }
     {
         let Session {
             db: _,
             labels,
             draft: _,
+            body: _,
         } = self;
         Session {
             db,
             labels,
             draft: None,
+            body: Some(body),
         }
     }
 
     /// The batch that is open.
     pub fn draft(&self) -> Option<&Draft>
-        ensures is { option_copied result ≡ self.now.draft }
-        ensures drafted { ForSome self.now.draft (IsDraftOf self.now.labels self.now.db) }
+        ensures is { option_copied result ≡ self.now.group.draft }
+        ensures drafted { ForSome self.now.group.draft (IsDraftOf self.now.group.labels self.now.group.db) }
     {
         self.draft.as_ref()
     }
@@ -135,25 +167,30 @@ impl Session {
         host: &mut H,
         command: &Command,
     ) -> Result<(Session, Reply), ApplyError>
-        requires rests { RestsOn self (H.seen host.old) }
-        requires holds { H.tells_disks → HoldsGroup self (H.seen host.old).content }
+        requires rests { RestsOn self.group (H.seen host.old) }
+        requires holds { H.tells_disks → HoldsSession self (H.seen host.old).content }
         requires command { IsCommand command.now }
         // At each moment the group before the command or the one after it is found, whatever the outcome.
-        ensures any_moment { H.tells_disks → AlwaysKept self.labels self.db (turn_in self command.now).state.db (H.seen host.old) (H.seen host.new) }
+        ensures any_moment { H.tells_disks → AlwaysKept self.group.labels self.group.db (turn_in self.group command.now).state.db (H.seen host.old) (H.seen host.new) }
         // Both may be edited, but where memory ran out.
-        ensures next { IfOk result (λ answer. IsNextFor self (turn_in self command.now).state.db) }
-        ensures torn { IsErrOf result ApplyError.Disk → IsNextFor self (turn_in self command.now).state.db }
-        ensures turn { IfOk result (λ answer. IsTurnOf (turn_in self command.now) self.labels answer.0 answer.1) }
+        ensures next { IfOk result (λ answer. IsNextFor self.group (turn_in self.group command.now).state.db) }
+        ensures torn { IsErrOf result ApplyError.Disk → IsNextFor self.group (turn_in self.group command.now).state.db }
+        ensures turn { IfOk result (λ answer. IsTurnOf (turn_in self.group command.now) self.group.labels answer.0.group answer.1) }
         ensures unwritten { IfOk result (λ answer. is_done answer.1 ≡ false → Still (H.seen host.old) (H.seen host.new)) }
         ensures done { H.tells_disks → IfOk result (λ answer. (seq : ℕ) → answer.1 ≡ Reply.Done seq
-            → AllHave self.labels (H.seen host.new).content (λ copy. copy ≡ CopyState.Valid answer.0.db)) }
-        ensures rests { IfOk result (λ answer. RestsOn answer.0 (H.seen host.new)) }
-        ensures holds { H.tells_disks → IfOk result (λ answer. HoldsGroup answer.0 (H.seen host.new).content) }
+            → AllHave self.group.labels (H.seen host.new).content (λ copy. copy ≡ CopyState.Valid answer.0.group.db)) }
+        ensures rests { IfOk result (λ answer. RestsOn answer.0.group (H.seen host.new)) }
+        ensures holds { H.tells_disks → IfOk result (λ answer. HoldsSession answer.0 (H.seen host.new).content) }
+        // After a command that was done the copies are tidy.
+        ensures tidy { IfOk result (λ answer. (seq : ℕ) → answer.1 ≡ Reply.Done seq → (body : List ℕ) × (answer.0.body ≡ Some body)) }
         ensures no_memory { (session : _) → IsErrOf result (ApplyError.NoMemory session) → session ≡ self }
         ensures nothing { (session : _) → IsErrOf result (ApplyError.NoMemory session) → Still (H.seen host.old) (H.seen host.new) }
         // Each disk is handed the bytes of a body at most, and one more.
         ensures wrote { (disk : ℕ) → slice_index (H.seen host.new).wrote disk
-            ≤ slice_index (H.seen host.old).wrote disk + (512 * (self.db.header.last / 4) + 1) }
+            ≤ slice_index (H.seen host.old).wrote disk + (512 * (self.group.db.header.last / 4) + 1) }
+        // Where the copies are tidy, it is handed the header and so many blocks as the records take that only one of both groups has.
+        ensures touched { (body : List ℕ) (disk : ℕ) → self.body ≡ Some body → slice_index (H.seen host.new).wrote disk
+            ≤ slice_index (H.seen host.old).wrote disk + (128 * touched_blocks self.group.db.records (turn_in self.group command.now).state.db.records + 513) }
         ensures later { Later (H.seen host.old) (H.seen host.new) }
         ensures quiet { Quiet (H.seen host.old) (H.seen host.new) }
         ensures cause { IsErrOf result ApplyError.Disk → Rose (H.seen host.old).disk_faults (H.seen host.new).disk_faults }
@@ -167,13 +204,13 @@ impl Session {
             Turn::GiveUp => return Ok((self.with_draft(None), Reply::Dropped)),
             Turn::Next(newer) => newer,
         };
-        let Ok(body) = body_of(alloc, &newer) else {
+        let Ok(next) = next_of(alloc, &self.body, &self.db, &newer) else {
             return Err(ApplyError::NoMemory(self));
         };
-        let Ok(()) = rewrite_all(host, self.labels.as_slice(), &body) else {
+        let Ok(()) = rewrite_all(host, self.labels.as_slice(), &next) else {
             return Err(ApplyError::Disk);
         };
         let seq = newer.header().seq;
-        Ok((self.with_group(newer), Reply::Done(seq)))
+        Ok((self.with_group(newer, next.into_body()), Reply::Done(seq)))
     }
 }

@@ -3,7 +3,7 @@ use Rattle.ldm_host.specs.Seen.{image}
 use Rattle.ldm_copy.specs.Copy.{gate_at}
 use Rattle.ldm_copy.proofs.GateLaws.{while_filling, shut_gate}
 use Rattle.ldm_copy.proofs.LeftLaws.{on_ok_map, some_sectors, room_on}
-use Rattle.ldm_copy.proofs.RewriteLaws.{body_size, settled_shut, at_fill, at_refill, after_unseal, refill_changes, fill_changes}
+use Rattle.ldm_copy.proofs.RewriteLaws.{body_size, settled_shut, at_fill, at_refill, after_unseal, body_unsealed, refill_changes, fill_changes}
 use Rattle.ldm_copy.proofs.rewriting.refill.Goals as goal
 
 pub returns-in_err-fill-clause-any_moment : goal.returns-in_err-fill-clause-any_moment
@@ -66,6 +66,16 @@ returns-clause-done g c tells =
     after_unseal disk label some db c.args.body.now (seen c.fill.new.host) d is
     (room_on label disk (seen c.args.host.now) d c.requires.fits sizes (g.met.H.Host.lengths tells c.unseal.new.host disk lt))
     (g.met.H.Host.may_stay tells c.unseal.new.host disk lt) (c.in_ok-fill.ensures.filled tells) c.unseal.ensures.writes opened)
+    (c.unseal.ensures.opened tells)
+
+pub returns-clause-has : goal.returns-clause-has
+returns-clause-has g c tells =
+    let seen = g.H.Host.seen in
+    let disk = c.args.disk in
+    let lt = subst (λ (l : List ℕ). disk < length l) (sym (c.unseal.ensures.writes.later.sizes ∙ c.fill.ensures.writes.later.sizes)) c.requires.disk in
+    on_ok_map c.unseal.result _ _ (λ opened.
+    body_unsealed disk c.args.label.now (some_sectors c.args.label.now _ c.requires.fits) c.args.body.now (seen c.fill.new.host) (seen c.unseal.new.host)
+    (g.met.H.Host.may_stay tells c.unseal.new.host disk lt) (c.in_ok-fill.ensures.filled tells) c.unseal.ensures.writes)
     (c.unseal.ensures.opened tells)
 
 pub returns-clause-changes : goal.returns-clause-changes

@@ -1,7 +1,7 @@
 use Rattle.std.proofs.Common.{◌≤◌, ◌+◌, length, List, Option}
 use Rattle.ldm_host.specs.Moves.{Later}
 use Rattle.ldm_words.specs.declared.command.Command.{Command}
-use Rattle.ldm_store.specs.Sessions.{RestsOn, HoldsGroup}
+use Rattle.ldm_store.specs.Sessions.{RestsOn, HoldsSession}
 use Rattle.ldm_run.specs.Kinds.{SameInput}
 use Rattle.ldm_run.specs.Scripts.{commands_in}
 use Rattle.ldm_run.proofs.EditState.{IsEditedTo}
@@ -15,9 +15,9 @@ invariant-editing g l =
       later : Later start now;
       input : SameInput start now;
       few : l.number + length l.rest ≤ 1 + length l.script;
-      rests : RestsOn l.session now;
-      holds : g.H.Host.tells_disks → HoldsGroup l.session now.content;
-      to : (before : List (Option Command)) × IsEditedTo g.H.Host.tells_disks l.fn.first (commands_in l.script) before (commands_in l.rest) start now l.session l.number l.refused;
+      rests : RestsOn l.session.group now;
+      holds : g.H.Host.tells_disks → HoldsSession l.session now.content;
+      to : (before : List (Option Command)) × IsEditedTo g.H.Host.tells_disks l.fn.first.group (commands_in l.script) before (commands_in l.rest) start now l.session.group l.number l.refused;
     }
 
 abbrev pub decreases-editing : goal.decreases-editing

@@ -1,13 +1,15 @@
-use Rattle.std.proofs.Common.{◌≡◌, ◌+◌, ◌<◌, ◌≤◌, ℕ, List, length, slice_index, slice_get, get_or, Some, refl, sym, ◌∙◌, ap, subst, arith}
-use Rattle.std.proofs.lemmas.Option.{slice_get-get_or}
+use Rattle.std.proofs.Common.{◌≡◌, ◌≢◌, ◌+◌, ◌<◌, ◌≤◌, ℕ, List, length, slice_index, slice_get, get_or, Some, refl, sym, ◌∙◌, ap, subst, arith}
+use Rattle.std.proofs.lemmas.Option.{slice_get-get_or, slice_get_within}
 use Rattle.ldm_host.specs.Seen.{Seen}
 use Rattle.ldm_host.proofs.Relations.{later_itself, later_trans, quiet_trans}
 use Rattle.ldm_label.specs.declared.Label.{Label}
 use Rattle.ldm_label.specs.LabelOf.{Fits}
+use Rattle.ldm_copy.specs.Body.{HasBody}
 use Rattle.ldm_found.specs.Facts.{LieOn}
 use Rattle.ldm_store.proofs.HasLaws.{current_open}
-use Rattle.ldm_store.proofs.Stepping.{settled_step, outside_step}
+use Rattle.ldm_store.proofs.Stepping.{settled_step, body_step, outside_step}
 use Rattle.ldm_store.proofs.TurnLaws.{turned_none, turning_always, turned_step, wrote_below, wrote_above}
+use Rattle.ldm_changed.specs.Nexts.{bytes_in, most_in}
 use Rattle.ldm_store.proofs.rewriting.rewrite_all.Goals as goal
 
 abbrev no_label : Label
@@ -28,59 +30,71 @@ loop-disk-init g c =
       quiet = record { said = refl; heard = refl; input = refl };
       wrote_below = λ k lt. absurd (omega arith);
       wrote_above = λ k le. refl;
+      untouched = λ k le. refl;
+      has = λ tells k label lt at. absurd (omega arith);
       settled = c.requires.settled;
       turned = λ tells o n current bodies. turned_none c.args.labels.now o n a c.requires.several (sym c.requires.lie.one_label) c.requires.settled current only;
     }
 
-pub rewrite-requires-clause-fits : goal.rewrite-requires-clause-fits
-rewrite-requires-clause-fits g c =
+pub rewrite_next-requires-clause-fits : goal.rewrite_next-requires-clause-fits
+rewrite_next-requires-clause-fits g c =
     let seen = g.H.Host.seen in
     fits_now c.args.labels.now (seen c.args.host.now) (seen c.loop-disk.host) c.loop-disk.disk _ c.requires.lie c.loop-disk.invariant.later.sizes
     (label_at c.args.labels.now c.loop-disk.disk _ c.loop-disk-test.true)
 
-pub rewrite-requires-clause-body : goal.rewrite-requires-clause-body
-rewrite-requires-clause-body g c = (c.requires.body.0, c.requires.body.1 c.loop-disk.disk _ (label_at c.args.labels.now c.loop-disk.disk _ c.loop-disk-test.true))
+pub rewrite_next-requires-clause-body : goal.rewrite_next-requires-clause-body
+rewrite_next-requires-clause-body g c = (c.requires.body.0, c.requires.body.1 c.loop-disk.disk _ (label_at c.args.labels.now c.loop-disk.disk _ c.loop-disk-test.true))
 
-pub rewrite-requires-clause-opened : goal.rewrite-requires-clause-opened
-rewrite-requires-clause-opened g c tells =
+pub rewrite_next-requires-clause-opened : goal.rewrite_next-requires-clause-opened
+rewrite_next-requires-clause-opened g c tells =
     let o = (c.requires.current tells).0 in
     let turned = c.loop-disk.invariant.turned tells o c.requires.body.0 (c.requires.current tells).1 c.requires.body.1 in
     current_open c.args.labels.now (g.H.Host.seen c.loop-disk.host).content c.loop-disk.disk _ o (label_at c.args.labels.now c.loop-disk.disk _ c.loop-disk-test.true)
     (turned.above c.loop-disk.disk (omega arith) c.loop-disk-test.true)
 
-pub returns-in_err-rewrite-clause-any_moment : goal.returns-in_err-rewrite-clause-any_moment
-returns-in_err-rewrite-clause-any_moment g c tells o n current bodies =
+pub rewrite_next-requires-clause-before : goal.rewrite_next-requires-clause-before
+rewrite_next-requires-clause-before g c tells change is =
+    let disk = c.loop-disk.disk in
+    let label = get_or c.args.labels.now disk no_label in
+    let old = c.requires.before tells change is disk label (label_at c.args.labels.now disk no_label c.loop-disk-test.true) in
+    (old.0, old.1, subst (λ (l : List ℕ). HasBody label old.0 l) (sym (c.loop-disk.invariant.untouched disk (omega arith))) old.2)
+
+pub returns-in_err-rewrite_next-clause-any_moment : goal.returns-in_err-rewrite_next-clause-any_moment
+returns-in_err-rewrite_next-clause-any_moment g c tells o n current bodies =
     let seen = g.H.Host.seen in
     let i = c.loop-disk.invariant in
     let at = label_at c.args.labels.now c.loop-disk.disk no_label c.loop-disk-test.true in
     turning_always c.args.labels.now o n (seen c.args.host.now) (seen c.loop-disk.host) c.loop-disk.disk c.requires.several
     (ap length i.later.sizes ∙ sym c.requires.lie.one_label) i.settled i.quiet.said (i.turned tells o n current bodies)
-    (seen c.rewrite.new.host) (get_or c.args.labels.now c.loop-disk.disk no_label) at i.later c.rewrite.ensures.changes
-    (c.rewrite.ensures.any_moment tells n (bodies c.loop-disk.disk _ at))
+    (seen c.rewrite_next.new.host) (get_or c.args.labels.now c.loop-disk.disk no_label) at i.later c.rewrite_next.ensures.changes
+    (c.rewrite_next.ensures.any_moment tells n (bodies c.loop-disk.disk _ at))
 
 pub loop-disk-preserved : goal.loop-disk-preserved
 loop-disk-preserved g c =
     let seen = g.H.Host.seen in
     let a = seen c.args.host.now in
     let b = seen c.loop-disk.host in
-    let d = seen c.rewrite.new.host in
+    let d = seen c.rewrite_next.new.host in
     let disk = c.loop-disk.disk in
     let labels = c.args.labels.now in
     let label = get_or labels disk no_label in
     let at = label_at labels disk no_label c.loop-disk-test.true in
     let i = c.loop-disk.invariant in
-    let most : ℕ = length c.args.body.now + 1 in
-    let here : slice_index d.wrote disk ≤ slice_index b.wrote disk + most = omega (arith, c.rewrite.ensures.wrote) in
-    let changes = c.rewrite.ensures.changes in
+    let most : ℕ = most_in c.args.next.now in
+    let here : slice_index d.wrote disk ≤ slice_index b.wrote disk + most = omega (arith, c.rewrite_next.ensures.wrote) in
+    let changes = c.rewrite_next.ensures.changes in
     record {
       later = later_trans a b d i.later changes.later;
       quiet = quiet_trans a b d i.quiet changes.quiet;
       wrote_below = wrote_below most disk _ _ a b d changes here i.wrote_below i.wrote_above;
       wrote_above = wrote_above most disk _ _ a b d changes here i.wrote_below i.wrote_above;
-      settled = settled_step labels b d disk label at changes i.settled c.in_ok-rewrite.ensures.settled;
+      untouched = λ k le. let ne : k ≢ disk = omega (arith, le) in changes.content.others k ne ∙ i.untouched k (omega (arith, le));
+      has = λ tells k other lt at_k.
+          body_step labels b d disk label at changes (bytes_in c.args.next.now) (c.in_ok-rewrite_next.ensures.has tells) k other at_k (λ ne. i.has tells k other (omega (arith, lt, ne)) at_k);
+      settled = settled_step labels b d disk label at changes i.settled c.in_ok-rewrite_next.ensures.settled;
       turned = λ tells o n current bodies.
           turned_step labels o n a b disk c.requires.several (ap length i.later.sizes ∙ sym c.requires.lie.one_label) i.settled i.quiet.said (i.turned tells o n current bodies)
-          d label at i.later changes (c.rewrite.ensures.any_moment tells n (bodies disk label at)) (c.in_ok-rewrite.ensures.done tells n (bodies disk label at));
+          d label at i.later changes (c.rewrite_next.ensures.any_moment tells n (bodies disk label at)) (c.in_ok-rewrite_next.ensures.done tells n (bodies disk label at));
     }
 
 pub returns-clause-any_moment : goal.returns-clause-any_moment
@@ -91,18 +105,23 @@ returns-clause-done g c tells n bodies disk lt =
     let turned = c.loop-disk.invariant.turned tells (c.requires.current tells).0 n (c.requires.current tells).1 bodies in
     turned.below disk (omega (arith, lt, c.loop-disk-test.false))
 
-pub returns-in_err-rewrite-clause-outside : goal.returns-in_err-rewrite-clause-outside
-returns-in_err-rewrite-clause-outside g c tells =
+pub returns-in_err-rewrite_next-clause-outside : goal.returns-in_err-rewrite_next-clause-outside
+returns-in_err-rewrite_next-clause-outside g c tells =
     let seen = g.H.Host.seen in
     let i = c.loop-disk.invariant in
     let disk = c.loop-disk.disk in
     let current = c.requires.current tells in
     let body = c.requires.body in
-    outside_step c.args.labels.now (seen c.loop-disk.host) (seen c.rewrite.new.host) disk (get_or c.args.labels.now disk no_label) (label_at c.args.labels.now disk no_label c.loop-disk-test.true)
-    c.rewrite.ensures.changes (seen c.args.host.now) (i.turned tells current.0 body.0 current.1 body.1).outside
+    outside_step c.args.labels.now (seen c.loop-disk.host) (seen c.rewrite_next.new.host) disk (get_or c.args.labels.now disk no_label) (label_at c.args.labels.now disk no_label c.loop-disk-test.true)
+    c.rewrite_next.ensures.changes (seen c.args.host.now) (i.turned tells current.0 body.0 current.1 body.1).outside
 
 pub returns-clause-outside : goal.returns-clause-outside
 returns-clause-outside g c tells =
     let current = c.requires.current tells in
     let body = c.requires.body in
     (c.loop-disk.invariant.turned tells current.0 body.0 current.1 body.1).outside
+
+pub returns-clause-has : goal.returns-clause-has
+returns-clause-has g c tells disk label at =
+    let lt = slice_get_within c.args.labels.now disk label at in
+    c.loop-disk.invariant.has tells disk label (omega (arith, lt, c.loop-disk-test.false)) at

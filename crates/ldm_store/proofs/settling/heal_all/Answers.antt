@@ -8,8 +8,8 @@ use Rattle.ldm_found.specs.declared.notes.Note.{Note}
 use Rattle.ldm_found.specs.declared.notes.Note.TheVariants as notes
 use Rattle.ldm_store.specs.Healing.{is_behind}
 use Rattle.ldm_found.proofs.FoundLaws.{holds_group}
-use Rattle.ldm_store.proofs.Stepping.{settled_step, outside_step}
-use Rattle.ldm_store.proofs.HealLaws.{healed_none, note_next, healed_skip, healing_always, healed_step, spared_step}
+use Rattle.ldm_store.proofs.Stepping.{settled_step, body_step, outside_step}
+use Rattle.ldm_store.proofs.HealLaws.{healed_none, note_next, healed_skip, healing_always, healed_step, spared_step, other_disk, stays_step}
 use Rattle.ldm_store.proofs.TurnLaws.{wrote_below, wrote_above, wrote_each, wrote_all, passed_below}
 use Rattle.ldm_store.proofs.settling.heal_all.Goals as goal
 use Rattle.ldm_store.proofs.settling.heal_all.Goals.{then-is_behind+in_ok-heal, else-is_behind}
@@ -40,6 +40,8 @@ loop-disk-init g c =
       wrote_below = λ k lt. absurd (omega arith);
       wrote_above = λ k le. refl;
       spared = λ disk note noted fails. refl;
+      stays = λ disk note noted fails. refl;
+      has = λ tells k label note lt at noted behind. absurd (omega arith);
       healed = λ tells. healed_none found a (holds_group a.content found (c.requires.is tells)) (sym c.requires.lies.one_label) c.requires.settled only;
     }
 
@@ -50,7 +52,7 @@ heal-requires-clause-fits g c =
 
 pub heal-requires-clause-body : goal.heal-requires-clause-body
 heal-requires-clause-body g c =
-    (c.args.found.now.db, c.requires.body c.loop-disk.disk _ (label_in c.as_slice-labels.result.now c.args.found.now.labels c.loop-disk.disk c.as_slice-labels.ensures c.loop-disk-test.true))
+    (c.requires.body.0, c.requires.body.1 c.loop-disk.disk _ (label_in c.as_slice-labels.result.now c.args.found.now.labels c.loop-disk.disk c.as_slice-labels.ensures c.loop-disk-test.true))
 
 pub heal-requires-clause-noted : goal.heal-requires-clause-noted
 heal-requires-clause-noted g c tells =
@@ -74,7 +76,7 @@ returns-in_err-heal-clause-any_moment g c tells =
     let noted = note_in c.as_slice-notes.result.now found.notes c.as_slice-labels.result.now found.labels disk c.as_slice-notes.ensures c.as_slice-labels.ensures c.requires.one_note c.loop-disk-test.true in
     let behind = behind_is c.header.result.now found.db.header (get_or c.as_slice-notes.result.now disk notes.Closed) true c.is_behind.result c.header.ensures c.is_behind.ensures c.if-is_behind.true in
     healing_always found a (holds_group a.content found (c.requires.is tells)) b disk (ap length i.later.sizes ∙ sym c.requires.lies.one_label) i.settled i.quiet.said (i.healed tells)
-    (g.H.Host.seen c.heal.new.host) _ _ at noted behind i.later c.heal.ensures.changes (c.heal.ensures.any_moment tells found.db (c.requires.body disk _ at))
+    (g.H.Host.seen c.heal.new.host) _ _ at noted behind i.later c.heal.ensures.changes (c.heal.ensures.any_moment tells found.db (c.requires.exact tells disk _ at))
 
 pub returns-in_err-heal-clause-spared : goal.returns-in_err-heal-clause-spared
 returns-in_err-heal-clause-spared g c =
@@ -107,9 +109,12 @@ loop-disk-preserved g c =
             wrote_below = wrote_below (length c.args.body.now + 1) disk _ _ a b d changes (omega (arith, w.heal.ensures.wrote)) i.wrote_below i.wrote_above;
             wrote_above = wrote_above (length c.args.body.now + 1) disk _ _ a b d changes (omega (arith, w.heal.ensures.wrote)) i.wrote_below i.wrote_above;
             spared = spared_step found.db.header.seq found.notes a b d disk _ _ _ noted behind changes i.spared;
+            stays = stays_step found.db.header.seq found.notes a b d disk _ _ _ noted behind changes i.stays;
+            has = λ tells k other mark lt at_k marked late.
+                body_step found.labels b d disk _ at changes c.args.body.now (w.in_ok-heal.ensures.has tells) k other at_k (λ ne. i.has tells k other mark (omega (arith, lt, ne)) at_k marked late);
             healed = λ tells.
                 healed_step found a (holds_group a.content found (c.requires.is tells)) b disk one_each i.settled i.quiet.said (i.healed tells)
-                d _ _ at noted behind i.later changes (w.heal.ensures.any_moment tells found.db (c.requires.body disk _ at)) (w.in_ok-heal.ensures.done tells found.db (c.requires.body disk _ at));
+                d _ _ at noted behind i.later changes (w.heal.ensures.any_moment tells found.db (c.requires.exact tells disk _ at)) (w.in_ok-heal.ensures.done tells found.db (c.requires.exact tells disk _ at));
           })
       | else-is_behind w ↦
           let fails = behind_is c.header.result.now found.db.header (get_or c.as_slice-notes.result.now disk notes.Closed) false c.is_behind.result c.header.ensures c.is_behind.ensures w.if-is_behind.false in
@@ -120,6 +125,8 @@ loop-disk-preserved g c =
             wrote_below = passed_below (length c.args.body.now + 1) disk a b i.wrote_below i.wrote_above;
             wrote_above = λ k le. i.wrote_above k (omega (arith, le));
             spared = i.spared;
+            stays = i.stays;
+            has = λ tells k other mark lt at_k marked late. i.has tells k other mark (omega (arith, lt, other_disk found.db.header.seq found.notes k mark disk _ marked late noted fails)) at_k marked late;
             healed = λ tells.
                 healed_skip found a (holds_group a.content found (c.requires.is tells)) b disk one_each i.settled i.quiet.said (i.healed tells)
                 _ (slice_get_within found.labels disk _ at) noted fails;
@@ -143,3 +150,18 @@ returns-in_err-heal-clause-outside g c tells =
     let disk = c.loop-disk.disk in
     outside_step found.labels (seen c.loop-disk.host) (seen c.heal.new.host) disk _
     (label_in c.as_slice-labels.result.now found.labels disk c.as_slice-labels.ensures c.loop-disk-test.true) c.heal.ensures.changes (seen c.args.host.now) (c.loop-disk.invariant.healed tells).outside
+
+pub returns-in_err-heal-clause-stays : goal.returns-in_err-heal-clause-stays
+returns-in_err-heal-clause-stays g c =
+    let found = c.args.found.now in
+    let disk = c.loop-disk.disk in
+    let noted = note_in c.as_slice-notes.result.now found.notes c.as_slice-labels.result.now found.labels disk c.as_slice-notes.ensures c.as_slice-labels.ensures c.requires.one_note c.loop-disk-test.true in
+    let behind = behind_is c.header.result.now found.db.header (get_or c.as_slice-notes.result.now disk notes.Closed) true c.is_behind.result c.header.ensures c.is_behind.ensures c.if-is_behind.true in
+    stays_step found.db.header.seq found.notes (g.H.Host.seen c.args.host.now) (g.H.Host.seen c.loop-disk.host) (g.H.Host.seen c.heal.new.host) disk _ _ _ noted behind c.heal.ensures.changes c.loop-disk.invariant.stays
+
+pub returns-clause-has : goal.returns-clause-has
+returns-clause-has g c tells disk label note at noted behind =
+    let found = c.args.found.now in
+    let lt = slice_get_within found.labels disk label at in
+    let same : length c.as_slice-labels.result.now ≡ length found.labels = ap length c.as_slice-labels.ensures in
+    c.loop-disk.invariant.has tells disk label note (omega (arith, lt, same, c.loop-disk-test.false)) at noted behind

@@ -1,9 +1,11 @@
-use Rattle.std.proofs.Common.{◌≡◌, ◌≢◌, ◌⊎◌, ◌≤◌, ◌+◌, ◌*◌, ◌/◌, ℕ, List, slice_index, inl, inr, Some, Result, Ok, Err, IfOk, IfErr, sym, ◌∙◌, ap, subst}
+use Rattle.std.specs.Prelude.{◌↔◌}
+use Rattle.std.proofs.Common.{None, ◌≡◌, ◌≢◌, ◌⊎◌, ◌≤◌, ◌+◌, ◌*◌, ◌/◌, ℕ, List, slice_index, inl, inr, Some, Result, Ok, Err, IfOk, IfErr, sym, ◌∙◌, ap, subst}
 use Rattle.ldm_host.specs.Moves.{Settles}
 use Rattle.ldm_host.proofs.Relations.{later_trans, quiet_trans, settles_trans, rose_sooner}
 use Rattle.ldm_found.specs.declared.found.Found.{Found}
 use Rattle.ldm_found.specs.declared.fault.OpenError.TheVariants.{Disk}
 use Rattle.ldm_found.specs.Opening.{IsGroupIn}
+use Rattle.ldm_store.specs.Bodies.{IsTidyBut}
 use Rattle.ldm_store.specs.Sessions.{IsOpenedFrom}
 use Rattle.ldm_store.specs.Turning.{AreRewritten}
 use Rattle.ldm_store.proofs.SettleLaws.{one_label, kept_from, group_since, moments_since, untouched_since}
@@ -44,7 +46,7 @@ returns-clause-opened g c tells =
     let d = g.H.Host.seen c.settle_synced.new.host in
     let settles = c.sync_all.ensures.settles in
     let done = c.settle_synced.ensures in
-    subst (λ (l : List (List ℕ)). IfOk c.settle_synced.result (λ session. IsOpenedFrom l session)) settles.content (done.opened tells)
+    subst (λ (l : List (List ℕ)). IfOk c.settle_synced.result (λ session. IsOpenedFrom l session.group)) settles.content (done.opened tells)
 
 pub returns-clause-fault : goal.returns-clause-fault
 returns-clause-fault g c tells fault err =
@@ -89,7 +91,7 @@ returns-clause-each g c tells =
     let d = g.H.Host.seen c.settle_synced.new.host in
     let settles = c.sync_all.ensures.settles in
     let done = c.settle_synced.ensures in
-    subst (λ (l : List (List ℕ)). IfOk c.settle_synced.result (λ session. AreRewritten session.labels session.db l d.content)) settles.content (done.each tells)
+    subst (λ (l : List (List ℕ)). IfOk c.settle_synced.result (λ session. AreRewritten session.group.labels session.group.db l d.content)) settles.content (done.each tells)
 
 pub returns-clause-spared : goal.returns-clause-spared
 returns-clause-spared g c tells found is disk note noted fails =
@@ -136,3 +138,9 @@ returns-clause-cause g c is =
     let settles = c.sync_all.ensures.settles in
     let done = c.settle_synced.ensures in
     rose_sooner a.disk_faults b.disk_faults d.disk_faults settles.later.disk_faults (done.cause is)
+
+pub returns-clause-tidy : goal.returns-clause-tidy
+returns-clause-tidy g c tells found is =
+    let settles = c.sync_all.ensures.settles in
+    subst (λ (l : List (List ℕ)). IfOk c.settle_synced.result (λ session. (session.body ≢ None) ↔ IsTidyBut found l)) settles.content
+    (c.settle_synced.ensures.tidy tells found (subst (λ (l : List (List ℕ)). IsGroupIn l (Ok found)) (sym settles.content) is))

@@ -1,0 +1,64 @@
+use Rattle.std.proofs.Common.{◌≡◌, ⊎_elim, ℕ, List, slice_get, get_or, Some, false, sym, ◌∙◌, subst, arith}
+use Rattle.std.proofs.lemmas.Bool.{cases_eq}
+use Rattle.std.proofs.lemmas.Option.{slice_get-get_or}
+use Rattle.ldm_host.specs.Seen.{image}
+use Rattle.ldm_host.proofs.Relations.{still_trans, quiet_trans}
+use Rattle.ldm_label.specs.declared.Label.{Label}
+use Rattle.ldm_group.specs.Database.{Database}
+use Rattle.ldm_found.specs.declared.notes.Note.{Note}
+use Rattle.ldm_found.specs.declared.notes.Note.TheVariants as notes
+use Rattle.ldm_store.specs.Healing.{is_behind}
+use Rattle.ldm_copy.specs.Table.{body_bytes}
+use Rattle.ldm_store.specs.Bodies.{LacksBody, KeepsBody}
+use Rattle.ldm_store.proofs.sharing.all_have.Goals as goal
+
+abbrev no_label : Label
+no_label = record { disk_guid = 0; minor = 0; data_start = 0; data_size = 0; config_start = 0; area_start = 0; area_sectors = 0; log_start = 0; log_sectors = 0 }
+
+one : {X : Type 0} (a b : X) → Some a ≡ Some b → a ≡ b
+one a b e = cc
+
+keeps_here : (seq : ℕ) (labels : List Label) (list : List Note) (db : Database) (body : List ℕ) (images now : List (List ℕ)) (disk : ℕ) (label' : Label) (note' : Note)
+    → slice_get labels disk ≡ Some label' → slice_get list disk ≡ Some note' → now ≡ images → (is_behind seq note' ≡ false → body ≡ body_bytes db label' (image now disk))
+    → KeepsBody seq labels list db body images disk
+keeps_here seq labels list db body images now disk label' note' at noted e f label note at' noted' ahead =
+    let l : label' ≡ label = one label' label (sym at ∙ at') in
+    let n : note' ≡ note = one note' note (sym noted ∙ noted') in
+    subst (λ (x : Label). body ≡ body_bytes db x (image images disk)) l
+    (subst (λ (i : List (List ℕ)). body ≡ body_bytes db label' (image i disk)) e (f (subst (λ (x : Note). is_behind seq x ≡ false) (sym n) ahead)))
+
+pub returns-then-not-branch-clause-no : goal.returns-then-not-branch-clause-no
+returns-then-not-branch-clause-no g c tells same =
+    let disk = c.loop-disk.disk in
+    let label = get_or c.args.labels.now disk no_label in
+    let note = get_or c.args.notes.now disk notes.Closed in
+    let no = c.in_ok-keeps_body.ensures.no tells c.if-not-branch.true in
+    record {
+      disk = disk;
+      label = label;
+      note = note;
+      label_is = slice_get-get_or c.args.labels.now disk no_label c.loop-disk-test.true;
+      note_is = slice_get-get_or c.args.notes.now disk notes.Closed (omega (arith, c.loop-disk-test.true, c.requires.one_note));
+      ahead = no.0;
+      lacks = subst (λ (i : List (List ℕ)). LacksBody c.args.db.now label c.args.body.now (image i disk)) c.loop-disk.invariant.still.content no.1;
+    }
+
+pub loop-disk-preserved : goal.loop-disk-preserved
+loop-disk-preserved g c =
+    let start = g.H.Host.seen c.args.host.now in
+    let before = g.H.Host.seen c.loop-disk.host in
+    let after = g.H.Host.seen c.keeps_body.new.host in
+    let disk = c.loop-disk.disk in
+    let i = c.loop-disk.invariant in
+    record {
+      still = still_trans start before after i.still c.in_ok-keeps_body.ensures.still;
+      quiet = quiet_trans start before after i.quiet c.in_ok-keeps_body.ensures.quiet;
+      keeps = λ tells k lt. ⊎_elim
+          (λ same. subst (λ (d : ℕ). KeepsBody c.args.seq c.args.labels.now c.args.notes.now c.args.db.now c.args.body.now start.content d) (sym same)
+          (keeps_here c.args.seq c.args.labels.now c.args.notes.now c.args.db.now c.args.body.now start.content before.content disk (get_or c.args.labels.now disk no_label)
+          (get_or c.args.notes.now disk notes.Closed) (slice_get-get_or c.args.labels.now disk no_label c.loop-disk-test.true)
+          (slice_get-get_or c.args.notes.now disk notes.Closed (omega (arith, c.loop-disk-test.true, c.requires.one_note))) i.still.content
+          (c.in_ok-keeps_body.ensures.yes tells c.if-not-branch.false)))
+          (λ ne. i.keeps tells k (omega (arith, lt, ne)))
+          (cases_eq k disk);
+    }
