@@ -25,6 +25,8 @@ fn parts_of(job: &Job) -> Parts<'_> {
         Job::Show => ("show", b"", 0, 0),
         Job::Check => ("check", b"", 0, 0),
         Job::Map { name, first, count } => ("map", name.as_slice(), *first, *count),
+        Job::Dump { name } => ("dump", name.as_slice(), 0, 0),
+        Job::Scrub { name } => ("scrub", name.as_slice(), 0, 0),
         _ => ("another", b"", 0, 0),
     }
 }
@@ -44,7 +46,7 @@ fn is_refused(rt: &impl Abort, alloc: Global, line: &str) -> bool {
     )
 }
 
-const JOBS: [(&str, Parts<'static>, usize); 7] = [
+const JOBS: [(&str, Parts<'static>, usize); 9] = [
     ("disk on A", ("disk", b"", 0, 0), 1),
     ("disk on on", ("disk", b"", 0, 0), 1),
     ("records on A", ("records", b"", 0, 0), 1),
@@ -52,6 +54,8 @@ const JOBS: [(&str, Parts<'static>, usize); 7] = [
     ("check on A", ("check", b"", 0, 0), 1),
     ("map \\x6fn 2057 1 on A B", ("map", b"on", 2057, 1), 2),
     ("map \\e 0 01 on A", ("map", b"", 0, 1), 1),
+    ("dump Data on A B", ("dump", b"Data", 0, 0), 2),
+    ("scrub \\x41 on A", ("scrub", b"A", 0, 0), 1),
 ];
 
 fn check_jobs(rt: &impl Abort, alloc: Global, rows: &[(&str, Parts<'static>, usize)]) {
@@ -87,6 +91,9 @@ map Data 18446744073709551616 1 on A
 map Data 0 x on A
 map a\\X41 0 1 on A
 Map Data 0 1 on A
+dump on A
+dump Data 0 on A
+scrub Data on
 begin
 begin on A
 commit on A

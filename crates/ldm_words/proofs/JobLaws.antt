@@ -11,12 +11,12 @@ use Rattle.std.specs.List.{position_or_len, before_first}
 use Rattle.std.specs.declared.alloc.Global.{Global}
 use Rattle.std.proofs.lemmas.List.{take-map}
 use Rattle.ldm_words.specs.declared.job.Job.{Job}
-use Rattle.ldm_words.specs.declared.job.Job.TheVariants.{Disk, Records, Show, Check, Try, Edit, One, Sample}
+use Rattle.ldm_words.specs.declared.job.Job.TheVariants.{Disk, Records, Show, Check, Dump, Scrub, Try, Edit, One, Sample}
 use Rattle.ldm_words.specs.Commands.{command_of}
 use Rattle.ldm_words.specs.Names.{name_of}
 use Rattle.ldm_words.specs.Numbers.{number_of}
 use Rattle.ldm_words.specs.Limits.{IsCommand}
-use Rattle.ldm_words.specs.Jobs.{texts, is_on, images_of, images_behind, on_one, is_group, on_group, map_with, map_form, sample_form, command_form, form_of, job_of, job_form, with_count, HasCount, KeepsLimits}
+use Rattle.ldm_words.specs.Jobs.{texts, is_on, images_of, images_behind, on_one, is_group, on_group, map_with, map_form, named_in, dump_form, scrub_form, sample_form, command_form, form_of, job_of, job_form, with_count, HasCount, KeepsLimits}
 use Rattle.ldm_words.proofs.LimitLaws.{where_so, one_of, from_one, within, is_command}
 
 -- the job of the words is the form before the first `on`, with the number of images after it
@@ -37,9 +37,9 @@ other_word word name ne = go (bytes_eq word name) refl
 
 -- where the first word is none of the jobs' own, the words are a command
 pub no_other : (words rest : List (List ℕ)) (word : List ℕ) (images : Option ℕ) → words ≡ word ∷ rest → (word ≡ codes "disk" → ⊥) → (word ≡ codes "records" → ⊥) → (word ≡ codes "show" → ⊥)
-    → (word ≡ codes "check" → ⊥) → (word ≡ codes "map" → ⊥) → (word ≡ codes "try" → ⊥) → (word ≡ codes "edit" → ⊥) → (word ≡ codes "sample" → ⊥) → command_form words images ≡ job_form words images
-no_other words rest word images is disk records show check map try edit sample =
-    rw (is, other_word word (codes "disk") disk, other_word word (codes "records") records, other_word word (codes "show") show, other_word word (codes "check") check, other_word word (codes "map") map, other_word word (codes "try") try, other_word word (codes "edit") edit, other_word word (codes "sample") sample) refl
+    → (word ≡ codes "check" → ⊥) → (word ≡ codes "map" → ⊥) → (word ≡ codes "dump" → ⊥) → (word ≡ codes "scrub" → ⊥) → (word ≡ codes "try" → ⊥) → (word ≡ codes "edit" → ⊥) → (word ≡ codes "sample" → ⊥) → command_form words images ≡ job_form words images
+no_other words rest word images is disk records show check map dump scrub try edit sample =
+    rw (is, other_word word (codes "disk") disk, other_word word (codes "records") records, other_word word (codes "show") show, other_word word (codes "check") check, other_word word (codes "map") map, other_word word (codes "dump") dump, other_word word (codes "scrub") scrub, other_word word (codes "try") try, other_word word (codes "edit") edit, other_word word (codes "sample") sample) refl
 
 -- ---- a job that is read has the images that it may have, and keeps the grammar's limits
 
@@ -79,6 +79,18 @@ map_counted (a ∷ b ∷ c ∷ []) images = group_counted images (map_with (name
     go n some few (Some name) (Some first) (Some count) = record { count = (some, few); limits = tt }
 map_counted (a ∷ b ∷ c ∷ d ∷ rest) images = tt
 
+-- a job of a named volume
+named_counted : (make : List ℕ → Job) (rest : List (List ℕ)) (images : Option ℕ) → ((n : ℕ) → 1 ≤ n → n ≤ 64 → (name : List ℕ) → IsCounted n (make name)) → IfSome (option_map make (named_in rest images)) (IsCounted (unwrap_or images 0))
+named_counted make [] images law = tt
+named_counted make (a ∷ b ∷ rest) images law = tt
+named_counted make (a ∷ []) None law = tt
+named_counted make (a ∷ []) (Some images) law = go (is_group (Some images)) refl (name_of a)
+  where
+    go : (b : Bool) → is_group (Some images) ≡ b → (name : Option (List ℕ)) → IfSome (option_map make (cond b name None)) (IsCounted images)
+    go false is name = tt
+    go true is None = tt
+    go true is (Some name) = (let parts = and_parts (nat_le 1 images) (nat_le images 64) is in law images (within 1 images parts.0) (within images 64 parts.1) name)
+
 sample_counted : (rest : List (List ℕ)) (images : Option ℕ) → IfSome (sample_form rest images) (IsCounted (unwrap_or images 0))
 sample_counted [] images = tt
 sample_counted (seed ∷ []) None = go (number_of seed)
@@ -98,10 +110,12 @@ form_counted : (word : List ℕ) (rest : List (List ℕ)) (images : Option ℕ) 
 form_counted word rest images =
     let P = IsCounted (unwrap_or images 0) in
     let one : (job : Job) → HasCount job 1 → KeepsLimits job → IfSome (on_one job rest images) P = λ job count limits. one_counted job rest images (record { count = count; limits = limits }) in
-    let ninth = command_form (word ∷ rest) images in
-    let eighth = cond (bytes_eq word (codes "sample")) (sample_form rest images) ninth in
-    let seventh = cond (bytes_eq word (codes "edit")) (on_group Edit rest images) eighth in
-    let sixth = cond (bytes_eq word (codes "try")) (on_group Try rest images) seventh in
+    let eleventh = command_form (word ∷ rest) images in
+    let tenth = cond (bytes_eq word (codes "sample")) (sample_form rest images) eleventh in
+    let ninth = cond (bytes_eq word (codes "edit")) (on_group Edit rest images) tenth in
+    let eighth = cond (bytes_eq word (codes "try")) (on_group Try rest images) ninth in
+    let seventh = cond (bytes_eq word (codes "scrub")) (scrub_form rest images) eighth in
+    let sixth = cond (bytes_eq word (codes "dump")) (dump_form rest images) seventh in
     let fifth = cond (bytes_eq word (codes "map")) (map_form rest images) sixth in
     let fourth = cond (bytes_eq word (codes "check")) (on_group Check rest images) fifth in
     let third = cond (bytes_eq word (codes "show")) (on_group Show rest images) fourth in
@@ -111,10 +125,12 @@ form_counted word rest images =
     (one_of P (bytes_eq word (codes "show")) (on_group Show rest images) fourth (on_group_counted Show rest images (λ n some few. record { count = (some, few); limits = tt }))
     (one_of P (bytes_eq word (codes "check")) (on_group Check rest images) fifth (on_group_counted Check rest images (λ n some few. record { count = (some, few); limits = tt }))
     (one_of P (bytes_eq word (codes "map")) (map_form rest images) sixth (map_counted rest images)
-    (one_of P (bytes_eq word (codes "try")) (on_group Try rest images) seventh (on_group_counted Try rest images (λ n some few. record { count = (some, few); limits = tt }))
-    (one_of P (bytes_eq word (codes "edit")) (on_group Edit rest images) eighth (on_group_counted Edit rest images (λ n some few. record { count = (some, few); limits = tt }))
-    (one_of P (bytes_eq word (codes "sample")) (sample_form rest images) ninth (sample_counted rest images)
-    (command_counted (word ∷ rest) images))))))))
+    (one_of P (bytes_eq word (codes "dump")) (dump_form rest images) seventh (named_counted Dump rest images (λ n some few name. record { count = (some, few); limits = tt }))
+    (one_of P (bytes_eq word (codes "scrub")) (scrub_form rest images) eighth (named_counted Scrub rest images (λ n some few name. record { count = (some, few); limits = tt }))
+    (one_of P (bytes_eq word (codes "try")) (on_group Try rest images) ninth (on_group_counted Try rest images (λ n some few. record { count = (some, few); limits = tt }))
+    (one_of P (bytes_eq word (codes "edit")) (on_group Edit rest images) tenth (on_group_counted Edit rest images (λ n some few. record { count = (some, few); limits = tt }))
+    (one_of P (bytes_eq word (codes "sample")) (sample_form rest images) eleventh (sample_counted rest images)
+    (command_counted (word ∷ rest) images))))))))))
 
 -- as many images follow the first `on`, and none where there is no `on`
 behind_first : (place : ℕ) (words : List (List ℕ)) (inside : Bool) → ltb place (length words) ≡ inside

@@ -5,7 +5,7 @@ use Rattle.std.specs.List.{before_first, after_first}
 use Rattle.std.specs.Option.{option_map}
 use Rattle.std.specs.declared.alloc.Global.{Global}
 use Rattle.ldm_words.specs.declared.job.Job.{Job}
-use Rattle.ldm_words.specs.declared.job.Job.TheVariants.{Disk, Records, Show, Check, Map, Try, Edit, One, Sample}
+use Rattle.ldm_words.specs.declared.job.Job.TheVariants.{Disk, Records, Show, Check, Map, Dump, Scrub, Try, Edit, One, Sample}
 use Rattle.ldm_words.specs.Numbers.{number_of}
 use Rattle.ldm_words.specs.Names.{name_of}
 use Rattle.ldm_words.specs.Commands.{command_of}
@@ -51,6 +51,17 @@ abbrev pub map_form : List (List ℕ) → Option ℕ → Option Job
 map_form (name ∷ first ∷ count ∷ []) images = if is_group images then map_with (name_of name) (number_of first) (number_of count) else None
 map_form rest images = None
 
+-- NAME, and the images of a group
+abbrev pub named_in : List (List ℕ) → Option ℕ → Option (List ℕ)
+named_in (name ∷ []) images = if is_group images then name_of name else None
+named_in rest images = None
+
+abbrev pub dump_form : List (List ℕ) → Option ℕ → Option Job
+dump_form rest images = option_map Dump (named_in rest images)
+
+abbrev pub scrub_form : List (List ℕ) → Option ℕ → Option Job
+scrub_form rest images = option_map Scrub (named_in rest images)
+
 -- SEED, and no `on`
 abbrev pub sample_form : List (List ℕ) → Option ℕ → Option Job
 sample_form (seed ∷ []) None = option_map Sample (number_of seed)
@@ -68,6 +79,8 @@ form_of word rest images =
     else if bytes_eq word (codes "show") then on_group Show rest images
     else if bytes_eq word (codes "check") then on_group Check rest images
     else if bytes_eq word (codes "map") then map_form rest images
+    else if bytes_eq word (codes "dump") then dump_form rest images
+    else if bytes_eq word (codes "scrub") then scrub_form rest images
     else if bytes_eq word (codes "try") then on_group Try rest images
     else if bytes_eq word (codes "edit") then on_group Edit rest images
     else if bytes_eq word (codes "sample") then sample_form rest images
@@ -93,6 +106,8 @@ HasCount Records images = images ≡ 1
 HasCount Show images = (1 ≤ images) × (images ≤ 64)
 HasCount Check images = (1 ≤ images) × (images ≤ 64)
 HasCount (Map name first count) images = (1 ≤ images) × (images ≤ 64)
+HasCount (Dump name) images = (1 ≤ images) × (images ≤ 64)
+HasCount (Scrub name) images = (1 ≤ images) × (images ≤ 64)
 HasCount Try images = (1 ≤ images) × (images ≤ 64)
 HasCount Edit images = (1 ≤ images) × (images ≤ 64)
 HasCount (One command) images = (1 ≤ images) × (images ≤ 64)
@@ -110,6 +125,8 @@ edits_disks Records = false
 edits_disks Show = false
 edits_disks Check = false
 edits_disks (Map name first count) = false
+edits_disks (Dump name) = false
+edits_disks (Scrub name) = false
 edits_disks Try = false
 edits_disks Edit = true
 edits_disks (One command) = true

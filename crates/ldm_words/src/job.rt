@@ -1,7 +1,7 @@
 //! Command lines: the words of a job, and its images.
 ghost use Rattle.std.specs.Prelude.{◌≡◌, ◌≤◌, IfOk, length};
 ghost use Rattle.std.specs.List.{position_or_len};
-ghost use Rattle.ldm_words.specs.Jobs.{texts, is_on, images_of, images_behind, on_one, is_group, on_group, map_form, sample_form, command_form, job_form, job_of, edits_disks, HasCount, KeepsLimits};
+ghost use Rattle.ldm_words.specs.Jobs.{texts, is_on, images_of, images_behind, on_one, is_group, on_group, map_form, named_in, dump_form, scrub_form, sample_form, command_form, job_form, job_of, edits_disks, HasCount, KeepsLimits};
 ghost use Rattle.ldm_words.specs.Commands.{bytes_of};
 ghost use Rattle.ldm_words.specs.Readings.{Reads};
 
@@ -26,6 +26,10 @@ pub enum Job {
     Check,
     /// Where `count` sectors of a volume lie, from the sector `first` on.
     Map { name: Bytes, first: u64, count: u64 },
+    /// The bytes of a volume.
+    Dump { name: Bytes },
+    /// Where the copies of a mirror, or the parity of a RAID-5, disagree.
+    Scrub { name: Bytes },
     /// What the lines of a script would make of a group.
     Try,
     /// The lines of a script, done to a group.
@@ -48,6 +52,8 @@ impl Job {
             | Job::Show
             | Job::Check
             | Job::Map { .. }
+            | Job::Dump { .. }
+            | Job::Scrub { .. }
             | Job::Try
             | Job::Sample(_) => false,
         }
@@ -156,6 +162,47 @@ fn read_map(alloc: Global, rest: &[String], images: Option<usize>) -> Result<Opt
     }
 }
 
+// NAME, and the images of a group
+fn read_named(
+    alloc: Global,
+    rest: &[String],
+    images: Option<usize>,
+) -> Result<Option<Bytes>, NoMemory>
+    ensures { IfOk result (λ found. found ≡ named_in (texts rest.now) images) }
+{
+    if let [name] = rest
+        && is_group(images)
+    {
+        read_name(alloc, name.as_bytes())
+    } else {
+        Ok(None)
+    }
+}
+
+// dump NAME
+fn read_dump(alloc: Global, rest: &[String], images: Option<usize>) -> Result<Option<Job>, NoMemory>
+    ensures { IfOk result (λ found. found ≡ dump_form (texts rest.now) images) }
+{
+    match read_named(alloc, rest, images)? {
+        Some(name) => Ok(Some(Job::Dump { name })),
+        None => Ok(None),
+    }
+}
+
+// scrub NAME
+fn read_scrub(
+    alloc: Global,
+    rest: &[String],
+    images: Option<usize>,
+) -> Result<Option<Job>, NoMemory>
+    ensures { IfOk result (λ found. found ≡ scrub_form (texts rest.now) images) }
+{
+    match read_named(alloc, rest, images)? {
+        Some(name) => Ok(Some(Job::Scrub { name })),
+        None => Ok(None),
+    }
+}
+
 // sample SEED, without images
 fn read_sample(rest: &[String], images: Option<usize>) -> Option<Job>
     ensures { result ≡ sample_form (texts rest.now) images }
@@ -204,6 +251,8 @@ fn read_job(alloc: Global, words: &[String], images: Option<usize>) -> Result<Op
         "show" => Ok(on_group(Job::Show, rest, images)),
         "check" => Ok(on_group(Job::Check, rest, images)),
         "map" => read_map(alloc, rest, images),
+        "dump" => read_dump(alloc, rest, images),
+        "scrub" => read_scrub(alloc, rest, images),
         "try" => Ok(on_group(Job::Try, rest, images)),
         "edit" => Ok(on_group(Job::Edit, rest, images)),
         "sample" => Ok(read_sample(rest, images)),

@@ -10,5 +10,5 @@ returns-in_default-as_str c =
     let other = c.in_default-as_str in
     let first : words ≡ c.as_str.result.now ∷ drop 1 words = search rules in
     let same : command_form words c.args.images ≡ job_form words c.args.images =
-    no_other words (drop 1 words) c.as_str.result.now c.args.images first other.not-disk other.not-records other.not-show other.not-check other.not-map other.not-try other.not-edit other.not-sample in
+    no_other words (drop 1 words) c.as_str.result.now c.args.images first other.not-disk other.not-records other.not-show other.not-check other.not-map other.not-dump other.not-scrub other.not-try other.not-edit other.not-sample in
     subst (λ (form : Option Job). IfOk c.read_one.result (λ found. found ≡ form)) same c.read_one.ensures
