@@ -107,7 +107,7 @@ fn outcome_of(alloc: Global, db: &Db, labels: &Labels, line: &str) -> Result<Out
     let Ok(command) = read_line(alloc, line.as_bytes()) else {
         return Ok(Outcome::Refused(Refusal::BadLine));
     };
-    match command {
+    match &command {
         Command::Begin | Command::Commit | Command::Cancel => Err(Fail::from("a word of a batch")),
         _ => Ok(step(alloc, db, labels, &command)?),
     }
