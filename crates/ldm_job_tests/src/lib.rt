@@ -19,3 +19,5 @@ mod sample;
 mod scripts;
 #[cfg(test)]
 mod stop;
+#[cfg(test)]
+mod volumes;

@@ -15,3 +15,4 @@ pub mod HearsEdits
 pub mod SampleLaws
 pub mod JobLaws
 pub mod KindLaws
+pub mod StreamLaws
