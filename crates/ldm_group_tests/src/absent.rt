@@ -10,7 +10,8 @@ use std::alloc::Global;
 use std::test::Fail;
 
 // Three columns of 12 sectors on the disks 2, 3 and 4, whose GUIDs are their ids, in chunks of 4.
-const RAID5: &str = "2.2.50.2 2.3.51.3 2.4.52.4 3.5.0.0.24 4.6.0.0.5.3.4.3 5.7.0.0.12.6.4.0.3 5.8.0.0.12.6.2 5.9.0.0.12.6.3.0.2";
+const RAID5: &str =
+    "2.2.50.2 2.3.51.3 2.4.52.4 3.5.0.0.24 4.6.0.0.5.3.4.3 5.7.0.0.12.6.4.0.3 5.8.0.0.12.6.2 5.9.0.0.12.6.3.0.2";
 
 // Their group, of which these disks are present.
 fn found_on(alloc: Global, disks: &[u128]) -> Result<Found, Fail> {
