@@ -20,9 +20,9 @@ impl From<AllocError> for UsageError<'_> {
     }
 }
 
-const JOBS: [&str; 11] = [
-    "disk", "records", "show", "check", "map", "try", "edit", "sample", "create", "extend",
-    "delete",
+const JOBS: [&str; 13] = [
+    "disk", "records", "show", "check", "map", "dump", "scrub", "try", "edit", "sample", "create",
+    "extend", "delete",
 ];
 
 // The job whose name takes the fewest changes to be this word.
@@ -207,6 +207,22 @@ fn map<'a>(alloc: Global, rest: &'a [String], on: Option<usize>) -> Read<'a> {
     images("map", on)
 }
 
+// A job of a volume of the group.
+fn on_volume<'a>(
+    alloc: Global,
+    form: &'static str,
+    job: &'static str,
+    rest: &'a [String],
+    on: Option<usize>,
+) -> Read<'a> {
+    all_there(form, &["VOLUME"], rest)?;
+    if let [volume, more @ ..] = rest {
+        name(alloc, "VOLUME", volume.as_str())?;
+        plain(form, more, on)?;
+    }
+    images(job, on)
+}
+
 fn sample<'a>(rest: &'a [String], on: Option<usize>) -> Read<'a> {
     let form = "sample SEED";
     all_there(form, &["SEED"], rest)?;
@@ -306,6 +322,8 @@ fn job<'a>(alloc: Global, words: &'a [String], on: Option<usize>) -> Read<'a> {
         "show" => on_group("show on IMAGE...", "show", rest, on),
         "check" => on_group("check on IMAGE...", "check", rest, on),
         "map" => map(alloc, rest, on),
+        "dump" => on_volume(alloc, "dump VOLUME on IMAGE...", "dump", rest, on),
+        "scrub" => on_volume(alloc, "scrub VOLUME on IMAGE...", "scrub", rest, on),
         "try" => on_group("try on IMAGE...", "try", rest, on),
         "edit" => on_group("edit on IMAGE...", "edit", rest, on),
         "sample" => sample(rest, on),

@@ -17,6 +17,8 @@ These jobs read:
   show on IMAGE...                       the disks, volumes, components and partitions of a group
   check on IMAGE...                      what each image holds, and whether the group may be edited
   map VOLUME FIRST COUNT on IMAGE...     where sectors of a volume lie, 4096 at most
+  dump VOLUME on IMAGE...                the bytes of a volume, also where a disk is absent that isn't needed
+  scrub VOLUME on IMAGE...               where the copies of a mirror, or the parity of a RAID-5, disagree
   try on IMAGE...                        what the lines of a script on standard input would make of a group
   sample SEED                            an edit of 200 lines that a number draws, of a group in memory
 

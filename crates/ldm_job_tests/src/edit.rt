@@ -82,7 +82,13 @@ impl<'a> Session<'a> {
 }
 
 // Plays a session over the images of the sample group with so many disks and this `last`.
-fn play(alloc: Global, rt: &impl Abort, disks: u8, last: u32, text: &str) -> Result<(), Fail> {
+pub(crate) fn play(
+    alloc: Global,
+    rt: &impl Abort,
+    disks: u8,
+    last: u32,
+    text: &str,
+) -> Result<(), Fail> {
     let mut session = Session {
         images: sample_group(alloc, disks, last)?,
         words: "",

@@ -21,3 +21,5 @@ mod sample;
 mod scripts;
 #[cfg(test)]
 mod stop;
+#[cfg(test)]
+mod volumes;

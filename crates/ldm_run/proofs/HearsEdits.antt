@@ -8,7 +8,7 @@ use Rattle.ldm_host.proofs.Relations.{later_trans, moments_trans, still_trans, l
 use Rattle.ldm_label.specs.declared.Label.{Label}
 use Rattle.ldm_words.specs.declared.command.Command.{Command}
 use Rattle.ldm_words.specs.declared.job.Job.{Job}
-use Rattle.ldm_words.specs.declared.job.Job.TheVariants.{Disk, Records, Show, Check, Map, Try, Edit, One, Sample}
+use Rattle.ldm_words.specs.declared.job.Job.TheVariants.{Disk, Records, Show, Check, Map, Dump, Scrub, Try, Edit, One, Sample}
 use Rattle.ldm_found.specs.declared.found.Found.{Found}
 use Rattle.ldm_found.specs.Opening.{IsGroupIn}
 use Rattle.ldm_found.proofs.FoundLaws.{holds_group, one_image}
@@ -68,6 +68,8 @@ module _ {tells : Type 0} {host : Seen} (still : Still host host) (one_each : te
   job_stops Show = tt
   job_stops Check = tt
   job_stops (Map name first count) = tt
+  job_stops (Dump name) = tt
+  job_stops (Scrub name) = tt
   job_stops Try = tt
   job_stops Edit = λ told nothing. silent_reopens still (one_each told) refl _ nothing
   job_stops (One command) = λ told nothing. silent_reopens still (one_each told) refl _ nothing
@@ -79,6 +81,8 @@ module _ {tells : Type 0} {host : Seen} (still : Still host host) (one_each : te
   job_since Show = tt
   job_since Check = tt
   job_since (Map name first count) = tt
+  job_since (Dump name) = tt
+  job_since (Scrub name) = tt
   job_since Try = tt
   job_since Edit = λ told short found is editable. inl (quiet_start still refl)
   job_since (One command) = λ told found is editable. inl (quiet_start still refl)

@@ -6,14 +6,14 @@ use Rattle.ldm_words.specs.declared.command.Command.{Command}
 use Rattle.ldm_words.specs.declared.job.Job.{Job}
 use Rattle.ldm_words.specs.declared.job.Job.TheVariants.{Try, Edit, One}
 use Rattle.ldm_run.specs.declared.running.Status.{Status}
-use Rattle.ldm_run.specs.declared.running.Status.TheVariants.{Usage, DiskFault}
+use Rattle.ldm_run.specs.declared.running.Status.TheVariants.{Usage, DiskFault, NoMemory}
 use Rattle.ldm_run.specs.Said.{Answer, SaysNothing}
 use Rattle.ldm_run.specs.Answer.{IsJobAnswer}
 use Rattle.ldm_run.specs.Kinds.{kind_of, SameInput, JobPremise, JobInput, JobSays}
 use Rattle.ldm_run.specs.Stops.{JobStops, JobSinceSyncs}
 use Rattle.ldm_run.specs.Written.{JobDisks}
 use Rattle.ldm_run.specs.Editing.{DoesGroup, HearsAndEdits}
-use Rattle.ldm_run.specs.Runs.{Answers, Causes, OnlyReads, HearsAndReplies}
+use Rattle.ldm_run.specs.Runs.{Answers, Causes, OnlyReads, Streams, HearsAndReplies}
 
 -- what is said of a job
 abbrev pub DoesJob : (tells talks : Type 0) → Job → Seen → Seen → Status → Type 0
@@ -50,6 +50,28 @@ reads_job reads = record {
   disks = reads.still;
   input = reads.input;
   silent = reads.silent;
+  stops = tt;
+  since_syncs = tt;
+}
+
+-- a job that says its answer while it reads on
+pub streams_job : {tells : Type 0} {old new : Seen} {IsOne : Answer → Type 0} {status : Status} → Streams tells old new IsOne status → record {
+  answers : tells → Unit {0} → Answers old new IsOne status;
+  no_usage : status ≢ Usage;
+  causes : Causes old new status;
+  disks : Still old new;
+  input : SameInput old new;
+  silent : status ≡ NoMemory → new.said ≡ old.said;
+  stops : Unit {0};
+  since_syncs : Unit {0};
+}
+streams_job streams = record {
+  answers = λ told free. streams.answers told;
+  no_usage = streams.no_usage;
+  causes = streams.causes;
+  disks = streams.still;
+  input = streams.input;
+  silent = streams.silent;
   stops = tt;
   since_syncs = tt;
 }

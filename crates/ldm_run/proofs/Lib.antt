@@ -16,3 +16,4 @@ pub mod SampleLaws
 pub mod SampleLines
 pub mod JobLaws
 pub mod KindLaws
+pub mod StreamLaws

@@ -7,12 +7,13 @@ use Rattle.ldm_label.specs.LabelOf.{label_of}
 use Rattle.ldm_copy.specs.Copy.{config_area}
 use Rattle.ldm_copy.proofs.OneCopy.{one_copy}
 use Rattle.ldm_words.specs.declared.job.Job.{Job}
-use Rattle.ldm_words.specs.declared.job.Job.TheVariants.{Disk, Records, Show, Check, Map, Try, Edit, One, Sample}
+use Rattle.ldm_words.specs.declared.job.Job.TheVariants.{Disk, Records, Show, Check, Map, Dump, Scrub, Try, Edit, One, Sample}
 use Rattle.ldm_words.specs.Jobs.{job_of}
 use Rattle.ldm_found.specs.declared.found.Found.{Found}
 use Rattle.ldm_found.proofs.GroupLaws.{one_group}
 use Rattle.ldm_run.specs.Said.{Answer}
 use Rattle.ldm_run.specs.Mapping.{map_answer}
+use Rattle.ldm_run.specs.Streaming.{dump_answer, scrub_answer}
 use Rattle.ldm_run.specs.Scripts.{is_long, commands_in, try_answer}
 use Rattle.ldm_run.proofs.SampleLaws.{one_sample}
 use Rattle.ldm_run.specs.Answer.{copy_answer, group_answer, show_answer, check_answer, IsRecordsAnswer, IsGroupAnswer, IsAnswerToScript, IsJobAnswer, IsReadingAnswer, IsAnswerTo}
@@ -34,6 +35,8 @@ one_job Records images input a b x y = one_records (label_of (image images 0)) (
 one_job Show images input a b x y = one_of_group show_answer images a b x y
 one_job Check images input a b x y = one_of_group check_answer images a b x y
 one_job (Map name first count) images input a b x y = one_of_group (map_answer name first count) images a b x y
+one_job (Dump name) images input a b x y = one_of_group (dump_answer name images) images a b x y
+one_job (Scrub name) images input a b x y = one_of_group (scrub_answer name images) images a b x y
 one_job Try images input a b x y = one_of_script (is_long input) input images a b x y
 one_job Edit images input a b x y = one_of_script (is_long input) input images a b x y
 one_job (One command) images input a b x y = one_of_group (try_answer (Some command ∷ [])) images a b x y

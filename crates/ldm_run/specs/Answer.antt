@@ -8,7 +8,7 @@ use Rattle.ldm_copy.specs.declared.answer.CopyState.{CopyState}
 use Rattle.ldm_copy.specs.declared.answer.CopyFault.{CopyFault}
 use Rattle.ldm_copy.specs.Copy.{IsCopyOf, config_area}
 use Rattle.ldm_words.specs.declared.job.Job.{Job}
-use Rattle.ldm_words.specs.declared.job.Job.TheVariants.{Disk, Records, Show, Check, Map, Try, Edit, One, Sample}
+use Rattle.ldm_words.specs.declared.job.Job.TheVariants.{Disk, Records, Show, Check, Map, Dump, Scrub, Try, Edit, One, Sample}
 use Rattle.ldm_words.specs.Jobs.{job_of}
 use Rattle.ldm_found.specs.declared.fault.OpenFault.{OpenFault}
 use Rattle.ldm_found.specs.declared.found.Found.{Found}
@@ -19,6 +19,7 @@ use Rattle.ldm_group_text.specs.Opening.{text_of_open_fault}
 use Rattle.ldm_group_text.specs.Show.{text_of_show}
 use Rattle.ldm_group_text.specs.Check.{text_of_check}
 use Rattle.ldm_run.specs.Mapping.{map_answer}
+use Rattle.ldm_run.specs.Streaming.{dump_answer, scrub_answer}
 use Rattle.ldm_run.specs.Sample.{IsSampleAnswer}
 use Rattle.ldm_run.specs.Scripts.{is_long, commands_in, try_answer}
 use Rattle.ldm_run.specs.Said.{Answer, refused}
@@ -74,6 +75,8 @@ IsJobAnswer Records images input answer = IsRecordsAnswer (label_of (image image
 IsJobAnswer Show images input answer = IsGroupAnswer show_answer images answer
 IsJobAnswer Check images input answer = IsGroupAnswer check_answer images answer
 IsJobAnswer (Map name first count) images input answer = IsGroupAnswer (map_answer name first count) images answer
+IsJobAnswer (Dump name) images input answer = IsGroupAnswer (dump_answer name images) images answer
+IsJobAnswer (Scrub name) images input answer = IsGroupAnswer (scrub_answer name images) images answer
 IsJobAnswer Try images input answer = IsAnswerToScript (is_long input) input images answer
 IsJobAnswer Edit images input answer = IsAnswerToScript (is_long input) input images answer
 IsJobAnswer (One command) images input answer = IsGroupAnswer (try_answer (Some command ∷ [])) images answer

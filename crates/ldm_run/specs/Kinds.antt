@@ -2,10 +2,11 @@
 use Rattle.std.specs.Prelude.{◌≡◌, ◌⊎◌, ℕ, ◌<◌, List, [], ◌∷◌, ◌++◌, length}
 use Rattle.ldm_host.specs.Seen.{Seen}
 use Rattle.ldm_host.specs.Moves.{Settled}
+pub use Rattle.ldm_dump.specs.Saying.{SameInput}
 use Rattle.ldm_words.specs.declared.job.Job.{Job}
-use Rattle.ldm_words.specs.declared.job.Job.TheVariants.{Disk, Records, Show, Check, Map, Try, Edit, One, Sample}
+use Rattle.ldm_words.specs.declared.job.Job.TheVariants.{Disk, Records, Show, Check, Map, Dump, Scrub, Try, Edit, One, Sample}
 use Rattle.ldm_run.specs.declared.running.Status.{Status}
-use Rattle.ldm_run.specs.declared.running.Status.TheVariants.{DiskFault}
+use Rattle.ldm_run.specs.declared.running.Status.TheVariants.{DiskFault, NoMemory}
 use Rattle.ldm_run.specs.Said.{SaysNothing}
 use Rattle.ldm_run.specs.Heard.{HearsScript}
 
@@ -13,6 +14,8 @@ use Rattle.ldm_run.specs.Heard.{HearsScript}
 pub data Kind : Type 0 where
   -- it reads the disks, if it needs any, and then says its answer
   Reads : Kind
+  -- it reads the disks, and says its answer while it reads on
+  Streams : Kind
   -- it hears a script, reads the disks, and then says a reply to each line
   Hears : Kind
   -- it hears a script, and does each line to the disks and then says the reply
@@ -26,15 +29,12 @@ kind_of Records = Reads
 kind_of Show = Reads
 kind_of Check = Reads
 kind_of (Map name first count) = Reads
+kind_of (Dump name) = Streams
+kind_of (Scrub name) = Streams
 kind_of Try = Hears
 kind_of Edit = Edits
 kind_of (One command) = Does
 kind_of (Sample seed) = Reads
-
--- the input is left as it was
-pub record SameInput (old new : Seen) : Type 0 where
-  pub input : new.input ≡ old.input
-  pub heard : new.heard ≡ old.heard
 
 -- a stop now leaves of each disk what a read gives
 abbrev pub NothingPending : Seen → Type 0
@@ -44,6 +44,7 @@ NothingPending host = (disk : ℕ) → disk < length host.sizes → Settled host
 -- asks that nothing is pending.
 abbrev pub JobPremise : Kind → Seen → Type 0
 JobPremise Reads host = Unit {0}
+JobPremise Streams host = Unit {0}
 JobPremise Hears host = Unit {0}
 JobPremise Edits host = NothingPending host
 JobPremise Does host = NothingPending host
@@ -52,6 +53,7 @@ JobPremise Does host = NothingPending host
 -- script says it of a host that tells the talk.
 abbrev pub JobInput : Type 0 → Kind → Seen → Seen → Status → Type 0
 JobInput tells Reads old new status = SameInput old new
+JobInput tells Streams old new status = SameInput old new
 JobInput tells Hears old new status = tells → HearsScript old new status
 JobInput tells Edits old new status = tells → HearsScript old new status
 JobInput tells Does old new status = SameInput old new
@@ -60,10 +62,11 @@ JobInput tells Does old new status = SameInput old new
 abbrev pub SaysLines : Seen → Seen → Type 0
 SaysLines old new = (new.said ≡ old.said) ⊎ ((front : List ℕ) × (new.said ≡ old.said ++ (front ++ 0x0A ∷ [])))
 
--- What was said before a fault came, also where the host tells it: nothing, by a job that only reads. A job that hears a
--- script says nothing before the disks are read. One that writes says no part of a reply before a disk fails.
+-- What was said before a fault came, also where the host tells it: nothing, by a job that reads and then says its answer. One
+-- that says it while it reads on takes all memory first. A job that hears a script says nothing before the disks are read. One that writes says no part of a reply before a disk fails.
 abbrev pub JobSays : Type 0 → Kind → Seen → Seen → Status → Type 0
 JobSays tells Reads old new status = SaysNothing status → new.said ≡ old.said
+JobSays tells Streams old new status = status ≡ NoMemory → new.said ≡ old.said
 JobSays tells Hears old new status = status ≡ DiskFault → new.said ≡ old.said
 JobSays tells Edits old new status = tells → status ≡ DiskFault → SaysLines old new
 JobSays tells Does old new status = status ≡ DiskFault → new.said ≡ old.said

@@ -1,5 +1,6 @@
 pub mod Said
 pub mod Mapping
+pub mod Streaming
 pub mod Scripts
 pub mod Heard
 pub mod Answer

@@ -9,7 +9,7 @@ use Rattle.ldm_run.specs.Kinds.{kind_of, JobPremise, SameInput, JobInput, JobSay
 use Rattle.ldm_run.specs.Stops.{JobStops, JobSinceSyncs}
 use Rattle.ldm_run.specs.Written.{JobDisks}
 use Rattle.ldm_run.specs.declared.running.Status.{Status}
-use Rattle.ldm_run.specs.declared.running.Status.TheVariants.{Usage, DiskFault, TalkFault}
+use Rattle.ldm_run.specs.declared.running.Status.TheVariants.{Usage, DiskFault, NoMemory, TalkFault}
 
 -- the status is the answer's, and since the old state just the answer's text was said
 pub record Whole (old new : Seen) (answer : Answer) (status : Status) : Type 0 where
@@ -74,6 +74,16 @@ pub record OnlyReads (tells : Type 0) (old new : Seen) (IsOne : Answer → Type 
   pub no_usage : status ≢ Usage
   pub causes : Causes old new status
   pub silent : SaysNothing status → new.said ≡ old.said
+  pub still : Still old new
+  pub input : SameInput old new
+
+-- What a job does that says its answer while it reads on: it changes nothing else. Where a disk or the talk fails in the middle,
+-- what was said stays said. Want of memory comes before.
+pub record Streams (tells : Type 0) (old new : Seen) (IsOne : Answer → Type 0) (status : Status) : Type 0 where
+  pub answers : tells → Answers old new IsOne status
+  pub no_usage : status ≢ Usage
+  pub causes : Causes old new status
+  pub silent : status ≡ NoMemory → new.said ≡ old.said
   pub still : Still old new
   pub input : SameInput old new
 

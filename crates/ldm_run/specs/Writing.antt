@@ -2,10 +2,11 @@
 use Rattle.std.specs.Prelude.{◌≡◌, Bool, true, false}
 use Rattle.ldm_words.specs.declared.job.Job.{Job}
 use Rattle.ldm_words.specs.Jobs.{edits_disks}
-use Rattle.ldm_run.specs.Kinds.{Kind, Reads, Hears, Edits, Does, kind_of}
+use Rattle.ldm_run.specs.Kinds.{Kind, Reads, Streams, Hears, Edits, Does, kind_of}
 
 abbrev pub writes : Kind → Bool
 writes Reads = false
+writes Streams = false
 writes Hears = false
 writes Edits = true
 writes Does = true

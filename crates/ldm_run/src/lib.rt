@@ -3,6 +3,7 @@
 //! The top call is `run`. Its contract is the theorem of the program.
 #![tactic(auto)]
 
+mod dump;
 mod editing;
 mod kinds;
 mod mapping;
@@ -10,6 +11,7 @@ mod replying;
 mod running;
 mod sample;
 mod script;
+mod scrub;
 
 pub use kinds::kinds_say_which_jobs_write;
 pub use running::{Status, run};

@@ -21,8 +21,8 @@ fn is_bad_range(size: u64, first: u64, count: u64) -> bool
     count == 0 || count > 4096 || size < first || size - first < count
 }
 
-// The layout of a volume of the group, which is there since the group is sound.
-fn plan_of(alloc: Global, found: &Found, volume: &Volume) -> Result<Plan, NoMemory>
+/// The layout of a volume of the group, which is there since the group is sound.
+pub(crate) fn plan_of(alloc: Global, found: &Found, volume: &Volume) -> Result<Plan, NoMemory>
     requires sound { IsSoundGroup found.now }
     requires there { Contains found.now.db.records (kinds.Volume volume.now) }
     requires again { volume_with volume.now.head.id found.now.db.records ≡ Some volume.now }

@@ -10,7 +10,7 @@ ghost use Rattle.ldm_text.specs.Records.{text_of_copy_fault};
 ghost use Rattle.ldm_group_text.specs.Opening.{text_of_open_fault};
 ghost use Rattle.ldm_found.specs.declared.found.Found.{Found};
 ghost use Rattle.ldm_found.specs.Opening.{IsGroupIn};
-ghost use Rattle.ldm_found.specs.Facts.{IsSoundGroup};
+ghost use Rattle.ldm_found.specs.Facts.{IsSoundGroup, LieOn};
 ghost use Rattle.ldm_run.specs.Said.{Answer, HasAnswer};
 ghost use Rattle.ldm_run.specs.Answer.{IsAnswerTo, IsJobAnswer, IsCopyAnswer, IsGroupAnswer, refusal};
 ghost use Rattle.ldm_run.specs.Scripts.{commands_in, try_answer};
@@ -20,11 +20,13 @@ ghost use Rattle.ldm_run.specs.Written.{JobDisks};
 ghost use Rattle.ldm_run.specs.Editing.{HearsAndEdits};
 ghost use Rattle.ldm_run.specs.Runs.{Answers, Completes, Causes, NoFault, HasImages, Premise, DisksAfter, InputAfter, SaysBefore, StopsAfter, StopsSinceSyncs, OnlyReads, Replies, HearsAndReplies};
 
+use crate::dump::dump;
 use crate::editing::{edit_one, edit_script};
 use crate::mapping::mapped;
 use crate::replying::reply_each;
 use crate::sample::sample;
 use crate::script::hear_script;
+use crate::scrub::scrub;
 use ldm_bytes::{Bytes, NoMemory};
 use ldm_copy::{CopyError, CopyFault, read_copy};
 use ldm_found::{Found, OpenError, OpenFault, find_group};
@@ -170,11 +172,12 @@ pub(crate) fn refuse_opening<H: Host>(alloc: Global, host: &mut H, fault: &OpenF
     say_made(host, line, Status::Refused)
 }
 
-// The group that the images hold, and nothing was said; or how the run ends where there is none.
-fn open_group<H: Host>(alloc: Global, host: &mut H) -> Result<Found, Status>
+/// The group that the images hold, and nothing was said; or how the run ends where there is none.
+pub(crate) fn open_group<H: Host>(alloc: Global, host: &mut H) -> Result<Found, Status>
     requires { 0 < length (H.seen host.old).sizes }
     ensures found { H.tells_disks → IfOk result (λ found. IsGroupIn (H.seen host.old).content (Ok found)) }
     ensures sound { IfOk result (λ found. IsSoundGroup found) }
+    ensures lies { IfOk result (λ found. LieOn found.labels (H.seen host.new).sizes) }
     ensures quiet { OnOk result (Quiet (H.seen host.old) (H.seen host.new)) }
     ensures still { OnOk result (Still (H.seen host.old) (H.seen host.new)) }
     ensures fault { IfErr result (λ status. (answer_of : Found → Answer)
@@ -298,6 +301,8 @@ fn do_job<H: Host>(alloc: Global, job: Job, host: &mut H) -> Status
         Job::Show => show(alloc, host),
         Job::Check => check(alloc, host),
         Job::Map { name, first, count } => map(alloc, host, &name, first, count),
+        Job::Dump { name } => dump(alloc, host, &name),
+        Job::Scrub { name } => scrub(alloc, host, &name),
         Job::Try => try_script(alloc, host),
         Job::Edit => edit(alloc, host),
         Job::One(command) => edit_one(alloc, host, command),
@@ -325,7 +330,7 @@ pub fn run<H: Host>(alloc: Global, words: &[String], host: &mut H) -> Status
         → Completes (H.seen host.old) (H.seen host.new) (IsAnswerTo (texts words.now) (H.seen host.old).content (H.seen host.old).input) result }
     ensures disks { DisksAfter H.tells_disks (job_of (texts words.now)) (H.seen host.old) (H.seen host.new) result }
     ensures input { InputAfter H.tells_talk (job_of (texts words.now)) (H.seen host.old) (H.seen host.new) result }
-    // After a fault nothing more is said.
+    // After a fault nothing more is said, but where the answer is said while the disks are read on.
     ensures silent { SaysBefore H.tells_disks (job_of (texts words.now)) (H.seen host.old) (H.seen host.new) result }
     // Whatever a stop leaves at any moment of a job that writes, and after it, opens as the group after some first lines,
     // among them each that was answered.

@@ -1,5 +1,5 @@
 use Rattle.std.proofs.Common.{rules}
-use Rattle.ldm_run.proofs.JobLaws.{of_job, reads_job, try_job, edit_job, one_job}
+use Rattle.ldm_run.proofs.JobLaws.{of_job, reads_job, streams_job, try_job, edit_job, one_job}
 use Rattle.ldm_run.proofs.running.do_job.Goals as goal
 
 pub returns-in-Disk : goal.returns-in-Disk
@@ -16,6 +16,12 @@ returns-in-Check g c = of_job g.H.Host.tells_disks g.H.Host.tells_talk c.in-Chec
 
 pub returns-in-Map : goal.returns-in-Map
 returns-in-Map g c = of_job g.H.Host.tells_disks g.H.Host.tells_talk c.in-Map.is (reads_job c.map.ensures)
+
+pub returns-in-Dump : goal.returns-in-Dump
+returns-in-Dump g c = of_job g.H.Host.tells_disks g.H.Host.tells_talk c.in-Dump.is (streams_job c.dump.ensures)
+
+pub returns-in-Scrub : goal.returns-in-Scrub
+returns-in-Scrub g c = of_job g.H.Host.tells_disks g.H.Host.tells_talk c.in-Scrub.is (streams_job c.scrub.ensures)
 
 pub returns-in-Try : goal.returns-in-Try
 returns-in-Try g c = of_job g.H.Host.tells_disks g.H.Host.tells_talk c.in-Try.is (try_job (search rules))

@@ -1,0 +1,159 @@
+//! Jobs on the bytes of volumes.
+use crate::edit::play;
+use crate::jobs::{answer_of, named_images, put, run_over, sample_group, words_in};
+use ldm_host::{Host, MemoryHost};
+use ldm_images::usual_images;
+use ldm_run::Status;
+use std::alloc::Global;
+use std::process::Abort;
+use std::test::Fail;
+
+// A RAID-5 with zeros in all its sectors, and then with one byte of sector 71 of an image changed. A mirror, and then one byte
+// of sector 162 of an image.
+const SCRUBS: &str = "\
+$ create R cccccccc-cccc-cccc-cccc-cccccccccccc raid5 4 12 Disk1 Disk2 Disk3 on A B C
+1 ok 8
+= 0 ABC
+$ scrub R on A B C
+scrub R checked 12 bad 0
+= 0
+! 1.mbr+8e00=01
+$ scrub R on A B C
+row 2 offset 0 parity fails
+scrub R checked 12 bad 1
+= 1
+$ dump R on A
+refused: sector 4 is lost
+= 1
+$ scrub R on A C
+refused: disk 3 is missing
+= 1
+$ delete R on A B C
+1 ok 9
+= 0 ABC
+$ create M bbbbbbbb-bbbb-bbbb-bbbb-bbbbbbbbbbbb mirror 100 Disk1 Disk2 on A B C
+1 ok 10
+= 0 ABC
+! 1.mbr+8e00=00
+$ scrub M on A B
+scrub M checked 100 bad 0
+= 0
+! 1.mbr+145ff=01
+$ scrub M on A B C
+sector 99 differs
+scrub M checked 100 bad 1
+= 1
+$ scrub M on A C
+refused: disk 3 is missing
+= 1
+$ create S dddddddd-dddd-dddd-dddd-dddddddddddd span Disk1=10 on A B C
+1 ok 11
+= 0 ABC
+$ scrub S on A B C
+refused: nothing to compare
+= 1
+$ scrub Nope on A B C
+refused: no volume
+= 1
+$ dump Nope on A B C
+refused: no volume
+= 1
+$ dump S on B C
+refused: sector 0 is lost
+= 1
+";
+
+#[test]
+fn compares_copies_and_rows(rt: HostRuntime) -> Result<(), Fail> {
+    play(rt.alloc(), &rt, 3, 64, SCRUBS)
+}
+
+const CREATE: &str =
+    "create R cccccccc-cccc-cccc-cccc-cccccccccccc raid5 4 12 Disk1 Disk2 Disk3 on A B C";
+
+// The images of the sample group with that RAID-5.
+fn raid5_group(alloc: Global) -> Result<Vec<Vec<u8>>, Fail> {
+    let mut host = MemoryHost::new(alloc, sample_group(alloc, 3, 64)?, Vec::new(alloc))?;
+    if run_over(alloc, &words_in(alloc, CREATE)?, &mut host) != Some(Status::Done) {
+        return Err(Fail::from("no volume"));
+    }
+    let mut images = Vec::new(alloc);
+    for disk in 0..host.disks() {
+        images.push(host.image(disk).to_vec(alloc)?)?;
+    }
+    Ok(images)
+}
+
+// The column of each chunk, and that of the parity of its row.
+const CHUNKS: [(usize, usize); 6] = [(0, 2), (1, 2), (2, 1), (0, 1), (1, 0), (2, 0)];
+
+// Fills each sector of a chunk with its number, and the parity beside it with this byte more.
+fn fill_chunk(images: &mut [Vec<u8>], chunk: u8, column: usize, parity: usize) {
+    for offset in 0..4u8 {
+        let sector = chunk.saturating_mul(4).saturating_add(offset);
+        let row = usize::from(chunk / 2 * 4 + offset).saturating_add(63);
+        let at = row.saturating_mul(512);
+        if let Some(image) = images.get_mut(column) {
+            put(image, at, &[sector; 512]);
+        }
+        if let Some(image) = images.get_mut(parity)
+            && chunk % 2 == 0
+        {
+            put(image, at, &[sector ^ sector.saturating_add(4); 512]);
+        }
+    }
+}
+
+fn filled_group(alloc: Global) -> Result<Vec<Vec<u8>>, Fail> {
+    let mut images = raid5_group(alloc)?;
+    let mut number = 0;
+    for (column, parity) in CHUNKS {
+        fill_chunk(images.as_mut_slice(), number, column, parity);
+        number = number.saturating_add(1);
+    }
+    Ok(images)
+}
+
+// Compares the bytes that are said.
+fn expect_bytes(
+    alloc: Global,
+    rt: &impl Abort,
+    group: &[Vec<u8>],
+    words: &str,
+    bytes: &[u8],
+) -> Result<(), Fail> {
+    let images = named_images(alloc, group, words)?;
+    let (status, said) = answer_of(alloc, words, images, b"")?;
+    assert!(rt;
+        status == Some(Status::Done) && said.as_slice() == bytes,
+        "{words}"
+    );
+    Ok(())
+}
+
+// The bytes of 24 sectors, each filled with its number.
+fn numbered(alloc: Global) -> Result<Vec<u8>, Fail> {
+    let mut bytes = Vec::new(alloc);
+    for sector in 0..24u8 {
+        bytes.extend_from_slice(&[sector; 512])?;
+    }
+    Ok(bytes)
+}
+
+#[test]
+fn says_the_bytes_of_a_volume(rt: HostRuntime) -> Result<(), Fail> {
+    let alloc = rt.alloc();
+    let group = filled_group(alloc)?;
+    let bytes = numbered(alloc)?;
+    for words in ["dump R on A B C", "dump R on A C", "dump R on C B"] {
+        expect_bytes(alloc, &rt, &group, words, &bytes)?;
+    }
+    let zeros = vec![in alloc; 0u8; 700 * 512]?;
+    expect_bytes(
+        alloc,
+        &rt,
+        &usual_images(alloc)?,
+        "dump Mirror1 on B C",
+        &zeros,
+    )
+}

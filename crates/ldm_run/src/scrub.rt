@@ -1,0 +1,148 @@
+//! `scrub`: where the copies of a mirror, or the parity of a RAID-5, disagree.
+ghost use Rattle.std.specs.Prelude.{◌≡◌, ◌++◌, ◌<◌, length, codes, decimal, IfOk};
+ghost use Rattle.ldm_text.specs.Texts.{text_of_refusal};
+ghost use Rattle.ldm_found.specs.Facts.{IsSoundGroup, LieOn};
+ghost use Rattle.ldm_dump.specs.Runs.{LiesOn, RowsLieOn};
+ghost use Rattle.ldm_scrub.specs.Compare.{places_of};
+ghost use Rattle.ldm_scrub.specs.Lines.{bad_of, text_of_scrub};
+ghost use Rattle.ldm_words.specs.Names.{esc};
+ghost use Rattle.ldm_words.specs.declared.job.Job.TheVariants as jobs;
+ghost use Rattle.ldm_run.specs.Answer.{IsJobAnswer};
+ghost use Rattle.ldm_run.specs.Runs.{Streams};
+ghost use Rattle.ldm_run.specs.Streaming.{is_compared, status_of, scrub_answer};
+
+use crate::mapping::plan_of;
+use crate::running::{Status, open_group, say_made};
+use ldm_bytes::{Bytes, NoMemory};
+use ldm_dump::volumes_lie_on_images;
+use ldm_found::Found;
+use ldm_host::Host;
+use ldm_layout::{Plan, Shape};
+use ldm_scrub::{LINE, ScrubError, missing_disk, scrub_volume};
+use ldm_text::{Text, push_name, push_number, refusal_text};
+use std::alloc::Global;
+
+// How many sectors of a disk are compared at a time.
+const SECTORS: usize = 2048;
+
+// The line that refuses for a disk that isn't present.
+fn missing_refusal(alloc: Global, disk: u64) -> Result<Bytes, NoMemory>
+    ensures { IfOk result (λ line. line ≡ text_of_refusal ((codes "disk " ++ decimal disk) ++ codes " is missing")) }
+{
+    let mut text = Text::new(alloc);
+    push_number(&mut text, b"disk ", disk)?;
+    text.push(b" is missing")?;
+    refusal_text(alloc, text.as_slice())
+}
+
+// What the last line begins with.
+fn front_of(alloc: Global, name: &[u8]) -> Result<Text, NoMemory>
+    ensures { IfOk result (λ text. text ≡ codes "scrub " ++ esc name.now) }
+{
+    let mut text = Text::new(alloc);
+    push_name(&mut text, b"scrub ", name)?;
+    Ok(text)
+}
+
+fn is_compared(shape: Shape) -> bool
+    ensures { result ≡ is_compared shape }
+{
+    match shape {
+        Shape::Mirror | Shape::Raid5 => true,
+        Shape::Span | Shape::Stripe => false,
+    }
+}
+
+fn status_of(bad: u64) -> Status
+    ensures { result ≡ status_of bad }
+{
+    if bad == 0 {
+        Status::Done
+    } else {
+        Status::Refused
+    }
+}
+
+// Compares the places of a volume, and says the bad ones. All memory is taken before.
+fn scrub_plan<H: Host>(
+    alloc: Global,
+    host: &mut H,
+    found: &Found,
+    plan: &Plan,
+    name: &[u8],
+) -> Status
+    requires lies { LiesOn found.now plan.now (H.seen host.old).sizes }
+    requires rows { RowsLieOn found.now plan.now (H.seen host.old).sizes }
+    ensures { Streams H.tells_disks (H.seen host.old) (H.seen host.new) (λ answer. answer
+        ≡ (
+          text_of_scrub (codes "scrub " ++ esc name.now) (H.seen host.old).content found.now plan.now,
+          status_of (bad_of (H.seen host.old).content found.now plan.now (places_of plan.now)),
+        )) result }
+{
+    let Ok(front) = front_of(alloc, name) else {
+        return Status::NoMemory;
+    };
+    let front = front.as_slice();
+    let Ok(mut out) = vec![in alloc; 0u8; 512 * SECTORS] else {
+        return Status::NoMemory;
+    };
+    let Ok(mut scratch) = vec![in alloc; 0u8; 512 * SECTORS] else {
+        return Status::NoMemory;
+    };
+    let Ok(mut marks) = vec![in alloc; 0u8; SECTORS] else {
+        return Status::NoMemory;
+    };
+    let Ok(mut page) = vec![in alloc; 0u8; LINE * SECTORS + front.len()] else {
+        return Status::NoMemory;
+    };
+    match scrub_volume(
+        host,
+        found,
+        plan,
+        front,
+        &mut out,
+        &mut scratch,
+        &mut marks,
+        &mut page,
+    ) {
+        Ok(bad) => status_of(bad),
+        Err(ScrubError::Disk) => Status::DiskFault,
+        Err(ScrubError::Talk) => Status::TalkFault,
+    }
+}
+
+// Compares the volume of this name of a group, or says the line of the refusal.
+fn scrub_found<H: Host>(alloc: Global, host: &mut H, found: &Found, name: &[u8]) -> Status
+    requires sound { IsSoundGroup found.now }
+    requires lies { LieOn found.now.labels (H.seen host.old).sizes }
+    ensures { Streams H.tells_disks (H.seen host.old) (H.seen host.new)
+        (λ answer. answer ≡ scrub_answer name.now (H.seen host.old).content found.now) result }
+{
+    let Some(volume) = found.db.volume_named(name) else {
+        return say_made(host, refusal_text(alloc, b"no volume"), Status::Refused);
+    };
+    let Ok(plan) = plan_of(alloc, found, volume) else {
+        return Status::NoMemory;
+    };
+    if !is_compared(plan.shape()) {
+        let line = refusal_text(alloc, b"nothing to compare");
+        return say_made(host, line, Status::Refused);
+    }
+    volumes_lie_on_images();
+    match missing_disk(found, volume.head.id) {
+        Some(disk) => say_made(host, missing_refusal(alloc, disk), Status::Refused),
+        None => scrub_plan(alloc, host, found, &plan, name),
+    }
+}
+
+/// scrub NAME on IMAGE...
+pub(crate) fn scrub<H: Host>(alloc: Global, host: &mut H, name: &Bytes) -> Status
+    requires { 0 < length (H.seen host.old).sizes }
+    ensures { Streams H.tells_disks (H.seen host.old) (H.seen host.new)
+        (IsJobAnswer (jobs.Scrub name.now) (H.seen host.old).content (H.seen host.old).input) result }
+{
+    match open_group(alloc, host) {
+        Err(status) => status,
+        Ok(found) => scrub_found(alloc, host, &found, name.as_slice()),
+    }
+}
