@@ -10,6 +10,10 @@ pub returns-in-Ok : goal.returns-in-Ok
 returns-in-Ok g c =
     let found = c.in-Ok.found in
     streams_first c.scrub_found.ensures c.in-Ok.ensures.quiet c.in-Ok.ensures.still (λ tells. tells)
-    (λ tells answer e. (Ok found, c.in-Ok.ensures.found tells, e
-    ∙ (ap (λ (n : List ℕ). scrub_answer n (g.H.Host.seen c.open_group.new.host).content found) c.as_slice.ensures
-    ∙ ap (λ (images : List (List ℕ)). scrub_answer c.args.name.now images found) c.in-Ok.ensures.still.content)))
+    (λ tells answer e. (
+      Ok found,
+      c.in-Ok.ensures.found tells,
+      e
+          ∙ (ap (λ (n : List ℕ). scrub_answer n (g.H.Host.seen c.open_group.new.host).content found) c.as_slice.ensures
+          ∙ ap (λ (images : List (List ℕ)). scrub_answer c.args.name.now images found) c.in-Ok.ensures.still.content),
+    ))
