@@ -259,22 +259,22 @@ fn copies<'a>(alloc: Global, words: &'a [String]) -> Read<'a> {
     all_there(form, &["SECTORS"], words)?;
     if let [sectors, rest @ ..] = words {
         number("SECTORS", sectors.as_str())?;
-        disks(alloc, "mirror", 2, rest)?;
+        disks(alloc, "a mirror", 2, rest)?;
     }
     Ok(())
 }
 
 fn layout<'a>(alloc: Global, kind: &'a str, words: &'a [String]) -> Read<'a> {
     match kind {
-        "span" => pieces(alloc, "span", words),
+        "span" => pieces(alloc, "a span", words),
         "stripe" => {
             let form = "create NAME GUID stripe CHUNK SECTORS DISK DISK... on IMAGE...";
-            columns(alloc, form, "stripe", 2, words)
+            columns(alloc, form, "a stripe", 2, words)
         }
         "mirror" => copies(alloc, words),
         "raid5" => {
             let form = "create NAME GUID raid5 CHUNK SECTORS DISK DISK DISK... on IMAGE...";
-            columns(alloc, form, "raid5", 3, words)
+            columns(alloc, form, "a raid5", 3, words)
         }
         _ => Err(UsageError::Kind { word: Shown(kind) }),
     }
@@ -296,7 +296,7 @@ fn extend<'a>(alloc: Global, rest: &'a [String]) -> Read<'a> {
     all_there(form, &["NAME"], rest)?;
     if let [volume, words @ ..] = rest {
         name(alloc, "NAME", volume.as_str())?;
-        pieces(alloc, "span", words)?;
+        pieces(alloc, "extend", words)?;
     }
     Ok(())
 }
@@ -339,6 +339,9 @@ fn job<'a>(alloc: Global, words: &'a [String], on: Option<usize>) -> Read<'a> {
             delete(alloc, rest, on)?;
             images("delete", on)
         }
+        "begin" | "commit" | "cancel" => Err(UsageError::OfBatch {
+            word: Shown(word.as_str()),
+        }),
         word => Err(UsageError::UnknownJob {
             word: Shown(word),
             nearest: nearest(alloc, word)?,

@@ -38,6 +38,10 @@ pub enum UsageError<'a> {
         word: Shown<'a>,
         nearest: &'static str,
     },
+    #[error("\"{word}\" is no job: it is a line of a script, for edit or try")]
+    OfBatch {
+        word: Shown<'a>,
+    },
     #[error("\"on\" is missing between {job} and its images")]
     NoOn {
         job: &'static str,
@@ -92,7 +96,7 @@ pub enum UsageError<'a> {
     Piece {
         word: Shown<'a>,
     },
-    #[error("a {kind} takes {least} to 64 {what}, and {count} are named")]
+    #[error("{kind} takes {least} to 64 {what}, and {count} are named")]
     Count {
         kind: &'static str,
         least: usize,

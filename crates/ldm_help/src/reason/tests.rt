@@ -3,7 +3,7 @@ use super::*;
 use std::test::Fail;
 
 // Words that are separated by a bar, and what is said of them.
-const ROWS: [(&str, &str); 30] = [
+const ROWS: [(&str, &str); 34] = [
     ("on|a", "there is no job"),
     ("chek|on|a", "\"chek\" is no job; the nearest is \"check\""),
     ("a\nb|on|a", "\"a\\x0ab\" is no job; the nearest is \"map\""),
@@ -38,6 +38,18 @@ const ROWS: [(&str, &str); 30] = [
         "VOLUME \"a b\" is no name, of 255 bytes at most: a backslash, or a byte that isn't visible ASCII, is written \\xHH, and no byte \\e",
     ),
     ("map|V|1|2", "\"on\" is missing between map and its images"),
+    (
+        "dump|on|a",
+        "VOLUME is missing: the form is dump VOLUME on IMAGE...",
+    ),
+    (
+        "dump|\\x4|on|a",
+        "VOLUME \"\\x4\" is no name, of 255 bytes at most: a backslash, or a byte that isn't visible ASCII, is written \\xHH, and no byte \\e",
+    ),
+    (
+        "scrub|V|W|on|a",
+        "\"W\" is a word too many: the form is scrub VOLUME on IMAGE...",
+    ),
     ("sample", "SEED is missing: the form is sample SEED"),
     ("sample|1|on|a", "sample takes no images"),
     (
@@ -90,11 +102,15 @@ const ROWS: [(&str, &str); 30] = [
     ),
     (
         "extend|V|on|a",
-        "a span takes 1 to 64 pieces, and 0 are named",
+        "extend takes 1 to 64 pieces, and 0 are named",
     ),
     (
         "delete|V|W|on|a",
         "\"W\" is a word too many: the form is delete NAME on IMAGE...",
+    ),
+    (
+        "begin|on|a",
+        "\"begin\" is no job: it is a line of a script, for edit or try",
     ),
     ("disk|on|a", "the words have no reading"),
 ];
