@@ -257,16 +257,33 @@ volume 5 E span 1 cccccccc-cccc-cccc-cccc-cccccccccccc
     partition 7 p7 disk 4 start 0 size 1 offset 0
 = 0";
 
-// A mirror gets a piece for each copy.
+// A mirror gets a piece for each copy, all of one length, and none on the disk of another copy.
 const MIRROR: &str = "\
 $ edit on A B C
 < create M bbbbbbbb-bbbb-bbbb-bbbb-bbbbbbbbbbbb mirror 100 Disk1 Disk2
 < extend M Disk1=50
+< extend M Disk1=50 Disk2=60
+< extend M Disk2=50 Disk1=50
 < extend M Disk1=50 Disk2=50
 1 ok 8
 2 refused: need 2 pieces
-3 ok 9
+3 refused: bad size
+4 refused: same disk twice
+5 ok 9
 = 1 ABC
+$ show on A B C
+group Dg0 aaaaaaaa-aaaa-aaaa-aaaa-aaaaaaaaaaaa sequence 9 blocks 11 of 60
+disk 2 Disk1 11111111-1111-1111-1111-111111111111 image 0 free 5931
+disk 3 Disk2 22222222-2222-2222-2222-222222222222 image 1 free 5931
+disk 4 Disk3 33333333-3333-3333-3333-333333333333 image 2 free 6081
+volume 5 M mirror 150 bbbbbbbb-bbbb-bbbb-bbbb-bbbbbbbbbbbb
+  component 6 c6 basic
+    partition 7 p7 disk 2 start 0 size 100 offset 0
+    partition 10 p10 disk 2 start 100 size 50 offset 100
+  component 8 c8 basic
+    partition 9 p9 disk 3 start 0 size 100 offset 0
+    partition 11 p11 disk 3 start 100 size 50 offset 100
+= 0
 $ map M 149 1 on A B C
 149 copy 0 Disk1 149 at 212
 149 copy 1 Disk2 149 at 212

@@ -49,7 +49,7 @@ refused: disk 3 is missing
 $ create S dddddddd-dddd-dddd-dddd-dddddddddddd span Disk1=10 on A B C
 1 ok 11
 = 0 ABC
-$ scrub S on A B C
+$ scrub S on B C
 refused: nothing to compare
 = 1
 $ scrub Nope on A B C
@@ -68,13 +68,11 @@ fn compares_copies_and_rows(rt: HostRuntime) -> Result<(), Fail> {
     play(rt.alloc(), &rt, 3, 64, SCRUBS)
 }
 
-const CREATE: &str =
-    "create R cccccccc-cccc-cccc-cccc-cccccccccccc raid5 4 12 Disk1 Disk2 Disk3 on A B C";
-
-// The images of the sample group with that RAID-5.
-fn raid5_group(alloc: Global) -> Result<Vec<Vec<u8>>, Fail> {
-    let mut host = MemoryHost::new(alloc, sample_group(alloc, 3, 64)?, Vec::new(alloc))?;
-    if run_over(alloc, &words_in(alloc, CREATE)?, &mut host) != Some(Status::Done) {
+// The images of the sample group after the lines of a script.
+fn group_after(alloc: Global, script: &str) -> Result<Vec<Vec<u8>>, Fail> {
+    let lines = script.as_bytes().to_vec(alloc)?;
+    let mut host = MemoryHost::new(alloc, sample_group(alloc, 3, 64)?, lines)?;
+    if run_over(alloc, &words_in(alloc, "edit on A B C")?, &mut host) != Some(Status::Done) {
         return Err(Fail::from("no volume"));
     }
     let mut images = Vec::new(alloc);
@@ -83,6 +81,9 @@ fn raid5_group(alloc: Global) -> Result<Vec<Vec<u8>>, Fail> {
     }
     Ok(images)
 }
+
+// The RAID-5 that is scrubbed above.
+const CREATE: &str = "create R cccccccc-cccc-cccc-cccc-cccccccccccc raid5 4 12 Disk1 Disk2 Disk3";
 
 // The column of each chunk, and that of the parity of its row.
 const CHUNKS: [(usize, usize); 6] = [(0, 2), (1, 2), (2, 1), (0, 1), (1, 0), (2, 0)];
@@ -105,7 +106,7 @@ fn fill_chunk(images: &mut [Vec<u8>], chunk: u8, column: usize, parity: usize) {
 }
 
 fn filled_group(alloc: Global) -> Result<Vec<Vec<u8>>, Fail> {
-    let mut images = raid5_group(alloc)?;
+    let mut images = group_after(alloc, CREATE)?;
     let mut number = 0;
     for (column, parity) in CHUNKS {
         fill_chunk(images.as_mut_slice(), number, column, parity);
@@ -148,12 +149,64 @@ fn says_the_bytes_of_a_volume(rt: HostRuntime) -> Result<(), Fail> {
     for words in ["dump R on A B C", "dump R on A C", "dump R on C B"] {
         expect_bytes(alloc, &rt, &group, words, &bytes)?;
     }
-    let zeros = vec![in alloc; 0u8; 700 * 512]?;
-    expect_bytes(
-        alloc,
-        &rt,
-        &usual_images(alloc)?,
-        "dump Mirror1 on B C",
-        &zeros,
-    )
+    Ok(())
+}
+
+// Fills so many sectors of an image, from this one on.
+fn fill(images: &mut [Vec<u8>], image: usize, first: usize, count: usize, byte: u8) {
+    if let Some(image) = images.get_mut(image) {
+        for sector in 0..count {
+            let at = first.saturating_add(sector).saturating_mul(512);
+            put(image, at, &[byte; 512]);
+        }
+    }
+}
+
+fn push_run(bytes: &mut Vec<u8>, count: usize, byte: u8) -> Result<(), Fail> {
+    for _ in 0..count {
+        bytes.extend_from_slice(&[byte; 512])?;
+    }
+    Ok(())
+}
+
+// The bytes of runs of sectors: how many, and of which byte.
+fn sectors(alloc: Global, runs: &[(usize, u8)]) -> Result<Vec<u8>, Fail> {
+    let mut bytes = Vec::new(alloc);
+    for (count, byte) in runs {
+        push_run(&mut bytes, *count, *byte)?;
+    }
+    Ok(bytes)
+}
+
+// The copies of a mirror of 700 sectors, the first on A and the second on C, hold other bytes.
+#[test]
+fn says_the_first_copy_that_is_there(rt: HostRuntime) -> Result<(), Fail> {
+    let alloc = rt.alloc();
+    let mut group = usual_images(alloc)?;
+    fill(group.as_mut_slice(), 0, 1563, 700, 1);
+    fill(group.as_mut_slice(), 2, 575, 700, 2);
+    let first = sectors(alloc, &[(700, 1)])?;
+    let second = sectors(alloc, &[(700, 2)])?;
+    expect_bytes(alloc, &rt, &group, "dump Mirror1 on A B C", &first)?;
+    expect_bytes(alloc, &rt, &group, "dump Mirror1 on B A", &first)?;
+    expect_bytes(alloc, &rt, &group, "dump Mirror1 on B C", &second)
+}
+
+// The first copy lies on Disk1 and then on Disk3, the second on Disk2 alone.
+const PARTED: &str = "\
+create M bbbbbbbb-bbbb-bbbb-bbbb-bbbbbbbbbbbb mirror 100 Disk1 Disk2
+extend M Disk3=50 Disk2=50";
+
+// Where Disk1 is absent the first copy is there again from sector 100 on.
+#[test]
+fn goes_back_to_the_first_copy(rt: HostRuntime) -> Result<(), Fail> {
+    let alloc = rt.alloc();
+    let mut group = group_after(alloc, PARTED)?;
+    fill(group.as_mut_slice(), 0, 63, 100, 1);
+    fill(group.as_mut_slice(), 1, 63, 150, 2);
+    fill(group.as_mut_slice(), 2, 63, 50, 3);
+    let all = sectors(alloc, &[(100, 1), (50, 3)])?;
+    let absent = sectors(alloc, &[(100, 2), (50, 3)])?;
+    expect_bytes(alloc, &rt, &group, "dump M on A B C", &all)?;
+    expect_bytes(alloc, &rt, &group, "dump M on B C", &absent)
 }
