@@ -17,3 +17,4 @@ pub mod SampleLines
 pub mod JobLaws
 pub mod KindLaws
 pub mod StreamLaws
+pub mod DumpLaws

@@ -24,6 +24,18 @@ reads_stream reads = record {
   input = reads.input;
 }
 
+-- what is an answer of one kind may be one of another
+pub streams_as : {tells : Type 0} {old new : Seen} {IsOne IsOther : Answer → Type 0} {status : Status} → Streams tells old new IsOne status
+    → ((answer : Answer) → IsOne answer → IsOther answer) → Streams tells old new IsOther status
+streams_as {tells} {old} {new} {IsOne} {IsOther} {status} streams turn = record {
+  answers = λ told. answers_as old old new IsOne IsOther status refl turn (streams.answers told);
+  no_usage = streams.no_usage;
+  causes = streams.causes;
+  silent = streams.silent;
+  still = streams.still;
+  input = streams.input;
+}
+
 -- what is quiet and changes no disk may come before
 pub streams_first : {talks tells : Type 0} {old mid new : Seen} {IsOne IsOther : Answer → Type 0} {status : Status} → Streams talks mid new IsOne status → Quiet old mid → Still old mid
     → (tells → talks) → (tells → (answer : Answer) → IsOne answer → IsOther answer) → Streams tells old new IsOther status
