@@ -5,6 +5,7 @@ pub mod HeardLaws
 pub mod TurnLaws
 pub mod ReplyLaws
 pub mod ScriptLaws
+pub mod ScrubLaws
 pub mod LineCounts
 pub mod TurnLists
 pub mod OpenLaws
