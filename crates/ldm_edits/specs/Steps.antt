@@ -1,6 +1,7 @@
 -- What a command makes of a group, and what the lines of a script make of it one after another.
-use Rattle.std.specs.Prelude.{◌≡◌, ◌+◌, List, [], ◌∷◌, Option, Some, None, Result, Ok, Err}
+use Rattle.std.specs.Prelude.{◌≡◌, ◌+◌, ◌*◌, ◌≤◌, All, List, [], ◌∷◌, Option, Some, None, Result, Ok, Err}
 use Rattle.ldm_label.specs.declared.Label.{Label}
+use Rattle.ldm_vmdb.specs.Headers.{grown_to}
 use Rattle.ldm_group.specs.Database.{Database}
 use Rattle.ldm_group.specs.Looks.{volume_named, HasSameDisks}
 use Rattle.ldm_rules.specs.Facts.{IsSoundOn}
@@ -20,20 +21,22 @@ use Rattle.ldm_edits.specs.Deleting.{deleted}
 unfoldable pub next_of : Database → List Label → Command → Result Database Refusal
 next_of db labels (Create name guid layout) = created db labels name guid layout
 next_of db labels (Extend name pieces) = extended db labels pieces (volume_named name db.records)
-next_of db labels (Delete name) = deleted db (volume_named name db.records)
+next_of db labels (Delete name) = deleted db labels (volume_named name db.records)
 
 -- exactly that is answered
 abbrev pub StepsAs : Outcome → Result Database Refusal → Type 0
 StepsAs (outcomes.Next next) step = step ≡ Ok next
 StepsAs (outcomes.Refused refusal) step = step ≡ Err refusal
 
--- What a command keeps of a group: it is as sound as before, its disks are the same, and as many blocks are left to its records. Its
--- sequence is the next.
--- So what an image's label and the disks say of the group stays, and what blocks editing too.
+-- What a command keeps of a group: it is as sound as before, its disks are the same, its last VBLK sequence is no less, and fits each
+-- area that the one before fits. Its sequence is the next.
+-- So what an image's label and the disks say of the group stays, and what may be edited still may be.
 pub record Keeps (labels : List Label) (old next : Database) : Type 0 where
   pub sound : IsSoundOn next labels
   pub disks : HasSameDisks old.records next.records
-  pub last : next.header.last ≡ old.header.last
+  pub rises : old.header.last ≤ next.header.last
+  pub fits : All (λ label. old.header.last ≤ 4 * label.area_sectors → next.header.last ≤ 4 * label.area_sectors) labels
+  pub header : next.header ≡ grown_to old.header next.header.last (old.header.seq + 1)
   pub seq : next.header.seq ≡ old.header.seq + 1
 
 -- ---- scripts

@@ -103,9 +103,9 @@ impl Session {
         ensures holds { H.tells_disks → IfOk result (λ answer. HoldsGroup answer.0 (H.seen host.new).content) }
         ensures no_memory { (session : _) → IsErrOf result (ApplyError.NoMemory session) → session ≡ self }
         ensures nothing { (session : _) → IsErrOf result (ApplyError.NoMemory session) → Still (H.seen host.old) (H.seen host.new) }
-        // Each disk is handed the bytes of a body at most, and one more.
+        // Each disk is handed the bytes of the body of the next group at most, and one more.
         ensures wrote { (disk : ℕ) → slice_index (H.seen host.new).wrote disk
-            ≤ slice_index (H.seen host.old).wrote disk + (512 * (self.db.header.last / 4) + 1) }
+            ≤ slice_index (H.seen host.old).wrote disk + (512 * ((turn_in self command.now).state.db.header.last / 4) + 1) }
         ensures later { Later (H.seen host.old) (H.seen host.new) }
         ensures quiet { Quiet (H.seen host.old) (H.seen host.new) }
         ensures cause { IsErrOf result ApplyError.Disk → Rose (H.seen host.old).disk_faults (H.seen host.new).disk_faults }
