@@ -92,8 +92,10 @@ const CHUNKS: [(usize, usize); 6] = [(0, 2), (1, 2), (2, 1), (0, 1), (1, 0), (2,
 fn fill_chunk(images: &mut [Vec<u8>], chunk: u8, column: usize, parity: usize) {
     for offset in 0..4u8 {
         let sector = chunk.saturating_mul(4).saturating_add(offset);
-        let row = usize::from(chunk / 2 * 4 + offset).saturating_add(63);
-        let at = row.saturating_mul(512);
+        let row = usize::from(chunk / 2)
+            .saturating_mul(4)
+            .saturating_add(usize::from(offset));
+        let at = row.saturating_add(63).saturating_mul(512);
         if let Some(image) = images.get_mut(column) {
             put(image, at, &[sector; 512]);
         }
