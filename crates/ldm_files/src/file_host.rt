@@ -3,6 +3,7 @@ ghost use Rattle.std.specs.Prelude.{◌≡◌, ◌≤◌, ◌<◌, ◌+◌, ◌-
 ghost use Rattle.ldm_host.specs.Moves.{Rose};
 
 use crate::image::ImageFile;
+use crate::meter::{Counted, Meter};
 use ldm_bytes::NoMemory;
 use ldm_host::{Failed, Host};
 use std::alloc::Global;
@@ -32,9 +33,10 @@ pub enum Failure {
 
 /// The images are files. It tells nothing of what is in them, of what is said and of what is heard:
 /// what the clauses say of it is how long the files are, which counts rose, and what it was handed.
-/// Of calls that fail it keeps the last, and it counts the lines that were said.
+/// Of calls that fail it keeps the last, it counts the lines that were said, and a meter that it is given
+/// tells how far it has come.
 #[derive(Drop)]
-pub struct FileHost<I, O> {
+pub struct FileHost<'a, I, O> {
     images: Vec<ImageFile>,
     wrote: Vec<u64>,
     input: I,
@@ -43,10 +45,11 @@ pub struct FileHost<I, O> {
     talk_faults: u64,
     failure: Option<Failure>,
     lines: u64,
+    meter: Option<Meter<'a>>,
     ghost counted: { length wrote.items ≡ length images.items },
 }
 
-impl<I, O> FileHost<I, O> {
+impl<'a, I, O> FileHost<'a, I, O> {
     /// A host over the images in their order.
     pub fn new(alloc: Global, images: Vec<ImageFile>, input: I, output: O) -> Result<Self, NoMemory>
     where
@@ -64,7 +67,16 @@ impl<I, O> FileHost<I, O> {
             talk_faults: 0,
             failure: None,
             lines: 0,
+            meter: None,
         })
+    }
+
+    /// The host with a meter, which counts what is read and said from here on.
+    pub fn with_meter(mut self, meter: Meter<'a>) -> Self
+        ensures { result.images.items ≡ self.entry.images.items }
+    {
+        self.meter = Some(meter);
+        self
     }
 
     /// The last call that failed, if one did.
@@ -75,6 +87,13 @@ impl<I, O> FileHost<I, O> {
     /// How many lines were said whole.
     pub fn lines(&self) -> u64 {
         self.lines
+    }
+
+    /// Ends the line that the meter told last, if there is one.
+    pub fn end_meter(&self) {
+        if let Some(meter) = &self.meter {
+            meter.end();
+        }
     }
 }
 
@@ -134,7 +153,14 @@ fn keep_failure(failure: &mut Option<Failure>, image: usize, call: DiskCall, don
     }
 }
 
-impl<I: Read, O: Write> Host for FileHost<I, O> {
+// Counts bytes, where there is a meter.
+fn count(meter: &mut Option<Meter<'_>>, counted: Counted, bytes: usize) {
+    if let Some(meter) = meter {
+        meter.count(counted, bytes);
+    }
+}
+
+impl<I: Read, O: Write> Host for FileHost<'_, I, O> {
     ghost use Rattle.ldm_files.specs.FileSeen.{file_seen, file_counts_each, file_counts_now, file_only_now};
 
     ghost seen = { λ host. file_seen (map (λ image. image.sectors) host.images.items) host.disk_faults host.talk_faults host.wrote.items };
@@ -173,6 +199,7 @@ impl<I: Read, O: Write> Host for FileHost<I, O> {
 
     fn read_at(&mut self, disk: usize, at: u64, buf: &mut [u8]) -> Result<(), Failed> {
         let done = self.images[disk].file.read_exact_at(buf, at);
+        count(&mut self.meter, Counted::Read, buf.len());
         keep_failure(&mut self.failure, disk, DiskCall::Read, done);
         ended(done.is_ok(), &mut self.disk_faults)
     }
@@ -203,7 +230,10 @@ impl<I: Read, O: Write> Host for FileHost<I, O> {
     fn say(&mut self, bytes: &[u8]) -> Result<(), Failed> {
         let done = write_out(&mut self.output, bytes);
         match done {
-            Ok(()) => self.lines = self.lines.saturating_add(line_count(bytes)),
+            Ok(()) => {
+                self.lines = self.lines.saturating_add(line_count(bytes));
+                count(&mut self.meter, Counted::Said, bytes.len());
+            }
             Err(error) => self.failure = Some(Failure::Output(error)),
         }
         ended(done.is_ok(), &mut self.talk_faults)

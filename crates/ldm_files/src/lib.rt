@@ -8,8 +8,10 @@
 mod device;
 mod file_host;
 mod image;
+mod meter;
 mod streams;
 
 pub use file_host::{DiskCall, Failure, FileHost};
 pub use image::{Access, ImageError, ImageFile};
+pub use meter::{Counted, Meter, Progress};
 pub use streams::{STREAMS, take_closed_streams};

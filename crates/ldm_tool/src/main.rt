@@ -11,7 +11,9 @@ ghost use Rattle.std.specs.Prelude.{◌≡◌, IfOk, length, vec_len};
 
 use crate::stop::{Fault, Stop};
 use ldm_bytes::NoMemory;
-use ldm_files::{Access, Failure, FileHost, ImageError, ImageFile, take_closed_streams};
+use ldm_files::{
+    Access, Counted, Failure, FileHost, ImageError, ImageFile, Meter, take_closed_streams,
+};
 use ldm_help::{HELP, Shown, UsageError, VERSION, usage_error};
 use ldm_run::{Status, run};
 use ldm_words::{Job, WordsError, read_words};
@@ -112,12 +114,20 @@ fn stop_unopened(names: &[String], unopened: Unopened) -> Stop<'_> {
     }
 }
 
-// What a job asks of the outside before it begins: how it opens its images, and whether it hears a
-// script.
+// What a job asks of the outside before it begins: how it opens its images, whether it hears a
+// script, and which of its bytes tell how far it has come.
 #[derive(Clone, Copy)]
 struct Needs {
     access: Access,
     script: bool,
+    counted: Option<Counted>,
+}
+
+// Which of the standard streams are terminals.
+#[derive(Clone, Copy)]
+struct Terminals {
+    input: bool,
+    error: bool,
 }
 
 fn needs_of(job: &Job) -> Needs {
@@ -128,6 +138,11 @@ fn needs_of(job: &Job) -> Needs {
             Access::Read
         },
         script: matches!(job, Job::Try | Job::Edit),
+        counted: match job {
+            Job::Dump { .. } => Some(Counted::Said),
+            Job::Scrub { .. } => Some(Counted::Read),
+            _ => None,
+        },
     }
 }
 
@@ -138,6 +153,23 @@ fn try_output<O: Write>(needs: Needs, output: &mut O) -> io::Result<()> {
         output.write(b"")?;
     }
     Ok(())
+}
+
+// The host, with a meter where the job has bytes to count and standard error is a terminal.
+fn metered<'a, I, O>(
+    rt: &'a HostRuntime,
+    host: FileHost<'a, I, O>,
+    counted: Option<Counted>,
+    terminals: Terminals,
+) -> FileHost<'a, I, O> {
+    match counted {
+        Some(counted) if terminals.error => match Meter::start(rt, counted) {
+            Ok(meter) => host.with_meter(meter),
+            // Without a clock the job goes on untold.
+            Err(_) => host,
+        },
+        _ => host,
+    }
 }
 
 // How a run ended, after which the host has these counts.
@@ -168,7 +200,7 @@ fn run_words<'a, I, O>(
     words: &'a [String],
     input: I,
     mut output: O,
-    at_terminal: bool,
+    terminals: Terminals,
 ) -> Result<Status, Stop<'a>>
 where
     I: Read + Drop,
@@ -189,16 +221,18 @@ where
         let failure = Some(Failure::Output(error));
         return ending(Status::TalkFault, names, failure, None);
     }
-    if at_terminal && needs.script {
+    if terminals.input && needs.script {
         let _ = eprint!(rt;
             "ldm: waiting for the lines of a script on the terminal; Ctrl-D ends them\n"
         );
     }
-    let mut host = match FileHost::new(alloc, images, input, output) {
+    let host = match FileHost::new(alloc, images, input, output) {
         Ok(host) => host,
         Err(NoMemory) => return Err(Stop::NoMemory(None)),
     };
+    let mut host = metered(rt, host, needs.counted, terminals);
     let status = run(alloc, words, &mut host);
+    host.end_meter();
     let answered = match needs.access {
         Access::Edit => Some(host.lines()),
         Access::Read => None,
@@ -223,8 +257,11 @@ fn do_words<'a>(rt: &HostRuntime, words: &'a [String]) -> Result<Status, Stop<'a
         Some(text) => tell(rt.stdout(), text),
         None => {
             let input = rt.stdin();
-            let at_terminal = input.is_terminal();
-            run_words(rt, words, input, rt.stdout(), at_terminal)
+            let terminals = Terminals {
+                input: input.is_terminal(),
+                error: rt.stderr().is_terminal(),
+            };
+            run_words(rt, words, input, rt.stdout(), terminals)
         }
     }
 }

@@ -2,7 +2,7 @@
 ghost use Rattle.std.specs.Prelude.{◌<◌, ◌≤◌, ◌+◌, ◌*◌, length, slice_index, IsTrue};
 
 use super::*;
-use ldm_files::DiskCall;
+use ldm_files::{DiskCall, Progress};
 use ldm_host::{Failed, Host, MemoryHost};
 use ldm_images::usual_images;
 use ldm_vectors::sample_images;
@@ -45,6 +45,12 @@ fn words_on(
     Ok(words)
 }
 
+// No stream is a terminal.
+const NOWHERE: Terminals = Terminals {
+    input: false,
+    error: false,
+};
+
 const NAMES: [&str; 3] = ["a.img", "b.img", "c.img"];
 
 // A folder with these images.
@@ -76,7 +82,7 @@ fn end_of<O: Write + Drop>(
     input: &[u8],
     output: O,
 ) -> Result<(Status, String), Fail> {
-    match run_words(rt, words, input, output, false) {
+    match run_words(rt, words, input, output, NOWHERE) {
         Ok(status) => Ok((status, String::new(rt.alloc()))),
         Err(stop) => Ok((stop.status(), format!(in rt.alloc(); "{stop}")?)),
     }
@@ -301,7 +307,7 @@ fn sync<H: Host>(host: &mut H, disk: usize) -> Result<(), Failed> {
 }
 
 // A host over two files, the first of them once more, for reading alone, and the null device.
-fn host_in(rt: &HostRuntime, folder: &PathBuf) -> Result<FileHost<&'static [u8], Vec<u8>>, Fail> {
+fn host_in(rt: &HostRuntime, folder: &PathBuf) -> Result<FileHost<'static, &'static [u8], Vec<u8>>, Fail> {
     let alloc = rt.alloc();
     let mut images = Vec::new(alloc);
     images.push(file_of(rt, folder, "a", &[b'a'; 1024])?)?;
@@ -430,6 +436,25 @@ fn tells_the_help_and_the_version(rt: HostRuntime) -> Result<(), Fail> {
         assert!(rt; told(&words) == Some(text), "{word}");
         words.push(String::from_str(alloc, "x")?)?;
         assert!(rt; told(&words).is_none(), "{word}");
+    }
+    Ok(())
+}
+
+#[test]
+fn tells_how_far_a_job_has_come(rt: HostRuntime) -> Result<(), Fail> {
+    let rows = [
+        (Counted::Said, 0, 500, "0 bytes (0 B, 0 B) said, 0 s, 0 B/s"),
+        (Counted::Said, 98_304_000, 1000, "98304000 bytes (98 MB, 93 MiB) said, 1 s, 98 MB/s"),
+        (Counted::Read, 1_048_576, 500, "1048576 bytes (1.0 MB, 1.0 MiB) read, 0 s, 2.0 MB/s"),
+        (Counted::Read, u64::MAX, 1, "18446744073709551615 bytes (18 EB, 15 EiB) read, 0 s, 18 EB/s"),
+    ];
+    for (counted, bytes, millis, text) in rows {
+        let progress = Progress {
+            bytes,
+            millis,
+            counted,
+        };
+        assert_eq!(rt; format!(in rt.alloc(); "{progress}")?.as_str(), text);
     }
     Ok(())
 }

@@ -1,0 +1,128 @@
+//! How far a job has come, told while it goes on.
+ghost use Rattle.std.specs.Prelude.{◌<◌};
+
+use std::fmt;
+use std::io::{self, Write};
+use std::time::{Duration, Instant};
+
+/// What is counted of a job: the bytes that it says, or those that it reads of the images.
+#[derive(Clone, Copy, Debug, PartialEq, Eq)]
+pub enum Counted {
+    Said,
+    Read,
+}
+
+// The time between two lines, in milliseconds.
+const PAUSE: u128 = 500;
+
+// The names of a byte, a thousand bytes and so on, and of 1024 bytes and so on.
+const THOUSANDS: [&str; 7] = ["B", "kB", "MB", "GB", "TB", "PB", "EB"];
+
+const BINARIES: [&str; 7] = ["B", "KiB", "MiB", "GiB", "TiB", "PiB", "EiB"];
+
+/// So many bytes, after so many milliseconds. The text is in the manner of `dd status=progress`.
+#[derive(Clone, Copy, Debug)]
+pub struct Progress {
+    pub bytes: u64,
+    pub millis: u64,
+    pub counted: Counted,
+}
+
+// Writes so many bytes in the largest unit that they have one of, with a tenth below ten.
+fn write_amount<W: fmt::Write>(
+    f: &mut fmt::Formatter<W>,
+    bytes: u64,
+    step: u64,
+    names: [&str; 7],
+) -> fmt::Result
+    requires { 0 < step }
+{
+    let mut whole = bytes;
+    let mut rest = 0;
+    let mut unit = "";
+    for name in names {
+        unit = name;
+        if whole < step || name == "EB" || name == "EiB" {
+            break;
+        }
+        rest = whole % step;
+        whole /= step;
+    }
+    if whole < 10 && whole < bytes {
+        write!(f, "{whole}.{} {unit}", rest.saturating_mul(10) / step)
+    } else {
+        write!(f, "{whole} {unit}")
+    }
+}
+
+impl fmt::Display for Progress {
+    fn fmt<W: fmt::Write>(&self, f: &mut fmt::Formatter<W>) -> fmt::Result {
+        let verb = match self.counted {
+            Counted::Said => "said",
+            Counted::Read => "read",
+        };
+        let rate = self.bytes.saturating_mul(1000) / self.millis.max(1);
+        write!(f, "{} bytes (", self.bytes)?;
+        write_amount(f, self.bytes, 1000, THOUSANDS)?;
+        write!(f, ", ")?;
+        write_amount(f, self.bytes, 1024, BINARIES)?;
+        write!(f, ") {verb}, {} s, ", self.millis / 1000)?;
+        write_amount(f, rate, 1000, THOUSANDS)?;
+        write!(f, "/s")
+    }
+}
+
+/// Counts the bytes of a job, and tells on standard error how many they are and how fast they come,
+/// at most twice a second.
+#[derive(Drop)]
+pub struct Meter<'a> {
+    rt: &'a HostRuntime,
+    counted: Counted,
+    bytes: u64,
+    began: Instant,
+    told: Duration,
+}
+
+impl<'a> Meter<'a> {
+    /// A meter that begins now.
+    pub fn start(rt: &'a HostRuntime, counted: Counted) -> io::Result<Self> {
+        Ok(Meter {
+            rt,
+            counted,
+            bytes: 0,
+            began: Instant::now(rt)?,
+            told: Duration::ZERO,
+        })
+    }
+
+    /// Counts bytes, if they are of the kind that is counted. Where the clock fails nothing is told.
+    pub fn count(&mut self, counted: Counted, bytes: usize) {
+        if counted != self.counted {
+            return;
+        }
+        self.bytes = self.bytes.saturating_add(bytes as u64);
+        if let Ok(now) = self.began.elapsed(self.rt) {
+            if now.saturating_sub(self.told).as_millis() >= PAUSE {
+                self.told = now;
+                self.tell(now);
+            }
+        }
+    }
+
+    // Tells how far it is, in the place of the line before.
+    fn tell(&self, now: Duration) {
+        let progress = Progress {
+            bytes: self.bytes,
+            millis: now.as_millis().min(u64::MAX as u128) as u64,
+            counted: self.counted,
+        };
+        let _ = eprint!(self.rt; "\r{progress}   ");
+    }
+
+    /// Ends the line, if one was told.
+    pub fn end(&self) {
+        if self.told > Duration::ZERO {
+            let _ = eprint!(self.rt; "\n");
+        }
+    }
+}
