@@ -3,7 +3,7 @@ ghost use Rattle.std.specs.Prelude.{◌≡◌, ◌≤◌, ◌<◌, ◌+◌, ◌-
 ghost use Rattle.ldm_host.specs.Moves.{Rose};
 
 use crate::image::ImageFile;
-use crate::meter::{Counted, Meter};
+use crate::meter::Watch;
 use ldm_bytes::NoMemory;
 use ldm_host::{Failed, Host};
 use std::alloc::Global;
@@ -33,8 +33,7 @@ pub enum Failure {
 
 /// The images are files. It tells nothing of what is in them, of what is said and of what is heard:
 /// what the clauses say of it is how long the files are, which counts rose, and what it was handed.
-/// Of calls that fail it keeps the last, it counts the lines that were said, and a meter that it is given
-/// tells how far it has come.
+/// Of calls that fail it keeps the last, and of what it reads and says it counts what it is asked to.
 #[derive(Drop)]
 pub struct FileHost<'a, I, O> {
     images: Vec<ImageFile>,
@@ -44,8 +43,7 @@ pub struct FileHost<'a, I, O> {
     disk_faults: u64,
     talk_faults: u64,
     failure: Option<Failure>,
-    lines: u64,
-    meter: Option<Meter<'a>>,
+    watch: Watch<'a>,
     ghost counted: { length wrote.items ≡ length images.items },
 }
 
@@ -66,16 +64,15 @@ impl<'a, I, O> FileHost<'a, I, O> {
             disk_faults: 0,
             talk_faults: 0,
             failure: None,
-            lines: 0,
-            meter: None,
+            watch: Watch::Nothing,
         })
     }
 
-    /// The host with a meter, which counts what is read and said from here on.
-    pub fn with_meter(mut self, meter: Meter<'a>) -> Self
+    /// The host that counts this from here on.
+    pub fn watched(mut self, watch: Watch<'a>) -> Self
         ensures { result.images.items ≡ self.entry.images.items }
     {
-        self.meter = Some(meter);
+        self.watch = watch;
         self
     }
 
@@ -84,16 +81,14 @@ impl<'a, I, O> FileHost<'a, I, O> {
         self.failure
     }
 
-    /// How many lines were said whole.
-    pub fn lines(&self) -> u64 {
-        self.lines
+    /// How many lines were said whole, where they are counted.
+    pub fn lines(&self) -> Option<u64> {
+        self.watch.lines()
     }
 
-    /// Ends the line that the meter told last, if there is one.
-    pub fn end_meter(&self) {
-        if let Some(meter) = &self.meter {
-            meter.end();
-        }
+    /// Ends what is told of how far the run has come.
+    pub fn end_watch(&self) {
+        self.watch.end();
     }
 }
 
@@ -141,22 +136,10 @@ fn write_out<O: Write>(output: &mut O, bytes: &[u8]) -> io::Result<()> {
     output.flush()
 }
 
-// How many lines end in these bytes.
-fn line_count(bytes: &[u8]) -> u64 {
-    bytes.iter().filter(|c| **c == b'\n').count() as u64
-}
-
 // Keeps a failed call of a disk as the last.
 fn keep_failure(failure: &mut Option<Failure>, image: usize, call: DiskCall, done: io::Result<()>) {
     if let Err(error) = done {
         *failure = Some(Failure::Disk { image, call, error });
-    }
-}
-
-// Counts bytes, where there is a meter.
-fn count(meter: &mut Option<Meter<'_>>, counted: Counted, bytes: usize) {
-    if let Some(meter) = meter {
-        meter.count(counted, bytes);
     }
 }
 
@@ -199,7 +182,7 @@ impl<I: Read, O: Write> Host for FileHost<'_, I, O> {
 
     fn read_at(&mut self, disk: usize, at: u64, buf: &mut [u8]) -> Result<(), Failed> {
         let done = self.images[disk].file.read_exact_at(buf, at);
-        count(&mut self.meter, Counted::Read, buf.len());
+        self.watch.read(buf.len());
         keep_failure(&mut self.failure, disk, DiskCall::Read, done);
         ended(done.is_ok(), &mut self.disk_faults)
     }
@@ -230,10 +213,7 @@ impl<I: Read, O: Write> Host for FileHost<'_, I, O> {
     fn say(&mut self, bytes: &[u8]) -> Result<(), Failed> {
         let done = write_out(&mut self.output, bytes);
         match done {
-            Ok(()) => {
-                self.lines = self.lines.saturating_add(line_count(bytes));
-                count(&mut self.meter, Counted::Said, bytes.len());
-            }
+            Ok(()) => self.watch.said(bytes),
             Err(error) => self.failure = Some(Failure::Output(error)),
         }
         ended(done.is_ok(), &mut self.talk_faults)

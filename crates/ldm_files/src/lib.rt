@@ -13,5 +13,5 @@ mod streams;
 
 pub use file_host::{DiskCall, Failure, FileHost};
 pub use image::{Access, ImageError, ImageFile};
-pub use meter::{Counted, Meter, Progress};
+pub use meter::{Counted, Meter, Progress, Watch};
 pub use streams::{STREAMS, take_closed_streams};

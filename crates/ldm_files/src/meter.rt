@@ -1,4 +1,4 @@
-//! How far a job has come, told while it goes on.
+//! What is counted of a run: the lines that it says, or its bytes, which tell how far it has come.
 ghost use Rattle.std.specs.Prelude.{◌<◌};
 
 use std::fmt;
@@ -95,8 +95,8 @@ impl<'a> Meter<'a> {
         })
     }
 
-    /// Counts bytes, if they are of the kind that is counted. Where the clock fails nothing is told.
-    pub fn count(&mut self, counted: Counted, bytes: usize) {
+    // Counts bytes, if they are of the kind that is counted. Where the clock fails nothing is told.
+    fn count(&mut self, counted: Counted, bytes: usize) {
         if counted != self.counted {
             return;
         }
@@ -119,10 +119,58 @@ impl<'a> Meter<'a> {
         let _ = eprint!(self.rt; "\r{progress}   ");
     }
 
-    /// Ends the line, if one was told.
-    pub fn end(&self) {
+    // Ends the line, if one was told.
+    fn end(&self) {
         if self.told > Duration::ZERO {
             let _ = eprint!(self.rt; "\n");
+        }
+    }
+}
+
+/// What is counted of a run.
+#[derive(Drop)]
+pub enum Watch<'a> {
+    Nothing,
+    /// The lines that were said whole.
+    Lines(u64),
+    /// Bytes, of which is told how many they are.
+    Bytes(Meter<'a>),
+}
+
+// How many lines end in these bytes.
+fn line_count(bytes: &[u8]) -> u64 {
+    bytes.iter().filter(|c| **c == b'\n').count() as u64
+}
+
+impl Watch<'_> {
+    /// Counts bytes that were said.
+    pub fn said(&mut self, bytes: &[u8]) {
+        match self {
+            Watch::Nothing => (),
+            Watch::Lines(lines) => *lines = lines.saturating_add(line_count(bytes)),
+            Watch::Bytes(meter) => meter.count(Counted::Said, bytes.len()),
+        }
+    }
+
+    /// Counts bytes that were read of an image.
+    pub fn read(&mut self, bytes: usize) {
+        if let Watch::Bytes(meter) = self {
+            meter.count(Counted::Read, bytes);
+        }
+    }
+
+    /// How many lines were said, where they are counted.
+    pub fn lines(&self) -> Option<u64> {
+        match self {
+            Watch::Lines(lines) => Some(*lines),
+            _ => None,
+        }
+    }
+
+    /// Ends what is told.
+    pub fn end(&self) {
+        if let Watch::Bytes(meter) = self {
+            meter.end();
         }
     }
 }

@@ -12,7 +12,7 @@ ghost use Rattle.std.specs.Prelude.{◌≡◌, IfOk, length, vec_len};
 use crate::stop::{Fault, Stop};
 use ldm_bytes::NoMemory;
 use ldm_files::{
-    Access, Counted, Failure, FileHost, ImageError, ImageFile, Meter, take_closed_streams,
+    Access, Counted, Failure, FileHost, ImageError, ImageFile, Meter, Watch, take_closed_streams,
 };
 use ldm_help::{HELP, Shown, UsageError, VERSION, usage_error};
 use ldm_run::{Status, run};
@@ -155,20 +155,23 @@ fn try_output<O: Write>(needs: Needs, output: &mut O) -> io::Result<()> {
     Ok(())
 }
 
-// The host, with a meter where the job has bytes to count and standard error is a terminal.
-fn metered<'a, I, O>(
-    rt: &'a HostRuntime,
-    host: FileHost<'a, I, O>,
-    counted: Option<Counted>,
-    terminals: Terminals,
-) -> FileHost<'a, I, O> {
-    match counted {
-        Some(counted) if terminals.error => match Meter::start(rt, counted) {
-            Ok(meter) => host.with_meter(meter),
+// What is counted of a job: the lines of one that writes, and the bytes of a long one where they are
+// told on a terminal.
+fn watch_of<'a>(rt: &'a HostRuntime, needs: Needs, terminals: Terminals) -> Watch<'a> {
+    match needs {
+        Needs {
+            access: Access::Edit,
+            ..
+        } => Watch::Lines(0),
+        Needs {
+            counted: Some(counted),
+            ..
+        } if terminals.error => match Meter::start(rt, counted) {
+            Ok(meter) => Watch::Bytes(meter),
             // Without a clock the job goes on untold.
-            Err(_) => host,
+            Err(_) => Watch::Nothing,
         },
-        _ => host,
+        _ => Watch::Nothing,
     }
 }
 
@@ -230,14 +233,10 @@ where
         Ok(host) => host,
         Err(NoMemory) => return Err(Stop::NoMemory(None)),
     };
-    let mut host = metered(rt, host, needs.counted, terminals);
+    let mut host = host.watched(watch_of(rt, needs, terminals));
     let status = run(alloc, words, &mut host);
-    host.end_meter();
-    let answered = match needs.access {
-        Access::Edit => Some(host.lines()),
-        Access::Read => None,
-    };
-    ending(status, names, host.failure(), answered)
+    host.end_watch();
+    ending(status, names, host.failure(), host.lines())
 }
 
 // Says a text that was asked for by a word alone.

@@ -307,7 +307,10 @@ fn sync<H: Host>(host: &mut H, disk: usize) -> Result<(), Failed> {
 }
 
 // A host over two files, the first of them once more, for reading alone, and the null device.
-fn host_in(rt: &HostRuntime, folder: &PathBuf) -> Result<FileHost<'static, &'static [u8], Vec<u8>>, Fail> {
+fn host_in(
+    rt: &HostRuntime,
+    folder: &PathBuf,
+) -> Result<FileHost<'static, &'static [u8], Vec<u8>>, Fail> {
     let alloc = rt.alloc();
     let mut images = Vec::new(alloc);
     images.push(file_of(rt, folder, "a", &[b'a'; 1024])?)?;
@@ -444,9 +447,24 @@ fn tells_the_help_and_the_version(rt: HostRuntime) -> Result<(), Fail> {
 fn tells_how_far_a_job_has_come(rt: HostRuntime) -> Result<(), Fail> {
     let rows = [
         (Counted::Said, 0, 500, "0 bytes (0 B, 0 B) said, 0 s, 0 B/s"),
-        (Counted::Said, 98_304_000, 1000, "98304000 bytes (98 MB, 93 MiB) said, 1 s, 98 MB/s"),
-        (Counted::Read, 1_048_576, 500, "1048576 bytes (1.0 MB, 1.0 MiB) read, 0 s, 2.0 MB/s"),
-        (Counted::Read, u64::MAX, 1, "18446744073709551615 bytes (18 EB, 15 EiB) read, 0 s, 18 EB/s"),
+        (
+            Counted::Said,
+            98_304_000,
+            1000,
+            "98304000 bytes (98 MB, 93 MiB) said, 1 s, 98 MB/s",
+        ),
+        (
+            Counted::Read,
+            1_048_576,
+            500,
+            "1048576 bytes (1.0 MB, 1.0 MiB) read, 0 s, 2.0 MB/s",
+        ),
+        (
+            Counted::Read,
+            u64::MAX,
+            1,
+            "18446744073709551615 bytes (18 EB, 15 EiB) read, 0 s, 18 EB/s",
+        ),
     ];
     for (counted, bytes, millis, text) in rows {
         let progress = Progress {
