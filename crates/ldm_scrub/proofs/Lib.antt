@@ -4,3 +4,4 @@ pub mod CompareLaws
 pub mod CleanLaws
 pub mod LineLaws
 pub mod MissingLaws
+pub mod CompleteLaws

@@ -1,0 +1,115 @@
+-- Where no disk of a volume is missing, all of them are there.
+use Rattle.std.proofs.Common.{◌≡◌, ℕ, ◌<◌, ◌==◌, ◌&&◌, Bool, true, false, List, [], length, get_or, refl, ap, sym, subst, ◌∙◌, arith, Option, Some, None, find, is_some, is_none, count_by, option_and_then, if◌then◌else◌, Contains}
+use Rattle.std.specs.Option.{option_map}
+use Rattle.std.proofs.lemmas.Bool.{eqb-true, eq-eqb}
+use Rattle.std.proofs.lemmas.List.Folds.{list_any_at}
+use Rattle.ldm_records.specs.declared.types.Record.{Record}
+use Rattle.ldm_records.specs.declared.types.Record.TheVariants as kinds
+use Rattle.ldm_records.specs.declared.types.Volume.{Volume}
+use Rattle.ldm_records.specs.declared.types.Disk.{Disk}
+use Rattle.ldm_records.specs.declared.types.Partition.{Partition}
+use Rattle.ldm_group.specs.Order.{id_of}
+use Rattle.ldm_group.specs.Looks.{is_at, by_id, disk_in}
+use Rattle.ldm_group.proofs.KinLaws.{counted_there}
+use Rattle.ldm_group.proofs.LookLaws.{find_there, none_found}
+use Rattle.ldm_layout.proofs.ColumnLaws.{none, get_at}
+use Rattle.ldm_layout.proofs.VolumeLaws.{IsExtentOf}
+use Rattle.ldm_layout.specs.Layouts.{Layout, is_tiled, sector_of, copies_of, copies_by, place_in}
+use Rattle.ldm_layout.specs.Columns.{columns_of, column_spot, column_in}
+use Rattle.ldm_layout.specs.Parts.{plexes_of, is_partition_of}
+use Rattle.ldm_layout.specs.Places.{raid5_offset}
+use Rattle.ldm_layout.specs.declared.parts.Extent.{Extent}
+use Rattle.ldm_layout.specs.declared.parts.Plex.{Plex}
+use Rattle.ldm_layout.specs.declared.shape.Shape.{Shape}
+use Rattle.ldm_layout.specs.declared.shape.Shape.TheVariants.{Raid5}
+use Rattle.ldm_rules.proofs.GroupLaws.{not_broken}
+use Rattle.ldm_rules.proofs.SectorLaws.{copy_facts, sector_spot, plex_at, parts_at, no_plex}
+use Rattle.ldm_rules.proofs.SoundLaws.{sound_parts}
+use Rattle.ldm_rules.specs.Disjoint.{HasLayout}
+use Rattle.ldm_rules.specs.Present.{image_with, is_absent}
+use Rattle.ldm_rules.specs.Rules.{lacks_disk}
+use Rattle.ldm_found.specs.declared.found.Found.{Found}
+use Rattle.ldm_found.specs.Facts.{IsSoundGroup}
+use Rattle.ldm_found.specs.Labels.{image_of}
+use Rattle.ldm_dump.specs.Sources.{is_here}
+use Rattle.ldm_dump.specs.Redundant.{IsComplete}
+use Rattle.ldm_scrub.specs.Missing.{is_on, has_part, is_missing, missing_of}
+
+at_disk : (id : ℕ) (r : Record) → is_at 2 id r ≡ true → (d : Disk) × (r ≡ kinds.Disk d) × (d.head.id ≡ id)
+at_disk id (kinds.Disk d) h = (d, refl, eqb-true d.head.id id h)
+at_disk id (kinds.Group g) h = absurd cc
+at_disk id (kinds.Volume g) h = absurd cc
+at_disk id (kinds.Component g) h = absurd cc
+at_disk id (kinds.Partition g) h = absurd cc
+
+nothing_found : (o : Option Record) → option_map id_of o ≡ None → o ≡ None
+nothing_found None h = refl
+nothing_found (Some r) h = absurd cc
+
+-- what a search that finds nothing passes over
+passed : (t : Record → Bool) (records : List Record) (r : Record) → find t records ≡ None → Contains records r → t r ≡ false
+passed t records r e there = ap t (sym there.2) ∙ none_found t records there.0 r e there.1
+
+module _ (found : Found) (v : Volume) (l : Layout) (sound : IsSoundGroup found) (has : HasLayout found.db.records v l) (complete : missing_of found v.head.id ≡ None) where
+  -- a disk with a partition of the volume
+  disk_here : (p : Partition) (copy : ℕ) → copy < length (plexes_of v.head.id found.db.records) → Contains found.db.records (kinds.Partition p)
+      → p.parent ≡ (plex_at found.db.records v copy).id → is_some (image_of p.disk found.db.records found.labels) ≡ true
+  disk_here p copy lt there parent = look (by_id 2 p.disk found.db.records) refl
+    where
+      own : is_partition_of v.head.id found.db.records (kinds.Partition p) ≡ true
+      own = list_any_at (λ (plex : Plex). plex.id == p.parent) (plexes_of v.head.id found.db.records) copy no_plex lt
+          (eq-eqb (plex_at found.db.records v copy).id p.parent (sym parent))
+
+      parted : (d : Disk) → d.head.id ≡ p.disk → has_part found.db.records v.head.id d.head.id ≡ true
+      parted d id = list_any_at (λ (r : Record). is_on d.head.id r && is_partition_of v.head.id found.db.records r) found.db.records there.0 (kinds.Partition p) there.1
+          (ap (λ (r : Record). is_on d.head.id r && is_partition_of v.head.id found.db.records r) there.2
+          ∙ (ap (λ (b : Bool). b && is_partition_of v.head.id found.db.records (kinds.Partition p)) (eq-eqb p.disk d.head.id (sym id)) ∙ own))
+
+      image : (d : Disk) (i : Option ℕ) → Contains found.db.records (kinds.Disk d) → d.head.id ≡ p.disk → image_with d.guid found.labels ≡ i → is_some i ≡ true
+      image d (Some i) at id e = refl
+      image d None at id e =
+          let absent : is_absent found.labels (kinds.Disk d) ≡ true = ap (λ (i : Option ℕ). is_none i) e in
+          let missing : is_missing found v.head.id (kinds.Disk d) ≡ true = ap (λ (b : Bool). b && has_part found.db.records v.head.id d.head.id) absent ∙ parted d id in
+          let other : is_missing found v.head.id (kinds.Disk d) ≡ false =
+          passed (is_missing found v.head.id) found.db.records (kinds.Disk d) (nothing_found (find (is_missing found v.head.id) found.db.records) complete) at in
+          absurd (let both : true ≡ false = sym missing ∙ other in cc)
+
+      look : (o : Option Record) → by_id 2 p.disk found.db.records ≡ o → is_some (image_of p.disk found.db.records found.labels) ≡ true
+      look None e =
+          let kept : lacks_disk (λ id. count_by (is_at 2 id) found.db.records) (kinds.Partition p) ≡ false =
+          not_broken (lacks_disk (λ id. count_by (is_at 2 id) found.db.records)) found.db.records (kinds.Partition p) (sound_parts found.db.records found.labels sound.group.sound).disks there in
+          let some = counted_there (is_at 2 p.disk) found.db.records (kinds.Partition p) kept in
+          let other : is_at 2 p.disk some.0 ≡ false = passed (is_at 2 p.disk) found.db.records some.0 e some.1 in
+          absurd (let both : true ≡ false = sym some.2 ∙ other in cc)
+      look (Some r) e =
+          let at = find_there (is_at 2 p.disk) found.db.records r e in
+          let disk = at_disk p.disk r at.1 in
+          let there_disk : Contains found.db.records (kinds.Disk disk.0) = subst (λ (s : Record). Contains found.db.records s) disk.1 at.0 in
+          ap (λ (o : Option Record). is_some (option_and_then (λ (d : Disk). image_with d.guid found.labels) (disk_in o))) (e ∙ ap Some disk.1)
+          ∙ image disk.0 (image_with disk.0.guid found.labels) there_disk disk.2 refl
+
+  part_here : (e : Extent) (copy o : ℕ) → copy < length (plexes_of v.head.id found.db.records) → IsExtentOf found.db.records (plex_at found.db.records v copy).id e
+      → is_here found (Some (sector_of (e, o))) ≡ true
+  part_here e copy o lt part =
+      ap (λ (f : Extent). is_some (image_of f.disk found.db.records found.labels)) (sym part.is) ∙ disk_here part.partition copy lt part.there part.parent
+
+  copies_here : (x copy : ℕ) → x < l.size → copy < copies_of l → is_here found (place_in l x copy) ≡ true
+  copies_here x copy lt copied =
+      let facts = copy_facts found.db.records v l copy has copied in
+      let size : l.size ≡ v.size = facts.size in
+      let spot = (sector_spot found.db.records v l x copy (record { volume = has; within = omega (arith, lt, size); copied = copied })).inside in
+      ap (λ (s : Option (Extent × ℕ)). is_here found (option_map sector_of s)) spot.is ∙ part_here spot.part copy spot.offset facts.copied spot.has
+
+  columns_here : (x column : ℕ) → x < l.size → l.shape ≡ Raid5 → column < length (columns_of l) → is_here found (column_in l x column) ≡ true
+  columns_here x column lt raid5 within =
+      let copied : 0 < copies_of l = subst (λ (t : Shape). 0 < copies_by t (length l.plexes)) (sym raid5) (omega arith) in
+      let facts = copy_facts found.db.records v l 0 has copied in
+      let es = parts_at l 0 in
+      let are : columns_of l ≡ es = ap (λ (b : Bool). if b then [] else get_or l.plexes 0 []) (ap is_tiled raid5) in
+      let inside : column < length es = subst (λ (fs : List Extent). column < length fs) are within in
+      ap (λ (fs : List Extent). is_here found (option_map sector_of (column_spot fs l.chunk x column))) are
+      ∙ (ap (λ (g : Option Extent). is_here found (option_map sector_of (option_map {U = Extent × ℕ} (λ f. (f, raid5_offset (length es) l.chunk x)) g))) (get_at es column none inside)
+      ∙ part_here (get_or es column none) 0 (raid5_offset (length es) l.chunk x) facts.copied (facts.own column none inside))
+
+  pub none_missing_complete : IsComplete found l
+  none_missing_complete = record { copies = copies_here; columns = columns_here }
