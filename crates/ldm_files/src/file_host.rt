@@ -1,6 +1,7 @@
 //! A host over files, standard input and standard output.
 ghost use Rattle.std.specs.Prelude.{◌≡◌, ◌≤◌, ◌<◌, ◌+◌, ◌-◌, ◌^◌, length, map, min, set, slice_index, IfOk, IsErr, is_ok};
 ghost use Rattle.ldm_host.specs.Moves.{Rose};
+ghost use Rattle.ldm_files.specs.Watched.{lines_in};
 
 use crate::image::ImageFile;
 use crate::meter::Watch;
@@ -77,12 +78,16 @@ impl<'a, I, O> FileHost<'a, I, O> {
     }
 
     /// The last call that failed, if one did.
-    pub fn failure(&self) -> Option<Failure> {
+    pub fn failure(&self) -> Option<Failure>
+        ensures { result ≡ self.now.failure }
+    {
         self.failure
     }
 
     /// How many lines were said whole, where they are counted.
-    pub fn lines(&self) -> Option<u64> {
+    pub fn lines(&self) -> Option<u64>
+        ensures { result ≡ lines_in self.now.watch }
+    {
         self.watch.lines()
     }
 

@@ -1,5 +1,6 @@
 //! What is counted of a run: the lines that it says, or its bytes, which tell how far it has come.
-ghost use Rattle.std.specs.Prelude.{◌<◌};
+ghost use Rattle.std.specs.Prelude.{◌≡◌, ◌<◌, ◌==◌, count_by};
+ghost use Rattle.ldm_files.specs.Watched.{lines_in, more_lines};
 
 use std::fmt;
 use std::io::{self, Write};
@@ -138,13 +139,17 @@ pub enum Watch<'a> {
 }
 
 // How many lines end in these bytes.
-fn line_count(bytes: &[u8]) -> u64 {
+fn line_count(bytes: &[u8]) -> u64
+    ensures { result ≡ count_by (λ c. c == 0x0A) bytes.now }
+{
     bytes.iter().filter(|c| **c == b'\n').count() as u64
 }
 
 impl Watch<'_> {
     /// Counts bytes that were said.
-    pub fn said(&mut self, bytes: &[u8]) {
+    pub fn said(&mut self, bytes: &[u8])
+        ensures { lines_in self.new ≡ more_lines bytes.now (lines_in self.old) }
+    {
         match self {
             Watch::Nothing => (),
             Watch::Lines(lines) => *lines = lines.saturating_add(line_count(bytes)),
@@ -153,14 +158,18 @@ impl Watch<'_> {
     }
 
     /// Counts bytes that were read of an image.
-    pub fn read(&mut self, bytes: usize) {
+    pub fn read(&mut self, bytes: usize)
+        ensures { lines_in self.new ≡ lines_in self.old }
+    {
         if let Watch::Bytes(meter) = self {
             meter.count(Counted::Read, bytes);
         }
     }
 
     /// How many lines were said, where they are counted.
-    pub fn lines(&self) -> Option<u64> {
+    pub fn lines(&self) -> Option<u64>
+        ensures { result ≡ lines_in self.now }
+    {
         match self {
             Watch::Lines(lines) => Some(*lines),
             _ => None,
