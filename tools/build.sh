@@ -17,22 +17,9 @@ say() {
     echo "$me: $*" >&2
 }
 
-# The file that a path names, through symbolic links.
-real_path() {
-    path=$1
-    while [ -L "$path" ]; do
-        to=$(readlink "$path") || return 1
-        case $to in
-        /*) path=$to ;;
-        *) path=$(dirname "$path")/$to ;;
-        esac
-    done
-    echo "$path"
-}
-
 # The folder of the kit, or nothing where there is none.
 kit_folder() {
-    found=$(command -v rt) && found=$(real_path "$found") && found=$(dirname "$found") && (CDPATH='' cd -- "$found/.." && pwd)
+    found=$(command -v rt) && dirname "$(dirname "$(readlink -f "$found")")"
 }
 
 # The kit's line, or nothing where there is no kit.
@@ -196,7 +183,7 @@ take_kept() {
 # Proves crate $1 by $2 processes, and leaves the status in a file. $3: by how much it stands back.
 prove() {
     child='' status=1
-    trap '[ -z "$child" ] || kill "$child"; exit 1' TERM
+    trap '[ -z "$child" ] || { kill "$child"; wait "$child"; }; exit 1' TERM
     rm -rf "$room/$1.rlib" && cd "$room/source/crates/$1" && {
         call_prover "$1" "$2" "$3" &
         child=$!
@@ -390,31 +377,17 @@ build() {
     return $done_so
 }
 
-# Waits until no other call builds, and holds others off until let_go.
+# Waits until no other call builds, and holds others off until let_go, or until this call ends.
 take_turn() {
-    if command -v flock >/dev/null 2>&1; then
-        exec 9>"$here/build.lock"
-        flock -n 9 || {
-            say "another call is building: waiting for it"
-            flock 9
-        }
-    else
-        mkdir "$here/build.turn" 2>/dev/null || {
-            say "another call is building: waiting until it removes $here/build.turn"
-            until mkdir "$here/build.turn" 2>/dev/null; do
-                # (a build that was killed left it)
-                other=$(cat "$here/build.turn/call" 2>/dev/null)
-                [ -z "$other" ] || kill -0 "$other" 2>/dev/null || rm -rf "$here/build.turn"
-                sleep 1
-            done
-        }
-        echo $$ >"$here/build.turn/call"
-    fi
+    exec 9>"$here/build.lock"
+    flock -n 9 || {
+        say "another call is building: waiting for it"
+        flock 9
+    }
 }
 
 let_go() {
     exec 9>&-
-    rm -rf "$here/build.turn"
 }
 
 # Runs the program with these words, once it is that of the sources.
