@@ -1,8 +1,8 @@
 -- Marks of sectors of which the copies differ.
-use Rattle.std.proofs.Common.{◌≡◌, ℕ, ◌+◌, ◌-◌, ◌*◌, ◌<◌, ◌≤◌, Bool, true, false, not, ◌||◌, List, [], ◌∷◌, ◌++◌, map, length, take, drop, replicate, slice_index, refl, ap, sym, ◌∙◌, arith, add-one, Option, Some, if◌then◌else◌}
+use Rattle.std.proofs.Common.{◌≡◌, ℕ, ◌+◌, ◌-◌, ◌*◌, ◌<◌, ◌≤◌, Bool, true, false, not, ◌||◌, List, [], ◌∷◌, ◌++◌, map, length, take, drop, slice_index, refl, ap, sym, ◌∙◌, arith, add-one, Option, Some, if◌then◌else◌}
 use Rattle.std.specs.List.{list_any, range_with_len}
 use Rattle.std.specs.Option.{option_map, option_to_list}
-use Rattle.std.proofs.lemmas.List.{ext_get_or, get_or-take, get_or-drop, get_or-replicate, length-take-le, length-drop, length-replicate}
+use Rattle.std.proofs.lemmas.List.{ext_get_or, get_or-take, get_or-drop, length-take-le, length-drop}
 use Rattle.std.proofs.lemmas.List.FromFn.{length-map-range_with_len, get_or-map-range_with_len}
 use Rattle.ldm_layout.specs.Layouts.{Layout, copies_of, place_in}
 use Rattle.ldm_layout.specs.declared.shape.Place.{Place}
@@ -84,17 +84,6 @@ row_part images found l p i n out raid5 columned size lt bytes =
     ∙ ap (λ (s : List Spot). joined_sector images s)
     (sym (made_moved (λ column. spot_at found (column_in l (sector_at l (p + i)) column)) (λ column. spot_at found (column_in l (sector_at l p) column)) (behind i) (range_with_len 0 (length (columns_of l)))
     (λ column. ap (λ (q : Option Place). spot_at found q) (column_moved l p i column raid5 columned) ∙ spot_moved found i (column_in l (sector_at l p) column))))
-
-pub zero_part : (out : List ℕ) (i n : ℕ) → length out ≡ 512 * n → i < n → ((j : ℕ) → j < length out → slice_index out j ≡ 0) → part out i ≡ replicate 512 0
-zero_part out i n size lt zeros =
-    let span : 512 * i + 512 - 512 * i ≡ 512 = omega arith in
-    let long : 512 ≤ length (drop (512 * i) out) = omega (arith, length-drop (512 * i) out, size, lt) in
-    let zero_byte : ℕ = 0 in
-    ap (λ (m : ℕ). take m (drop (512 * i) out)) span
-    ∙ ext_get_or 0 (take 512 (drop (512 * i) out)) (replicate 512 zero_byte) (length-take-le 512 (drop (512 * i) out) long ∙ sym (length-replicate 512 zero_byte))
-    (λ k low.
-    let few : k < 512 = omega (arith, low, length-take-le 512 (drop (512 * i) out) long) in
-    get_or-take 512 (drop (512 * i) out) k 0 few ∙ (get_or-drop (512 * i) out k 0 ∙ (zeros (512 * i + k) (omega (arith, size, lt, few)) ∙ sym (get_or-replicate 512 k zero_byte zero_byte few))))
 
 pub marked_once : (same : Bool) (m new : ℕ) → m ≡ 0 → new ≡ marked same m → new ≡ mark (not same)
 marked_once true m new zero is = is ∙ zero

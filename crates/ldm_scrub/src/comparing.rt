@@ -5,7 +5,7 @@ ghost use Rattle.std.specs.Option.{option_to_list};
 ghost use Rattle.std.specs.Str.{bytes_eq};
 ghost use Rattle.ldm_host.specs.Moves.{Rose, Still, Quiet};
 ghost use Rattle.ldm_layout.specs.Layouts.{copies_of};
-ghost use Rattle.ldm_layout.specs.Columns.{columns_of, column_in};
+ghost use Rattle.ldm_layout.specs.Columns.{columns_of, column_in, IsColumned};
 ghost use Rattle.ldm_layout.specs.declared.shape.Shape.TheVariants.{Raid5};
 ghost use Rattle.ldm_dump.specs.declared.spots.Spot.{Spot as Place};
 ghost use Rattle.ldm_dump.specs.Sources.{is_raid5, spot_at, copy_spot};
@@ -33,6 +33,18 @@ fn mark_differing(bytes: &[u8], others: &[u8], marks: &mut [u8])
     }
 }
 
+// Marks each sector that differs from this one.
+fn mark_unlike(bytes: &[u8], sector: &[u8], marks: &mut [u8])
+    requires size { length bytes.now ≡ 512 * length marks.old }
+    ensures { (i : ℕ) → i < length marks.old → slice_index marks.new i ≡ marked (bytes_eq (part bytes.now i) sector.now) (slice_index marks.old i) }
+{
+    for i in 0..marks.len() {
+        if &bytes[512 * i..512 * i + 512] != sector {
+            marks[i] = 1;
+        }
+    }
+}
+
 // Reads the bytes from the start of a sector on, of a copy.
 fn read_copy_run<H: Host>(
     host: &mut H,
@@ -55,6 +67,35 @@ fn read_copy_run<H: Host>(
     ensures cause { IsErr result → Rose (H.seen host.old).disk_faults (H.seen host.new).disk_faults }
 {
     match spot_of(host, found, plan.place(sector, copy)) {
+        Some(spot) => read_spot(host, spot, out),
+        None => {
+            clear(out);
+            Ok(())
+        }
+    }
+}
+
+// Reads what a column has from the start of a sector's row and offset on.
+fn read_column<H: Host>(
+    host: &mut H,
+    found: &Found,
+    plan: &Plan,
+    sector: u64,
+    column: usize,
+    out: &mut [u8],
+) -> Result<(), Failed>
+    requires raid5 { plan.now.shape ≡ Raid5 }
+    requires within { sector < plan.now.size }
+    requires there { column < length (columns_of plan.now) }
+    requires has { (s : Place) → spot_at found.now (column_in plan.now sector column) ≡ Some s → HasBytes (H.seen host.old).sizes s (length out.old) }
+    requires lies { RowsLieOn found.now plan.now (H.seen host.old).sizes }
+    ensures bytes { H.tells_disks → OnOk result ((j : ℕ) → j < length out.old → slice_index out.new j
+        ≡ joined_byte (H.seen host.old).content (option_to_list (spot_at found.now (column_in plan.now sector column))) j) }
+    ensures still { Still (H.seen host.old) (H.seen host.new) }
+    ensures quiet { Quiet (H.seen host.old) (H.seen host.new) }
+    ensures cause { IsErr result → Rose (H.seen host.old).disk_faults (H.seen host.new).disk_faults }
+{
+    match spot_of(host, found, plan.column(sector, column)) {
         Some(spot) => read_spot(host, spot, out),
         None => {
             clear(out);
@@ -101,6 +142,7 @@ fn join_row<H: Host>(
     scratch: &mut [u8],
 ) -> Result<(), Failed>
     requires raid5 { plan.now.shape ≡ Raid5 }
+    requires columned { IsColumned plan.now }
     requires within { sector < plan.now.size }
     requires has { (column : ℕ) (s : Place) → spot_at found.now (column_in plan.now sector column) ≡ Some s → HasBytes (H.seen host.old).sizes s (length out.old) }
     requires lies { RowsLieOn found.now plan.now (H.seen host.old).sizes }
@@ -111,8 +153,8 @@ fn join_row<H: Host>(
     ensures quiet { Quiet (H.seen host.old) (H.seen host.new) }
     ensures cause { IsErr result → Rose (H.seen host.old).disk_faults (H.seen host.new).disk_faults }
 {
-    clear(out);
-    'columns: for column in 0..plan.columns() {
+    read_column(host, found, plan, sector, 0, out)?;
+    'columns: for column in 1..plan.columns() {
         join_column(host, found, plan, sector, column, out, scratch)?;
     }
     Ok(())
@@ -177,9 +219,8 @@ pub fn mark_rows<H: Host>(
 {
     let sector = row_sector(plan, place);
     join_row(host, found, plan, sector, out, scratch)?;
-    clear(scratch);
     clear(marks);
-    mark_differing(out, scratch, marks);
+    mark_unlike(out, &[0u8; 512], marks);
     Ok(())
 }
 

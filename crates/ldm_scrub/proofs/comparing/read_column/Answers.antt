@@ -1,0 +1,13 @@
+use Rattle.std.proofs.Common.{Some, sym, ◌∙◌}
+use Rattle.ldm_layout.specs.Columns.{column_in}
+use Rattle.ldm_dump.proofs.ReadLaws.{list_of}
+use Rattle.ldm_scrub.proofs.comparing.read_column.Goals as goal
+
+pub spot_of-requires : goal.spot_of-requires
+spot_of-requires g c = λ s is. c.requires.lies c.args.sector c.args.column s c.requires.within c.requires.raid5
+    (list_of c.args.found.now (column_in c.args.plan.now c.args.sector c.args.column) c.column.result (Some s) c.column.ensures is)
+
+pub read_spot-requires : goal.read_spot-requires
+read_spot-requires g c =
+    c.requires.has c.in-Some.spot
+    (list_of c.args.found.now (column_in c.args.plan.now c.args.sector c.args.column) c.column.result (Some c.in-Some.spot) c.column.ensures (sym c.spot_of.ensures ∙ c.in-Some.is))
