@@ -1,10 +1,11 @@
 -- What the blocks hold when all records that are gone were taken out, and all new ones put in.
-use Rattle.std.proofs.Common.{◌≡◌, ◌≢◌, inl, inr, ℕ, zero, suc, ◌+◌, ◌<◌, ◌≤◌, not, Bool, true, false, List, [], ◌∷◌, ◌++◌, length, get_or, take, map, All, Contains, Option, refl, sym, ap, subst, ◌∙◌, arith}
+use Rattle.std.proofs.Common.{◌≡◌, ◌≢◌, inl, inr, ℕ, zero, suc, ◌+◌, ◌-◌, ◌<◌, ◌≤◌, not, Bool, true, false, List, [], ◌∷◌, ◌++◌, length, get_or, take, map, All, Contains, Option, refl, sym, ap, subst, ◌∙◌, arith}
 use Rattle.std.specs.Prelude.{filter, if◌then◌else◌, bytes_eq}
 use Rattle.std.specs.List.Sorted.{IsPermutation}
 use Rattle.std.proofs.lemmas.Slice.Eq.{bytes_eq-Decides}
-use Rattle.std.proofs.lemmas.List.{map-append, length-append, length-take}
-use Rattle.std.proofs.lemmas.List.Elements.{All-cons, All-nil, All-tail, All-append, All-filter, Contains-get_or}
+use Rattle.std.proofs.lemmas.Bool.{cases_lt}
+use Rattle.std.proofs.lemmas.List.{map-append, length-append, length-take, get_or_default}
+use Rattle.std.proofs.lemmas.List.Elements.{All-cons, All-nil, All-tail, All-append, All-contains, All-filter, Contains-get_or}
 use Rattle.std.proofs.lemmas.List.Kept.{AllPairs-filter}
 use Rattle.std.proofs.lemmas.List.Sorted.{IsPermutation-sym, IsPermutation-trans, IsPermutation-append_comm, IsPermutation-filter_both, sum_by-IsPermutation}
 use Rattle.std.proofs.lemmas.List.Sums.{sum_by-append, sum_by-cons}
@@ -12,7 +13,7 @@ use Rattle.ldm_records.specs.declared.types.Record.{Record}
 use Rattle.ldm_records.specs.Plain.{IsRecord, own_spelling}
 use Rattle.ldm_records.specs.Views.{plain_of}
 use Rattle.ldm_frags.specs.Blocks.{count, numbers_from}
-use Rattle.ldm_frags.specs.Written.{Holds, IsPlaced, block_at, parts_of}
+use Rattle.ldm_frags.specs.Written.{Holds, IsPlaced, AddsUnused, block_at, parts_of}
 use Rattle.ldm_group.specs.Order.{kind_of, id_of, place_of, Rising}
 use Rattle.ldm_group.specs.Looks.{by_id}
 use Rattle.ldm_group.specs.Room.{own_len, need_of}
@@ -24,6 +25,7 @@ use Rattle.ldm_changed.specs.Plan.{is_spelled_as, has_record, lacks, touched_blo
 use Rattle.ldm_copy.specs.Body.{stored_at}
 use Rattle.ldm_frags.specs.Free.{free_numbers}
 use Rattle.ldm_frags.proofs.HoldLaws.{find_number}
+use Rattle.ldm_frags.proofs.OrderLaws.{numbers_length, numbers_at}
 use Rattle.ldm_frags.proofs.FewLaws.{few, few_sum, numbers_apart, number_within, slots_in}
 use Rattle.ldm_copy.proofs.StoredLaws.{stored_records, record_of, all_mapped, mapped_all}
 use Rattle.ldm_changed.proofs.AddLaws.{all_split}
@@ -178,7 +180,7 @@ not_true true e = absurd cc
 not_true false e = refl
 
 -- are no more than those that were touched
-pub changed_few : (old new numbers : List ℕ) → ((b : ℕ) → 4 ≤ b → All (λ n. n ≢ b) numbers → block_at new b ≡ block_at old b)
+pub changed_few : (old new numbers : List ℕ) → ((b : ℕ) → 4 ≤ b → b < count new + 4 → All (λ n. n ≢ b) numbers → block_at new b ≡ block_at old b)
     → length (changed_numbers old new) ≤ length numbers
 changed_few old new numbers others =
     let all : List ℕ = numbers_from 4 (count new) in
@@ -195,8 +197,31 @@ changed_few old new numbers others =
         elim (find_number numbers x) [
           | inl found ↦ (found.0, found.1, number_read numbers found.0 x found.1 found.2)
           | inr none ↦
-              let low = (number_within 4 (count new) x there.0).0 in
-              let yes : bytes_eq (block_at old x) (block_at new x) ≡ true = (bytes_eq-Decides (block_at old x) (block_at new x)).1 (sym (others x low none)) in
+              let in_range = number_within 4 (count new) x there.0 in
+              let high = in_range.1 in
+              let yes : bytes_eq (block_at old x) (block_at new x) ≡ true = (bytes_eq-Decides (block_at old x) (block_at new x)).1 (sym (others x in_range.0 (omega arith) none)) in
               let bad : true ≡ false = sym yes ∙ not_true (bytes_eq (block_at old x) (block_at new x)) there.1 in
               absurd cc
         ]
+
+-- a number of the list
+pub number_there : (a n b : ℕ) → a ≤ b → b < a + n → Contains (numbers_from a n) b
+number_there a n b low high =
+    let size = numbers_length a n in
+    let lt : b - a < length (numbers_from a n) = omega (arith, size, low, high) in
+    (b - a, lt, get_or_default (numbers_from a n) (b - a) b 0 lt ∙ numbers_at a n (b - a) (omega (arith, low, high)) ∙ omega (arith, low))
+
+-- nor than those and the blocks that were put behind the old ones
+pub changed_grown : (old grown new touched : List ℕ) (room : ℕ) → count old ≤ room → AddsUnused old room grown → length new ≡ length grown
+    → ((b : ℕ) → 4 ≤ b → All (λ n. n ≢ b) touched → block_at new b ≡ block_at grown b)
+    → length (changed_numbers old new) ≤ length touched + (room - count old)
+changed_grown old grown new touched room more adds size others =
+    let behind : List ℕ = numbers_from (count old + 4) (room - count old) in
+    let whole = adds.size in
+    let few_of = changed_few old new (touched ++ behind) (λ b low high avoid.
+    let both = all_split (λ n. n ≢ b) touched behind avoid in
+    elim (cases_lt b (count old + 4)) [
+      | inl before ↦ others b low both.0 ∙ adds.same b (low, before)
+      | inr after ↦ absurd (All-contains (λ n. n ≢ b) behind b both.1 (number_there (count old + 4) (room - count old) b after (omega arith)) refl)
+    ]) in
+    omega (arith, few_of, length-append touched behind, numbers_length (count old + 4) (room - count old))

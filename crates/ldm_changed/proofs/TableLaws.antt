@@ -3,8 +3,8 @@ use Rattle.std.proofs.Common.{◌≡◌, ◌≢◌, ℕ, ◌+◌, ◌-◌, ◌*�
 use Rattle.std.specs.Prelude.{filter, bytes_eq}
 use Rattle.std.specs.List.Sorted.{IsPermutation}
 use Rattle.std.proofs.lemmas.Slice.Eq.{bytes_eq-Decides}
-use Rattle.std.proofs.lemmas.Bool.{cases_Bool, not_from_false}
-use Rattle.std.proofs.lemmas.List.{take_all, get_or-take, get_or-drop, get_or_default}
+use Rattle.std.proofs.lemmas.Bool.{cases_Bool, cases_lt, not_from_false}
+use Rattle.std.proofs.lemmas.List.{take_all, length-take, get_or-take, get_or-drop, get_or_default}
 use Rattle.std.proofs.lemmas.List.Elements.{All-contains, Contains-get_or}
 use Rattle.std.proofs.lemmas.List.Kept.{AllPairs-filter}
 use Rattle.std.proofs.lemmas.List.{take_rest}
@@ -33,11 +33,12 @@ use Rattle.ldm_copy.proofs.OneCopy.{one_copy}
 use Rattle.ldm_copy.proofs.WrittenLaws.{begun_is}
 use Rattle.ldm_copy.specs.Body.{stored_at}
 use Rattle.ldm_changed.specs.Plan.{has_record, lacks, stays, differs, changed_numbers}
-use Rattle.ldm_changed.specs.Change.{ChangesFrom, IsNext}
+use Rattle.ldm_changed.specs.Change.{Changed, ChangesFrom, IsNext}
+use Rattle.ldm_frags.proofs.HoldLaws.{find_number}
 use Rattle.ldm_frags.proofs.ApartLaws.{hold_permuted}
 use Rattle.ldm_frags.proofs.FewLaws.{few, numbers_apart, number_within}
 use Rattle.ldm_copy.proofs.StoredLaws.{mapped_all, stored_again}
-use Rattle.ldm_changed.proofs.StoreLaws.{kept_records_of}
+use Rattle.ldm_changed.proofs.StoreLaws.{kept_records_of, number_there}
 
 -- the records of a body are told by its blocks
 pub same_records : (db : Database) (body : List ℕ) (records : List Record) → IsBodyOf db body → db.header.last ≤ 8192 → Rising records → Store (drop 512 body) records → db.records ≡ records
@@ -98,20 +99,10 @@ unlisted_same old new b low high none =
     elim (cases_Bool (bytes_eq (block_at old b) (block_at new b))) [
       | inl same ↦ (bytes_eq-Decides (block_at old b) (block_at new b)).0 same
       | inr differ ↦
-          let size : length (numbers_from 4 (count new)) ≡ count new = numbers_length 4 (count new) in
           let there : Contains (numbers_from 4 (count new)) b = number_there 4 (count new) b low (omega (arith, high)) in
           let listed : Contains (changed_numbers old new) b = filter_keeps (differs old new) (numbers_from 4 (count new)) b there (not_from_false (bytes_eq (block_at old b) (block_at new b)) differ) in
           absurd (All-contains (λ n. n ≢ b) (changed_numbers old new) b none listed refl)
     ]
-  where
-    number_there : (a n b : ℕ) → a ≤ b → b < a + n → Contains (numbers_from a n) b
-    number_there a n b low high =
-        let size = numbers_length a n in
-        let lt : b - a < length (numbers_from a n) = omega (arith, size, low, high) in
-        (b - a, lt, read (numbers_from a n) (b - a) b lt (numbers_at a n (b - a) (omega (arith, low, high)) ∙ omega (arith, low)))
-      where
-        read : (xs : List ℕ) (i b : ℕ) → i < length xs → slice_index xs i ≡ b → get_or xs i b ≡ b
-        read xs i b lt e = get_or_default xs i b 0 lt ∙ e
 
 -- a byte, by its block
 byte_of_block : (blocks : List ℕ) (j : ℕ) → slice_index (block_at blocks (j / 128 + 4)) (j - 128 * (j / 128)) ≡ slice_index blocks j
@@ -121,10 +112,24 @@ byte_of_block blocks j =
     ∙ get_or-drop (128 * (j / 128 + 4 - 4)) blocks (j - 128 * (j / 128)) 0
     ∙ ap (λ (n : ℕ). slice_index blocks n) at
 
--- so each byte behind the header that is in no changed block is that of the old body
-pub changes_from : (old sector blocks numbers : List ℕ) → length sector ≡ 512 → length old ≡ length (sector ++ blocks) → 512 ≤ length old
+-- a block that isn't listed is there in the old blocks
+unlisted_there : (old new : List ℕ) (j : ℕ) → length old ≡ 128 * count old → length new ≡ 128 * count new → j < length new → block_at old (j / 128 + 4) ≡ block_at new (j / 128 + 4) → j < length old
+unlisted_there old new j whole full lt same = elim (cases_lt j (length old)) [
+  | inl below ↦ below
+  | inr beyond ↦
+      let at : ℕ = 128 * (j / 128 + 4 - 4) in
+      let lengths : length (block_at old (j / 128 + 4)) ≡ length (block_at new (j / 128 + 4)) = ap (λ (l : List ℕ). length l) same in
+      let one = length-take 128 (drop at old) in
+      let two = length-take 128 (drop at new) in
+      let three = length-drop at old in
+      let four = length-drop at new in
+      absurd (omega (arith, lengths, one, two, three, four, whole, full, lt, beyond))
+]
+
+-- so each byte behind the header that is in no changed block is that of the old body, which has it
+pub changes_from : (old sector blocks numbers : List ℕ) → length sector ≡ 512 → 512 ≤ length old → length (drop 512 old) ≡ 128 * count (drop 512 old)
     → length blocks ≡ 128 * count blocks → numbers ≡ changed_numbers (drop 512 old) blocks → ChangesFrom old (record { body = sector ++ blocks; numbers = numbers })
-changes_from old sector blocks numbers whole size some full is = record {
+changes_from old sector blocks numbers whole some even full is = record {
   same = λ k behind high avoid.
       let j : ℕ = k - 512 in
       let b : ℕ = j / 128 + 4 in
@@ -133,13 +138,24 @@ changes_from old sector blocks numbers whole size some full is = record {
       let near : j < length blocks = omega (arith, behind, high, long) in
       let avoid' : All (λ n. n ≢ b) (changed_numbers (drop 512 old) blocks) = subst (λ (l : List ℕ). All (λ n. n ≢ b) l) is (subst (λ (m : ℕ). All (λ n. n ≢ m) numbers) (sym block) avoid) in
       let same = unlisted_same (drop 512 old) blocks b (omega arith) (omega (arith, near, full)) avoid' in
+      let within = unlisted_there (drop 512 old) blocks j even full near same in
       let here : slice_index blocks j ≡ slice_index (sector ++ blocks) k =
       ap (λ (l : List ℕ). slice_index l j) (sym (rest_of sector blocks whole)) ∙ get_or-drop 512 (sector ++ blocks) j 0 ∙ ap (λ (n : ℕ). slice_index (sector ++ blocks) n) (let e : 512 + j ≡ k = omega (arith, behind) in e) in
       let there : slice_index (drop 512 old) j ≡ slice_index old k = get_or-drop 512 old j 0 ∙ ap (λ (n : ℕ). slice_index old n) (let e : 512 + j ≡ k = omega (arith, behind) in e) in (
-        omega (arith, size, high),
+        omega (arith, within, behind, length-drop 512 old),
         sym here ∙ sym (byte_of_block blocks j) ∙ ap (λ (l : List ℕ). slice_index l (j - 128 * (j / 128))) (sym same) ∙ byte_of_block (drop 512 old) j ∙ there,
       );
 }
+
+-- the blocks that the old body doesn't have are listed
+pub added_listed : (old : List ℕ) (change : Changed) → ChangesFrom old change → 512 ≤ length old → (n : ℕ) → length old ≤ 128 * n → 128 * n + 128 ≤ length change.body → Contains change.numbers n
+added_listed old change from some n low high = elim (find_number change.numbers n) [
+  | inl found ↦ (found.0, found.1, get_or_default change.numbers found.0 n 0 found.1 ∙ found.2)
+  | inr none ↦
+      let place : n ≡ 128 * n / 128 = omega arith in
+      let there = (from.same (128 * n) (omega (arith, some, low)) (omega (arith, high)) (subst (λ (m : ℕ). All (λ k. k ≢ m) change.numbers) place none)).0 in
+      absurd (omega (arith, there, low))
+]
 
 -- ---- the next body
 
@@ -163,17 +179,17 @@ next_holds old new slice table kept kept' made made' next out one_each is kept_s
     subst (λ (m : List (List ℕ)). IsPermutation (stored_at new next) (stored_at (filter (lacks old) new) m ++ K)) made_same woven_kept in
     holds_table out (stored_at new next) (stored_at (filter (lacks old) new) made ++ K) woven_made holds
 
-pub next_is : (old : List ℕ) (db : Database) (header : Header) (slice : List Record) (counts : Counts) (sector blocks blocks' numbers bytes : List ℕ) (table : List (List ℕ))
-    → length old ≡ 512 * (db.header.last / 4) → 4 ≤ db.header.last → db.header.last ≤ 8192 → Rising db.records
+pub next_is : (old : List ℕ) (last : ℕ) (db : Database) (header : Header) (slice : List Record) (counts : Counts) (sector blocks blocks' numbers bytes : List ℕ) (table : List (List ℕ))
+    → length old ≡ 512 * (last / 4) → 4 ≤ last → last ≤ db.header.last → db.header.last ≤ 8192 → Rising db.records
     → header ≡ db.header → slice ≡ db.records → counts ≡ counts_of slice → length sector ≡ 512 → sector ≡ written header header.seq counts → ReadsBack header header.seq sector
     → ((sectors : ℕ) → header.last ≤ 4 * sectors → vmdb_fault sector sectors ≡ None)
-    → length blocks ≡ length (take (length old - 512) (drop 512 old)) → Store blocks db.records → numbers ≡ changed_numbers (take (length old - 512) (drop 512 old)) blocks
+    → length blocks ≡ 128 * room_of db.header.last → Store blocks db.records → numbers ≡ changed_numbers (take (length old - 512) (drop 512 old)) blocks
     → length table ≡ length db.records → Holds blocks (map placed_of (stored_at db.records table)) → blocks' ≡ blocks → bytes ≡ sector ++ blocks'
     → IsNext old db bytes numbers table
-next_is old db header slice counts sector blocks blocks' numbers bytes table size low high rising same_header same_records counted whole wrote reads faultless long store changed one_each holds same_blocks is =
+next_is old last db header slice counts sector blocks blocks' numbers bytes table size some rises high rising same_header same_records counted whole wrote reads faultless room store changed one_each holds same_blocks is =
+    let low : 4 ≤ db.header.last = omega (arith, some, rises) in
     let rest : take (length old - 512) (drop 512 old) ≡ drop 512 old = take_rest old 512 in
-    let size_blocks : length blocks ≡ length old - 512 = long ∙ ap (λ (l : List ℕ). length l) rest ∙ length-drop 512 old in
-    let room : length blocks ≡ 128 * room_of db.header.last = omega (arith, size_blocks, size, low) in
+    let even : length (drop 512 old) ≡ 128 * count (drop 512 old) = omega (arith, length-drop 512 old, size) in
     let full : length blocks ≡ 128 * count blocks = omega (arith, room) in
     let bytes_are : bytes ≡ sector ++ blocks = is ∙ ap (λ (l : List ℕ). sector ++ l) same_blocks in
     let reads' = subst (λ (h : Header). ReadsBack h h.seq sector) same_header reads in
@@ -183,6 +199,7 @@ next_is old db header slice counts sector blocks blocks' numbers bytes table siz
     let body : IsBodyOf db (sector ++ blocks) = body_with db sector blocks whole reads' faultless' store room low rising in
     let numbers_are : numbers ≡ changed_numbers (drop 512 old) blocks = changed ∙ ap (λ (l : List ℕ). changed_numbers l blocks) rest in
     let total : length (sector ++ blocks) ≡ 512 + length blocks = omega (arith, length-append sector blocks, whole) in
+    let from = changes_from old sector blocks numbers whole (omega (arith, size, some)) even full numbers_are in
     subst (λ (l : List ℕ). IsNext old db l numbers table) (sym bytes_are) (record {
       body = body;
       tabled = record {
@@ -194,7 +211,8 @@ next_is old db header slice counts sector blocks blocks' numbers bytes table siz
         holds = subst (λ (l : List ℕ). Holds l (map placed_of (stored_at db.records table))) (sym (rest_of sector blocks whole)) holds;
       };
       header = head_of sector blocks whole ∙ wrote';
-      from = changes_from old sector blocks numbers whole (omega (arith, total, size_blocks, size, low)) (omega (arith, size, low)) full numbers_are;
+      from = from;
+      added = added_listed old (record { body = sector ++ blocks; numbers = numbers }) from (omega (arith, size, some));
       apart = subst (λ (l : List ℕ). AllPairs (λ a b. a ≢ b) l) (sym numbers_are) (AllPairs-filter (λ a b. a ≢ b) (differs (drop 512 old) blocks) (numbers_from 4 (count blocks)) (numbers_apart 4 (count blocks)));
       change = record {
         some = omega (arith, total);

@@ -1,5 +1,5 @@
 -- A body that takes the place of another.
-use Rattle.std.specs.Prelude.{◌≡◌, ◌≢◌, ℕ, ◌+◌, ◌*◌, ◌/◌, ◌<◌, ◌≤◌, List, length, slice_index, All, AllPairs}
+use Rattle.std.specs.Prelude.{◌≡◌, ◌≢◌, ℕ, ◌+◌, ◌*◌, ◌/◌, ◌<◌, ◌≤◌, List, length, slice_index, All, AllPairs, Contains}
 use Rattle.ldm_vmdb.specs.Headers.{written}
 use Rattle.ldm_group.specs.Database.{Database}
 use Rattle.ldm_copy.specs.Copy.{header_sector}
@@ -27,5 +27,6 @@ pub record IsNext (old : List ℕ) (db : Database) (bytes numbers : List ℕ) (t
   pub tabled : IsTabled bytes table
   pub header : header_sector bytes ≡ written db.header db.header.seq (counts_of db.records)
   pub from : ChangesFrom old (record { body = bytes; numbers = numbers })
+  pub added : (n : ℕ) → length old ≤ 128 * n → 128 * n + 128 ≤ length bytes → Contains numbers n
   pub apart : AllPairs (λ a b. a ≢ b) numbers
   pub change : IsChange bytes numbers

@@ -1,6 +1,6 @@
 -- What changes of the blocks of a database when its records change: a record that both databases have keeps its blocks, those of
 -- a record that is gone become unused, and a new record takes unused ones.
-use Rattle.std.specs.Prelude.{◌≡◌, ◌≢◌, ℕ, ◌+◌, ◌≤◌, not, Bool, true, false, List, [], ◌∷◌, ◌++◌, take, drop, filter, bytes_eq, slice_index_or, Option, Some, None, All}
+use Rattle.std.specs.Prelude.{◌≡◌, ◌≢◌, ℕ, ◌+◌, ◌-◌, ◌*◌, ◌/◌, ◌≤◌, not, Bool, true, false, List, [], ◌∷◌, ◌++◌, take, drop, filter, bytes_eq, slice_index_or, Option, Some, None, All}
 use Rattle.ldm_frags.specs.Blocks.{count, numbers_from}
 use Rattle.ldm_frags.specs.Written.{parts_of, block_at, unused_block, IsPlaced}
 use Rattle.ldm_records.specs.declared.types.Record.{Record}
@@ -25,6 +25,10 @@ lacks records r = not (has_record records r)
 -- how many blocks the records take together that are in one of two databases and not in the other
 abbrev pub touched_blocks : List Record → List Record → ℕ
 touched_blocks old new = need_of (filter (lacks new) old) + need_of (filter (lacks old) new)
+
+-- how many blocks more there are with a greater last VBLK sequence
+abbrev pub added_blocks : ℕ → ℕ → ℕ
+added_blocks old new = 4 * (new / 4 - old / 4)
 
 -- ---- records that stay or go
 

@@ -1,5 +1,5 @@
 //! A change of a body: the new body, and the numbers of the blocks that differ.
-ghost use Rattle.std.specs.Prelude.{◌≡◌, ◌≢◌, ◌↔◌, ◌+◌, ◌*◌, ◌≤◌, ◌<◌, ◌++◌, IsTrue, length, drop, map, count_by, IfOk, OnOk, All, AllPairs};
+ghost use Rattle.std.specs.Prelude.{◌≡◌, ◌≢◌, ◌↔◌, ℕ, ◌+◌, ◌-◌, ◌*◌, ◌≤◌, ◌<◌, ◌++◌, IsTrue, length, drop, map, count_by, IfOk, OnOk, All, AllPairs, Contains};
 ghost use Rattle.ldm_vmdb.specs.Sectors.{last_of};
 ghost use Rattle.ldm_vmdb.specs.Headers.{written};
 ghost use Rattle.ldm_frags.specs.Blocks.{count};
@@ -10,7 +10,7 @@ ghost use Rattle.ldm_group.specs.Order.{kind_of};
 ghost use Rattle.ldm_group.specs.Room.{IsFitting, need_of, FitsHeader};
 ghost use Rattle.ldm_copy.specs.Copy.{header_sector};
 ghost use Rattle.ldm_copy.specs.Body.{placed_of, Store, IsBodyOf, IsSomeBody, count_of, counts_of};
-ghost use Rattle.ldm_changed.specs.Plan.{touched_blocks, changed_numbers};
+ghost use Rattle.ldm_changed.specs.Plan.{added_blocks, touched_blocks, changed_numbers};
 ghost use Rattle.ldm_copy.specs.Body.{stored_at};
 ghost use Rattle.ldm_changed.specs.Change.{ChangesFrom, IsNext};
 
@@ -18,7 +18,7 @@ use crate::planning::{changed, rewrite_blocks};
 use crate::weaving::weave;
 use ldm_bytes::{Bytes, NoMemory};
 use ldm_copy::{Body, counts_of, joined};
-use ldm_frags::Slots;
+use ldm_frags::{Slots, with_unused};
 use ldm_group::Db;
 use ldm_vmdb::write_header;
 use std::alloc::Global;
@@ -60,7 +60,7 @@ impl Change {
     }
 }
 
-// The blocks of the new database, where a record that both databases have keeps its blocks, the
+// The blocks of the new database, so many in all, where a record that both databases have keeps its blocks, the
 // numbers of those that differ, and the slots of the records.
 fn next_blocks(
     alloc: Global,
@@ -68,21 +68,23 @@ fn next_blocks(
     table: &[Slots],
     old: &Db,
     new: &Db,
+    room: u32,
 ) -> Result<(Bytes, Slots, Vec<Slots>), NoMemory>
     requires one_each { length table.now ≡ length old.now.records }
-    requires small { length blocks.now ≤ 1048576 }
+    requires more { length blocks.now ≤ 128 * room }
+    requires small { room ≤ 8192 }
     requires holds { Holds blocks.now (map placed_of (stored_at old.now.records table.now)) }
     requires sound { All (λ r. IsRecord (plain_of r)) old.now.records }
     requires fits { All IsFitting new.now.records }
-    requires room { need_of new.now.records ≤ count blocks.now }
-    ensures size { IfOk result (λ next. length next.0 ≡ length blocks.now) }
+    requires room { need_of new.now.records ≤ room }
+    ensures size { IfOk result (λ next. length next.0 ≡ 128 * room) }
     ensures store { IfOk result (λ next. Store next.0 new.now.records) }
     ensures changed { IfOk result (λ next. next.1 ≡ changed_numbers blocks.now next.0) }
-    ensures few { IfOk result (λ next. length next.1 ≤ touched_blocks old.now.records new.now.records) }
+    ensures few { IfOk result (λ next. length next.1 ≤ touched_blocks old.now.records new.now.records + (room - count blocks.now)) }
     ensures one_each { IfOk result (λ next. length next.2.items ≡ length new.now.records) }
     ensures holds { IfOk result (λ next. Holds next.0 (map placed_of (stored_at new.now.records next.2.items))) }
 {
-    let mut out = Vec::from_slice(alloc, blocks)?;
+    let mut out = with_unused(alloc, blocks, room)?;
     let (kept, made) = rewrite_blocks(alloc, &mut out, table, old, new)?;
     let next = weave(alloc, new.as_slice(), old, &kept, &made)?;
     let numbers = changed(alloc, blocks, &out)?;
@@ -97,15 +99,17 @@ fn next_bytes(
     new: &Db,
 ) -> Result<(Bytes, Slots, Vec<Slots>), NoMemory>
     requires holds { Store (drop 512 body.now) old.now.records }
-    requires last { last_of (header_sector body.now) ≡ new.now.header.last }
+    requires last { last_of (header_sector body.now) ≤ new.now.header.last }
+    requires high { new.now.header.last ≤ 8192 }
     requires room { FitsHeader new.now }
     ensures next { IfOk result (λ next. IsNext body.now new.now next.0 next.1 next.2.items) }
-    ensures few { IfOk result (λ next. length next.1 ≤ touched_blocks old.now.records new.now.records) }
+    ensures few { IfOk result (λ next. length next.1 ≤ touched_blocks old.now.records new.now.records + added_blocks (last_of (header_sector body.now)) new.now.header.last) }
 {
     let bytes = body.as_slice();
     let slots = body.table();
     let _before = old.as_slice();
-    let (blocks, numbers, table) = next_blocks(alloc, &bytes[512..], slots, old, new)?;
+    let room = new.room() as u32;
+    let (blocks, numbers, table) = next_blocks(alloc, &bytes[512..], slots, old, new, room)?;
     let records = new.as_slice();
     let header = new.header();
     let mut sector = [0u8; 512];
@@ -115,17 +119,20 @@ fn next_bytes(
 }
 
 /// The body of the new database that has the records which both databases have where the old body
-/// has them, and the numbers of the blocks in which it differs.
+/// has them, and the numbers of the blocks in which it differs. Where the new database has more blocks, those
+/// that the old one doesn't have are among these.
 pub fn next_body(alloc: Global, body: &Body, old: &Db, new: &Db) -> Result<Change, NoMemory>
     requires holds { Store (drop 512 body.now) old.now.records }
-    requires last { last_of (header_sector body.now) ≡ new.now.header.last }
+    requires last { last_of (header_sector body.now) ≤ new.now.header.last }
+    requires high { new.now.header.last ≤ 8192 }
     requires room { FitsHeader new.now }
     ensures body { IfOk result (λ change. IsBodyOf new.now change.body) }
     ensures header { IfOk result (λ change. header_sector change.body ≡ written new.now.header new.now.header.seq (counts_of new.now.records)) }
     ensures from { IfOk result (λ change. ChangesFrom body.now change) }
     ensures apart { IfOk result (λ change. AllPairs (λ a b. a ≢ b) change.numbers) }
     ensures within { IfOk result (λ change. All (λ n. (4 ≤ n) × (128 * n + 128 ≤ length change.body)) change.numbers) }
-    ensures few { IfOk result (λ change. length change.numbers ≤ touched_blocks old.now.records new.now.records) }
+    ensures added { IfOk result (λ change. (n : ℕ) → length body.now ≤ 128 * n → 128 * n + 128 ≤ length change.body → Contains change.numbers n) }
+    ensures few { IfOk result (λ change. length change.numbers ≤ touched_blocks old.now.records new.now.records + added_blocks (last_of (header_sector body.now)) new.now.header.last) }
     // So writing them takes no more bytes than writing the whole body.
     ensures most { IfOk result (λ change. 513 + 128 * length change.numbers ≤ length change.body + 1) }
 {

@@ -3,7 +3,7 @@ use Rattle.std.proofs.Common.{◌≡◌, ℕ, ◌+◌, ◌^◌, ◌<◌, List, r
 use Rattle.std.specs.Prelude.{if◌then◌else◌}
 use Rattle.std.specs.Option.{ForSome}
 use Rattle.ldm_vmdb.specs.declared.header.Header.{Header}
-use Rattle.ldm_vmdb.specs.Headers.{with_seq}
+use Rattle.ldm_vmdb.specs.Headers.{grown_to, with_seq}
 use Rattle.ldm_label.specs.declared.Label.{Label}
 use Rattle.ldm_group.specs.Database.{Database, at_seq}
 use Rattle.ldm_rules.specs.Facts.{IsSoundOn}
@@ -16,7 +16,7 @@ use Rattle.ldm_edits.specs.declared.reply.Refusal.{Refusal}
 use Rattle.ldm_edits.specs.declared.reply.Refusal.TheVariants as refusals
 use Rattle.ldm_edits.specs.declared.stepping.Outcome.{Outcome}
 use Rattle.ldm_edits.specs.declared.stepping.Outcome.TheVariants as outcomes
-use Rattle.ldm_edits.specs.Steps.{StepsAs, Keeps, State, IsGood, IsDraftOf, VerdictKeeps, at_once, held_at, change_in, begun, committed, cancelled, verdict_of, state_by}
+use Rattle.ldm_edits.specs.Steps.{StepsAs, FitsAsBefore, Keeps, State, IsGood, IsDraftOf, VerdictKeeps, at_once, held_at, change_in, begun, committed, cancelled, verdict_of, state_by}
 
 -- ---- the sequence put back
 
@@ -31,13 +31,19 @@ pub kept_once : (labels : List Label) (db : Database) (outcome : Outcome) (step 
 kept_once labels db (outcomes.Next next) step is keeps = subst (λ (r : Result Database Refusal). VerdictKeeps labels db (at_once r)) (sym is) (keeps next refl)
 kept_once labels db (outcomes.Refused refusal) step is keeps = subst (λ (r : Result Database Refusal). VerdictKeeps labels db (at_once r)) (sym is) tt
 
+-- two steps in a row of a last VBLK sequence that fits as before
+fits_on : (labels : List Label) (a b c : ℕ) → FitsAsBefore labels a b → FitsAsBefore labels b c → FitsAsBefore labels a c
+fits_on labels a b c first second k d lt fits = second k d lt (first k d lt fits)
+
 -- a draft that is one change further
 further : (labels : List Label) (db : Database) (draft : Draft) (next : Database) → IsDraftOf labels db draft → Keeps labels draft.db next → next.header.seq < 2 ^ 64
     → IsDraftOf labels db (record { db = at_seq db.header.seq next; filled = true })
 further labels db draft next is keeps low = record {
   sound = sound_at db.header.seq next labels keeps.sound;
   disks = is.disks ∙ keeps.disks;
-  header = ap (λ (h : Header). with_seq h db.header.seq) keeps.header ∙ ap (λ (h : Header). with_seq h db.header.seq) is.header;
+  rises = (let first = is.rises in let second = keeps.rises in omega arith);
+  fits = fits_on labels db.header.last draft.db.header.last next.header.last is.fits keeps.fits;
+  header = ap (λ (h : Header). with_seq h db.header.seq) keeps.header ∙ ap (λ (h : Header). grown_to h next.header.last db.header.seq) is.header;
   unspent = λ filled. (let up = keeps.seq in let same = ap (λ (h : Header). h.seq) is.header in omega arith);
 }
 
@@ -49,7 +55,14 @@ kept_held labels db draft (outcomes.Next next) step of is keeps low =
 kept_held labels db draft (outcomes.Refused refusal) step of is keeps low = subst (λ (r : Result Database Refusal). VerdictKeeps labels db (held_at db.header.seq r)) (sym is) tt
 
 pub kept_begun : (labels : List Label) (db : Database) (draft : Option Draft) → IsSoundOn db labels → VerdictKeeps labels db (begun db draft)
-kept_begun labels db None sound = record { sound = sound; disks = refl; header = refl; unspent = λ filled. absurd cc }
+kept_begun labels db None sound = record {
+  sound = sound;
+  disks = refl;
+  rises = omega arith;
+  fits = λ k d lt fits. fits;
+  header = refl;
+  unspent = λ filled. absurd cc;
+}
 kept_begun labels db (Some draft) sound = tt
 
 -- a draft with the next sequence
@@ -57,9 +70,10 @@ pub next_draft : (labels : List Label) (db : Database) (draft : Draft) → IsDra
 next_draft labels db draft is = record {
   sound = sound_at (db.header.seq + 1) draft.db labels is.sound;
   disks = is.disks;
-  last = ap (λ (h : Header). h.last) is.header;
-  seq = refl;
+  rises = is.rises;
+  fits = is.fits;
   header = ap (λ (h : Header). with_seq h (db.header.seq + 1)) is.header;
+  seq = refl;
 }
 
 pub kept_committed : (labels : List Label) (db : Database) (draft : Option Draft) → ForSome draft (IsDraftOf labels db) → VerdictKeeps labels db (committed db.header.seq draft)
@@ -84,6 +98,11 @@ pub held_kept : (labels : List Label) (db : Database) (draft : Draft) (outcome :
 held_kept labels db draft outcome step seq turn of is keeps low same held =
     subst (VerdictKeeps labels db) (sym (held step is ∙ ap (λ (n : ℕ). held_at n step) same)) (kept_held labels db draft outcome step of is keeps low)
 
+pub begun_kept : {E : Type 0} (labels : List Label) (db : Database) (draft : Option Draft) (result : Result Verdict E) → IsSoundOn db labels
+    → IfOk result (λ turn. turn ≡ begun db draft) → IfOk result (VerdictKeeps labels db)
+begun_kept labels db draft (Err e) sound is = tt
+begun_kept labels db draft (Ok turn) sound is = subst (VerdictKeeps labels db) (sym is) (kept_begun labels db draft sound)
+
 pub committed_kept : {E : Type 0} (labels : List Label) (db : Database) (draft : Option Draft) (seq : ℕ) (result : Result Verdict E) → ForSome draft (IsDraftOf labels db)
     → seq ≡ db.header.seq → IfOk result (λ turn. turn ≡ committed seq draft) → IfOk result (VerdictKeeps labels db)
 committed_kept labels db draft seq (Err e) of same is = tt
@@ -107,10 +126,11 @@ no_draft labels db d is = absurd cc
 
 -- what a line comes to leaves a good state good
 pub stays_good : (labels : List Label) (state : State) (verdict : Verdict) → IsGood labels state → VerdictKeeps labels state.db verdict → IsGood labels (state_by state verdict)
-stays_good labels state (verdicts.Next next) good keeps = record { sound = keeps.sound; draft = no_draft labels next }
+stays_good labels state (verdicts.Next next) good keeps = record { sound = keeps.sound; areas = good.areas; draft = no_draft labels next }
 stays_good labels state (verdicts.Hold draft) good keeps = record {
   sound = good.sound;
+  areas = good.areas;
   draft = λ d is. (let same : draft ≡ d = cc in subst (λ (x : Draft). IsDraftOf labels state.db x) same keeps);
 }
-stays_good labels state verdicts.GiveUp good keeps = record { sound = good.sound; draft = no_draft labels state.db }
+stays_good labels state verdicts.GiveUp good keeps = record { sound = good.sound; areas = good.areas; draft = no_draft labels state.db }
 stays_good labels state (verdicts.Refused refusal) good keeps = good

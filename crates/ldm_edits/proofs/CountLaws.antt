@@ -5,8 +5,6 @@ use Rattle.ldm_bytes.specs.Tables.{first_of, unless}
 use Rattle.ldm_label.specs.declared.Label.{Label}
 use Rattle.ldm_records.specs.declared.types.Component.{Component}
 use Rattle.ldm_records.specs.declared.types.Volume.{Volume}
-use Rattle.ldm_vmdb.specs.declared.header.Header.{Header}
-use Rattle.ldm_vmdb.specs.Headers.{with_seq}
 use Rattle.ldm_group.specs.Database.{Database, at_seq}
 use Rattle.ldm_group.specs.Looks.{volume_named}
 use Rattle.ldm_group.proofs.Rise.{count_yes, count_no}
@@ -40,9 +38,9 @@ use Rattle.ldm_edits.specs.declared.batch.Turn.{Turn as Verdict}
 use Rattle.ldm_edits.specs.declared.batch.Turn.TheVariants as verdicts
 use Rattle.ldm_edits.specs.Steps.{State, fresh, next_of, at_once, held_at, change_in, begun, committed, cancelled, verdict_of, state_by, reply_by, turns_of}
 
--- where there is a next group, its header is that of the group but for the sequence, which is one more
+-- where there is a next group, its sequence is one more
 abbrev IsUp : Database → Result Database Refusal → Type 0
-IsUp db (Ok next) = next.header ≡ with_seq db.header (db.header.seq + 1)
+IsUp db (Ok next) = next.header.seq ≡ db.header.seq + 1
 IsUp db (Err refusal) = Unit {0}
 
 unless_up : (db : Database) (refusal : Option Refusal) (change : Change) → IsUp db (unless refusal (changed db change))
@@ -59,64 +57,64 @@ refused_up db (Some refusal) next up = tt
 
 -- ---- create
 
-places_up : (db : Database) (name : List ℕ) (guid : ℕ) (layout : NewLayout) (wanted : List Wanted) (places : Result (List ℕ) ℕ) → IsUp db (at_places db name guid layout wanted places)
-places_up db name guid layout wanted (Err place) = tt
-places_up db name guid layout wanted (Ok starts) =
+places_up : (db : Database) (labels : List Label) (name : List ℕ) (guid : ℕ) (layout : NewLayout) (wanted : List Wanted) (places : Result (List ℕ) ℕ) → IsUp db (at_places db labels name guid layout wanted places)
+places_up db labels name guid layout wanted (Err place) = tt
+places_up db labels name guid layout wanted (Ok starts) =
     let change = change_for db name guid layout wanted starts in
-    unless_up db (first_of (limits db (fresh_for layout) change)) change
+    unless_up db (first_of (limits db labels (fresh_for layout) change)) change
 
-disks_up : (db : Database) (name : List ℕ) (guid : ℕ) (layout : NewLayout) (asked : Result (List Wanted) ℕ) → IsUp db (on_disks db name guid layout asked)
-disks_up db name guid layout (Err place) = tt
-disks_up db name guid layout (Ok wanted) =
+disks_up : (db : Database) (labels : List Label) (name : List ℕ) (guid : ℕ) (layout : NewLayout) (asked : Result (List Wanted) ℕ) → IsUp db (on_disks db labels name guid layout asked)
+disks_up db labels name guid layout (Err place) = tt
+disks_up db labels name guid layout (Ok wanted) =
     let places = placed (taken_in db.records) 0 wanted in
-    let next = at_places db name guid layout wanted places in
+    let next = at_places db labels name guid layout wanted places in
     if_up db (is_same_disk layout wanted) (Err refusals.SameDisk) (if is_bad_size layout then Err refusals.BadSize else next) tt
-    (if_up db (is_bad_size layout) (Err refusals.BadSize) next tt (places_up db name guid layout wanted places))
+    (if_up db (is_bad_size layout) (Err refusals.BadSize) next tt (places_up db labels name guid layout wanted places))
 
 created_up : (db : Database) (labels : List Label) (name : List ℕ) (guid : ℕ) (layout : NewLayout) → IsUp db (created db labels name guid layout)
 unfolding created
 created_up db labels name guid layout =
     let asked = asked_for (data_size labels db.records) db.records 0 (words_of layout) in
-    if_up db (is_some (volume_named name db.records)) (Err refusals.NameTaken) (on_disks db name guid layout asked) tt (disks_up db name guid layout asked)
+    if_up db (is_some (volume_named name db.records)) (Err refusals.NameTaken) (on_disks db labels name guid layout asked) tt (disks_up db labels name guid layout asked)
 
 -- ---- extend
 
-lengthen_up : (db : Database) (v : Volume) (component : Option Component) (wanted : List Wanted) (places : Result (List ℕ) ℕ) → IsUp db (lengthen db v component wanted places)
-lengthen_up db v None wanted places = tt
-lengthen_up db v (Some c) wanted (Err piece) = tt
-lengthen_up db v (Some c) wanted (Ok starts) =
+lengthen_up : (db : Database) (labels : List Label) (v : Volume) (component : Option Component) (wanted : List Wanted) (places : Result (List ℕ) ℕ) → IsUp db (lengthen db labels v component wanted places)
+lengthen_up db labels v None wanted places = tt
+lengthen_up db labels v (Some c) wanted (Err piece) = tt
+lengthen_up db labels v (Some c) wanted (Ok starts) =
     let change = lengthened db.records v c (held (layout_of db.records v)) (taken_at wanted starts) in
-    unless_up db (first_of (limits db (length wanted) change)) change
+    unless_up db (first_of (limits db labels (length wanted) change)) change
 
-wanted_up : (db : Database) (v : Volume) (asked : Result (List Wanted) ℕ) → IsUp db (with_wanted db v asked)
-wanted_up db v (Err piece) = tt
-wanted_up db v (Ok wanted) =
+wanted_up : (db : Database) (labels : List Label) (v : Volume) (asked : Result (List Wanted) ℕ) → IsUp db (with_wanted db labels v asked)
+wanted_up db labels v (Err piece) = tt
+wanted_up db labels v (Ok wanted) =
     let places = placed (taken_in db.records) 0 wanted in
-    refused_up db (when (is_bad_length (held (layout_of db.records v)) wanted) refusals.BadSize) (lengthen db v (component_of v db.records) wanted places)
-    (lengthen_up db v (component_of v db.records) wanted places)
+    refused_up db (when (is_bad_length (held (layout_of db.records v)) wanted) refusals.BadSize) (lengthen db labels v (component_of v db.records) wanted places)
+    (lengthen_up db labels v (component_of v db.records) wanted places)
 
 extended_up : (db : Database) (labels : List Label) (pieces : List Piece) (volume : Option Volume) → IsUp db (extended_span db labels pieces volume)
 extended_up db labels pieces None = tt
 extended_up db labels pieces (Some v) =
     let asked = asked_for (data_size labels db.records) db.records 0 (map (λ (p : Piece). (p.disk, p.len)) pieces) in
-    refused_up db (unlengthened db.records v) (with_wanted db v asked) (wanted_up db v asked)
+    refused_up db (unlengthened db.records v) (with_wanted db labels v asked) (wanted_up db labels v asked)
 
-mirror_up : (db : Database) (v : Volume) (wanted : List Wanted) (places : Result (List ℕ) ℕ) → IsUp db (mirror_placed db v wanted places)
-mirror_up db v wanted (Err piece) = tt
-mirror_up db v wanted (Ok starts) =
+mirror_up : (db : Database) (labels : List Label) (v : Volume) (wanted : List Wanted) (places : Result (List ℕ) ℕ) → IsUp db (mirror_placed db labels v wanted places)
+mirror_up db labels v wanted (Err piece) = tt
+mirror_up db labels v wanted (Ok starts) =
     let change = grown db.records v (held (layout_of db.records v) + len_of wanted) (taken_at wanted starts) in
-    unless_up db (first_of (limits db (length wanted) change)) change
+    unless_up db (first_of (limits db labels (length wanted) change)) change
 
-mirrors_up : (db : Database) (v : Volume) (asked : Result (List Wanted) ℕ) → IsUp db (mirror_wanted db v asked)
-mirrors_up db v (Err piece) = tt
-mirrors_up db v (Ok wanted) =
+mirrors_up : (db : Database) (labels : List Label) (v : Volume) (asked : Result (List Wanted) ℕ) → IsUp db (mirror_wanted db labels v asked)
+mirrors_up db labels v (Err piece) = tt
+mirrors_up db labels v (Ok wanted) =
     let places = placed (taken_in db.records) 0 wanted in
-    refused_up db _ (mirror_placed db v wanted places) (mirror_up db v wanted places)
+    refused_up db _ (mirror_placed db labels v wanted places) (mirror_up db labels v wanted places)
 
 as_up : (db : Database) (labels : List Label) (pieces : List Piece) (v : Volume) (o : Option Shape) → IsUp db (extended_as o db labels pieces v)
 as_up db labels pieces v (Some Mirror) =
     let asked = asked_for (data_size labels db.records) db.records 0 (map (λ (p : Piece). (p.disk, p.len)) pieces) in
-    refused_up db _ (mirror_wanted db v asked) (mirrors_up db v asked)
+    refused_up db _ (mirror_wanted db labels v asked) (mirrors_up db labels v asked)
 as_up db labels pieces v (Some Span) = extended_up db labels pieces (Some v)
 as_up db labels pieces v (Some Stripe) = extended_up db labels pieces (Some v)
 as_up db labels pieces v (Some Raid5) = extended_up db labels pieces (Some v)
@@ -128,9 +126,9 @@ longer_up db labels pieces (Some v) = as_up db labels pieces v (shape_of (plexes
 
 -- ---- delete
 
-deleted_up : (db : Database) (volume : Option Volume) → IsUp db (deleted db volume)
-deleted_up db None = tt
-deleted_up db (Some v) = unless_up db (first_of (limits db 0 (without v db.records))) (without v db.records)
+deleted_up : (db : Database) (labels : List Label) (volume : Option Volume) → IsUp db (deleted db labels volume)
+deleted_up db labels None = tt
+deleted_up db labels (Some v) = unless_up db (first_of (limits db labels 0 (without v db.records))) (without v db.records)
 
 -- ---- lines
 
@@ -138,7 +136,7 @@ next_up : (db : Database) (labels : List Label) (command : Command) → IsUp db 
 unfolding next_of
 next_up db labels (Create name guid layout) = created_up db labels name guid layout
 next_up db labels (Extend name pieces) = longer_up db labels pieces (volume_named name db.records)
-next_up db labels (Delete name) = deleted_up db (volume_named name db.records)
+next_up db labels (Delete name) = deleted_up db labels (volume_named name db.records)
 next_up db labels Begin = tt
 next_up db labels Commit = tt
 next_up db labels Cancel = tt
@@ -153,7 +151,7 @@ IsFurther seq verdicts.GiveUp = Unit {0}
 IsFurther seq (verdicts.Refused refusal) = Unit {0}
 
 once_further : (db : Database) (next : Result Database Refusal) → IsUp db next → IsFurther db.header.seq (at_once next)
-once_further db (Ok next) up = ap (λ (h : Header). h.seq) up
+once_further db (Ok next) up = up
 once_further db (Err refusal) up = tt
 
 held_further : (seq : ℕ) (next : Result Database Refusal) → IsFurther seq (held_at seq next)

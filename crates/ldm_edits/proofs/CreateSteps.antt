@@ -36,22 +36,22 @@ module _ (db : Database) (labels : List Label) (name : List ℕ) (guid : ℕ) (l
 
   pub name_taken : is_some (volume_named name db.records) ≡ true → created db labels name guid layout ≡ Err refusals.NameTaken
   unfolding created
-  name_taken h = ap (λ (b : Bool). if b then Err refusals.NameTaken else on_disks db name guid layout asked) h
+  name_taken h = ap (λ (b : Bool). if b then Err refusals.NameTaken else on_disks db labels name guid layout asked) h
 
-  by_disks : is_some (volume_named name db.records) ≡ false → created db labels name guid layout ≡ on_disks db name guid layout asked
+  by_disks : is_some (volume_named name db.records) ≡ false → created db labels name guid layout ≡ on_disks db labels name guid layout asked
   unfolding created
-  by_disks h = ap (λ (b : Bool). if b then Err refusals.NameTaken else on_disks db name guid layout asked) h
+  by_disks h = ap (λ (b : Bool). if b then Err refusals.NameTaken else on_disks db labels name guid layout asked) h
 
   pub no_disk : (place : ℕ) → is_some (volume_named name db.records) ≡ false → asked ≡ Err place → created db labels name guid layout ≡ Err (refusals.NoDisk place)
-  no_disk place free h = by_disks free ∙ ap (on_disks db name guid layout) h
+  no_disk place free h = by_disks free ∙ ap (on_disks db labels name guid layout) h
 
   -- where all disks are there
   by_tests : (wanted : List Wanted) (same bad : Bool) → is_some (volume_named name db.records) ≡ false → asked ≡ Ok wanted → is_same_disk layout wanted ≡ same → is_bad_size layout ≡ bad
       → created db labels name guid layout
-      ≡ (if same then Err refusals.SameDisk else if bad then Err refusals.BadSize else at_places db name guid layout wanted (placed (taken_in db.records) 0 wanted))
+      ≡ (if same then Err refusals.SameDisk else if bad then Err refusals.BadSize else at_places db labels name guid layout wanted (placed (taken_in db.records) 0 wanted))
   by_tests wanted same bad free h is_same is_bad =
-      by_disks free ∙ ap (on_disks db name guid layout) h
-      ∙ (λ i. if is_same i then Err refusals.SameDisk else if is_bad i then Err refusals.BadSize else at_places db name guid layout wanted (placed (taken_in db.records) 0 wanted))
+      by_disks free ∙ ap (on_disks db labels name guid layout) h
+      ∙ (λ i. if is_same i then Err refusals.SameDisk else if is_bad i then Err refusals.BadSize else at_places db labels name guid layout wanted (placed (taken_in db.records) 0 wanted))
 
   pub same_disk : (wanted : List Wanted) → is_some (volume_named name db.records) ≡ false → asked ≡ Ok wanted → is_same_disk layout wanted ≡ true → created db labels name guid layout ≡ Err refusals.SameDisk
   same_disk wanted free h same = by_tests wanted true (is_bad_size layout) free h same refl
@@ -67,22 +67,22 @@ pub record IsAsked (db : Database) (labels : List Label) (name : List ℕ) (layo
   pub sizes : is_bad_size layout ≡ false
 
 module _ (db : Database) (labels : List Label) (name : List ℕ) (guid : ℕ) (layout : NewLayout) (wanted : List Wanted) (is : IsAsked db labels name layout wanted) where
-  by_places : created db labels name guid layout ≡ at_places db name guid layout wanted (placed (taken_in db.records) 0 wanted)
+  by_places : created db labels name guid layout ≡ at_places db labels name guid layout wanted (placed (taken_in db.records) 0 wanted)
   by_places = by_tests db labels name guid layout wanted false false is.free is.found is.apart is.sizes
 
   pub no_space : (place : ℕ) → placed (taken_in db.records) 0 wanted ≡ Err place → created db labels name guid layout ≡ Err (refusals.NoSpace place)
-  no_space place h = by_places ∙ ap (at_places db name guid layout wanted) h
+  no_space place h = by_places ∙ ap (at_places db labels name guid layout wanted) h
 
   pub no_ids : (starts : List ℕ) → placed (taken_in db.records) 0 wanted ≡ Ok starts → 2 ^ 64 - 1 < max_id db.records + fresh_for layout → created db labels name guid layout ≡ Err refusals.IdsSpent
   no_ids starts h spent =
       let change : Change = change_for db name guid layout wanted starts in
-      by_places ∙ ap (at_places db name guid layout wanted) h ∙ ap (λ (o : Option Refusal). unless o (changed db change)) (sym (ids_spent db (fresh_for layout) change spent))
+      by_places ∙ ap (at_places db labels name guid layout wanted) h ∙ ap (λ (o : Option Refusal). unless o (changed db change)) (sym (ids_spent db labels (fresh_for layout) change spent))
 
   -- what is made is tested by the limits
   pub by_limits : (starts : List ℕ) (taken : List Taken) (made : List Record) (id : ℕ) → placed (taken_in db.records) 0 wanted ≡ Ok starts → taken ≡ taken_at wanted starts → id ≡ max_id db.records + 1
-      → made ≡ made_for layout id name guid taken → change_to db (fresh_for layout) (change_of leavings.Nothing db.records made) ≡ created db labels name guid layout
+      → made ≡ made_for layout id name guid taken → change_to db labels (fresh_for layout) (change_of leavings.Nothing db.records made) ≡ created db labels name guid layout
   by_limits starts taken made id h taken_is id_is made_is =
       let change : Change = change_for db name guid layout wanted starts in
       let all : made ≡ change.made = made_is ∙ (λ i. made_for layout (id_is i) name guid (taken_is i)) in
       let same : change_of leavings.Nothing db.records made ≡ change = (λ i. record { stay = all_stay db.records i; made = all i }) in
-      ap (change_to db (fresh_for layout)) same ∙ sym (by_places ∙ ap (at_places db name guid layout wanted) h)
+      ap (change_to db labels (fresh_for layout)) same ∙ sym (by_places ∙ ap (at_places db labels name guid layout wanted) h)

@@ -51,7 +51,7 @@ pub record IsAccepted (db : Database) (labels : List Label) (name : List ℕ) (g
   pub disks : is_same_disk layout wanted ≡ false
   pub sizes : is_bad_size layout ≡ false
   pub places : placed (taken_in db.records) 0 wanted ≡ Ok starts
-  pub within : first_of (limits db (fresh_for layout) (change_for db name guid layout wanted starts)) ≡ None
+  pub within : first_of (limits db labels (fresh_for layout) (change_for db name guid layout wanted starts)) ≡ None
   pub next_is : changed db (change_for db name guid layout wanted starts) ≡ next
 
 -- what isn't refused passed the test
@@ -67,14 +67,14 @@ pub accepted : (db : Database) (labels : List Label) (name : List ℕ) (guid : �
 unfolding created
 accepted db labels name guid layout next h =
     let found : Result (List Wanted) ℕ = asked_for (data_size labels db.records) db.records 0 (words_of layout) in
-    let named = test_ok (is_some (volume_named name db.records)) refusals.NameTaken (on_disks db name guid layout found) next h in
+    let named = test_ok (is_some (volume_named name db.records)) refusals.NameTaken (on_disks db labels name guid layout found) next h in
     let disks = disks_ok found named.1 in
     let wanted : List Wanted = disks.0 in
-    let apart = test_ok (is_same_disk layout wanted) refusals.SameDisk (if is_bad_size layout then Err refusals.BadSize else at_places db name guid layout wanted (placed (taken_in db.records) 0 wanted)) next disks.2 in
-    let sized = test_ok (is_bad_size layout) refusals.BadSize (at_places db name guid layout wanted (placed (taken_in db.records) 0 wanted)) next apart.1 in
+    let apart = test_ok (is_same_disk layout wanted) refusals.SameDisk (if is_bad_size layout then Err refusals.BadSize else at_places db labels name guid layout wanted (placed (taken_in db.records) 0 wanted)) next disks.2 in
+    let sized = test_ok (is_bad_size layout) refusals.BadSize (at_places db labels name guid layout wanted (placed (taken_in db.records) 0 wanted)) next apart.1 in
     let places = places_ok wanted (placed (taken_in db.records) 0 wanted) sized.1 in
     let change : Change = change_for db name guid layout wanted places.0 in
-    let within = when_ok (first_of (limits db (fresh_for layout) change)) (changed db change) next places.2 in
+    let within = when_ok (first_of (limits db labels (fresh_for layout) change)) (changed db change) next places.2 in
     record {
       wanted = wanted;
       starts = places.0;
@@ -87,11 +87,11 @@ accepted db labels name guid layout next h =
       next_is = within.1;
     }
   where
-    disks_ok : (o : Result (List Wanted) ℕ) → on_disks db name guid layout o ≡ Ok next → (wanted : List Wanted) × (o ≡ Ok wanted) × (on_disks db name guid layout (Ok wanted) ≡ Ok next)
+    disks_ok : (o : Result (List Wanted) ℕ) → on_disks db labels name guid layout o ≡ Ok next → (wanted : List Wanted) × (o ≡ Ok wanted) × (on_disks db labels name guid layout (Ok wanted) ≡ Ok next)
     disks_ok (Ok wanted) h = (wanted, refl, h)
     disks_ok (Err place) h = absurd cc
 
-    places_ok : (wanted : List Wanted) (o : Result (List ℕ) ℕ) → at_places db name guid layout wanted o ≡ Ok next → (starts : List ℕ) × (o ≡ Ok starts) × (at_places db name guid layout wanted (Ok starts) ≡ Ok next)
+    places_ok : (wanted : List Wanted) (o : Result (List ℕ) ℕ) → at_places db labels name guid layout wanted o ≡ Ok next → (starts : List ℕ) × (o ≡ Ok starts) × (at_places db labels name guid layout wanted (Ok starts) ≡ Ok next)
     places_ok wanted (Ok starts) h = (starts, refl, h)
     places_ok wanted (Err place) h = absurd cc
 
@@ -126,8 +126,8 @@ module _ (db : Database) (labels : List Label) (name : List ℕ) (guid : ℕ) (l
   fits : AreFirstFits (taken_in db.records) is.wanted is.starts
   fits = placed_fit is.wanted (taken_in db.records) 0 is.starts is.places
 
-  limited : IsWithinLimits db (fresh_for layout) (change_for db name guid layout is.wanted is.starts)
-  limited = within_limits db (fresh_for layout) (change_for db name guid layout is.wanted is.starts) is.within
+  limited : IsWithinLimits db labels (fresh_for layout) (change_for db name guid layout is.wanted is.starts)
+  limited = within_limits db labels (fresh_for layout) (change_for db name guid layout is.wanted is.starts) is.within
 
   short : length name ≤ 255
   short = let s = grammar.short in omega arith

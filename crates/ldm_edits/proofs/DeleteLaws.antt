@@ -169,7 +169,7 @@ pub deleted_rises : (v : Volume) (old : List Record) → Rising old → Rising (
 deleted_rises v old up = (without_next v old up).vp
 
 -- a group without a volume is as sound as with it
-without_keeps : (db : Database) (labels : List Label) (v : Volume) → Rising db.records → IsSoundOn db labels → first_of (limits db 0 (without v db.records)) ≡ None
+without_keeps : (db : Database) (labels : List Label) (v : Volume) → Rising db.records → IsSoundOn db labels → first_of (limits db labels 0 (without v db.records)) ≡ None
     → Rising (changed db (without v db.records)).records × Keeps labels db (changed db (without v db.records))
 without_keeps db labels v up old within =
     let next : List Record = (changed db (without v db.records)).records in
@@ -177,14 +177,14 @@ without_keeps db labels v up old within =
       is.vp,
       next_keeps db labels 0 (without v db.records) old
           (λ k d lt. All-contains IsFitting db.records _ old.room.each (filter_has (λ r. not (goes v.head.id db.records r)) db.records _ (Contains-get_or (filter (λ r. not (goes v.head.id db.records r)) db.records) k d lt)).0)
-          (within_limits db 0 (without v db.records) within) (heads v db.records next is)
+          (within_limits db labels 0 (without v db.records) within) (heads v db.records next is)
           (sound_from next labels (without_each v db.records next is labels old.laid_out (sound_parts db.records labels old.sound)))
           (λ k d lt. All-contains EndsInRange db.records (get_or next k d) old.ends (is.back (get_or next k d) (Contains-get_or next k d lt)).0),
     )
 
 -- what delete makes of a sound group is as sound
-pub deleted_keeps : (db : Database) (labels : List Label) (o : Option Volume) (next : Database) → Rising db.records → IsSoundOn db labels → deleted db o ≡ Ok next → Rising next.records × Keeps labels db next
+pub deleted_keeps : (db : Database) (labels : List Label) (o : Option Volume) (next : Database) → Rising db.records → IsSoundOn db labels → deleted db labels o ≡ Ok next → Rising next.records × Keeps labels db next
 deleted_keeps db labels None next up old h = absurd cc
 deleted_keeps db labels (Some v) next up old h =
-    let done = when_ok (first_of (limits db 0 (without v db.records))) (changed db (without v db.records)) next h in
+    let done = when_ok (first_of (limits db labels 0 (without v db.records))) (changed db (without v db.records)) next h in
     subst (λ (d : Database). Rising d.records × Keeps labels db d) done.1 (without_keeps db labels v up old done.0)

@@ -94,13 +94,13 @@ module _ {db : Database} {labels : List Label} {v : Volume} {c : Component} {wan
   }
 
   -- a group whose span gets more partitions is as sound
-  pub lengthened_keeps : All (λ l. l.data_size < 2 ^ 64) labels → first_of (limits db (length wanted) change) ≡ None → Rising (changed db change).records × Keeps labels db (changed db change)
+  pub lengthened_keeps : All (λ l. l.data_size < 2 ^ 64) labels → first_of (limits db labels (length wanted) change) ≡ None → Rising (changed db change).records × Keeps labels db (changed db change)
   lengthened_keeps low within =
       let sound = sound_from (changed db change).records labels (longer_each is_longer old.laid_out (sound_parts db.records labels old.sound)) in (
         extended_rises up old may,
         next_keeps db labels (length wanted) change old
             (λ k e lt. All-contains IsFitting db.records (get_or change.stay k e) old.room.each (filter_has (λ r. not (changes v c r)) db.records (get_or change.stay k e) (Contains-get_or change.stay k e lt)).0)
-            (within_limits db (length wanted) change within) (heads is_longer) sound (ends_in_range (changed db change).records labels low sound),
+            (within_limits db labels (length wanted) change within) (heads is_longer) sound (ends_in_range (changed db change).records labels low sound),
       )
 
 -- ---- the command
@@ -127,16 +127,16 @@ extended_from db labels pieces None next up low ed at h = absurd cc
 extended_from db labels pieces (Some v) next up low ed at h =
     let words : List (List ℕ × ℕ) = map (λ (p : Piece). (p.disk, p.len)) pieces in
     let asked = asked_for (data_size labels db.records) db.records 0 words in
-    let open' = not_refused (unlengthened db.records v) (with_wanted db v asked) next h in
+    let open' = not_refused (unlengthened db.records v) (with_wanted db labels v asked) next h in
     ask words asked refl open'.1 (not_unlengthened db.records v open'.0)
   where
     lay : (words : List (List ℕ × ℕ)) (wanted : List Wanted) → asked_for (data_size labels db.records) db.records 0 words ≡ Ok wanted → is_bad_length (held (layout_of db.records v)) wanted ≡ false → (c : Option Component) → component_of v db.records ≡ c
-        → (r : Result (List ℕ) ℕ) → placed (taken_in db.records) 0 wanted ≡ r → lengthen db v c wanted r ≡ Ok next → shape_of (plexes_of v.head.id db.records) ≡ Some shapes.Span → Rising next.records × Keeps labels db next
+        → (r : Result (List ℕ) ℕ) → placed (taken_in db.records) 0 wanted ≡ r → lengthen db labels v c wanted r ≡ Ok next → shape_of (plexes_of v.head.id db.records) ≡ Some shapes.Span → Rising next.records × Keeps labels db next
     lay words wanted asked good None found r places e shape = absurd cc
     lay words wanted asked good (Some c) found (Err piece) places e shape = absurd cc
     lay words wanted asked good (Some c) found (Ok starts) places e shape =
         let change : Change = lengthened db.records v c (held (layout_of db.records v)) (taken_at wanted starts) in
-        let made = when_ok (first_of (limits db (length wanted) change)) (changed db change) next e in
+        let made = when_ok (first_of (limits db labels (length wanted) change)) (changed db change) next e in
         let may : MayExtend db labels v c wanted starts = record {
           there = at v refl;
           span = shape;
@@ -145,16 +145,16 @@ extended_from db labels pieces (Some v) next up low ed at h =
           asked = asked;
           sizes = good;
           places = places;
-          ids = (within_limits db (length wanted) change made.0).ids;
+          ids = (within_limits db labels (length wanted) change made.0).ids;
         } in
         subst (λ (x : Database). Rising x.records × Keeps labels db x) made.1 (lengthened_keeps up ed may low made.0)
 
-    ask : (words : List (List ℕ × ℕ)) (r : Result (List Wanted) ℕ) → asked_for (data_size labels db.records) db.records 0 words ≡ r → with_wanted db v r ≡ Ok next → shape_of (plexes_of v.head.id db.records) ≡ Some shapes.Span
+    ask : (words : List (List ℕ × ℕ)) (r : Result (List Wanted) ℕ) → asked_for (data_size labels db.records) db.records 0 words ≡ r → with_wanted db labels v r ≡ Ok next → shape_of (plexes_of v.head.id db.records) ≡ Some shapes.Span
         → Rising next.records × Keeps labels db next
     ask words (Err piece) e h shape = absurd cc
     ask words (Ok wanted) e h shape =
         let bad : Bool = is_bad_length (held (layout_of db.records v)) wanted in
-        let open' = not_refused (when bad refusals.BadSize) (lengthen db v (component_of v db.records) wanted (placed (taken_in db.records) 0 wanted)) next h in
+        let open' = not_refused (when bad refusals.BadSize) (lengthen db labels v (component_of v db.records) wanted (placed (taken_in db.records) 0 wanted)) next h in
         lay words wanted e (not_when bad refusals.BadSize open'.0)
         (component_of v db.records) refl (placed (taken_in db.records) 0 wanted) refl open'.1 shape
 

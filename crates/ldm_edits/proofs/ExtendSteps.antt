@@ -61,18 +61,18 @@ module _ (records : List Record) (v : Volume) where
 
 module _ (db : Database) (labels : List Label) (pieces : List Piece) (v : Volume) where
   pub refused : (r : Refusal) → unlengthened db.records v ≡ Some r → extended_span db labels pieces (Some v) ≡ Err r
-  refused r h = ap (λ (o : Option Refusal). refused_or o (with_wanted db v (asked_by db labels pieces))) h
+  refused r h = ap (λ (o : Option Refusal). refused_or o (with_wanted db labels v (asked_by db labels pieces))) h
 
-  by_wanted : unlengthened db.records v ≡ None → extended_span db labels pieces (Some v) ≡ with_wanted db v (asked_by db labels pieces)
-  by_wanted may = ap (λ (o : Option Refusal). refused_or o (with_wanted db v (asked_by db labels pieces))) may
+  by_wanted : unlengthened db.records v ≡ None → extended_span db labels pieces (Some v) ≡ with_wanted db labels v (asked_by db labels pieces)
+  by_wanted may = ap (λ (o : Option Refusal). refused_or o (with_wanted db labels v (asked_by db labels pieces))) may
 
   pub no_disk : (piece : ℕ) → unlengthened db.records v ≡ None → asked_by db labels pieces ≡ Err piece → extended_span db labels pieces (Some v) ≡ Err (refusals.NoDisk piece)
-  no_disk piece may h = by_wanted may ∙ ap (with_wanted db v) h
+  no_disk piece may h = by_wanted may ∙ ap (with_wanted db labels v) h
 
   by_lengths : (wanted : List Wanted) (bad : Bool) → unlengthened db.records v ≡ None → asked_by db labels pieces ≡ Ok wanted → is_bad_length (held (layout_of db.records v)) wanted ≡ bad
-      → extended_span db labels pieces (Some v) ≡ refused_or (when bad refusals.BadSize) (lengthen db v (component_of v db.records) wanted (placed (taken_in db.records) 0 wanted))
+      → extended_span db labels pieces (Some v) ≡ refused_or (when bad refusals.BadSize) (lengthen db labels v (component_of v db.records) wanted (placed (taken_in db.records) 0 wanted))
   by_lengths wanted bad may h is =
-      by_wanted may ∙ ap (with_wanted db v) h ∙ ap (λ (b : Bool). refused_or (when b refusals.BadSize) (lengthen db v (component_of v db.records) wanted (placed (taken_in db.records) 0 wanted))) is
+      by_wanted may ∙ ap (with_wanted db labels v) h ∙ ap (λ (b : Bool). refused_or (when b refusals.BadSize) (lengthen db labels v (component_of v db.records) wanted (placed (taken_in db.records) 0 wanted))) is
 
   pub bad_size : (wanted : List Wanted) → unlengthened db.records v ≡ None → asked_by db labels pieces ≡ Ok wanted → is_bad_length (held (layout_of db.records v)) wanted ≡ true → extended_span db labels pieces (Some v) ≡ Err refusals.BadSize
   bad_size wanted may h bad = by_lengths wanted true may h bad
@@ -84,30 +84,30 @@ pub record IsLengthy (db : Database) (labels : List Label) (pieces : List Piece)
   pub sizes : is_bad_length (held (layout_of db.records v)) wanted ≡ false
 
 module _ (db : Database) (labels : List Label) (pieces : List Piece) (v : Volume) (wanted : List Wanted) (is : IsLengthy db labels pieces v wanted) where
-  by_component : (o : Option Component) → component_of v db.records ≡ o → extended_span db labels pieces (Some v) ≡ lengthen db v o wanted (placed (taken_in db.records) 0 wanted)
-  by_component o h = by_lengths db labels pieces v wanted false is.may is.found is.sizes ∙ ap (λ (c : Option Component). lengthen db v c wanted (placed (taken_in db.records) 0 wanted)) h
+  by_component : (o : Option Component) → component_of v db.records ≡ o → extended_span db labels pieces (Some v) ≡ lengthen db labels v o wanted (placed (taken_in db.records) 0 wanted)
+  by_component o h = by_lengths db labels pieces v wanted false is.may is.found is.sizes ∙ ap (λ (c : Option Component). lengthen db labels v c wanted (placed (taken_in db.records) 0 wanted)) h
 
   pub no_component : component_of v db.records ≡ None → extended_span db labels pieces (Some v) ≡ Err refusals.NotSpan
   no_component h = by_component None h
 
   pub no_space : (c : Component) (piece : ℕ) → component_of v db.records ≡ Some c → placed (taken_in db.records) 0 wanted ≡ Err piece → extended_span db labels pieces (Some v) ≡ Err (refusals.NoSpace piece)
-  no_space c piece h places = by_component (Some c) h ∙ ap (lengthen db v (Some c) wanted) places
+  no_space c piece h places = by_component (Some c) h ∙ ap (lengthen db labels v (Some c) wanted) places
 
   pub no_ids : (c : Component) (starts : List ℕ) → component_of v db.records ≡ Some c → placed (taken_in db.records) 0 wanted ≡ Ok starts → 2 ^ 64 - 1 < max_id db.records + length wanted
       → extended_span db labels pieces (Some v) ≡ Err refusals.IdsSpent
   no_ids c starts h places spent =
       let change : Change = lengthened db.records v c (held (layout_of db.records v)) (taken_at wanted starts) in
-      by_component (Some c) h ∙ ap (lengthen db v (Some c) wanted) places ∙ ap (λ (o : Option Refusal). unless o (changed db change)) (sym (ids_spent db (length wanted) change spent))
+      by_component (Some c) h ∙ ap (lengthen db labels v (Some c) wanted) places ∙ ap (λ (o : Option Refusal). unless o (changed db change)) (sym (ids_spent db labels (length wanted) change spent))
 
   -- what is made is tested by the limits
   pub by_limits : (c : Component) (starts : List ℕ) (taken : List Taken) (made : List Record) (id capacity : ℕ) → component_of v db.records ≡ Some c → placed (taken_in db.records) 0 wanted ≡ Ok starts
       → taken ≡ taken_at wanted starts → id ≡ max_id db.records + 1 → capacity ≡ held (layout_of db.records v) → made ≡ longer_parts v c capacity id taken
-      → change_to db (length wanted) (change_of (leavings.Changed v.head.id c.head.id) db.records made) ≡ extended_span db labels pieces (Some v)
+      → change_to db labels (length wanted) (change_of (leavings.Changed v.head.id c.head.id) db.records made) ≡ extended_span db labels pieces (Some v)
   by_limits c starts taken made id capacity h places taken_is id_is capacity_is made_is =
       let change : Change = lengthened db.records v c (held (layout_of db.records v)) (taken_at wanted starts) in
       let all : made ≡ change.made = made_is ∙ (λ i. longer_parts v c (capacity_is i) (id_is i) (taken_is i)) in
       let same : change_of (leavings.Changed v.head.id c.head.id) db.records made ≡ change = (λ i. record { stay = change.stay; made = all i }) in
-      ap (change_to db (length wanted)) same ∙ sym (by_component (Some c) h ∙ ap (lengthen db v (Some c) wanted) places)
+      ap (change_to db labels (length wanted)) same ∙ sym (by_component (Some c) h ∙ ap (lengthen db labels v (Some c) wanted) places)
 
 -- the records of a longer span, pushed one after the other
 pub longer_are : (v longer : Volume) (c fuller : Component) (capacity id size : ℕ) (taken : List Taken) (none one two : List Record) → size ≡ capacity + sum_by (λ t. t.size) taken

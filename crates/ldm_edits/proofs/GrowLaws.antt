@@ -198,12 +198,12 @@ module _ {db : Database} {labels : List Label} {v : Volume} {len : ℕ} {wanted 
   }
 
   -- a group whose mirror is longer is as sound
-  pub grown_keeps : All (λ l. l.data_size < 2 ^ 64) labels → first_of (limits db (length wanted) (grown db.records v (held (layout_of db.records v) + len) (taken_at wanted starts))) ≡ None
+  pub grown_keeps : All (λ l. l.data_size < 2 ^ 64) labels → first_of (limits db labels (length wanted) (grown db.records v (held (layout_of db.records v) + len) (taken_at wanted starts))) ≡ None
       → Rising (changed db (grown db.records v (held (layout_of db.records v) + len) (taken_at wanted starts))).records × Keeps labels db (changed db (grown db.records v (held (layout_of db.records v) + len) (taken_at wanted starts)))
   grown_keeps low within =
       let sound = sound_from (changed db change).records labels (grown_each is_grown old.laid_out rules) in (
         rises,
         next_keeps db labels (length wanted) change old
             (λ k e lt. All-contains IsFitting db.records (get_or change.stay k e) old.room.each (filter_has (λ r. not (changes v r)) db.records (get_or change.stay k e) (Contains-get_or change.stay k e lt)).0)
-            (within_limits db (length wanted) change within) (heads is_grown) sound (ends_in_range (changed db change).records labels low sound),
+            (within_limits db labels (length wanted) change within) (heads is_grown) sound (ends_in_range (changed db change).records labels low sound),
       )

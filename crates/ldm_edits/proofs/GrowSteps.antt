@@ -59,24 +59,24 @@ grows {db} {labels} {v} {len} {wanted} {starts} up old may = record {
   rising = rises up old may;
 }
 
-module _ (db : Database) (v : Volume) (wanted : List Wanted) where
-  pub no_spot : (piece : ℕ) → placed (taken_in db.records) 0 wanted ≡ Err piece → mirror_placed db v wanted (placed (taken_in db.records) 0 wanted) ≡ Err (refusals.NoSpace piece)
-  no_spot piece places = ap (mirror_placed db v wanted) places
+module _ (db : Database) (labels : List Label) (v : Volume) (wanted : List Wanted) where
+  pub no_spot : (piece : ℕ) → placed (taken_in db.records) 0 wanted ≡ Err piece → mirror_placed db labels v wanted (placed (taken_in db.records) 0 wanted) ≡ Err (refusals.NoSpace piece)
+  no_spot piece places = ap (mirror_placed db labels v wanted) places
 
-  pub no_more_ids : (starts : List ℕ) → placed (taken_in db.records) 0 wanted ≡ Ok starts → 2 ^ 64 - 1 < max_id db.records + length wanted → mirror_placed db v wanted (placed (taken_in db.records) 0 wanted) ≡ Err refusals.IdsSpent
+  pub no_more_ids : (starts : List ℕ) → placed (taken_in db.records) 0 wanted ≡ Ok starts → 2 ^ 64 - 1 < max_id db.records + length wanted → mirror_placed db labels v wanted (placed (taken_in db.records) 0 wanted) ≡ Err refusals.IdsSpent
   no_more_ids starts places spent =
       let change : Change = grown db.records v (held (layout_of db.records v) + len_of wanted) (taken_at wanted starts) in
-      ap (mirror_placed db v wanted) places ∙ ap (λ (o : Option Refusal). unless o (changed db change)) (sym (ids_spent db (length wanted) change spent))
+      ap (mirror_placed db labels v wanted) places ∙ ap (λ (o : Option Refusal). unless o (changed db change)) (sym (ids_spent db labels (length wanted) change spent))
 
   -- what is made is tested by the limits
   pub grown_by_limits : (starts : List ℕ) (taken : List Taken) (made : List Record) (id size : ℕ) → placed (taken_in db.records) 0 wanted ≡ Ok starts → taken ≡ taken_at wanted starts → id ≡ max_id db.records + 1
       → size ≡ held (layout_of db.records v) + len_of wanted → made ≡ grown_made db.records v size id taken
-      → change_to db (length wanted) (change_of (leavings.Grown v.head.id) db.records made) ≡ mirror_placed db v wanted (placed (taken_in db.records) 0 wanted)
+      → change_to db labels (length wanted) (change_of (leavings.Grown v.head.id) db.records made) ≡ mirror_placed db labels v wanted (placed (taken_in db.records) 0 wanted)
   grown_by_limits starts taken made id size places taken_is id_is size_is made_is =
       let change : Change = grown db.records v (held (layout_of db.records v) + len_of wanted) (taken_at wanted starts) in
       let all : made ≡ change.made = made_is ∙ (λ i. grown_made db.records v (size_is i) (id_is i) (taken_is i)) in
       let same : change_of (leavings.Grown v.head.id) db.records made ≡ change = (λ i. record { stay = change.stay; made = all i }) in
-      ap (change_to db (length wanted)) same ∙ sym (ap (mirror_placed db v wanted) places)
+      ap (change_to db labels (length wanted)) same ∙ sym (ap (mirror_placed db labels v wanted) places)
 
 -- a list of values, each by what it stands for
 pub all_map : {X Y : Type 0} (f : X → Y) (P : Y → Type 0) (xs : List X) → All P (map f xs) → All (λ x. P (f x)) xs

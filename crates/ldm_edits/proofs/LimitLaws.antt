@@ -1,5 +1,5 @@
 -- What the limits say that all commands have in common, and what a command that none refuses makes.
-use Rattle.std.proofs.Common.{◌≡◌, ℕ, ◌+◌, ◌-◌, ◌^◌, ◌≤◌, inl, inr, List, [], ◌∷◌, ◌++◌, length, map, get_or, refl, sym, subst, arith, Bool, true, false, Option, Some, None, Ok, Contains}
+use Rattle.std.proofs.Common.{◌≡◌, ℕ, ◌+◌, ◌-◌, ◌^◌, ◌≤◌, inl, inr, List, [], ◌∷◌, length, map, get_or, refl, sym, subst, arith, Bool, true, false, Option, Some, None, Ok, Contains}
 use Rattle.std.specs.Prelude.{filter}
 use Rattle.std.specs.List.{All}
 use Rattle.std.specs.Option.{option_map}
@@ -11,16 +11,17 @@ use Rattle.ldm_records.specs.declared.types.Record.{Record}
 use Rattle.ldm_records.specs.Plain.{own_spelling}
 use Rattle.ldm_records.specs.Views.{plain_of}
 use Rattle.ldm_frags.specs.Written.{parts_of}
+use Rattle.ldm_label.specs.declared.Label.{Label}
 use Rattle.ldm_group.specs.Order.{id_of, in_order}
 use Rattle.ldm_group.specs.Looks.{max_id}
 use Rattle.ldm_group.specs.Database.{Database}
-use Rattle.ldm_group.specs.Room.{own_len, need_of, room_of, IsFitting}
+use Rattle.ldm_group.specs.Room.{own_len, need_of, IsFitting}
 use Rattle.ldm_group.proofs.Rise.{tested}
 use Rattle.ldm_group.proofs.KinLaws.{filter_keeps}
 use Rattle.ldm_group.proofs.InOrder.{in_order_same}
 use Rattle.ldm_edits.specs.declared.reply.Refusal.{Refusal}
 use Rattle.ldm_edits.specs.declared.reply.Refusal.TheVariants as refusals
-use Rattle.ldm_edits.specs.Changes.{Change, when, limits, is_long, least_in}
+use Rattle.ldm_edits.specs.Changes.{Change, need_in, most_blocks, when, limits, is_long, least_in}
 
 -- ---- tables of refusals
 
@@ -48,10 +49,10 @@ when_ok (Some r) made next h = absurd cc
 
 -- ---- the limits
 
-pub record IsWithinLimits (db : Database) (fresh : ℕ) (change : Change) : Type 0 where
+pub record IsWithinLimits (db : Database) (labels : List Label) (fresh : ℕ) (change : Change) : Type 0 where
   pub ids : max_id db.records + fresh ≤ 2 ^ 64 - 1
   pub each : All IsFitting change.made
-  pub room : need_of (change.stay ++ change.made) ≤ room_of db.header.last
+  pub room : need_in change ≤ most_blocks labels
   pub seq : db.header.seq ≡ 2 ^ 64 - 1 → ⊥
 
 pub none_long : (made long : List Record) → filter is_long made ≡ long → option_map refusals.TooLong (least_in (map id_of long)) ≡ None → All IsFitting made
@@ -62,9 +63,9 @@ none_long made [] e h = λ k d lt. elim (tested (is_long (get_or made k d))) [
       let none = at.1 in absurd (omega arith))
 ]
 
-pub within_limits : (db : Database) (fresh : ℕ) (change : Change) → first_of (limits db fresh change) ≡ None → IsWithinLimits db fresh change
+pub within_limits : (db : Database) (labels : List Label) (fresh : ℕ) (change : Change) → first_of (limits db labels fresh change) ≡ None → IsWithinLimits db labels fresh change
 unfolding limits
-within_limits db fresh change h =
+within_limits db labels fresh change h =
     let rows = four_none _ _ _ _ h in
     record {
       ids = ltb-false _ _ (not_when _ _ rows.0);

@@ -7,61 +7,62 @@ use Rattle.std.proofs.lemmas.List.Sums.{sum_by-append}
 use Rattle.ldm_bytes.specs.Tables.{first_of}
 use Rattle.ldm_records.specs.declared.types.Record.{Record}
 use Rattle.ldm_frags.specs.Written.{parts_of}
+use Rattle.ldm_label.specs.declared.Label.{Label}
 use Rattle.ldm_group.specs.Database.{Database}
 use Rattle.ldm_group.specs.Looks.{max_id}
-use Rattle.ldm_group.specs.Room.{own_len, need_of, room_of}
+use Rattle.ldm_group.specs.Room.{own_len, need_of}
 use Rattle.ldm_edits.specs.declared.reply.Refusal.TheVariants as refusals
-use Rattle.ldm_edits.specs.Changes.{Change, when, long_id, limits, later_limits}
+use Rattle.ldm_edits.specs.Changes.{Change, need_in, most_blocks, when, long_id, limits, later_limits}
 
 -- a record is too long
-pub too_long : (db : Database) (change : Change) (id : ℕ) → Some id ≡ long_id change.made → Some (refusals.TooLong id) ≡ first_of (later_limits db change)
-too_long db change id h =
-    let need : ℕ = need_of (change.stay ++ change.made) in
-    ap (λ (o : Option ℕ). first_of (option_map refusals.TooLong o ∷ (when (nat_lt (room_of db.header.last) need) (refusals.NoRoom need (room_of db.header.last)) ∷ (when (db.header.seq == 2 ^ 64 - 1) refusals.SequenceSpent ∷ [])))) h
+pub too_long : (db : Database) (labels : List Label) (change : Change) (id : ℕ) → Some id ≡ long_id change.made → Some (refusals.TooLong id) ≡ first_of (later_limits db labels change)
+too_long db labels change id h =
+    let need : ℕ = need_in change in
+    ap (λ (o : Option ℕ). first_of (option_map refusals.TooLong o ∷ (when (nat_lt (most_blocks labels) need) (refusals.NoRoom need (most_blocks labels)) ∷ (when (db.header.seq == 2 ^ 64 - 1) refusals.SequenceSpent ∷ [])))) h
 
-none_long : (db : Database) (change : Change) → None ≡ long_id change.made
-    → first_of (when (nat_lt (room_of db.header.last) (need_of (change.stay ++ change.made))) (refusals.NoRoom (need_of (change.stay ++ change.made)) (room_of db.header.last)) ∷ (when (db.header.seq == 2 ^ 64 - 1) refusals.SequenceSpent ∷ []))
-    ≡ first_of (later_limits db change)
-none_long db change h =
-    let need : ℕ = need_of (change.stay ++ change.made) in
-    ap (λ (o : Option ℕ). first_of (option_map refusals.TooLong o ∷ (when (nat_lt (room_of db.header.last) need) (refusals.NoRoom need (room_of db.header.last)) ∷ (when (db.header.seq == 2 ^ 64 - 1) refusals.SequenceSpent ∷ [])))) h
+none_long : (db : Database) (labels : List Label) (change : Change) → None ≡ long_id change.made
+    → first_of (when (nat_lt (most_blocks labels) (need_in change)) (refusals.NoRoom (need_in change) (most_blocks labels)) ∷ (when (db.header.seq == 2 ^ 64 - 1) refusals.SequenceSpent ∷ []))
+    ≡ first_of (later_limits db labels change)
+none_long db labels change h =
+    let need : ℕ = need_in change in
+    ap (λ (o : Option ℕ). first_of (option_map refusals.TooLong o ∷ (when (nat_lt (most_blocks labels) need) (refusals.NoRoom need (most_blocks labels)) ∷ (when (db.header.seq == 2 ^ 64 - 1) refusals.SequenceSpent ∷ [])))) h
 
 pub need_both : (stay made : List Record) (a b : ℕ) → a ≡ need_of stay → b ≡ need_of made → a + b ≡ need_of (stay ++ made)
 need_both stay made a b one two = (let both = sum_by-append (λ (r : Record). parts_of (own_len r)) stay made in omega arith)
 
 -- they take more blocks than there are
-pub no_room : (db : Database) (change : Change) (need have : ℕ) → None ≡ long_id change.made → need ≡ need_of (change.stay ++ change.made) → have ≡ room_of db.header.last → have < need
-    → Some (refusals.NoRoom need have) ≡ first_of (later_limits db change)
-no_room db change need have short needs has more =
-    let less : nat_lt (room_of db.header.last) (need_of (change.stay ++ change.made)) ≡ true = (λ i. nat_lt (sym has i) (sym needs i)) ∙ lt-ltb have need more in
+pub no_room : (db : Database) (labels : List Label) (change : Change) (need have : ℕ) → None ≡ long_id change.made → need ≡ need_in change → have ≡ most_blocks labels → have < need
+    → Some (refusals.NoRoom need have) ≡ first_of (later_limits db labels change)
+no_room db labels change need have short needs has more =
+    let less : nat_lt (most_blocks labels) (need_in change) ≡ true = (λ i. nat_lt (sym has i) (sym needs i)) ∙ lt-ltb have need more in
     (λ i. Some (refusals.NoRoom (needs i) (has i)))
-    ∙ ap (λ (b : Bool). first_of (when b (refusals.NoRoom (need_of (change.stay ++ change.made)) (room_of db.header.last)) ∷ (when (db.header.seq == 2 ^ 64 - 1) refusals.SequenceSpent ∷ []))) (sym less)
-    ∙ none_long db change short
+    ∙ ap (λ (b : Bool). first_of (when b (refusals.NoRoom (need_in change) (most_blocks labels)) ∷ (when (db.header.seq == 2 ^ 64 - 1) refusals.SequenceSpent ∷ []))) (sym less)
+    ∙ none_long db labels change short
 
-enough : (db : Database) (change : Change) (need have : ℕ) → None ≡ long_id change.made → need ≡ need_of (change.stay ++ change.made) → have ≡ room_of db.header.last → need ≤ have
-    → first_of (when (db.header.seq == 2 ^ 64 - 1) refusals.SequenceSpent ∷ []) ≡ first_of (later_limits db change)
-enough db change need have short needs has few =
-    let less : nat_lt (room_of db.header.last) (need_of (change.stay ++ change.made)) ≡ false = (λ i. nat_lt (sym has i) (sym needs i)) ∙ le-ltb have need few in
-    ap (λ (b : Bool). first_of (when b (refusals.NoRoom (need_of (change.stay ++ change.made)) (room_of db.header.last)) ∷ (when (db.header.seq == 2 ^ 64 - 1) refusals.SequenceSpent ∷ []))) (sym less)
-    ∙ none_long db change short
+enough : (db : Database) (labels : List Label) (change : Change) (need have : ℕ) → None ≡ long_id change.made → need ≡ need_in change → have ≡ most_blocks labels → need ≤ have
+    → first_of (when (db.header.seq == 2 ^ 64 - 1) refusals.SequenceSpent ∷ []) ≡ first_of (later_limits db labels change)
+enough db labels change need have short needs has few =
+    let less : nat_lt (most_blocks labels) (need_in change) ≡ false = (λ i. nat_lt (sym has i) (sym needs i)) ∙ le-ltb have need few in
+    ap (λ (b : Bool). first_of (when b (refusals.NoRoom (need_in change) (most_blocks labels)) ∷ (when (db.header.seq == 2 ^ 64 - 1) refusals.SequenceSpent ∷ []))) (sym less)
+    ∙ none_long db labels change short
 
 -- the sequence is the last
-pub spent : (db : Database) (change : Change) (need have : ℕ) → None ≡ long_id change.made → need ≡ need_of (change.stay ++ change.made) → have ≡ room_of db.header.last → need ≤ have
-    → db.header.seq ≡ 2 ^ 64 - 1 → Some refusals.SequenceSpent ≡ first_of (later_limits db change)
-spent db change need have short needs has few last =
-    ap (λ (b : Bool). first_of (when b refusals.SequenceSpent ∷ [])) (sym (eq-eqb db.header.seq (2 ^ 64 - 1) last)) ∙ enough db change need have short needs has few
+pub spent : (db : Database) (labels : List Label) (change : Change) (need have : ℕ) → None ≡ long_id change.made → need ≡ need_in change → have ≡ most_blocks labels → need ≤ have
+    → db.header.seq ≡ 2 ^ 64 - 1 → Some refusals.SequenceSpent ≡ first_of (later_limits db labels change)
+spent db labels change need have short needs has few last =
+    ap (λ (b : Bool). first_of (when b refusals.SequenceSpent ∷ [])) (sym (eq-eqb db.header.seq (2 ^ 64 - 1) last)) ∙ enough db labels change need have short needs has few
 
 -- no limit is passed
-pub within : (db : Database) (change : Change) (need have : ℕ) → None ≡ long_id change.made → need ≡ need_of (change.stay ++ change.made) → have ≡ room_of db.header.last → need ≤ have
-    → (db.header.seq ≡ 2 ^ 64 - 1 → ⊥) → None ≡ first_of (later_limits db change)
-within db change need have short needs has few more =
-    ap (λ (b : Bool). first_of (when b refusals.SequenceSpent ∷ [])) (sym (ne_eqb db.header.seq (2 ^ 64 - 1) more)) ∙ enough db change need have short needs has few
+pub within : (db : Database) (labels : List Label) (change : Change) (need have : ℕ) → None ≡ long_id change.made → need ≡ need_in change → have ≡ most_blocks labels → need ≤ have
+    → (db.header.seq ≡ 2 ^ 64 - 1 → ⊥) → None ≡ first_of (later_limits db labels change)
+within db labels change need have short needs has few more =
+    ap (λ (b : Bool). first_of (when b refusals.SequenceSpent ∷ [])) (sym (ne_eqb db.header.seq (2 ^ 64 - 1) more)) ∙ enough db labels change need have short needs has few
 
 -- the ids are spent, or not
-pub ids_spent : (db : Database) (fresh : ℕ) (change : Change) → 2 ^ 64 - 1 < max_id db.records + fresh → Some refusals.IdsSpent ≡ first_of (limits db fresh change)
+pub ids_spent : (db : Database) (labels : List Label) (fresh : ℕ) (change : Change) → 2 ^ 64 - 1 < max_id db.records + fresh → Some refusals.IdsSpent ≡ first_of (limits db labels fresh change)
 unfolding limits
-ids_spent db fresh change more = ap (λ (b : Bool). first_of (when b refusals.IdsSpent ∷ later_limits db change)) (sym (lt-ltb (2 ^ 64 - 1) (max_id db.records + fresh) more))
+ids_spent db labels fresh change more = ap (λ (b : Bool). first_of (when b refusals.IdsSpent ∷ later_limits db labels change)) (sym (lt-ltb (2 ^ 64 - 1) (max_id db.records + fresh) more))
 
-pub ids_left : (db : Database) (fresh : ℕ) (change : Change) → max_id db.records + fresh ≤ 2 ^ 64 - 1 → first_of (later_limits db change) ≡ first_of (limits db fresh change)
+pub ids_left : (db : Database) (labels : List Label) (fresh : ℕ) (change : Change) → max_id db.records + fresh ≤ 2 ^ 64 - 1 → first_of (later_limits db labels change) ≡ first_of (limits db labels fresh change)
 unfolding limits
-ids_left db fresh change few = ap (λ (b : Bool). first_of (when b refusals.IdsSpent ∷ later_limits db change)) (sym (le-ltb (2 ^ 64 - 1) (max_id db.records + fresh) few))
+ids_left db labels fresh change few = ap (λ (b : Bool). first_of (when b refusals.IdsSpent ∷ later_limits db labels change)) (sym (le-ltb (2 ^ 64 - 1) (max_id db.records + fresh) few))

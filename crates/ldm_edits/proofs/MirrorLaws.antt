@@ -78,16 +78,16 @@ mirror_keeps db labels pieces v next up low ed at shape some small h =
     let asked = asked_for (data_size labels db.records) db.records 0 words in
     let cs : List Component = components_of v db.records in
     let extra : Option Refusal = when (is_some v.size2) refusals.ExtraSize in
-    let open' = not_refused (first_of (extra ∷ (when (not (length pieces == length cs)) (refusals.PieceCount (length cs)) ∷ []))) (mirror_wanted db v asked) next h in
+    let open' = not_refused (first_of (extra ∷ (when (not (length pieces == length cs)) (refusals.PieceCount (length cs)) ∷ []))) (mirror_wanted db labels v asked) next h in
     let count = not_when (not (length pieces == length cs)) (refusals.PieceCount (length cs)) (two_parts extra (when (not (length pieces == length cs)) (refusals.PieceCount (length cs))) open'.0).1 in
     ask words asked refl open'.1 (eqb-true (length pieces) (length cs) (not-false (length pieces == length cs) count)) (length-map pieces (λ (p : Piece). (p.disk, p.len)))
   where
     lay : (words : List (List ℕ × ℕ)) (wanted : List Wanted) → asked_for (data_size labels db.records) db.records 0 words ≡ Ok wanted → is_bad_growth db.records (held (layout_of db.records v)) (components_of v db.records) wanted ≡ false
-        → length wanted ≡ length pieces → length pieces ≡ length (components_of v db.records) → (r : Result (List ℕ) ℕ) → placed (taken_in db.records) 0 wanted ≡ r → mirror_placed db v wanted r ≡ Ok next → Rising next.records × Keeps labels db next
+        → length wanted ≡ length pieces → length pieces ≡ length (components_of v db.records) → (r : Result (List ℕ) ℕ) → placed (taken_in db.records) 0 wanted ≡ r → mirror_placed db labels v wanted r ≡ Ok next → Rising next.records × Keeps labels db next
     lay words wanted asked good many each (Err piece) places e = absurd cc
     lay words wanted asked good many each (Ok starts) places e =
         let change : Change = grown db.records v (held (layout_of db.records v) + len_of wanted) (taken_at wanted starts) in
-        let made = when_ok (first_of (limits db (length wanted) change)) (changed db change) next e in
+        let made = when_ok (first_of (limits db labels (length wanted) change)) (changed db change) next e in
         let one = either (is_uneven (len_of wanted) wanted) _ good in
         let two = either (is_much (held (layout_of db.records v) + len_of wanted)) _ one.1 in
         let sizes = even_sizes (len_of wanted) wanted one.0 in
@@ -101,19 +101,19 @@ mirror_keeps db labels pieces v next up low ed at shape some small h =
           some = some_len wanted (omega arith) sizes;
           fits = ltb-false (2 ^ 64 - 1) _ two.0;
           places = places;
-          ids = (within_limits db (length wanted) change made.0).ids;
+          ids = (within_limits db labels (length wanted) change made.0).ids;
           low = small;
         } in
         subst (λ (x : Database). Rising x.records × Keeps labels db x) made.1 (grown_keeps up ed may low made.0)
 
-    ask : (words : List (List ℕ × ℕ)) (r : Result (List Wanted) ℕ) → asked_for (data_size labels db.records) db.records 0 words ≡ r → mirror_wanted db v r ≡ Ok next → length pieces ≡ length (components_of v db.records) → length words ≡ length pieces
+    ask : (words : List (List ℕ × ℕ)) (r : Result (List Wanted) ℕ) → asked_for (data_size labels db.records) db.records 0 words ≡ r → mirror_wanted db labels v r ≡ Ok next → length pieces ≡ length (components_of v db.records) → length words ≡ length pieces
         → Rising next.records × Keeps labels db next
     ask words (Err piece) e h each long = absurd cc
     ask words (Ok wanted) e h each long =
         let cs : List Component = components_of v db.records in
         let same : Bool = has_twins wanted || on_others db.records cs cs wanted in
         let bad : Bool = is_bad_growth db.records (held (layout_of db.records v)) cs wanted in
-        let open' = not_refused (first_of (when same refusals.SameDisk ∷ (when bad refusals.BadSize ∷ []))) (mirror_placed db v wanted (placed (taken_in db.records) 0 wanted)) next h in
+        let open' = not_refused (first_of (when same refusals.SameDisk ∷ (when bad refusals.BadSize ∷ []))) (mirror_placed db labels v wanted (placed (taken_in db.records) 0 wanted)) next h in
         let good = not_when bad refusals.BadSize (two_parts (when same refusals.SameDisk) (when bad refusals.BadSize) open'.0).1 in
         let many = sizes_many (λ (w : Wanted). w.size) wanted words (asked_sizes (data_size labels db.records) db.records words wanted e) ∙ long in
         lay words wanted e good many each (placed (taken_in db.records) 0 wanted) refl open'.1

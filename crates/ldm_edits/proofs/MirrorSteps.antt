@@ -29,21 +29,21 @@ use Rattle.ldm_edits.proofs.ExtendSteps.{asked_by}
 
 module _ (db : Database) (labels : List Label) (pieces : List Piece) (v : Volume) (plain : is_some v.size2 ≡ false) where
   by_count : (same : Bool) → (length pieces == length (components_of v db.records)) ≡ same
-      → extended_mirror db labels pieces v ≡ refused_or (first_of (when false refusals.ExtraSize ∷ (when (not same) (refusals.PieceCount (length (components_of v db.records))) ∷ []))) (mirror_wanted db v (asked_by db labels pieces))
-  by_count same is = λ i. refused_or (first_of (when (plain i) refusals.ExtraSize ∷ (when (not (is i)) (refusals.PieceCount (length (components_of v db.records))) ∷ []))) (mirror_wanted db v (asked_by db labels pieces))
+      → extended_mirror db labels pieces v ≡ refused_or (first_of (when false refusals.ExtraSize ∷ (when (not same) (refusals.PieceCount (length (components_of v db.records))) ∷ []))) (mirror_wanted db labels v (asked_by db labels pieces))
+  by_count same is = λ i. refused_or (first_of (when (plain i) refusals.ExtraSize ∷ (when (not (is i)) (refusals.PieceCount (length (components_of v db.records))) ∷ []))) (mirror_wanted db labels v (asked_by db labels pieces))
 
   pub piece_count : (length pieces == length (components_of v db.records)) ≡ false → extended_mirror db labels pieces v ≡ Err (refusals.PieceCount (length (components_of v db.records)))
   piece_count other = by_count false other
 
   pub no_disk_there : (piece : ℕ) → (length pieces == length (components_of v db.records)) ≡ true → asked_by db labels pieces ≡ Err piece → extended_mirror db labels pieces v ≡ Err (refusals.NoDisk piece)
-  no_disk_there piece same h = by_count true same ∙ ap (mirror_wanted db v) h
+  no_disk_there piece same h = by_count true same ∙ ap (mirror_wanted db labels v) h
 
   pub by_tests : (wanted : List Wanted) (twice bad : Bool) → (length pieces == length (components_of v db.records)) ≡ true → asked_by db labels pieces ≡ Ok wanted
       → (has_twins wanted || on_others db.records (components_of v db.records) (components_of v db.records) wanted) ≡ twice → is_bad_growth db.records (held (layout_of db.records v)) (components_of v db.records) wanted ≡ bad
-      → extended_mirror db labels pieces v ≡ refused_or (first_of (when twice refusals.SameDisk ∷ (when bad refusals.BadSize ∷ []))) (mirror_placed db v wanted (placed (taken_in db.records) 0 wanted))
+      → extended_mirror db labels pieces v ≡ refused_or (first_of (when twice refusals.SameDisk ∷ (when bad refusals.BadSize ∷ []))) (mirror_placed db labels v wanted (placed (taken_in db.records) 0 wanted))
   by_tests wanted twice bad same h twice_is bad_is =
-      by_count true same ∙ ap (mirror_wanted db v) h
-      ∙ (λ i. refused_or (first_of (when (twice_is i) refusals.SameDisk ∷ (when (bad_is i) refusals.BadSize ∷ []))) (mirror_placed db v wanted (placed (taken_in db.records) 0 wanted)))
+      by_count true same ∙ ap (mirror_wanted db labels v) h
+      ∙ (λ i. refused_or (first_of (when (twice_is i) refusals.SameDisk ∷ (when (bad_is i) refusals.BadSize ∷ []))) (mirror_placed db labels v wanted (placed (taken_in db.records) 0 wanted)))
 
 none_much : (records : List Record) (cs : List Component) → list_any (λ c. is_much (component_holds records c)) cs ≡ false → All (λ c. component_holds records c < 2 ^ 64) cs
 none_much records [] h k d lt = absurd (omega arith)

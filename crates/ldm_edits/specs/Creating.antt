@@ -61,19 +61,19 @@ abbrev pub change_for : Database → List ℕ → ℕ → NewLayout → List Wan
 change_for db name guid layout wanted starts =
     record { stay = db.records; made = made_for layout (max_id db.records + 1) name guid (taken_at wanted starts) }
 
-abbrev pub at_places : Database → List ℕ → ℕ → NewLayout → List Wanted → Result (List ℕ) ℕ → Result Database Refusal
-at_places db name guid layout wanted (Err place) = Err (refusals.NoSpace place)
-at_places db name guid layout wanted (Ok starts) =
-    unless (first_of (limits db (fresh_for layout) (change_for db name guid layout wanted starts))) (changed db (change_for db name guid layout wanted starts))
+abbrev pub at_places : Database → List Label → List ℕ → ℕ → NewLayout → List Wanted → Result (List ℕ) ℕ → Result Database Refusal
+at_places db labels name guid layout wanted (Err place) = Err (refusals.NoSpace place)
+at_places db labels name guid layout wanted (Ok starts) =
+    unless (first_of (limits db labels (fresh_for layout) (change_for db name guid layout wanted starts))) (changed db (change_for db name guid layout wanted starts))
 
-abbrev pub on_disks : Database → List ℕ → ℕ → NewLayout → Result (List Wanted) ℕ → Result Database Refusal
-on_disks db name guid layout (Err place) = Err (refusals.NoDisk place)
-on_disks db name guid layout (Ok wanted) =
+abbrev pub on_disks : Database → List Label → List ℕ → ℕ → NewLayout → Result (List Wanted) ℕ → Result Database Refusal
+on_disks db labels name guid layout (Err place) = Err (refusals.NoDisk place)
+on_disks db labels name guid layout (Ok wanted) =
     if is_same_disk layout wanted then Err refusals.SameDisk
     else if is_bad_size layout then Err refusals.BadSize
-    else at_places db name guid layout wanted (placed (taken_in db.records) 0 wanted)
+    else at_places db labels name guid layout wanted (placed (taken_in db.records) 0 wanted)
 
 unfoldable pub created : Database → List Label → List ℕ → ℕ → NewLayout → Result Database Refusal
 created db labels name guid layout =
     if is_some (volume_named name db.records) then Err refusals.NameTaken
-    else on_disks db name guid layout (asked_for (data_size labels db.records) db.records 0 (words_of layout))
+    else on_disks db labels name guid layout (asked_for (data_size labels db.records) db.records 0 (words_of layout))

@@ -4,6 +4,7 @@ use Rattle.ldm_bytes.specs.Tables.{first_of, unless}
 use Rattle.ldm_records.specs.declared.types.Record.{Record}
 use Rattle.ldm_records.specs.declared.types.Record.TheVariants as kinds
 use Rattle.ldm_records.specs.declared.types.Volume.{Volume}
+use Rattle.ldm_label.specs.declared.Label.{Label}
 use Rattle.ldm_group.specs.Database.{Database}
 use Rattle.ldm_layout.specs.Parts.{is_partition_of}
 use Rattle.ldm_edits.specs.declared.reply.Refusal.{Refusal}
@@ -20,6 +21,6 @@ goes volume records _ = false
 abbrev pub without : Volume → List Record → Change
 without v records = record { stay = filter (λ r. not (goes v.head.id records r)) records; made = [] }
 
-abbrev pub deleted : Database → Option Volume → Result Database Refusal
-deleted db None = Err refusals.NoVolume
-deleted db (Some v) = unless (first_of (limits db 0 (without v db.records))) (changed db (without v db.records))
+abbrev pub deleted : Database → List Label → Option Volume → Result Database Refusal
+deleted db labels None = Err refusals.NoVolume
+deleted db labels (Some v) = unless (first_of (limits db labels 0 (without v db.records))) (changed db (without v db.records))

@@ -55,20 +55,20 @@ is_bad_growth records capacity cs wanted =
     is_uneven (len_of wanted) wanted || (is_much (capacity + len_of wanted) || list_any (λ c. is_much (component_holds records c)) cs)
 
 -- the next group, where its pieces are placed
-abbrev pub mirror_placed : Database → Volume → List Wanted → Result (List ℕ) ℕ → Result Database Refusal
-mirror_placed db v wanted (Ok starts) =
+abbrev pub mirror_placed : Database → List Label → Volume → List Wanted → Result (List ℕ) ℕ → Result Database Refusal
+mirror_placed db labels v wanted (Ok starts) =
     let change = grown db.records v (held (layout_of db.records v) + len_of wanted) (taken_at wanted starts) in
-    unless (first_of (limits db (length wanted) change)) (changed db change)
-mirror_placed db v wanted (Err piece) = Err (refusals.NoSpace piece)
+    unless (first_of (limits db labels (length wanted) change)) (changed db change)
+mirror_placed db labels v wanted (Err piece) = Err (refusals.NoSpace piece)
 
 -- what refuses them before they are placed
-abbrev pub mirror_wanted : Database → Volume → Result (List Wanted) ℕ → Result Database Refusal
-mirror_wanted db v (Err piece) = Err (refusals.NoDisk piece)
-mirror_wanted db v (Ok wanted) =
+abbrev pub mirror_wanted : Database → List Label → Volume → Result (List Wanted) ℕ → Result Database Refusal
+mirror_wanted db labels v (Err piece) = Err (refusals.NoDisk piece)
+mirror_wanted db labels v (Ok wanted) =
     refused_or (first_of (
     when (has_twins wanted || on_others db.records (components_of v db.records) (components_of v db.records) wanted) refusals.SameDisk
     ∷ (when (is_bad_growth db.records (held (layout_of db.records v)) (components_of v db.records) wanted) refusals.BadSize ∷ [])))
-    (mirror_placed db v wanted (placed (taken_in db.records) 0 wanted))
+    (mirror_placed db labels v wanted (placed (taken_in db.records) 0 wanted))
 
 -- the group with a longer mirror: one piece for each component
 abbrev pub extended_mirror : Database → List Label → List Piece → Volume → Result Database Refusal
@@ -76,7 +76,7 @@ extended_mirror db labels pieces v =
     refused_or (first_of (
     when (is_some v.size2) refusals.ExtraSize
     ∷ (when (not (length pieces == length (components_of v db.records))) (refusals.PieceCount (length (components_of v db.records))) ∷ [])))
-    (mirror_wanted db v (asked_for (data_size labels db.records) db.records 0 (map (λ p. (p.disk, p.len)) pieces)))
+    (mirror_wanted db labels v (asked_for (data_size labels db.records) db.records 0 (map (λ p. (p.disk, p.len)) pieces)))
 
 -- by the shape of the volume
 abbrev pub extended_as : Option Shape → Database → List Label → List Piece → Volume → Result Database Refusal

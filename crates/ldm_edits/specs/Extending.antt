@@ -82,20 +82,20 @@ unlengthened records v = first_of (when (not (is_span (shape_of (plexes_of v.hea
 abbrev pub is_bad_length : ℕ → List Wanted → Bool
 is_bad_length capacity wanted = list_any (λ w. w.size == 0) wanted || is_much (capacity + sum_by (λ w. w.size) wanted)
 
-abbrev pub lengthen : Database → Volume → Option Component → List Wanted → Result (List ℕ) ℕ → Result Database Refusal
-lengthen db v (Some c) wanted (Ok starts) =
+abbrev pub lengthen : Database → List Label → Volume → Option Component → List Wanted → Result (List ℕ) ℕ → Result Database Refusal
+lengthen db labels v (Some c) wanted (Ok starts) =
     let change = lengthened db.records v c (held (layout_of db.records v)) (taken_at wanted starts) in
-    unless (first_of (limits db (length wanted) change)) (changed db change)
-lengthen db v (Some c) wanted (Err piece) = Err (refusals.NoSpace piece)
-lengthen db v None wanted starts = Err refusals.NotSpan
+    unless (first_of (limits db labels (length wanted) change)) (changed db change)
+lengthen db labels v (Some c) wanted (Err piece) = Err (refusals.NoSpace piece)
+lengthen db labels v None wanted starts = Err refusals.NotSpan
 
-abbrev pub with_wanted : Database → Volume → Result (List Wanted) ℕ → Result Database Refusal
-with_wanted db v (Err piece) = Err (refusals.NoDisk piece)
-with_wanted db v (Ok wanted) =
+abbrev pub with_wanted : Database → List Label → Volume → Result (List Wanted) ℕ → Result Database Refusal
+with_wanted db labels v (Err piece) = Err (refusals.NoDisk piece)
+with_wanted db labels v (Ok wanted) =
     refused_or (when (is_bad_length (held (layout_of db.records v)) wanted) refusals.BadSize)
-    (lengthen db v (component_of v db.records) wanted (placed (taken_in db.records) 0 wanted))
+    (lengthen db labels v (component_of v db.records) wanted (placed (taken_in db.records) 0 wanted))
 
 abbrev pub extended_span : Database → List Label → List Piece → Option Volume → Result Database Refusal
 extended_span db labels pieces None = Err refusals.NoVolume
 extended_span db labels pieces (Some v) =
-    refused_or (unlengthened db.records v) (with_wanted db v (asked_for (data_size labels db.records) db.records 0 (map (λ p. (p.disk, p.len)) pieces)))
+    refused_or (unlengthened db.records v) (with_wanted db labels v (asked_for (data_size labels db.records) db.records 0 (map (λ p. (p.disk, p.len)) pieces)))

@@ -1,7 +1,7 @@
 -- What a command makes of a group, and what the lines of a script make of it one after another.
-use Rattle.std.specs.Prelude.{◌≡◌, ◌+◌, ◌-◌, ◌^◌, ◌<◌, ℕ, true, false, List, [], ◌∷◌, Option, Some, None, Result, Ok, Err, if◌then◌else◌}
+use Rattle.std.specs.Prelude.{◌≡◌, ◌+◌, ◌-◌, ◌*◌, ◌^◌, ◌<◌, ◌≤◌, ℕ, true, false, All, List, [], ◌∷◌, Option, Some, None, Result, Ok, Err, if◌then◌else◌}
 use Rattle.std.specs.Option.{ForSome}
-use Rattle.ldm_vmdb.specs.Headers.{with_seq}
+use Rattle.ldm_vmdb.specs.Headers.{grown_to}
 use Rattle.ldm_label.specs.declared.Label.{Label}
 use Rattle.ldm_group.specs.Database.{Database, at_seq}
 use Rattle.ldm_group.specs.Looks.{volume_named, HasSameDisks}
@@ -17,6 +17,7 @@ use Rattle.ldm_edits.specs.declared.stepping.Outcome.TheVariants as outcomes
 use Rattle.ldm_edits.specs.declared.batch.Draft.{Draft}
 use Rattle.ldm_edits.specs.declared.batch.Turn.{Turn as Verdict}
 use Rattle.ldm_edits.specs.declared.batch.Turn.TheVariants as verdicts
+use Rattle.ldm_edits.specs.Changes.{AreasFit}
 use Rattle.ldm_edits.specs.Creating.{created}
 use Rattle.ldm_edits.specs.Extended.{extended}
 use Rattle.ldm_edits.specs.Deleting.{deleted}
@@ -25,7 +26,7 @@ use Rattle.ldm_edits.specs.Deleting.{deleted}
 unfoldable pub next_of : Database → List Label → Command → Result Database Refusal
 next_of db labels (Create name guid layout) = created db labels name guid layout
 next_of db labels (Extend name pieces) = extended db labels pieces (volume_named name db.records)
-next_of db labels (Delete name) = deleted db (volume_named name db.records)
+next_of db labels (Delete name) = deleted db labels (volume_named name db.records)
 next_of db labels Begin = Err BadLine
 next_of db labels Commit = Err BadLine
 next_of db labels Cancel = Err BadLine
@@ -35,15 +36,20 @@ abbrev pub StepsAs : Outcome → Result Database Refusal → Type 0
 StepsAs (outcomes.Next next) step = step ≡ Ok next
 StepsAs (outcomes.Refused refusal) step = step ≡ Err refusal
 
--- What a command keeps of a group: it is as sound as before, its disks are the same, and as many blocks are left to its records. Its
--- sequence is the next.
--- So what an image's label and the disks say of the group stays, and what blocks editing too.
+-- a last VBLK sequence that fits each config area that the one before fits
+abbrev pub FitsAsBefore : List Label → ℕ → ℕ → Type 0
+FitsAsBefore labels last next = All (λ label. last ≤ 4 * label.area_sectors → next ≤ 4 * label.area_sectors) labels
+
+-- What a command keeps of a group: it is as sound as before, its disks are the same, its last VBLK sequence is no less, and fits each
+-- area that the one before fits. Its sequence is the next. The rest of the header stays.
+-- So what an image's label and the disks say of the group stays, and what may be edited still may be.
 pub record Keeps (labels : List Label) (old next : Database) : Type 0 where
   pub sound : IsSoundOn next labels
   pub disks : HasSameDisks old.records next.records
-  pub last : next.header.last ≡ old.header.last
+  pub rises : old.header.last ≤ next.header.last
+  pub fits : FitsAsBefore labels old.header.last next.header.last
+  pub header : next.header ≡ grown_to old.header next.header.last (old.header.seq + 1)
   pub seq : next.header.seq ≡ old.header.seq + 1
-  pub header : next.header ≡ with_seq old.header (old.header.seq + 1)
 
 -- ---- batches
 
@@ -85,11 +91,14 @@ verdict_of labels db draft (Create name guid layout) = change_in labels db (Crea
 verdict_of labels db draft (Extend name pieces) = change_in labels db (Extend name pieces) draft
 verdict_of labels db draft (Delete name) = change_in labels db (Delete name) draft
 
--- A draft of a group is as sound, on the same disks, with the same header. Where it has held a command, there is a next sequence.
+-- A draft of a group is as sound, on the same disks, with the same header but for the last VBLK sequence, which is no less and fits
+-- each area that the group's fits. Where it has held a command, there is a next sequence.
 pub record IsDraftOf (labels : List Label) (db : Database) (draft : Draft) : Type 0 where
   pub sound : IsSoundOn draft.db labels
   pub disks : HasSameDisks db.records draft.db.records
-  pub header : draft.db.header ≡ db.header
+  pub rises : db.header.last ≤ draft.db.header.last
+  pub fits : FitsAsBefore labels db.header.last draft.db.header.last
+  pub header : draft.db.header ≡ grown_to db.header draft.db.header.last db.header.seq
   pub unspent : draft.filled ≡ true → db.header.seq < 2 ^ 64 - 1
 
 -- what is kept of a group by what a line comes to
@@ -159,7 +168,8 @@ group_after labels db lines = (turns_of labels (fresh db) lines).state.db
 abbrev pub replies_to : List Label → Database → List (Option Command) → List Reply
 replies_to labels db lines = replies_in labels (fresh db) lines
 
--- the group of a state is sound, and a batch that is open is a draft of it
+-- the group of a state is sound, no config area is larger than the database of its image, and a batch that is open is a draft of the group
 pub record IsGood (labels : List Label) (state : State) : Type 0 where
   pub sound : IsSoundOn state.db labels
+  pub areas : AreasFit labels
   pub draft : ForSome state.draft (IsDraftOf labels state.db)

@@ -7,6 +7,7 @@ ghost use Rattle.ldm_rules.specs.Facts.{IsSoundOn};
 ghost use Rattle.ldm_words.specs.Limits.{IsCommand, IsChange};
 ghost use Rattle.ldm_edits.specs.declared.reply.Refusal.{Refusal as Reason};
 ghost use Rattle.ldm_edits.specs.declared.stepping.Outcome.TheVariants.{Next};
+ghost use Rattle.ldm_edits.specs.Changes.{AreasFit};
 ghost use Rattle.ldm_edits.specs.Steps.{StepsAs, Keeps, IsDraftOf, VerdictKeeps, at_once, held_at, change_in, begun, committed, cancelled, verdict_of};
 
 use crate::batch::{Draft, Turn};
@@ -98,6 +99,7 @@ fn change(
     command: &Command,
 ) -> Result<Turn, NoMemory>
     requires sound { IsSoundOn db.now labels.now }
+    requires areas { AreasFit labels.now }
     requires draft { ForSome (option_copied draft) (IsDraftOf labels.now db.now) }
     requires limits { IsCommand command.now }
     requires change { IsChange command.now }
@@ -122,6 +124,7 @@ pub fn turn(
     command: &Command,
 ) -> Result<Turn, NoMemory>
     requires sound { IsSoundOn db.now labels.now }
+    requires areas { AreasFit labels.now }
     requires draft { ForSome (option_copied draft) (IsDraftOf labels.now db.now) }
     requires limits { IsCommand command.now }
     ensures is { IfOk result (λ turn. turn ≡ verdict_of labels.now db.now (option_copied draft.entry) command.now) }

@@ -5,6 +5,7 @@ ghost use Rattle.ldm_rules.specs.Facts.{IsSoundOn};
 ghost use Rattle.ldm_words.specs.Limits.{IsNewLayout, IsCreate};
 ghost use Rattle.ldm_edits.specs.Asked.{asked_for};
 ghost use Rattle.ldm_edits.specs.Answers.{AsksAs, AreLow, StepsTo};
+ghost use Rattle.ldm_edits.specs.Changes.{AreasFit};
 ghost use Rattle.ldm_edits.specs.Creating.{words_of, is_same_disk, is_bad_column, is_bad_size, made_for, fresh_for, created};
 
 use crate::asked::{asked_disks, asked_pieces, has_twins, is_bad_length};
@@ -139,6 +140,7 @@ pub fn create(
     layout: &NewLayout,
 ) -> Result<Db, StepError>
     requires sound { IsSoundOn db.now labels.now }
+    requires areas { AreasFit labels.now }
     requires limits { IsCreate name.now layout.now }
     ensures { StepsTo result (created db.now labels.now name.now guid layout.now) }
 {
@@ -164,5 +166,5 @@ pub fn create(
         return Err(StepError::Refused(Refusal::IdsSpent));
     };
     let made = made_for(alloc, layout, id, name, guid, spots.as_slice())?;
-    change(alloc, db, fresh, Leaving::Nothing, made)
+    change(alloc, db, labels, fresh, Leaving::Nothing, made)
 }

@@ -2,6 +2,7 @@
 ghost use Rattle.ldm_group.specs.Looks.{volume_named};
 ghost use Rattle.ldm_rules.specs.Facts.{IsSoundOn};
 ghost use Rattle.ldm_edits.specs.Answers.{StepsTo};
+ghost use Rattle.ldm_edits.specs.Changes.{AreasFit};
 ghost use Rattle.ldm_edits.specs.Deleting.{deleted};
 
 use crate::changing::change;
@@ -14,8 +15,9 @@ use std::alloc::Global;
 
 /// The group without the volume of this name.
 pub fn delete(alloc: Global, db: &Db, labels: &Labels, name: &[u8]) -> Result<Db, StepError>
-    requires { IsSoundOn db.now labels.now }
-    ensures { StepsTo result (deleted db.now (volume_named name.now db.now.records)) }
+    requires sound { IsSoundOn db.now labels.now }
+    requires areas { AreasFit labels.now }
+    ensures { StepsTo result (deleted db.now labels.now (volume_named name.now db.now.records)) }
 {
     let Some(volume) = db.volume_named(name) else {
         return Err(StepError::Refused(Refusal::NoVolume));
@@ -23,5 +25,5 @@ pub fn delete(alloc: Global, db: &Db, labels: &Labels, name: &[u8]) -> Result<Db
     let leaving = Leaving::Deleted {
         volume: volume.head.id,
     };
-    change(alloc, db, 0, leaving, Vec::new(alloc))
+    change(alloc, db, labels, 0, leaving, Vec::new(alloc))
 }

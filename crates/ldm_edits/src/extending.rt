@@ -8,6 +8,7 @@ ghost use Rattle.ldm_layout.specs.Volumes.{layout_of, shape_of, volume_with};
 ghost use Rattle.ldm_rules.specs.Facts.{IsSoundOn};
 ghost use Rattle.ldm_words.specs.Limits.{ArePieces};
 ghost use Rattle.ldm_edits.specs.Answers.{StepsTo};
+ghost use Rattle.ldm_edits.specs.Changes.{AreasFit};
 ghost use Rattle.ldm_edits.specs.Extending.{component_in, held, unlengthened, longer_parts, extended_span};
 ghost use Rattle.ldm_layout.specs.declared.shape.Shape.TheVariants as shapes;
 ghost use Rattle.ldm_edits.specs.Extended.{extended_mirror, extended};
@@ -91,6 +92,7 @@ pub fn extend(
     pieces: &[Piece],
 ) -> Result<Db, StepError>
     requires sound { IsSoundOn db.now labels.now }
+    requires areas { AreasFit labels.now }
     requires limits { ArePieces pieces.now }
     ensures { StepsTo result (extended db.now labels.now pieces.now (volume_named name.now db.now.records)) }
 {
@@ -115,6 +117,7 @@ fn extend_mirror(
     pieces: &[Piece],
 ) -> Result<Db, StepError>
     requires sound { IsSoundOn db.now labels.now }
+    requires areas { AreasFit labels.now }
     requires there { Contains db.now.records (kinds.Volume volume.now) }
     requires limits { ArePieces pieces.now }
     requires shape { shape_of (plexes_of volume.now.head.id db.now.records) ≡ Some shapes.Mirror }
@@ -138,6 +141,7 @@ fn extend_span(
     pieces: &[Piece],
 ) -> Result<Db, StepError>
     requires sound { IsSoundOn db.now labels.now }
+    requires areas { AreasFit labels.now }
     requires there { Contains db.now.records (kinds.Volume volume.now) }
     requires limits { ArePieces pieces.now }
     requires shape { shape_of (plexes_of volume.now.head.id db.now.records) ≡ Some shape }
@@ -163,6 +167,7 @@ fn lengthen(
     pieces: &[Piece],
 ) -> Result<Db, StepError>
     requires sound { IsSoundOn db.now labels.now }
+    requires areas { AreasFit labels.now }
     requires there { Contains db.now.records (kinds.Volume volume.now) }
     requires limits { ArePieces pieces.now }
     requires span { unlengthened db.now.records volume.now ≡ None }
@@ -193,5 +198,5 @@ fn lengthen(
         volume: volume.head.id,
         component: component.head.id,
     };
-    change(alloc, db, fresh, leaving, made)
+    change(alloc, db, labels, fresh, leaving, made)
 }

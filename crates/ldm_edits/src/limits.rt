@@ -4,13 +4,15 @@ ghost use Rattle.std.specs.Option.{option_map};
 ghost use Rattle.ldm_bytes.specs.Tables.{first_of};
 ghost use Rattle.ldm_group.specs.Looks.{max_id};
 ghost use Rattle.ldm_group.specs.Room.{IsFitting, need_of};
-ghost use Rattle.ldm_edits.specs.Changes.{long_id, later_limits, limits};
+ghost use Rattle.ldm_edits.specs.Changes.{long_id, need_in, AreasFit, later_limits, limits};
 ghost use Rattle.ldm_edits.specs.Staying.{staying, change_of};
 
+use crate::areas::most_blocks;
 use crate::leaving::Leaving;
 use crate::reply::Refusal;
 use ldm_frags::parts_of;
 use ldm_group::{Db, id_of, own_len};
+use ldm_label::Labels;
 use ldm_records::Record;
 
 // Whether so many new records find ids behind the greatest.
@@ -83,16 +85,26 @@ fn need_made(made: &[Record]) -> u64
     need
 }
 
+/// How many blocks the records take that stay, and those that are made.
+pub fn need_after(db: &Db, leaving: Leaving, made: &[Record]) -> u64
+    requires there { All IsFitting db.now.records }
+    requires made { All IsFitting made.now }
+    ensures { result ≡ need_in (change_of leaving db.now.records made.now) }
+{
+    need_staying(db, leaving) + need_made(made)
+}
+
 // The first of the limits but for the ids.
-fn later_limit(db: &Db, leaving: Leaving, made: &[Record]) -> Option<Refusal>
-    requires { All IsFitting db.now.records }
-    ensures { result ≡ first_of (later_limits db.now (change_of leaving db.now.records made.now)) }
+fn later_limit(db: &Db, labels: &Labels, leaving: Leaving, made: &[Record]) -> Option<Refusal>
+    requires fits { All IsFitting db.now.records }
+    requires areas { AreasFit labels.now }
+    ensures { result ≡ first_of (later_limits db.now labels.now (change_of leaving db.now.records made.now)) }
 {
     if let Some(id) = long_id(made) {
         return Some(Refusal::TooLong(id));
     }
-    let need = need_staying(db, leaving) + need_made(made);
-    let have = db.room();
+    let need = need_after(db, leaving, made);
+    let have = most_blocks(labels.as_slice());
     if have < need {
         return Some(Refusal::NoRoom { need, have });
     }
@@ -103,12 +115,19 @@ fn later_limit(db: &Db, leaving: Leaving, made: &[Record]) -> Option<Refusal>
 }
 
 /// The first reason why these records, of which so many are new, can't take the places of those that leave the group.
-pub fn first_limit(db: &Db, fresh: u64, leaving: Leaving, made: &[Record]) -> Option<Refusal>
-    requires { All IsFitting db.now.records }
-    ensures { result ≡ first_of (limits db.now fresh (change_of leaving db.now.records made.now)) }
+pub fn first_limit(
+    db: &Db,
+    labels: &Labels,
+    fresh: u64,
+    leaving: Leaving,
+    made: &[Record],
+) -> Option<Refusal>
+    requires fits { All IsFitting db.now.records }
+    requires areas { AreasFit labels.now }
+    ensures { result ≡ first_of (limits db.now labels.now fresh (change_of leaving db.now.records made.now)) }
 {
     if has_ids(db, fresh) {
-        later_limit(db, leaving, made)
+        later_limit(db, labels, leaving, made)
     } else {
         Some(Refusal::IdsSpent)
     }

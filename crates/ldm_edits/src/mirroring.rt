@@ -12,6 +12,7 @@ ghost use Rattle.ldm_space.specs.Wanted.{placed};
 ghost use Rattle.ldm_words.specs.Limits.{ArePieces};
 ghost use Rattle.ldm_edits.specs.declared.reply.Refusal.TheVariants as refusals;
 ghost use Rattle.ldm_edits.specs.Answers.{StepsTo};
+ghost use Rattle.ldm_edits.specs.Changes.{AreasFit};
 ghost use Rattle.ldm_edits.specs.Asked.{has_twins};
 ghost use Rattle.ldm_edits.specs.Changes.{when};
 ghost use Rattle.ldm_edits.specs.Extending.{held};
@@ -37,13 +38,14 @@ use std::alloc::Global;
 fn grow(
     alloc: Global,
     db: &Db,
-    _labels: &Labels,
+    labels: &Labels,
     volume: &Volume,
     capacity: u64,
     components: &[&Component],
     wanted: &[Wanted],
 ) -> Result<Db, StepError>
-    requires sound { IsSoundOn db.now _labels.now }
+    requires sound { IsSoundOn db.now labels.now }
+    requires areas { AreasFit labels.now }
     requires components { map (λ c. c.now) components.now ≡ components_of volume.now db.now.records }
     requires held { capacity ≡ held (layout_of db.now.records volume.now) }
     requires room { capacity + len_of wanted.now < 2 ^ 64 }
@@ -52,8 +54,8 @@ fn grow(
     requires limits { All (λ w. w.limit < 2 ^ 64) wanted.now }
     requires sizes { All (λ w. 0 < w.size) wanted.now }
     requires low { All (λ c. component_holds db.now.records c < 2 ^ 64) (components_of volume.now db.now.records) }
-    requires may { (starts : List ℕ) → placed (taken_in db.now.records) 0 wanted.now ≡ Ok starts → max_id db.now.records + length wanted.now ≤ 2 ^ 64 - 1 → MayGrow db.now _labels.now volume.now (len_of wanted.now) wanted.now starts }
-    ensures { StepsTo result (mirror_placed db.now volume.now wanted.now (placed (taken_in db.now.records) 0 wanted.now)) }
+    requires may { (starts : List ℕ) → placed (taken_in db.now.records) 0 wanted.now ≡ Ok starts → max_id db.now.records + length wanted.now ≤ 2 ^ 64 - 1 → MayGrow db.now labels.now volume.now (len_of wanted.now) wanted.now starts }
+    ensures { StepsTo result (mirror_placed db.now labels.now volume.now wanted.now (placed (taken_in db.now.records) 0 wanted.now)) }
 {
     let placed = match place_all(alloc, db.as_slice(), wanted)? {
         Ok(spots) => spots,
@@ -69,7 +71,7 @@ fn grow(
     let leaving = Leaving::Grown {
         volume: volume.head.id,
     };
-    change(alloc, db, fresh, leaving, made)
+    change(alloc, db, labels, fresh, leaving, made)
 }
 
 /// The group with a longer mirror of this capacity.
@@ -82,6 +84,7 @@ pub fn lengthen_mirror(
     pieces: &[Piece],
 ) -> Result<Db, StepError>
     requires sound { IsSoundOn db.now labels.now }
+    requires areas { AreasFit labels.now }
     requires there { Contains db.now.records (kinds.Volume volume.now) }
     requires limits { ArePieces pieces.now }
     requires shape { shape_of (plexes_of volume.now.head.id db.now.records) ≡ Some Mirror }

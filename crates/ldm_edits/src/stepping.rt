@@ -4,6 +4,7 @@ ghost use Rattle.ldm_group.specs.Order.{Rising};
 ghost use Rattle.ldm_rules.specs.Facts.{IsSoundOn};
 ghost use Rattle.ldm_words.specs.Limits.{IsCommand, IsChange};
 ghost use Rattle.ldm_edits.specs.Answers.{StepsTo};
+ghost use Rattle.ldm_edits.specs.Changes.{AreasFit};
 ghost use Rattle.ldm_edits.specs.Steps.{next_of, StepsAs, Keeps};
 ghost use Rattle.ldm_edits.specs.declared.stepping.Outcome.TheVariants.{Next};
 
@@ -48,6 +49,7 @@ fn types_hold(db: &Db, labels: &Labels)
 // The group with the command done.
 fn next_of(alloc: Global, db: &Db, labels: &Labels, command: &Command) -> Result<Db, StepError>
     requires sound { IsSoundOn db.now labels.now }
+    requires areas { AreasFit labels.now }
     requires limits { IsCommand command.now }
     requires change { IsChange command.now }
     ensures { StepsTo result (next_of db.now labels.now command.now) }
@@ -76,6 +78,7 @@ fn next_of(alloc: Global, db: &Db, labels: &Labels, command: &Command) -> Result
 /// What a create, an extend or a delete makes of the group, whose images have these labels. It never answers BadLine.
 pub fn step(alloc: Global, db: &Db, labels: &Labels, command: &Command) -> Result<Outcome, NoMemory>
     requires sound { IsSoundOn db.now labels.now }
+    requires areas { AreasFit labels.now }
     requires limits { IsCommand command.now }
     requires change { IsChange command.now }
     ensures is { IfOk result (λ outcome. StepsAs outcome (next_of db.now labels.now command.now)) }

@@ -1,5 +1,5 @@
 -- Whether a group that was found may be edited.
-use Rattle.std.specs.Prelude.{ℕ, ◌+◌, ◌*◌, ◌||◌, max, min, nat_lt, Bool, List, [], ◌∷◌, length, Option, Some, None, find, position, if◌then◌else◌}
+use Rattle.std.specs.Prelude.{ℕ, ◌+◌, ◌*◌, ◌≤◌, ◌||◌, max, min, nat_lt, Bool, List, [], ◌∷◌, All, length, Option, Some, None, find, position, if◌then◌else◌}
 use Rattle.std.specs.Option.{option_map}
 use Rattle.ldm_bytes.specs.Tables.{first_of}
 use Rattle.ldm_group.specs.Order.{id_of}
@@ -12,6 +12,10 @@ use Rattle.ldm_found.specs.declared.fault.OpenFault.TheVariants as faults
 -- the area is too small for a database whose last VBLK sequence is this
 abbrev pub is_small : ℕ → Label → Bool
 is_small last label = nat_lt (4 * label.area_sectors) last
+
+-- no area is
+abbrev pub AreLarge : ℕ → List Label → Type 0
+AreLarge last labels = All (λ label. last ≤ 4 * label.area_sectors) labels
 
 -- The config area begins in front of sector 3 of the database, so it may have a table of contents in it; or it ends behind
 -- sector 1856, where copy 2 of the private header is; or a sector is in the log area too.

@@ -1,5 +1,5 @@
 //! What a group, its faults and its editing depend on.
-ghost use Rattle.std.specs.Prelude.{◌≡◌, List, Result};
+ghost use Rattle.std.specs.Prelude.{◌≡◌, List, None, Result};
 ghost use Rattle.ldm_label.specs.declared.Label.{Label};
 ghost use Rattle.ldm_group.specs.Database.{Database, IsSameCore};
 ghost use Rattle.ldm_group.specs.Looks.{HasSameDisks};
@@ -7,7 +7,7 @@ ghost use Rattle.ldm_copy.specs.declared.answer.CopyState.{CopyState};
 ghost use Rattle.ldm_found.specs.declared.fault.OpenFault.{OpenFault};
 ghost use Rattle.ldm_found.specs.declared.found.Found.{Found};
 ghost use Rattle.ldm_found.specs.Opening.{group_faults, IsGroupOfCopies};
-ghost use Rattle.ldm_found.specs.Editing.{blocked_in};
+ghost use Rattle.ldm_found.specs.Editing.{AreLarge, blocked_in};
 ghost use Rattle.ldm_found.specs.Labels.{stranger};
 ghost use Rattle.ldm_found.specs.Alike.{AllAlike, AnswerAlike};
 ghost use Rattle.ldm_found.specs.New.{NewOpens, NewIsEditable};
@@ -22,10 +22,13 @@ pub fn group_alone()
 {}
 
 /// That what blocks editing depends on the disk records, the last VBLK sequence and the labels alone, and
-/// which image is of a strange disk on the disk records and the labels. The call does nothing.
+/// which image is of a strange disk on the disk records and the labels; and that a group which may be edited may be with
+/// another last VBLK sequence that fits each area. The call does nothing.
 pub fn disks_alone()
     ensures blocked { (a b : Database) (labels : List Label) → HasSameDisks a.records b.records → a.header.last ≡ b.header.last
         → blocked_in a labels ≡ blocked_in b labels }
+    ensures growth { (a b : Database) (labels : List Label) → HasSameDisks a.records b.records → AreLarge b.header.last labels
+        → blocked_in a labels ≡ None → blocked_in b labels ≡ None }
     ensures stranger { (a b : Database) (labels : List Label) → HasSameDisks a.records b.records
         → stranger a.records labels ≡ stranger b.records labels }
 {}

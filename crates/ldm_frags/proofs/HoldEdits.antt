@@ -1,10 +1,11 @@
 -- Blocks that lose a record, or take one more.
-use Rattle.std.proofs.Common.{◌≡◌, ◌≢◌, inl, inr, ℕ, suc, ◌-◌, ◌<◌, ◌≤◌, List, ◌∷◌, length, get_or, All, sym, ap, subst, ◌∙◌, arith}
-use Rattle.std.proofs.lemmas.List.{get_or_default}
+use Rattle.std.proofs.Common.{◌≡◌, ◌≢◌, inl, inr, ℕ, suc, ◌+◌, ◌-◌, ◌*◌, ◌<◌, ◌≤◌, List, ◌∷◌, ◌++◌, length, take, drop, get_or, All, sym, ap, subst, ◌∙◌, arith}
+use Rattle.std.proofs.lemmas.Bool.{cases_lt}
+use Rattle.std.proofs.lemmas.List.{get_or_default, take-append-le, drop-append-le, length-drop}
 use Rattle.std.proofs.lemmas.List.Elements.{All-cons}
 use Rattle.std.proofs.lemmas.List.Kept.{AllPairs-cons}
-use Rattle.ldm_frags.specs.Blocks.{parts, group}
-use Rattle.ldm_frags.specs.Written.{Placed, slot, IsPlaced, Holds, IsInUse, block_at, unused_block}
+use Rattle.ldm_frags.specs.Blocks.{count, parts, group}
+use Rattle.ldm_frags.specs.Written.{Placed, slot, IsPlaced, Holds, IsInUse, AddsUnused, block_at, unused_block}
 use Rattle.ldm_frags.proofs.HoldLaws.{find_number, part_fields}
 use Rattle.ldm_frags.proofs.OrderLaws.{placed_kept}
 
@@ -63,4 +64,41 @@ module _ (old new : List ℕ) (size : length new ≡ length old) (small : length
         not_placed old (get_or rs k d) 0 (slot r 0) small is (omega (arith, some, whole)) (free 0 0 (omega (arith, first, slots)))) holds.apart;
     unused = λ number in_use avoid.
         others number in_use.0 (avoid 0 r (omega arith)) ∙ holds.unused number (same_use number in_use) (λ k d lt. avoid (suc k) d (omega arith));
+  }
+
+-- ---- unused blocks behind them
+
+-- a block of bytes that others were put behind
+pub block_before : (old more : List ℕ) (number : ℕ) → IsInUse old number → block_at (old ++ more) number ≡ block_at old number
+block_before old more number in_use =
+    let low = in_use.0 in
+    let high = in_use.1 in
+    let rest : length (drop (128 * (number - 4)) old) ≡ length old - 128 * (number - 4) = length-drop (128 * (number - 4)) old in
+    ap (take 128) (drop-append-le (128 * (number - 4)) old more (omega arith)) ∙ take-append-le 128 (drop (128 * (number - 4)) old) more (omega arith)
+
+module _ (old new : List ℕ) (blocks : ℕ) (more : count old ≤ blocks) (adds : AddsUnused old blocks new) where
+  still_in_use : (number : ℕ) → IsInUse old number → IsInUse new number
+  still_in_use number in_use = (let high = in_use.1 in let size = adds.size in (in_use.0, omega arith))
+
+  still_placed : (r : Placed) → IsPlaced old r → IsPlaced new r
+  still_placed r is = record {
+    some = is.some;
+    few = is.few;
+    whole = is.whole;
+    within = λ i lt. still_in_use (slot r i) (is.within i lt);
+    written = λ i lt. adds.same (slot r i) (is.within i lt) ∙ is.written i lt;
+  }
+
+  -- they hold the same records
+  pub hold_grown : (rs : List Placed) → Holds old rs → Holds new rs
+  hold_grown rs holds = record {
+    placed = λ k d lt. still_placed (get_or rs k d) (holds.placed k d lt);
+    apart = holds.apart;
+    unused = λ number in_use free.
+        let high = in_use.1 in
+        let size = adds.size in
+        elim (cases_lt number (count old + 4)) [
+          | inl before ↦ adds.same number (in_use.0, before) ∙ holds.unused number (in_use.0, before) free
+          | inr behind ↦ adds.unused number behind (omega arith)
+        ];
   }

@@ -61,6 +61,12 @@ pub record Holds (blocks : List ℕ) (records : List Placed) : Type 0 where
   pub unused : (number : ℕ) → IsInUse blocks number → All (λ r. All (λ s. s ≢ number) r.slots) records
       → block_at blocks number ≡ unused_block number
 
+-- the blocks with unused ones behind them, so many in all
+pub record AddsUnused (old : List ℕ) (blocks : ℕ) (new : List ℕ) : Type 0 where
+  pub size : length new ≡ 128 * blocks
+  pub same : (number : ℕ) → IsInUse old number → block_at new number ≡ block_at old number
+  pub unused : (number : ℕ) → count old + 4 ≤ number → number < blocks + 4 → block_at new number ≡ unused_block number
+
 -- what a record joins to
 abbrev pub joined_of : Placed → Joined
 joined_of r = record { block = slot r 0; payload = filled r.payload }

@@ -17,5 +17,5 @@ mod writing;
 pub use faults::{FragError, FragFault, Joined, SplitError};
 pub use joiner::{Joiner, join};
 pub use slots::Slots;
-pub use splitting::{parts_of, split};
+pub use splitting::{parts_of, split, with_unused};
 pub use writing::{is_unused, is_written, write_record, write_unused};

@@ -2,12 +2,12 @@
 ghost use Rattle.std.specs.Prelude.{◌≡◌, ◌+◌, ◌*◌, ◌≤◌, ◌<◌, length, map, All, IfOk};
 ghost use Rattle.ldm_frags.specs.Blocks.{count};
 ghost use Rattle.ldm_frags.specs.Joins.{Joins};
-ghost use Rattle.ldm_frags.specs.Written.{parts_of, need_of, IsSized, IsPlaced, Holds, in_order, joined_of};
+ghost use Rattle.ldm_frags.specs.Written.{parts_of, need_of, IsSized, IsPlaced, Holds, AddsUnused, in_order, joined_of};
 ghost use Rattle.ldm_frags.specs.Answers.{SplitAnswers};
 
 use crate::SplitError;
 use crate::writing::{write_next, write_rest};
-use ldm_bytes::Bytes;
+use ldm_bytes::{Bytes, NoMemory};
 use std::alloc::Global;
 
 /// How many blocks a payload of so many bytes takes.
@@ -78,4 +78,17 @@ pub fn split(alloc: Global, payloads: &[Bytes], blocks: u32) -> Result<Bytes, Sp
     out.resize(128 * blocks as usize, 0u8)?;
     write_all(&mut out, payloads);
     Ok(Bytes::from_vec(out))
+}
+
+/// These blocks and unused ones behind them, so many in all. They begin with block 4.
+pub fn with_unused(alloc: Global, old: &[u8], blocks: u32) -> Result<Vec<u8>, NoMemory>
+    requires more { length old.now ≤ 128 * blocks }
+    requires few { blocks ≤ 8192 }
+    ensures { IfOk result (λ out. AddsUnused old.now blocks out.items) }
+{
+    let first = (old.len() / 128) as u32 + 4;
+    let mut out = Vec::from_slice(alloc, old)?;
+    out.resize(128 * blocks as usize, 0u8)?;
+    write_rest(&mut out, first, blocks + 4);
+    Ok(out)
 }

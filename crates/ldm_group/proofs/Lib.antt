@@ -10,3 +10,4 @@ pub mod InOrder
 pub mod HitLaws
 pub mod KeyLaws
 pub mod UsedLaws
+pub mod LastLaws

@@ -19,6 +19,6 @@ pub use db::Db;
 pub use error::DbError;
 pub use order::{id_of, kind_of};
 pub use records::Records;
-pub use room::own_len;
+pub use room::{last_for, own_len};
 pub use same::is_same_header;
 pub use used::{used_of, used_sectors};

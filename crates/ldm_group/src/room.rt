@@ -1,7 +1,7 @@
 //! How many blocks the records of a group need, and how many it has.
-ghost use Rattle.std.specs.Prelude.{◌≡◌, ◌≤◌, All};
+ghost use Rattle.std.specs.Prelude.{◌≡◌, ◌+◌, ◌≤◌, ◌<◌, ◌^◌, All};
 ghost use Rattle.ldm_frags.specs.Written.{parts_of};
-ghost use Rattle.ldm_group.specs.Room.{own_len, IsFitting, need_of, room_of};
+ghost use Rattle.ldm_group.specs.Room.{own_len, IsFitting, need_of, room_of, last_for, LastGrows};
 
 use crate::db::Db;
 use ldm_frags::parts_of;
@@ -23,6 +23,19 @@ fn blocks_of(r: &Record) -> u32
     ensures few { result ≤ 4 }
 {
     parts_of(own_len(r))
+}
+
+/// The last VBLK sequence of a group whose records need so many blocks, where it was this before.
+pub fn last_for(last: u32, need: u64) -> u32
+    requires { need + 7 < 2 ^ 32 }
+    ensures is { result ≡ last_for last need }
+    ensures grows { LastGrows }
+{
+    let room = (4 * u64::from(last / 4)).saturating_sub(4);
+    if need <= room {
+        return last;
+    }
+    4 * ((need as u32 + 7) / 4)
 }
 
 impl Db {

@@ -135,12 +135,31 @@ pub(crate) fn kinds_of(alloc: Global, db: &Db) -> Result<Vec<(u8, u64)>, Fail> {
 // Where the config area begins, in bytes: at sector 17 of the database, which begins at sector 6144.
 const AREA: usize = 512 * (6144 + 17);
 
-// Puts bytes at a place of the config area, if they lie in the image.
-pub(crate) fn put(image: &mut [u8], place: usize, bytes: &[u8]) {
-    let start = place.saturating_add(AREA);
+// Puts bytes at a place, if they lie in the image.
+fn put_at(image: &mut [u8], start: usize, bytes: &[u8]) {
     let end = start.saturating_add(bytes.len());
     if end <= image.len() && start <= end && end - start == bytes.len() {
         image[start..end].copy_from_slice(bytes);
+    }
+}
+
+// Puts bytes at a place of the config area, if they lie in the image.
+pub(crate) fn put(image: &mut [u8], place: usize, bytes: &[u8]) {
+    put_at(image, place.saturating_add(AREA), bytes);
+}
+
+// Where the tables of contents say the size of the config area: they are at the sectors 1, 2, 2045 and 2046 of the database.
+const AREA_SIZES: [usize; 4] = [
+    512 * (6144 + 1) + 0x36,
+    512 * (6144 + 2) + 0x36,
+    512 * (6144 + 2045) + 0x36,
+    512 * (6144 + 2046) + 0x36,
+];
+
+// Makes the config area so many sectors long.
+pub(crate) fn put_area_size(image: &mut [u8], sectors: u8) {
+    for place in AREA_SIZES {
+        put_at(image, place, &[0, 0, 0, 0, 0, 0, 0, sectors]);
     }
 }
 

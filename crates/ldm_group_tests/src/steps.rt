@@ -1,9 +1,10 @@
 //! What commands make of small groups, and the first reasons that they are refused.
 ghost use Rattle.std.specs.Prelude.{◌≡◌, IfOk};
 ghost use Rattle.ldm_rules.specs.Facts.{IsSoundOn};
+ghost use Rattle.ldm_edits.specs.Changes.{AreasFit};
 ghost use Rattle.ldm_edits.specs.declared.stepping.Outcome.TheVariants.{Next};
 
-use crate::made::{Row, payload_of, put, row_of};
+use crate::made::{Row, payload_of, put, put_area_size, row_of};
 use ldm_bytes::{Bytes, put_bytes};
 use ldm_edits::{Outcome, Refusal, Reply, step};
 use ldm_found::{Found, find_group};
@@ -18,8 +19,8 @@ use std::alloc::{AllocError, Global};
 use std::process::Abort;
 use std::test::Fail;
 
-// Puts the last VBLK sequence; where they aren't 0, 2^64 - 1 as the committed sequence, and an id from
-// 2^64 - 256 on of the group record.
+// Puts the last VBLK sequence; where they aren't 0, 2^64 - 1 as the committed sequence, an id from
+// 2^64 - 256 on of the group record, and the sectors of the config area.
 fn put_header(image: &mut [u8], row: &Row) {
     put(image, 4, &[0, 0, 0, row[1]]);
     if row[2] != 0 {
@@ -30,6 +31,9 @@ fn put_header(image: &mut [u8], row: &Row) {
         put(image, 128 * 4 + 16, &[0, 0, 0, 0x45, 0, 0, 0, 54]);
         put(image, 128 * 4 + 24, &id);
         put(image, 128 * 4 + 33, &[0]);
+    }
+    if row[4] != 0 {
+        put_area_size(image, row[4]);
     }
 }
 
@@ -79,7 +83,8 @@ fn put_records(image: &mut [u8], text: &str) {
 
 // The group of so many disks, with this header and these records on each image.
 fn group_of(alloc: Global, disks: u8, header: &str, records: &str) -> Result<Found, Fail>
-    ensures { IfOk result (λ found. IsSoundOn found.db found.labels) }
+    ensures sound { IfOk result (λ found. IsSoundOn found.db found.labels) }
+    ensures areas { IfOk result (λ found. AreasFit found.labels) }
 {
     if disks < 2 || disks > 3 {
         return Err(Fail::from("no group of so many disks"));
@@ -101,7 +106,8 @@ fn group_of(alloc: Global, disks: u8, header: &str, records: &str) -> Result<Fou
 
 // What a line comes to.
 fn outcome_of(alloc: Global, db: &Db, labels: &Labels, line: &str) -> Result<Outcome, Fail>
-    requires { IsSoundOn db.now labels.now }
+    requires sound { IsSoundOn db.now labels.now }
+    requires areas { AreasFit labels.now }
     ensures { IfOk result (λ outcome. (next : _) → outcome ≡ Next next → IsSoundOn next labels.now) }
 {
     let Ok(command) = read_line(alloc, line.as_bytes()) else {
@@ -165,7 +171,8 @@ fn line_of(alloc: Global, line: &str) -> Result<String, AllocError> {
 
 // The group after the rows of a script, each a line and its reply; and the rows with the replies that come.
 fn run(alloc: Global, group: Db, labels: &Labels, script: &str) -> Result<(Db, Vec<u8>), Fail>
-    requires { IsSoundOn group labels.now }
+    requires sound { IsSoundOn group labels.now }
+    requires areas { AreasFit labels.now }
 {
     let mut db = group;
     let mut said = Vec::new(alloc);
@@ -335,7 +342,7 @@ extend M Disk1=5 Disk3=5 > 1 ok 9
 ];
 
 // Refusals by themselves, at their edges.
-const ALONE: [Case; 5] = [
+const ALONE: [Case; 6] = [
     (
         3,
         "0.64",
@@ -413,9 +420,28 @@ extend D Disk1=1 > 1 refused: record 5 too long
             [11, 6, 2, 254, 1, 254, 0],
         ],
     ),
+    // The config areas hold one more group of four blocks, or none.
     (
         2,
-        "0.8",
+        "0.8.0.0.3",
+        "",
+        "\
+create Data * span Disk1=2048 > 1 ok 8
+create More * span Disk1=1 > 1 refused: no room: need 9 have 8
+extend Data Disk1=1 Disk2=1 > 1 ok 9
+extend Data Disk1=1 > 1 refused: no room: need 9 have 8
+delete Data > 1 ok 10
+create More * span Disk1=1 > 1 ok 11
+",
+        &[
+            [4, 1, 1, 0, 0, 0, 0],
+            [5, 4, 2, 1, 0, 0, 0],
+            [6, 5, 2, 0, 1, 0, 0],
+        ],
+    ),
+    (
+        2,
+        "0.8.0.0.2",
         "",
         "create Data * span Disk1=2048 > 1 refused: no room: need 6 have 4\n",
         &[],
@@ -434,7 +460,7 @@ extend D Disk1=1 > 1 refused: record 5 too long
 const TOGETHER: [Case; 4] = [
     (
         3,
-        "0.28.255.255",
+        "0.28.255.255.7",
         FULL,
         "\
 frob D > 1 refused: bad line
@@ -462,7 +488,7 @@ delete D > 1 refused: sequence spent
     ),
     (
         3,
-        "0.28.255",
+        "0.28.255.0.7",
         FULL,
         "\
 extend D Disk1=1 > 1 refused: record 5 too long
@@ -473,7 +499,7 @@ delete D > 1 refused: sequence spent
     ),
     (
         3,
-        "0.16.255.255",
+        "0.16.255.255.4",
         MIRROR,
         "\
 extend M Nope=0 > 1 refused: need 2 pieces
@@ -493,7 +519,7 @@ extend M Disk2=1 Disk3=1 > 1 refused: ids spent
     ),
     (
         3,
-        "0.16.255",
+        "0.16.255.0.4",
         MIRROR,
         "extend M Disk2=1 Disk3=1 > 1 refused: record 11 too long\n",
         &MIRROR_NUMBERS,

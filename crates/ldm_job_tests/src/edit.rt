@@ -456,7 +456,68 @@ $ edit on A
 refused: fewer than two disks
 = 1";
 
+// The database gets four blocks more, which its header says.
+const GROWS: &str = "\
+$ create Data bbbbbbbb-bbbb-bbbb-bbbb-bbbbbbbbbbbb span Disk1=2048 on A B
+1 ok 8
+= 0 AB
+$ show on A B
+group Dg0 aaaaaaaa-aaaa-aaaa-aaaa-aaaaaaaaaaaa sequence 8 blocks 6 of 8
+disk 2 Disk1 11111111-1111-1111-1111-111111111111 image 0 free 4033
+disk 3 Disk2 22222222-2222-2222-2222-222222222222 image 1 free 6081
+volume 4 Data span 2048 bbbbbbbb-bbbb-bbbb-bbbb-bbbbbbbbbbbb
+  component 5 c5 basic
+    partition 6 p6 disk 2 start 0 size 2048 offset 0
+= 0
+$ records on B
+vmdb Dg0 aaaaaaaa-aaaa-aaaa-aaaa-aaaaaaaaaaaa sequence 8 last 12
+dgr3 1 Dg0 63
+dsk3 2 Disk1 66
+dsk3 3 Disk2 66
+vol5 4 Data 83
+cmp3 5 c5 46
+prt3 6 p6 48
+= 0
+$ check on A B
+image 0 sequence 8
+image 1 sequence 8
+ok: editable
+= 0
+$ delete Data on A B
+1 ok 9
+= 0 AB
+$ show on A B
+group Dg0 aaaaaaaa-aaaa-aaaa-aaaa-aaaaaaaaaaaa sequence 9 blocks 3 of 8
+disk 2 Disk1 11111111-1111-1111-1111-111111111111 image 0 free 6081
+disk 3 Disk2 22222222-2222-2222-2222-222222222222 image 1 free 6081
+= 0";
+
+// A batch keeps the blocks that its lines have asked for, also where these lines come to nothing.
+const GROWS_IN_A_BATCH: &str = "\
+$ edit on A B
+< begin
+< create Data bbbbbbbb-bbbb-bbbb-bbbb-bbbbbbbbbbbb span Disk1=2048
+< delete Data
+< commit
+1 held
+2 held
+3 held
+4 ok 8
+= 0 AB
+$ show on A B
+group Dg0 aaaaaaaa-aaaa-aaaa-aaaa-aaaaaaaaaaaa sequence 8 blocks 3 of 8
+disk 2 Disk1 11111111-1111-1111-1111-111111111111 image 0 free 6081
+disk 3 Disk2 22222222-2222-2222-2222-222222222222 image 1 free 6081
+= 0";
+
+// Config areas of two sectors, and then one alone that is so small.
 const NO_ROOM: &str = "\
+! *.tocs+3c=0002
+$ edit on A B
+< create Data bbbbbbbb-bbbb-bbbb-bbbb-bbbbbbbbbbbb span Disk1=2048
+1 refused: no room: need 6 have 4
+= 1
+! 0.tocs+3c=05c9
 $ edit on A B
 < create Data bbbbbbbb-bbbb-bbbb-bbbb-bbbbbbbbbbbb span Disk1=2048
 1 refused: no room: need 6 have 4
@@ -466,4 +527,10 @@ $ edit on A B
 fn refuses_in_smaller_groups(rt: HostRuntime) -> Result<(), Fail> {
     play(rt.alloc(), &rt, 1, 64, ONE_DISK)?;
     play(rt.alloc(), &rt, 2, 8, NO_ROOM)
+}
+
+#[test]
+fn takes_more_blocks_where_records_need_them(rt: HostRuntime) -> Result<(), Fail> {
+    play(rt.alloc(), &rt, 2, 8, GROWS)?;
+    play(rt.alloc(), &rt, 2, 8, GROWS_IN_A_BATCH)
 }

@@ -73,6 +73,24 @@ fn hands_the_disks_the_blocks_that_change(rt: HostRuntime) -> Result<(), Fail> {
     )
 }
 
+// The blocks of three records that are new, and the four by which the database grows.
+#[test]
+fn hands_the_disks_the_blocks_that_are_more(rt: HostRuntime) -> Result<(), Fail> {
+    hand_each(
+        rt.alloc(),
+        &rt,
+        sample_group(rt.alloc(), 2, 8)?,
+        "",
+        &[
+            (
+                "create Data bbbbbbbb-bbbb-bbbb-bbbb-bbbbbbbbbbbb span Disk1=2048 on A B",
+                [1409, 1409, 0],
+            ),
+            ("delete Data on A B", [897, 897, 0]),
+        ],
+    )
+}
+
 // A closed copy is healed with the body that the others share, and then all are tidy.
 #[test]
 fn heals_with_the_body_of_the_other_copies(rt: HostRuntime) -> Result<(), Fail> {

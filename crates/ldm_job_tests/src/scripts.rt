@@ -1,4 +1,5 @@
 //! What `try` says of scripts, over the sample group.
+use crate::group::change_images;
 use crate::jobs::{expect, expect_fault, sample_group};
 use ldm_run::Status;
 use ldm_words::read_number;
@@ -227,10 +228,15 @@ fn replies_to_each_command(rt: HostRuntime) -> Result<(), Fail> {
     expect_each(rt.alloc(), &rt, &SCRIPTS)
 }
 
+// Where the config areas have two sectors, they hold four blocks.
 #[test]
-fn refuses_what_has_no_room(rt: HostRuntime) -> Result<(), Fail> {
-    let images = sample_group(rt.alloc(), 2, 8)?;
+fn grows_to_what_the_config_areas_hold(rt: HostRuntime) -> Result<(), Fail> {
     let script = b"create Data bbbbbbbb-bbbb-bbbb-bbbb-bbbbbbbbbbbb span Disk1=2048\n";
+    let images = sample_group(rt.alloc(), 2, 8)?;
+    let grown = ("1 ok 8\n", Status::Done);
+    expect(rt.alloc(), &rt, "try on A B", images, script, grown)?;
+    let mut images = sample_group(rt.alloc(), 2, 8)?;
+    change_images(rt.alloc(), images.as_mut_slice(), "*.tocs+3c=0002")?;
     let refused = ("1 refused: no room: need 6 have 4\n", Status::Refused);
     expect(rt.alloc(), &rt, "try on A B", images, script, refused)
 }

@@ -1,28 +1,37 @@
 //! What a stop at each call of an edit leaves of a group, and edits that begin again where calls failed.
 use crate::jobs::{run_over, sample_group, words_in};
-use ldm_host::{Filling, MemoryHost};
+use ldm_host::{Filling, Host, MemoryHost};
 use ldm_run::Status;
 use std::alloc::Global;
 use std::process::Abort;
 use std::test::Fail;
 
-// A script, what is said to it where no call fails, and for each number of replies that are whole the groups that may open.
+// A script over the sample group of so many disks with this `last`, what is said to it where no call fails, how that ends, and
+// for each number of replies that are whole the groups that may open.
 struct Script {
+    disks: u8,
+    last: u32,
     lines: &'static str,
     said: &'static str,
+    ends: Status,
     opens: &'static [[usize; 2]],
 }
 
 const LINES: Script = Script {
+    disks: 3,
+    last: 64,
     lines: "\
 create Data bbbbbbbb-bbbb-bbbb-bbbb-bbbbbbbbbbbb span Disk1=2048
 delete Nope
 extend Data Disk2=100",
     said: "1 ok 8\n2 refused: no volume\n3 ok 9\n",
+    ends: Status::Refused,
     opens: &[[0, 1], [1, 1], [1, 2], [2, 2]],
 };
 
 const BATCH: Script = Script {
+    disks: 3,
+    last: 64,
     lines: "\
 begin
 create Data bbbbbbbb-bbbb-bbbb-bbbb-bbbbbbbbbbbb span Disk1=2048
@@ -31,12 +40,23 @@ extend Data Disk2=100
 commit
 commit",
     said: "1 held\n2 held\n3 refused: no volume\n4 held\n5 ok 8\n6 refused: no batch\n",
+    ends: Status::Refused,
     opens: &[[0, 0], [0, 0], [0, 0], [0, 0], [0, 3], [3, 3], [3, 3]],
 };
 
-// What the group is before the scripts, after the first line of the first and after its last, and after the batch: as it is
-// shown, and then as it is checked once all its copies are equal again.
-const GROUPS: [&str; 4] = [
+// The group has four blocks more after it.
+const GROWTH: Script = Script {
+    disks: 2,
+    last: 8,
+    lines: "create Data bbbbbbbb-bbbb-bbbb-bbbb-bbbbbbbbbbbb span Disk1=2048",
+    said: "1 ok 8\n",
+    ends: Status::Done,
+    opens: &[[4, 5], [5, 5]],
+};
+
+// What the group is before the first two scripts, after the first line of the first and after its last, and after the batch; and
+// before and after the third: as it is shown, and then as it is checked once all its copies are equal again.
+const GROUPS: [&str; 6] = [
     "\
 group Dg0 aaaaaaaa-aaaa-aaaa-aaaa-aaaaaaaaaaaa sequence 7 blocks 4 of 60
 disk 2 Disk1 11111111-1111-1111-1111-111111111111 image 0 free 6081
@@ -88,6 +108,25 @@ image 1 sequence 8
 image 2 sequence 8
 ok: editable
 ",
+    "\
+group Dg0 aaaaaaaa-aaaa-aaaa-aaaa-aaaaaaaaaaaa sequence 7 blocks 3 of 4
+disk 2 Disk1 11111111-1111-1111-1111-111111111111 image 0 free 6081
+disk 3 Disk2 22222222-2222-2222-2222-222222222222 image 1 free 6081
+image 0 sequence 7
+image 1 sequence 7
+ok: editable
+",
+    "\
+group Dg0 aaaaaaaa-aaaa-aaaa-aaaa-aaaaaaaaaaaa sequence 8 blocks 6 of 8
+disk 2 Disk1 11111111-1111-1111-1111-111111111111 image 0 free 4033
+disk 3 Disk2 22222222-2222-2222-2222-222222222222 image 1 free 6081
+volume 4 Data span 2048 bbbbbbbb-bbbb-bbbb-bbbb-bbbbbbbbbbbb
+  component 5 c5 basic
+    partition 6 p6 disk 2 start 0 size 2048 offset 0
+image 0 sequence 8
+image 1 sequence 8
+ok: editable
+",
 ];
 
 // Which group this says.
@@ -95,11 +134,18 @@ fn group_said(said: &[u8]) -> Option<usize> {
     GROUPS.iter().position(|group| said == group.as_bytes())
 }
 
+// Runs a job over all disks of the host, of which there are two or three.
+fn run_job(alloc: Global, host: &mut MemoryHost, job: &str) -> Result<Option<Status>, Fail> {
+    let letters = if host.disks() == 2 { "A B" } else { "A B C" };
+    let words = format!(in alloc; "{job} on {letters}")?;
+    Ok(run_over(alloc, &words_in(alloc, &words)?, host))
+}
+
 // Which group opens of these images, and stays when an edit of nothing makes all copies equal.
 fn opens(alloc: Global, rt: &impl Abort, images: Vec<Vec<u8>>) -> Result<Option<usize>, Fail> {
     let mut host = MemoryHost::new(alloc, images, Vec::new(alloc))?;
-    for job in ["show on A B C", "edit on A B C", "check on A B C"] {
-        let status = run_over(alloc, &words_in(alloc, job)?, &mut host);
+    for job in ["show", "edit", "check"] {
+        let status = run_job(alloc, &mut host, job)?;
         assert_eq!(rt; status, Some(Status::Done), "{job}");
     }
     Ok(group_said(host.said()))
@@ -123,17 +169,18 @@ fn has_part(line: &[u8], part: &[u8]) -> bool {
 // A host of the sample group, with the script to be heard.
 fn fresh_host(alloc: Global, script: &Script) -> Result<MemoryHost, Fail> {
     let lines = script.lines.as_bytes().to_vec(alloc)?;
-    Ok(MemoryHost::new(alloc, sample_group(alloc, 3, 64)?, lines)?)
+    let images = sample_group(alloc, script.disks, script.last)?;
+    Ok(MemoryHost::new(alloc, images, lines)?)
 }
 
 // Edits the disks of the host by what is left of its input.
 fn edit(alloc: Global, host: &mut MemoryHost) -> Result<Option<Status>, Fail> {
-    Ok(run_over(alloc, &words_in(alloc, "edit on A B C")?, host))
+    run_job(alloc, host, "edit")
 }
 
 // Whether the edit ended as it does where no call fails.
 fn is_whole(host: &MemoryHost, script: &Script, status: Option<Status>) -> bool {
-    status == Some(Status::Refused) && host.said() == script.said.as_bytes()
+    status == Some(script.ends) && host.said() == script.said.as_bytes()
 }
 
 fn is_fault(status: Option<Status>) -> bool {
@@ -195,15 +242,25 @@ fn opens_after_a_stop_where_zeros_are_left(rt: HostRuntime) -> Result<(), Fail> 
     stops_each(rt.alloc(), &rt, &LINES, Filling::Fill(0x00))
 }
 
+const FILLINGS: [Filling; 4] = [
+    Filling::Old,
+    Filling::New,
+    Filling::Fill(0x56),
+    Filling::Fill(0x00),
+];
+
 #[test]
 fn opens_after_a_stop_of_a_batch(rt: HostRuntime) -> Result<(), Fail> {
-    for filling in [
-        Filling::Old,
-        Filling::New,
-        Filling::Fill(0x56),
-        Filling::Fill(0x00),
-    ] {
+    for filling in FILLINGS {
         stops_each(rt.alloc(), &rt, &BATCH, filling)?;
+    }
+    Ok(())
+}
+
+#[test]
+fn opens_after_a_stop_while_the_group_grows(rt: HostRuntime) -> Result<(), Fail> {
+    for filling in FILLINGS {
+        stops_each(rt.alloc(), &rt, &GROWTH, filling)?;
     }
     Ok(())
 }
@@ -226,8 +283,8 @@ fn edits_again(alloc: Global, rt: &impl Abort, host: MemoryHost, call: u64) -> R
     };
     assert!(rt; answered <= group, "{call}");
     let said = host.said().len();
-    for job in ["show on A B C", "check on A B C"] {
-        let status = run_over(alloc, &words_in(alloc, job)?, &mut host);
+    for job in ["show", "check"] {
+        let status = run_job(alloc, &mut host, job)?;
         assert_eq!(rt; status, Some(Status::Done), "{call}: {job}");
     }
     assert_eq!(rt;

@@ -44,8 +44,8 @@ use Rattle.ldm_run.proofs.TurnLists.{replies_length}
 
 -- ---- one answer
 
-kept_prop : (last : ℕ) (name : List ℕ) (guid : ℕ) (raw : List ℕ) → IsProp (IsKept last name guid raw)
-kept_prop last name guid raw = hlevel props
+kept_prop : (name : List ℕ) (guid : ℕ) (raw : List ℕ) → IsProp (IsKept name guid raw)
+kept_prop name guid raw = hlevel props
 
 same_header : (a b : Header) → a.last ≡ b.last → a.seq ≡ b.seq → a.name ≡ b.name → a.guid ≡ b.guid → a.raw ≡ b.raw → a ≡ b
 same_header a b last seq name guid raw = λ i. record {
@@ -54,7 +54,7 @@ same_header a b last seq name guid raw = λ i. record {
   name = name i;
   guid = guid i;
   raw = raw i;
-  kept = is_prop→PathP (λ j. IsKept (last j) (name j) (guid j) (raw j)) (λ j. kept_prop (last j) (name j) (guid j) (raw j)) a.kept b.kept i;
+  kept = is_prop→PathP (λ j. IsKept (name j) (guid j) (raw j)) (λ j. kept_prop (name j) (guid j) (raw j)) a.kept b.kept i;
 }
 
 one_database : (disks last : ℕ) (a b : Database) → IsSampleDatabase disks last a → IsSampleDatabase disks last b → a ≡ b

@@ -1,16 +1,13 @@
 -- Jobs that say their answer while they read on.
-use Rattle.std.proofs.Common.{◌≡◌, ◌≢◌, inl, inr, ℕ, List, ◌++◌, refl, sym, subst, ◌∙◌, Result, Ok, Err, Option, Some, None, find, ap, ◌<◌, false}
+use Rattle.std.proofs.Common.{◌≡◌, ◌≢◌, inr, ℕ, List, ◌++◌, refl, sym, subst, ◌∙◌}
 use Rattle.ldm_host.specs.Seen.{Seen}
-use Rattle.ldm_host.specs.Moves.{Rose, Quiet, Still, Begins}
+use Rattle.ldm_host.specs.Moves.{Quiet, Still, Begins}
 use Rattle.ldm_host.proofs.Relations.{still_trans}
-use Rattle.ldm_found.specs.declared.found.Found.{Found}
-use Rattle.ldm_layout.specs.Layouts.{Layout}
-use Rattle.ldm_dump.specs.Sources.{is_lost, IsLeastLost}
 use Rattle.ldm_run.specs.declared.running.Status.{Status}
-use Rattle.ldm_run.specs.declared.running.Status.TheVariants.{Done, Refused, Usage, DiskFault, NoMemory, TalkFault}
+use Rattle.ldm_run.specs.declared.running.Status.TheVariants.{Usage, DiskFault, NoMemory, TalkFault}
 use Rattle.ldm_run.specs.Said.{Answer, HasAnswer, SaysNothing}
 use Rattle.ldm_run.specs.Kinds.{SameInput}
-use Rattle.ldm_run.specs.Runs.{Answers, Causes, OnlyReads, Streams}
+use Rattle.ldm_run.specs.Runs.{Causes, OnlyReads, Streams}
 use Rattle.ldm_run.proofs.Saying.{answers_as, causes_sooner}
 
 -- what reads first and then says is one that says while it reads

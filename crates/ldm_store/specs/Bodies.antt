@@ -7,6 +7,7 @@ use Rattle.ldm_copy.specs.Copy.{gate_at}
 use Rattle.ldm_copy.specs.Body.{IsSomeBody}
 use Rattle.ldm_copy.specs.Table.{body_bytes, IsNoBody}
 use Rattle.ldm_changed.specs.Change.{Changed, ChangesFrom}
+use Rattle.ldm_changed.specs.Plan.{touched_blocks, added_blocks}
 use Rattle.ldm_changed.specs.declared.nexts.Next.{Next}
 use Rattle.ldm_changed.specs.declared.nexts.Next.TheVariants as nexts
 use Rattle.ldm_found.specs.declared.found.Found.{Found}
@@ -83,3 +84,8 @@ ShareNone seq labels notes db images =
 -- what changes changes from this body
 abbrev pub IsFrom : Option (List ℕ) → Next → Type 0
 IsFrom body next = (change : Changed) → next ≡ nexts.Changed change → (old : List ℕ) × (body ≡ Some old) × ChangesFrom old change
+
+-- how many blocks change at most where a body of one group changes to one of another: so many as the records take that only one of both
+-- has, and those that the other has more
+abbrev pub changed_blocks : Database → Database → ℕ
+changed_blocks old new = touched_blocks old.records new.records + added_blocks old.header.last new.header.last

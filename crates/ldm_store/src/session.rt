@@ -4,8 +4,7 @@ ghost use Rattle.ldm_group.specs.Room.{FitsHeader};
 ghost use Rattle.ldm_copy.specs.Body.{IsBodyOf};
 ghost use Rattle.ldm_copy.specs.Table.{IsCoreBody};
 ghost use Rattle.ldm_changed.specs.Nexts.{bytes_in, most_in};
-ghost use Rattle.ldm_changed.specs.Plan.{touched_blocks};
-ghost use Rattle.ldm_store.specs.Bodies.{IsFrom};
+ghost use Rattle.ldm_store.specs.Bodies.{IsFrom, changed_blocks};
 
 use crate::rewriting::rewrite_all;
 use ldm_bytes::NoMemory;
@@ -52,7 +51,7 @@ pub enum ApplyError {
 // What takes the place of each copy: what changes in the body that all begin with, or the whole body of the newer group.
 fn next_of(alloc: Global, body: &Option<Body>, older: &Db, newer: &Db) -> Result<Next, NoMemory>
     requires core { IfSome body.now (IsCoreBody older.now) }
-    requires last { newer.now.header.last ≡ older.now.header.last }
+    requires rises { older.now.header.last ≤ newer.now.header.last }
     requires room { FitsHeader newer.now }
     requires low { 4 ≤ newer.now.header.last }
     requires high { newer.now.header.last ≤ 8192 }
@@ -60,7 +59,7 @@ fn next_of(alloc: Global, body: &Option<Body>, older: &Db, newer: &Db) -> Result
     ensures from { IfOk result (λ next. IsFrom body.now next) }
     ensures most { IfOk result (λ next. most_in next ≤ length (bytes_in next) + 1) }
     ensures few { IfOk result (λ next. (bytes : List ℕ) → body.now ≡ Some bytes
-        → most_in next ≤ 128 * touched_blocks older.now.records newer.now.records + 513) }
+        → most_in next ≤ 128 * changed_blocks older.now newer.now + 513) }
 {
     match body {
         None => Ok(Next::Whole(body_of(alloc, newer)?)),
@@ -74,12 +73,12 @@ impl Session {
     ghost use Rattle.ldm_host.specs.Moves.{Later, Quiet, Rose, Still};
     ghost use Rattle.ldm_copy.specs.declared.answer.CopyState.{CopyState};
     ghost use Rattle.ldm_copy.specs.Table.{IsCoreBody};
-    ghost use Rattle.ldm_changed.specs.Plan.{touched_blocks};
     ghost use Rattle.ldm_edits.specs.declared.reply.Reply.{Reply};
     ghost use Rattle.ldm_edits.specs.Counting.{is_done};
     ghost use Rattle.ldm_edits.specs.Steps.{IsDraftOf};
     ghost use Rattle.ldm_words.specs.Limits.{IsCommand};
     ghost use Rattle.ldm_found.specs.Facts.{IsSoundGroup};
+    ghost use Rattle.ldm_store.specs.Bodies.{changed_blocks};
     ghost use Rattle.ldm_store.specs.Kept.{AlwaysKept};
     ghost use Rattle.ldm_store.specs.Turning.{AllHave};
     ghost use Rattle.ldm_store.specs.Sessions.{IsEditable, IsNextFor, RestsOn, HoldsSession, IsTurnOf, turn_in};
@@ -185,12 +184,13 @@ impl Session {
         ensures tidy { IfOk result (λ answer. (seq : ℕ) → answer.1 ≡ Reply.Done seq → (body : List ℕ) × (answer.0.body ≡ Some body)) }
         ensures no_memory { (session : _) → IsErrOf result (ApplyError.NoMemory session) → session ≡ self }
         ensures nothing { (session : _) → IsErrOf result (ApplyError.NoMemory session) → Still (H.seen host.old) (H.seen host.new) }
-        // Each disk is handed the bytes of a body at most, and one more.
+        // Each disk is handed the bytes of the body of the next group at most, and one more.
         ensures wrote { (disk : ℕ) → slice_index (H.seen host.new).wrote disk
-            ≤ slice_index (H.seen host.old).wrote disk + (512 * (self.group.db.header.last / 4) + 1) }
-        // Where the copies are tidy, it is handed the header and so many blocks as the records take that only one of both groups has.
+            ≤ slice_index (H.seen host.old).wrote disk + (512 * ((turn_in self.group command.now).state.db.header.last / 4) + 1) }
+        // Where the copies are tidy, it is handed the header, so many blocks as the records take that only one of both groups has, and
+        // the blocks that the next group has more.
         ensures touched { (body : List ℕ) (disk : ℕ) → self.body ≡ Some body → slice_index (H.seen host.new).wrote disk
-            ≤ slice_index (H.seen host.old).wrote disk + (128 * touched_blocks self.group.db.records (turn_in self.group command.now).state.db.records + 513) }
+            ≤ slice_index (H.seen host.old).wrote disk + (128 * changed_blocks self.group.db (turn_in self.group command.now).state.db + 513) }
         ensures later { Later (H.seen host.old) (H.seen host.new) }
         ensures quiet { Quiet (H.seen host.old) (H.seen host.new) }
         ensures cause { IsErrOf result ApplyError.Disk → Rose (H.seen host.old).disk_faults (H.seen host.new).disk_faults }

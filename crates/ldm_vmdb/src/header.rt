@@ -16,14 +16,14 @@ pub struct Header {
     pub name: Bytes,
     /// The GUID of the group.
     pub guid: u128,
-    /// The carried header bytes: the sector with both sequences and all counts zero.
+    /// The carried header bytes: the sector with the last VBLK sequence, both sequences and all counts zero.
     pub raw: [u8; 512],
-    pub ghost kept: { IsKept last name guid raw },
+    pub ghost kept: { IsKept name guid raw },
 }
 
 impl Header {
     ghost use Rattle.std.specs.Prelude.{◌≡◌, IfOk};
-    ghost use Rattle.ldm_vmdb.specs.Headers.{with_seq};
+    ghost use Rattle.ldm_vmdb.specs.Headers.{grown_to, with_seq};
 
     /// An equal header but for its committed sequence, as the next database has it.
     pub fn with_seq(&self, alloc: Global, seq: u64) -> Result<Header, NoMemory>
@@ -32,6 +32,20 @@ impl Header {
         let name = self.name.clone_in(alloc)?;
         Ok(Header {
             last: self.last,
+            seq,
+            name,
+            guid: self.guid,
+            raw: self.raw,
+        })
+    }
+
+    /// An equal header but for its last VBLK sequence and its committed sequence, as the next database has it.
+    pub fn grown_to(&self, alloc: Global, last: u32, seq: u64) -> Result<Header, NoMemory>
+        ensures { IfOk result (λ h. h ≡ grown_to self.now last seq) }
+    {
+        let name = self.name.clone_in(alloc)?;
+        Ok(Header {
+            last,
             seq,
             name,
             guid: self.guid,

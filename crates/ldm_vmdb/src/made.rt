@@ -23,7 +23,7 @@ impl Header {
         requires without_zero { All (λ byte. byte ≢ 0) name.now }
         ensures { IfOk result (λ header. IsNewHeader header name.now guid last seq) }
     {
-        let raw = new_raw(name, guid, last);
+        let raw = new_raw(name, guid);
         let name = Bytes::from_slice(alloc, name)?;
         Ok(Header {
             last,
@@ -36,15 +36,14 @@ impl Header {
 }
 
 // The carried bytes of a new header.
-fn new_raw(name: &[u8], guid: u128, last: u32) -> [u8; 512]
+fn new_raw(name: &[u8], guid: u128) -> [u8; 512]
     requires { length name.now ≤ 30 }
-    ensures { result ≡ new_raw name.now guid last }
+    ensures { result ≡ new_raw name.now guid }
 {
     let mut text = [0; 36];
     write_guid(guid, &mut text);
     let mut raw = [0; 512];
     put_bytes(&mut raw, 0x00, b"VMDB");
-    put_u32(&mut raw, 0x04, last);
     put_u32(&mut raw, 0x08, 128);
     put_u32(&mut raw, 0x0C, 512);
     put_u16(&mut raw, 0x10, 1);

@@ -123,6 +123,7 @@ fn carried_of(sector: &[u8; 512]) -> [u8; 512]
     ensures { result ≡ carried sector.now }
 {
     let mut raw = *sector;
+    put_bytes(&mut raw, 0x04, &[0; 4]);
     put_bytes(&mut raw, 0x75, &[0; 32]);
     put_bytes(&mut raw, 0xA1, &[0; 16]);
     raw

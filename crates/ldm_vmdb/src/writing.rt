@@ -33,8 +33,9 @@ pub fn write_header(header: &Header, seq: u64, counts: Counts, out: &mut [u8; 51
     ensures reads_back { ReadsBack header.now seq out.new }
     ensures no_fault { (area_sectors : ℕ) → header.now.last ≤ 4 * area_sectors → vmdb_fault out.new area_sectors ≡ None }
 {
+    let last = header.last;
     copy_carried(&header.raw, out);
-    put_u32(out, 0x04, header.last);
+    put_u32(out, 0x04, last);
     put_u64(out, 0x75, seq);
     put_u64(out, 0x7D, seq);
     put_counts(out, 0x85, counts);

@@ -7,7 +7,8 @@ use Rattle.ldm_copy.specs.Body.{Stored, placed_of}
 use Rattle.ldm_changed.specs.Plan.{has_record, stays, changed_numbers}
 use Rattle.ldm_copy.specs.Body.{stored_at}
 use Rattle.ldm_copy.proofs.StoredLaws.{record_of}
-use Rattle.ldm_changed.proofs.StoreLaws.{kept_records_of, changed_few}
+use Rattle.ldm_frags.proofs.HoldEdits.{hold_grown}
+use Rattle.ldm_changed.proofs.StoreLaws.{kept_records_of, changed_grown}
 use Rattle.ldm_changed.proofs.TableLaws.{next_holds}
 use Rattle.ldm_changed.proofs.change.next_blocks.Goals as goal
 
@@ -20,14 +21,23 @@ weave-requires-clause-kept c =
     ∙ ap (λ (l : List Record). length l) (kept_records_of old new c.args.table.now c.requires.one_each ∙ c.in_ok-kept.ensures.same)
     ∙ ap (λ (l : List Record). length (filter (has_record old) l)) (sym c.as_slice.ensures.all)
 
+pub rewrite_blocks-requires-clause-holds : goal.rewrite_blocks-requires-clause-holds
+rewrite_blocks-requires-clause-holds c =
+    let blocks = c.args.blocks.now in
+    let records = map placed_of (stored_at c.args.old.now.records c.args.table.now) in
+    subst (λ (l : List ℕ). Holds l records) (sym c.deref_mut.ensures.value)
+    (hold_grown blocks c.in_ok-out.out.items c.args.room (let more = c.requires.more in omega arith) c.in_ok-out.ensures records c.requires.holds)
+
 pub returns-clause-few : goal.returns-clause-few
 returns-clause-few c =
     let blocks = c.args.blocks.now in
+    let grown = c.in_ok-out.out.items in
     let out = c.rewrite_blocks.new.out in
-    let from : c.deref_mut.result.now ≡ blocks = c.deref_mut.ensures.value ∙ c.in_ok-out.ensures.items in
+    let from : c.deref_mut.result.now ≡ grown = c.deref_mut.ensures.value in
     let to : c.deref-3.result.now ≡ out = c.deref-3.ensures.value ∙ with_items_is c.in_ok-out.out out (c.rewrite_blocks.auto.out ∙ c.deref_mut.ensures.len) in
     let touched = c.in_ok-kept.ensures.touched in
-    let few = changed_few blocks out touched.0 (λ b low avoid. touched.2 b low avoid ∙ ap (λ (l : List ℕ). block_at l b) from) in
+    let few = changed_grown blocks grown out touched.0 c.args.room (let more = c.requires.more in omega arith) c.in_ok-out.ensures (c.rewrite_blocks.auto.out ∙ ap (λ (l : List ℕ). length l) from)
+    (λ b low avoid. touched.2 b low avoid ∙ ap (λ (l : List ℕ). block_at l b) from) in
     let numbers : length c.from_vec-2.result ≡ length (changed_numbers blocks out) = ap (λ (l : List ℕ). length l) (c.from_vec-2.ensures ∙ c.in_ok-numbers.ensures ∙ ap (changed_numbers blocks) to) in
     omega (arith, numbers, few, touched.1)
 

@@ -1,7 +1,7 @@
 use Rattle.std.proofs.Common.{◌∙◌, ap, sym, arith, option_copied, ℕ}
 use Rattle.ldm_words.specs.declared.command.Command.{Command}
 use Rattle.ldm_edits.specs.Steps.{committed, verdict_of}
-use Rattle.ldm_edits.proofs.BatchLaws.{committed_kept, change_verdict, if_ok_as}
+use Rattle.ldm_edits.proofs.BatchLaws.{begun_kept, committed_kept, change_verdict, if_ok_as}
 use Rattle.ldm_edits.proofs.batching.turn.Goals as goal
 
 pub commit-requires : goal.commit-requires
@@ -14,6 +14,9 @@ pub returns-in-Begin-clause-is : goal.returns-in-Begin-clause-is
 unfolding verdict_of
 returns-in-Begin-clause-is c =
     if_ok_as c.begin.result _ _ (ap (λ (x : Command). verdict_of c.args.labels.now c.args.db.now (option_copied c.args.draft) x) (sym c.in-Begin.is)) c.begin.ensures
+
+pub returns-in-Begin-clause-keeps : goal.returns-in-Begin-clause-keeps
+returns-in-Begin-clause-keeps c = begun_kept c.args.labels.now c.args.db.now (option_copied c.args.draft) c.begin.result c.requires.sound c.begin.ensures
 
 pub returns-in-Commit-clause-is : goal.returns-in-Commit-clause-is
 unfolding verdict_of

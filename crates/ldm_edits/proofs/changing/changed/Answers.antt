@@ -1,8 +1,10 @@
-use Rattle.std.proofs.Common.{◌∙◌, ◌+◌, ◌++◌, ap, sym, subst, List}
+use Rattle.std.proofs.Common.{◌≡◌, ◌∙◌, ◌+◌, ◌++◌, ap, sym, subst, List}
 use Rattle.ldm_records.specs.declared.types.Record.{Record}
-use Rattle.ldm_vmdb.specs.Headers.{with_seq}
+use Rattle.ldm_vmdb.specs.Headers.{grown_to}
 use Rattle.ldm_group.specs.Order.{Rising, in_order}
 use Rattle.ldm_group.proofs.InOrder.{never_twice}
+use Rattle.ldm_group.specs.Room.{last_for}
+use Rattle.ldm_edits.specs.Changes.{Change, need_in}
 use Rattle.ldm_edits.specs.Staying.{change_of}
 use Rattle.ldm_edits.proofs.NextDb.{next_is}
 use Rattle.ldm_edits.proofs.changing.changed.Goals as goal
@@ -16,5 +18,7 @@ unreachable-requires c =
 pub returns-in-Ok : goal.returns-in-Ok
 returns-in-Ok c =
     let all = c.in_ok-append.ensures.items ∙ ap (λ (l : List Record). l ++ c.args.made.items) c.in_ok-records.ensures.is in
-    let seq = c.in_ok-header.ensures ∙ (λ i. with_seq (c.header.ensures i) ((c.header-2.ensures i).seq + 1)) in
-    next_is c.args.db.now c.in-Ok.next (change_of c.args.leaving c.args.db.now.records c.args.made.items) c.append.new.self.items c.in_ok-header.header (c.requires.rising c.stay.ensures.rising) all seq c.in-Ok.ensures
+    let change : Change = change_of c.args.leaving c.args.db.now.records c.args.made.items in
+    let header : c.in_ok-header.header ≡ grown_to c.args.db.now.header (last_for c.args.db.now.header.last (need_in change)) (c.args.db.now.header.seq + 1) =
+    c.in_ok-header.ensures ∙ (λ i. grown_to (c.header.ensures i) (c.requires.last i) ((c.header-2.ensures i).seq + 1)) in
+    next_is c.args.db.now c.in-Ok.next (change_of c.args.leaving c.args.db.now.records c.args.made.items) c.append.new.self.items c.in_ok-header.header (c.requires.rising c.stay.ensures.rising) all header c.in-Ok.ensures

@@ -138,5 +138,5 @@ returns c =
     let at : ArePlaced c.args.db.now.records c.in-Ok.wanted.items c.in-Ok-2.spots.items =
     placed_ok c.args.db.now.records c.as_slice-3.result.now c.in-Ok.wanted.items c.as_slice-4.result.now c.in_ok-spots.field-0 c.in-Ok-2.spots c.in_ok-spots.ensures c.as_slice-3.ensures.all c.as_slice-4.ensures.value c.in-Ok-2.is in
     subst (λ (r : Result Database Refusal). StepsTo c.change.result r)
-    (ap (λ (n : ℕ). change_to c.args.db.now n (change_of leavings.Nothing c.args.db.now.records c.in_ok-made.made.items)) c.fresh_for-fresh.ensures
+    (ap (λ (n : ℕ). change_to c.args.db.now c.args.labels.now n (change_of leavings.Nothing c.args.db.now.records c.in_ok-made.made.items)) c.fresh_for-fresh.ensures
     ∙ by_limits c.args.db.now c.args.labels.now c.args.name.now c.args.guid c.args.layout.now c.in-Ok.wanted.items is at.starts c.as_slice-5.result.now c.in_ok-made.made.items c.in-Some.id at.places (c.as_slice-5.ensures.value ∙ at.spots_are) c.in-Some.ensures.0 c.in_ok-made.ensures) c.change.ensures

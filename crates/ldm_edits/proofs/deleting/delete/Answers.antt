@@ -21,4 +21,4 @@ pub returns : goal.returns
 returns c =
     let v : Volume = c.in-Some.volume.now in
     subst (λ (r : Result Database Refusal). StepsTo c.change.result r)
-    (ap (λ (l : List Record). change_to c.args.db.now 0 (change_of (leavings.Deleted v.head.id) c.args.db.now.records l)) c.new.ensures.items ∙ ap (deleted c.args.db.now) c.in-Some.ensures.is) c.change.ensures
+    (ap (λ (l : List Record). change_to c.args.db.now c.args.labels.now 0 (change_of (leavings.Deleted v.head.id) c.args.db.now.records l)) c.new.ensures.items ∙ ap (deleted c.args.db.now c.args.labels.now) c.in-Some.ensures.is) c.change.ensures

@@ -32,6 +32,7 @@ returns-in-Mirror c =
 pub extend_span-requires : goal.extend_span-requires
 extend_span-requires c = record {
   sound = c.requires.sound;
+  areas = c.requires.areas;
   there = c.in-Some.ensures.there;
   limits = c.requires.limits;
   shape = (laid_out_volume c.args.db.now.records c.in-Some.volume.now c.in_ok-plan.plan c.in_ok-plan.ensures).parts.shape ∙ ap (λ (s : Shape). Some s) (sym c.shape-shape.ensures);

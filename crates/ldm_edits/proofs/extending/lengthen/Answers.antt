@@ -258,6 +258,6 @@ returns c =
     let count : length c.as_slice-spots.result.now ≡ length c.in-Ok.wanted.items =
     ap (λ (l : List Taken). length l) spots ∙ as_many c.in-Ok.wanted.items (taken_in c.args.db.now.records) at.starts (placed_fit c.in-Ok.wanted.items (taken_in c.args.db.now.records) 0 at.starts at.places) in
     subst (λ (r : Result Database Refusal). StepsTo c.change.result r)
-    (ap (λ (n : ℕ). change_to c.args.db.now n (change_of (leavings.Changed c.args.volume.now.head.id c.in-Some.component.now.head.id) c.args.db.now.records c.in_ok-made.made.items)) count
+    (ap (λ (n : ℕ). change_to c.args.db.now c.args.labels.now n (change_of (leavings.Changed c.args.volume.now.head.id c.in-Some.component.now.head.id) c.args.db.now.records c.in_ok-made.made.items)) count
     ∙ by_limits c.args.db.now c.args.labels.now c.args.pieces.now c.args.volume.now c.in-Ok.wanted.items is c.in-Some.component.now at.starts c.as_slice-spots.result.now c.in_ok-made.made.items c.in-Some-first_new_id.id c.args.capacity component at.places spots c.in-Some-first_new_id.ensures.0 c.requires.held
     c.in_ok-made.ensures) c.change.ensures

@@ -34,7 +34,7 @@ returns-in_default c =
     let at : ArePlaced db.records wanted c.in-Ok.spots.items = placed_ok db.records c.as_slice.result.now wanted wanted c.in_ok-spots.field-0 c.in-Ok.spots c.in_ok-spots.ensures c.as_slice.ensures.all refl c.in-Ok.is in
     let spots : c.as_slice-spots.result.now ≡ taken_at wanted at.starts = c.as_slice-spots.ensures.value ∙ at.spots_are in
     let count : length c.as_slice-spots.result.now ≡ length wanted = ap (λ (l : List Taken). length l) spots ∙ as_many wanted (taken_in db.records) at.starts (placed_fit wanted (taken_in db.records) 0 at.starts at.places) in
-    no_more_ids db v wanted at.starts at.places (subst (λ (n : ℕ). 2 ^ 64 - 1 < max_id db.records + n) count c.in_default.ensures)
+    no_more_ids db c.args.labels.now v wanted at.starts at.places (subst (λ (n : ℕ). 2 ^ 64 - 1 < max_id db.records + n) count c.in_default.ensures)
 
 pub grown-requires-clause-volume_there : goal.grown-requires-clause-volume_there
 grown-requires-clause-volume_there c =
@@ -116,5 +116,5 @@ returns c =
     let made : c.in_ok-made.made.items ≡ grown_made db.records v (c.args.capacity + c.len_of.result) c.in-Some.id c.as_slice-spots.result.now =
     c.in_ok-made.ensures ∙ made_by db.records v (map (λ (x : Bor Component). x.now) c.args.components.now) (c.args.capacity + c.len_of.result) c.in-Some.id c.as_slice-spots.result.now c.requires.components in
     subst (λ (r : Result Database Refusal). StepsTo c.change.result r)
-    (ap (λ (n : ℕ). change_to db n (change_of (leavings.Grown v.head.id) db.records c.in_ok-made.made.items)) count
-    ∙ grown_by_limits db v wanted at.starts c.as_slice-spots.result.now c.in_ok-made.made.items c.in-Some.id (c.args.capacity + c.len_of.result) at.places spots c.in-Some.ensures.0 size made) c.change.ensures
+    (ap (λ (n : ℕ). change_to db c.args.labels.now n (change_of (leavings.Grown v.head.id) db.records c.in_ok-made.made.items)) count
+    ∙ grown_by_limits db c.args.labels.now v wanted at.starts c.as_slice-spots.result.now c.in_ok-made.made.items c.in-Some.id (c.args.capacity + c.len_of.result) at.places spots c.in-Some.ensures.0 size made) c.change.ensures

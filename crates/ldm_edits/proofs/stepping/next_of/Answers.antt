@@ -25,4 +25,4 @@ pub returns-in-Delete : goal.returns-in-Delete
 unfolding next_of
 returns-in-Delete c =
     subst (λ (r : Result Database Refusal). StepsTo c.delete.result r)
-    ((λ i. deleted c.args.db.now (volume_named (c.as_slice-in-Delete.ensures i) c.args.db.now.records)) ∙ ap (next_of c.args.db.now c.args.labels.now) (sym c.in-Delete.is)) c.delete.ensures
+    ((λ i. deleted c.args.db.now c.args.labels.now (volume_named (c.as_slice-in-Delete.ensures i) c.args.db.now.records)) ∙ ap (next_of c.args.db.now c.args.labels.now) (sym c.in-Delete.is)) c.delete.ensures

@@ -1,5 +1,5 @@
 use Rattle.ldm_rules.proofs.DisksAlone.{same_stranger}
-use Rattle.ldm_found.proofs.SameDisks.{same_reasons}
+use Rattle.ldm_found.proofs.SameDisks.{same_reasons, still_editable}
 use Rattle.ldm_found.proofs.laws.disks_alone.Goals as goal
 
 pub returns-clause-blocked : goal.returns-clause-blocked
@@ -7,3 +7,6 @@ returns-clause-blocked c a b labels disks last = same_reasons a b labels disks l
 
 pub returns-clause-stranger : goal.returns-clause-stranger
 returns-clause-stranger c a b labels disks = same_stranger a.records b.records labels disks
+
+pub returns-clause-growth : goal.returns-clause-growth
+returns-clause-growth c a b labels disks large none = still_editable a b labels disks large none

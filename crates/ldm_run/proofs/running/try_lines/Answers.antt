@@ -1,10 +1,14 @@
 use Rattle.std.proofs.Common.{rules, ◌≡◌, Ok, ◌∙◌, ap, sym, Option, None}
 use Rattle.ldm_found.specs.declared.fault.OpenFault.{OpenFault}
 use Rattle.ldm_edits.specs.Steps.{replies_to}
+use Rattle.ldm_store.proofs.ApplyLaws.{areas_fit}
 use Rattle.ldm_run.specs.Scripts.{commands_in, try_answer, unless_blocked, replies_from}
 use Rattle.ldm_run.proofs.Saying.{reads_first}
 use Rattle.ldm_run.proofs.ReplyLaws.{reads_replies, replies_first}
 use Rattle.ldm_run.proofs.running.try_lines.Goals as goal
+
+pub reply_each-requires-clause-areas : goal.reply_each-requires-clause-areas
+reply_each-requires-clause-areas g c = areas_fit c.in-Ok.found.labels _ c.in-Ok.ensures.lies
 
 pub returns-in-Err : goal.returns-in-Err
 returns-in-Err g c = reads_replies (c.in-Err.ensures.fault (try_answer (commands_in c.args.script.now)))
