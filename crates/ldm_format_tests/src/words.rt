@@ -27,6 +27,9 @@ fn parts_of(job: &Job) -> Parts<'_> {
         Job::Map { name, first, count } => ("map", name.as_slice(), *first, *count),
         Job::Dump { name } => ("dump", name.as_slice(), 0, 0),
         Job::Scrub { name } => ("scrub", name.as_slice(), 0, 0),
+        Job::Table { name, images } => {
+            ("table", name.as_slice(), images.as_slice().len() as u64, 0)
+        }
         _ => ("another", b"", 0, 0),
     }
 }
@@ -46,7 +49,7 @@ fn is_refused(rt: &impl Abort, alloc: Global, line: &str) -> bool {
     )
 }
 
-const JOBS: [(&str, Parts<'static>, usize); 9] = [
+const JOBS: [(&str, Parts<'static>, usize); 10] = [
     ("disk on A", ("disk", b"", 0, 0), 1),
     ("disk on on", ("disk", b"", 0, 0), 1),
     ("records on A", ("records", b"", 0, 0), 1),
@@ -55,6 +58,7 @@ const JOBS: [(&str, Parts<'static>, usize); 9] = [
     ("map \\x6fn 2057 1 on A B", ("map", b"on", 2057, 1), 2),
     ("map \\e 0 01 on A", ("map", b"", 0, 1), 1),
     ("dump Data on A B", ("dump", b"Data", 0, 0), 2),
+    ("table Data on A B", ("table", b"Data", 2, 0), 2),
     ("scrub \\x41 on A", ("scrub", b"A", 0, 0), 1),
 ];
 
@@ -68,6 +72,30 @@ fn check_jobs(rt: &impl Abort, alloc: Global, rows: &[(&str, Parts<'static>, usi
 #[test]
 fn reads_the_jobs(rt: HostRuntime) {
     check_jobs(&rt, rt.alloc(), &JOBS);
+}
+
+// The words of a new group of two disks.
+const INIT: &str = "init 012345678901234567890123456789 11111111-1111-1111-1111-111111111111 \
+22222222-2222-2222-2222-222222222222 AAAAAAAA-BBBB-CCCC-DDDD-0123456789ab on A B";
+
+const GUID: u128 = 0x11111111111111111111111111111111;
+const DISKS: [u128; 2] = [
+    0x22222222222222222222222222222222,
+    0xAAAAAAAABBBBCCCCDDDD0123456789AB,
+];
+
+#[test]
+fn reads_the_words_of_a_new_group(rt: HostRuntime) {
+    let alloc = rt.alloc();
+    match &read_words(alloc, &words_of(&rt, alloc, INIT)) {
+        Ok((Job::Init { name, guid, disks }, images)) => {
+            assert!(rt; name.as_slice() == b"012345678901234567890123456789".as_slice());
+            assert!(rt; *guid == GUID);
+            assert!(rt; disks.as_slice() == DISKS.as_slice());
+            assert!(rt; *images == 2);
+        }
+        _ => check(&rt, false, INIT),
+    }
 }
 
 const NO_JOBS: &str = "
@@ -94,6 +122,20 @@ Map Data 0 1 on A
 dump on A
 dump Data 0 on A
 scrub Data on
+table on A
+table Data 0 on A
+table Data
+init G on A B
+init G 11111111-1111-1111-1111-111111111111 on A B
+init G 11111111-1111-1111-1111-111111111111 22222222-2222-2222-2222-222222222222 on A
+init G 11111111-1111-1111-1111-111111111111 22222222-2222-2222-2222-222222222222 33333333-3333-3333-3333-333333333333 on A
+init G 11111111-1111-1111-1111-111111111111 22222222-2222-2222-2222-222222222222 33333333-3333-3333-3333-333333333333 on A B C
+init G 11111111-1111-1111-1111-111111111111 22222222-2222-2222-2222-222222222222 33333333-3333-3333-3333-333333333333
+init G 1 22222222-2222-2222-2222-222222222222 33333333-3333-3333-3333-333333333333 on A B
+init G 11111111-1111-1111-1111-111111111111 22222222-2222-2222-2222-222222222222 3 on A B
+init \\e 11111111-1111-1111-1111-111111111111 22222222-2222-2222-2222-222222222222 33333333-3333-3333-3333-333333333333 on A B
+init G\\x00 11111111-1111-1111-1111-111111111111 22222222-2222-2222-2222-222222222222 33333333-3333-3333-3333-333333333333 on A B
+init 0123456789012345678901234567890 11111111-1111-1111-1111-111111111111 22222222-2222-2222-2222-222222222222 33333333-3333-3333-3333-333333333333 on A B
 begin
 begin on A
 commit on A

@@ -20,9 +20,9 @@ impl From<AllocError> for UsageError<'_> {
     }
 }
 
-const JOBS: [&str; 13] = [
-    "disk", "records", "show", "check", "map", "dump", "scrub", "try", "edit", "sample", "create",
-    "extend", "delete",
+const JOBS: [&str; 15] = [
+    "disk", "records", "show", "check", "map", "dump", "scrub", "table", "try", "edit", "init",
+    "sample", "create", "extend", "delete",
 ];
 
 // The job whose name takes the fewest changes to be this word.
@@ -73,6 +73,27 @@ fn new_name<'a>(alloc: Global, word: &'a str) -> Read<'a> {
             word: Shown(word),
             len,
         })
+    }
+}
+
+// The name of a new group.
+fn group_name<'a>(alloc: Global, word: &'a str) -> Read<'a> {
+    let Some(name) = read_name(alloc, word.as_bytes())? else {
+        return Err(UsageError::Name {
+            what: "NAME",
+            word: Shown(word),
+        });
+    };
+    let bytes = name.as_slice();
+    if !(1..=30).contains(&bytes.len()) {
+        Err(UsageError::GroupName {
+            word: Shown(word),
+            len: bytes.len(),
+        })
+    } else if bytes.contains(&0) {
+        Err(UsageError::Zero { word: Shown(word) })
+    } else {
+        Ok(())
     }
 }
 
@@ -311,6 +332,34 @@ fn delete<'a>(alloc: Global, rest: &'a [String], on: Option<usize>) -> Read<'a> 
     Ok(())
 }
 
+// As many images as disks.
+fn for_each_disk<'a>(disks: usize, on: Option<usize>) -> Read<'a> {
+    images("init", on)?;
+    if on == Some(disks) {
+        Ok(())
+    } else {
+        Err(UsageError::Unlike {
+            disks,
+            images: on.unwrap_or(0),
+        })
+    }
+}
+
+fn init<'a>(alloc: Global, rest: &'a [String], on: Option<usize>) -> Read<'a> {
+    let form = "init NAME GUID DISKGUID DISKGUID... on IMAGE...";
+    all_there(form, &["NAME", "GUID", "DISKGUID"], rest)?;
+    if let [name, id, disks @ ..] = rest {
+        group_name(alloc, name.as_str())?;
+        guid(id.as_str())?;
+        counted("init", 2, "DISKGUIDs", disks.len())?;
+        for disk in disks {
+            guid(disk.as_str())?;
+        }
+        for_each_disk(disks.len(), on)?;
+    }
+    Ok(())
+}
+
 // The words before `on`, and how many stand behind it.
 fn job<'a>(alloc: Global, words: &'a [String], on: Option<usize>) -> Read<'a> {
     let [word, rest @ ..] = words else {
@@ -324,8 +373,10 @@ fn job<'a>(alloc: Global, words: &'a [String], on: Option<usize>) -> Read<'a> {
         "map" => map(alloc, rest, on),
         "dump" => on_volume(alloc, "dump VOLUME on IMAGE...", "dump", rest, on),
         "scrub" => on_volume(alloc, "scrub VOLUME on IMAGE...", "scrub", rest, on),
+        "table" => on_volume(alloc, "table VOLUME on IMAGE...", "table", rest, on),
         "try" => on_group("try on IMAGE...", "try", rest, on),
         "edit" => on_group("edit on IMAGE...", "edit", rest, on),
+        "init" => init(alloc, rest, on),
         "sample" => sample(rest, on),
         "create" => {
             create(alloc, rest)?;

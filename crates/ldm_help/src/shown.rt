@@ -84,6 +84,15 @@ pub enum UsageError<'a> {
         word: Shown<'a>,
         len: usize,
     },
+    #[error("the name of a new group has 1 to 30 bytes, and \"{word}\" has {len}")]
+    GroupName {
+        word: Shown<'a>,
+        len: usize,
+    },
+    #[error("the name of a new group has no zero byte, and \"{word}\" has one")]
+    Zero {
+        word: Shown<'a>,
+    },
     #[error("\"{word}\" is no GUID, which is 8-4-4-4-12 hexadecimal digits as uuidgen makes them")]
     Guid {
         word: Shown<'a>,
@@ -102,6 +111,11 @@ pub enum UsageError<'a> {
         least: usize,
         what: &'static str,
         count: usize,
+    },
+    #[error("init takes a DISKGUID for each image: {disks} are named, and {images} images")]
+    Unlike {
+        disks: usize,
+        images: usize,
     },
     #[error("the words have no reading")]
     NoReading,

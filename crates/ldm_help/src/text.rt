@@ -19,6 +19,7 @@ These jobs read:
   map VOLUME FIRST COUNT on IMAGE...     where sectors of a volume lie, 4096 at most
   dump VOLUME on IMAGE...                the bytes of a volume, also where a disk is absent that isn't needed
   scrub VOLUME on IMAGE...               where the copies of a mirror, or the parity of a RAID-5, disagree
+  table VOLUME on IMAGE...               what dmsetup create --concise takes, to mount a volume where it lies, read-only
   try on IMAGE...                        what the lines of a script on standard input would make of a group
   sample SEED                            an edit of 200 lines that a number draws, of a group in memory
 
@@ -26,6 +27,7 @@ These write, to all images of the group. No other program may write to them mean
 
   edit on IMAGE...                       does the lines of a script on standard input
   COMMAND on IMAGE...                    does one line, whose words these are
+  init NAME GUID DISKGUID... on IMAGE... makes a new group of empty disks, 2 to 64: a DISKGUID for each image
 
 A line of a script is a COMMAND, or a word of a batch:
 
@@ -40,7 +42,7 @@ A line of a script is a COMMAND, or a word of a batch:
   cancel                                                  they are given up
 
 SECTORS and CHUNK are counted in sectors of 512 bytes. NAME and DISK are written as show says them. Each new
-volume has a GUID of its own: uuidgen makes one.
+volume, group and disk has a GUID of its own: uuidgen makes one.
 
   ldm --help, ldm -h     this text
   ldm --version          the version

@@ -1,18 +1,18 @@
 -- How writes follow one another that keep the same bytes of one disk.
-use Rattle.std.proofs.Common.{◌≡◌, ◌≢◌, ◌⊎◌, inl, inr, ℕ, ◌+◌, ◌/◌, ◌<◌, ◌≤◌, List, [], length, set, refl, sym, ◌∙◌, ap, subst, arith}
+use Rattle.std.proofs.Common.{◌≡◌, ◌≢◌, ◌⊎◌, inl, inr, ℕ, ◌+◌, ◌*◌, ◌/◌, ◌<◌, ◌≤◌, List, [], length, set, refl, sym, ◌∙◌, ap, subst, arith}
 use Rattle.std.proofs.lemmas.List.{get_or-set_same, get_or-set_other, length-set}
 use Rattle.std.proofs.lemmas.Bool.{cases_eq}
 use Rattle.ldm_host.specs.Seen.{Seen, Leaves, image}
 use Rattle.ldm_host.specs.Moves.{Torn, TornAt, Writes, Syncs}
 use Rattle.ldm_host.proofs.Relations.{later_trans, quiet_trans, moments_trans, iff_trans}
 use Rattle.ldm_init.specs.Moments.{IsUnsigned}
-use Rattle.ldm_init.specs.Beside.{SameAt, SameAtOn, ChangesBeside}
+use Rattle.ldm_init.specs.Beside.{SameAt, SameAtOn, ChangesBeside, IsBeside, IsUntouched}
 
 module _ (kept : ℕ → Type 0) where
-  same_at_itself : (x : List ℕ) → SameAt kept x x
+  pub same_at_itself : (x : List ℕ) → SameAt kept x x
   same_at_itself x = record { size = refl; same = λ k is. refl }
 
-  same_at_trans : (x y z : List ℕ) → SameAt kept x y → SameAt kept y z → SameAt kept x z
+  pub same_at_trans : (x y z : List ℕ) → SameAt kept x y → SameAt kept y z → SameAt kept x z
   same_at_trans x y z first second = record { size = second.size ∙ first.size; same = λ k is. second.same k is ∙ first.same k is }
 
   same_at_on_itself : (disk : ℕ) (x : List (List ℕ)) → SameAtOn kept disk x x
@@ -113,3 +113,11 @@ module _ (kept : ℕ → Type 0) where
     enough = subst (λ (n : ℕ). 7 ≤ n) (ap (λ (n : ℕ). n / 512) (sym keeps.size)) unsigned.enough;
     unsigned = λ signed. unsigned.unsigned (sym (keeps.same 0x1FF is) ∙ signed);
   }
+
+-- what a new group leaves alone is kept while its disk is written
+pub untouched_beside : (begin sectors : ℕ) → begin + 2048 ≡ sectors → (k : ℕ) → IsUntouched sectors k → IsBeside (512 * begin) (512 * 2048) k
+untouched_beside begin sectors at_end k is = record {
+  front = omega (arith, is.front);
+  copy = is.copy;
+  last = elim is.last [ inl less ↦ inl (omega (arith, less, at_end)) | inr ge ↦ inr (omega (arith, ge, at_end)) ];
+}

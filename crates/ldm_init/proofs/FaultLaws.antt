@@ -2,12 +2,12 @@
 use Rattle.std.proofs.Common.{◌≡◌, ℕ, suc, ◌+◌, ◌<◌, ◌≤◌, ◌-◌, ◌*◌, ◌&&◌, Bool, true, false, inl, inr, zero, Option, slice_index, List, [], ◌∷◌, ◌++◌, length, get_or, drop, take, slice_range, Some, None, sym, ap, subst, ◌∙◌, arith, length-take}
 use Rattle.std.proofs.lemmas.List.{take_all, take_more, take-append-drop, length-take-le, take-take}
 use Rattle.ldm_found.specs.Gathers.{IsFirst}
-use Rattle.std.proofs.lemmas.Bool.{cases_lt}
+use Rattle.std.proofs.lemmas.Bool.{cases_lt, true_from_ne_false}
 use Rattle.ldm_label.specs.declared.Label.{Label}
 use Rattle.ldm_label.specs.Fields.{sectors_of}
 use Rattle.ldm_found.specs.Labels.{AreTwins}
 use Rattle.ldm_found.proofs.FirstLaws.{none_more, first_here, first_stays}
-use Rattle.ldm_init.specs.Faults.{IsSmall, are_zero, is_empty}
+use Rattle.ldm_init.specs.Faults.{IsSmall, IsFull, are_zero, is_empty}
 use Rattle.ldm_init.specs.NewGroup.{new_labels}
 
 module _ {A : Type 0} (Has : A → Type 0) (xs : List A) (k : ℕ) (d : A) (lt : k < length xs) (before : IsFirst Has (take k xs) None) where
@@ -62,3 +62,9 @@ pub all_large : (sizes : List ℕ) → IsFirst IsSmall sizes None → (disk : �
 all_large (size ∷ sizes) none zero lt = elim (cases_lt size 2112) [ inl less ↦ absurd (none.0 less) | inr ge ↦ ge ]
 all_large (size ∷ sizes) none (suc disk) lt = all_large sizes none.1 disk (omega (arith, lt))
 all_large [] none disk lt = absurd (omega (arith, lt))
+
+-- where none is full, each is empty
+pub all_clear : (images : List (List ℕ)) → IsFirst IsFull images None → (disk : ℕ) → disk < length images → is_empty (get_or images disk []) ≡ true
+all_clear (x ∷ images) none zero lt = true_from_ne_false (is_empty x) none.0
+all_clear (x ∷ images) none (suc disk) lt = all_clear images none.1 disk (omega (arith, lt))
+all_clear [] none disk lt = absurd (omega (arith, lt))

@@ -3,7 +3,11 @@ mod LastLaws
 mod MomentLaws
 mod ReadyLaws
 mod SignLaws
+mod UnderwayLaws
 mod UnsignedLaws
 mod WritingLaws
-mod GroupLaws
+pub mod GroupLaws
 mod FaultLaws
+mod InitLaws
+mod LabelLaws
+pub mod StartLaws

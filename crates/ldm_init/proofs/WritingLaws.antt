@@ -1,23 +1,29 @@
 -- What a stop leaves while the disks are written but for their signatures.
-use Rattle.std.proofs.Common.{◌≡◌, ◌≢◌, inl, ⊎_elim, ℕ, ◌+◌, ◌*◌, ◌<◌, ◌≤◌, List, length, slice_get, sym, subst, arith, Some}
+use Rattle.std.proofs.Common.{◌≡◌, ◌≢◌, inl, ⊎_elim, ℕ, ◌+◌, ◌*◌, ◌<◌, ◌≤◌, List, length, slice_get, slice_index, sym, ap, ◌∙◌, subst, arith, Some}
 use Rattle.std.proofs.lemmas.Bool.{cases_eq}
 use Rattle.std.proofs.lemmas.Option.{slice_get_within}
 use Rattle.ldm_host.specs.Seen.{Seen, Leaves, image}
 use Rattle.ldm_host.specs.Moves.{Settled}
 use Rattle.ldm_group.specs.Database.{Database}
 use Rattle.ldm_label.specs.declared.Label.{Label}
-use Rattle.ldm_init.specs.Moments.{IsUnsigned, IsReady, AreMade, IsSigning, IsWriting}
+use Rattle.ldm_init.specs.Moments.{Before, IsUnsigned, CanTake, IsReady, AreMade, IsMaking, IsSigning, IsWriting}
 use Rattle.ldm_label.specs.LabelOf.{Fits}
-use Rattle.ldm_init.specs.Beside.{SameAtOn, ChangesBeside, IsBeside}
-use Rattle.ldm_init.proofs.BesideLaws.{kept_unsigned}
+use Rattle.ldm_init.specs.Bytes.{IsUnsignedImage}
+use Rattle.ldm_init.specs.Beside.{SameAtOn, ChangesBeside, IsBeside, IsUntouched, AreUntouched}
+use Rattle.ldm_init.proofs.BesideLaws.{kept_unsigned, untouched_beside}
+use Rattle.ldm_init.proofs.UnderwayLaws.{untouched_now, untouched_then, underway_next}
 
-module _ (kept : ℕ → Type 0) (signature : kept 0x1FF) (db : Database) (labels : List Label) (n : ℕ) (old new : Seen) (so : IsWriting db labels n old) (changes : ChangesBeside kept n old new) where
+module _ (kept : ℕ → Type 0) (signature : kept 0x1FF) (db : Database) (labels : List Label) (start : Before) (n : ℕ) (beside : (k : ℕ) → IsUntouched (slice_index start.sizes n) k → kept k)
+    (old new : Seen) (so : IsWriting db labels start n old) (changes : ChangesBeside kept n old new) where
   -- the images at each moment while a disk is written
-  pub writing_moments : (images : List (List ℕ)) (said : List ℕ) → new.left_since old.clock images said → AreMade db labels images × (said ≡ old.said)
-  writing_moments images said left = (made, m.3)
+  pub writing_moments : (images : List (List ℕ)) (said : List ℕ) → new.left_since old.clock images said → IsMaking db labels start images said
+  writing_moments images said left = record { made = made; untouched = rest.0; said = rest.1 }
     where
       m : (before : List (List ℕ)) × Leaves old before × SameAtOn kept n before images × (said ≡ old.said)
       m = changes.moments images said left
+
+      rest : AreUntouched start.sizes start.content images × (said ≡ start.said)
+      rest = untouched_then kept start n beside old new so.between changes images said left
 
       before : (disk : ℕ) → disk < length old.sizes → IsUnsigned (image m.0 disk)
       before disk lt = so.unsigned disk (image m.0 disk) lt (m.1.each disk lt)
@@ -33,8 +39,9 @@ module _ (kept : ℕ → Type 0) (signature : kept 0x1FF) (db : Database) (label
           (cases_eq disk n))
 
   -- and when it was
-  pub writing_next : Settled new n → ((label : Label) → slice_get labels n ≡ Some label → IsReady db label (image new.content n)) → IsWriting db labels (n + 1) new
+  pub writing_next : Settled new n → ((label : Label) → slice_get labels n ≡ Some label → IsReady db label (image new.content n)) → IsWriting db labels start (n + 1) new
   writing_next settled here = record {
+    between = underway_next kept start n beside old new so.between changes;
     unsigned = λ disk c lt left. (let within : disk < length old.sizes = subst (λ (l : List ℕ). disk < length l) changes.later.sizes lt in ⊎_elim
         (λ (same : disk ≡ n).
         let from = changes.left c (subst (λ (d : ℕ). new.may_leave d c) same left) in
@@ -49,8 +56,9 @@ module _ (kept : ℕ → Type 0) (signature : kept 0x1FF) (db : Database) (label
   }
 
 -- when all are written, they can be signed
-pub writing_signing : (db : Database) (labels : List Label) (n : ℕ) (host : Seen) → length labels ≤ n → IsWriting db labels n host → IsSigning db labels 0 host
-writing_signing db labels n host all so = record {
+pub writing_signing : (db : Database) (labels : List Label) (start : Before) (n : ℕ) (host : Seen) → length labels ≤ n → IsWriting db labels start n host → IsSigning db labels start 0 host
+writing_signing db labels start n host all so = record {
+  between = so.between;
   whole = λ disk label c at lt left. absurd (omega (arith, lt));
   ready = λ disk label c at le left.
       let within = slice_get_within labels disk label at in
@@ -58,11 +66,16 @@ writing_signing db labels n host all so = record {
   few = so.few;
 }
 
-pub writing_now : (db : Database) (labels : List Label) (n : ℕ) (host : Seen) (images : List (List ℕ)) → IsWriting db labels n host → Leaves host images → AreMade db labels images
-writing_now db labels n host images so left disk label at =
-    let within = slice_get_within labels disk label at in
-    let lt : disk < length host.sizes = omega (arith, within, so.few) in
-    inl (so.unsigned disk (image images disk) lt (left.each disk lt))
+pub writing_now : (db : Database) (labels : List Label) (start : Before) (n : ℕ) (host : Seen) (images : List (List ℕ)) (said : List ℕ) → IsWriting db labels start n host → Leaves host images
+    → said ≡ host.said → IsMaking db labels start images said
+writing_now db labels start n host images said so left same = record {
+  made = λ disk label at.
+      let within = slice_get_within labels disk label at in
+      let lt : disk < length host.sizes = omega (arith, within, so.few) in
+      inl (so.unsigned disk (image images disk) lt (left.each disk lt));
+  untouched = untouched_now start host images so.between left;
+  said = same ∙ so.between.said;
+}
 
 -- the last byte of the signature is kept
 pub kept_signature : (label : Label) (sectors : ℕ) → Fits label sectors → IsBeside (512 * label.config_start) (512 * 2048) 0x1FF
@@ -71,3 +84,15 @@ kept_signature label sectors fits = record {
   copy = inl (omega arith);
   last = inl (let room = fits.room in omega (arith, room));
 }
+
+-- and so is all that a new group leaves alone
+pub kept_beside : (label : Label) (body : List ℕ) (sizes others : List ℕ) (disk : ℕ) → sizes ≡ others → CanTake label body (slice_index others disk)
+    → (k : ℕ) → IsUntouched (slice_index sizes disk) k → IsBeside (512 * label.config_start) (512 * 2048) k
+kept_beside label body sizes others disk same takes =
+    untouched_beside label.config_start (slice_index sizes disk) (takes.at_end ∙ ap (λ (l : List ℕ). slice_index l disk) (sym same))
+
+pub takes_as : (label : Label) (body : List ℕ) (sizes others : List ℕ) (disk : ℕ) → sizes ≡ others → CanTake label body (slice_index others disk) → CanTake label body (slice_index sizes disk)
+takes_as label body sizes others disk same takes = subst (λ (l : List ℕ). CanTake label body (slice_index l disk)) (sym same) takes
+
+pub written_as : (one label : Label) (body x y z : List ℕ) → one ≡ label → x ≡ y → IsUnsignedImage one body x z → IsUnsignedImage label body y z
+written_as one label body x y z same old is = subst (λ (l : Label). IsUnsignedImage l body y z) same (subst (λ (w : List ℕ). IsUnsignedImage one body w z) old is)

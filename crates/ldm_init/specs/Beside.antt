@@ -1,5 +1,5 @@
 -- One disk is written but for some bytes that are kept.
-use Rattle.std.specs.Prelude.{◌≡◌, ◌≢◌, ◌⊎◌, ◌↔◌, ℕ, ◌+◌, ◌<◌, ◌≤◌, List, length, slice_index}
+use Rattle.std.specs.Prelude.{◌≡◌, ◌≢◌, ◌⊎◌, ◌↔◌, ℕ, ◌+◌, ◌-◌, ◌*◌, ◌<◌, ◌≤◌, List, length, slice_index}
 use Rattle.ldm_host.specs.Seen.{Seen, Leaves, image}
 use Rattle.ldm_host.specs.Moves.{Later, Quiet}
 
@@ -30,3 +30,14 @@ pub record IsBeside (begin n k : ℕ) : Type 0 where
   pub front : 0x1FF ≤ k
   pub copy : (k < 0xC00) ⊎ (0xE00 ≤ k)
   pub last : (k < begin) ⊎ (begin + n ≤ k)
+
+-- the places of a disk of so many sectors that a new group leaves alone: all but sector 0, sector 6 and the last 2048 sectors
+pub record IsUntouched (sectors k : ℕ) : Type 0 where
+  pub front : 512 ≤ k
+  pub copy : (k < 512 * 6) ⊎ (512 * 7 ≤ k)
+  pub last : (k < 512 * (sectors - 2048)) ⊎ (512 * sectors ≤ k)
+
+-- the bytes of each disk there are those of the old images
+pub record AreUntouched (sizes : List ℕ) (old new : List (List ℕ)) : Type 0 where
+  pub count : length new ≡ length sizes
+  pub each : (disk : ℕ) → disk < length sizes → SameAt (IsUntouched (slice_index sizes disk)) (image old disk) (image new disk)

@@ -1,5 +1,5 @@
 -- Why disks are not made a group.
-use Rattle.std.specs.Prelude.{◌≡◌, ℕ, ◌+◌, ◌-◌, ◌*◌, ◌<◌, ◌==◌, ◌&&◌, Bool, false, List, Option, Some, None, Result, Ok, Err, slice_range}
+use Rattle.std.specs.Prelude.{◌≡◌, ℕ, ◌+◌, ◌-◌, ◌*◌, ◌<◌, ◌==◌, ◌&&◌, Bool, false, List, Option, Some, None, Result, Ok, Err, map, slice_range}
 use Rattle.std.specs.List.{list_all}
 use Rattle.ldm_label.specs.Fields.{sectors_of}
 use Rattle.ldm_found.specs.Gathers.{IsFirst}
@@ -39,3 +39,14 @@ ChecksAs guids sizes images (Ok checked) = IsFaultOf guids sizes images None
 ChecksAs guids sizes images (Err (errors.Fault fault)) = IsFaultOf guids sizes images (Some fault)
 ChecksAs guids sizes images (Err errors.Disk) = Unit {0}
 ChecksAs guids sizes images (Err errors.NoMemory) = ⊥
+
+-- the same of images of whole disks
+abbrev pub IsInitFault : List ℕ → List (List ℕ) → Option InitFault → Type 0
+IsInitFault guids images fault = IsFaultOf guids (map sectors_of images) images fault
+
+-- what a call answers that makes the group then: Ok without a fault, exactly the fault, or that a disk or memory failed
+abbrev pub InitAnswers : List ℕ → List (List ℕ) → Result (Unit {0}) InitError → Type 0
+InitAnswers guids images (Ok made) = IsInitFault guids images None
+InitAnswers guids images (Err (errors.Fault fault)) = IsInitFault guids images (Some fault)
+InitAnswers guids images (Err errors.Disk) = Unit {0}
+InitAnswers guids images (Err errors.NoMemory) = Unit {0}

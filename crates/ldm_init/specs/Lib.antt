@@ -1,5 +1,6 @@
 pub mod Bytes
 pub mod Beside
 pub mod Faults
+pub mod Images
 pub mod Moments
 pub mod NewGroup

@@ -3,6 +3,8 @@
 
 mod database;
 mod faults;
+mod group;
+mod labels;
 mod laws;
 mod making;
 mod signing;
@@ -10,6 +12,7 @@ mod writing;
 
 pub use database::new_database;
 pub use faults::{InitError, InitFault, check_disks};
+pub use group::init;
 pub use laws::new_group_moments;
 pub use making::{write_all, write_group};
 pub use signing::sign_all;

@@ -1,13 +1,12 @@
 //! The whole writing of a new group.
-ghost use Rattle.std.specs.Prelude.{◌≡◌, ◌*◌, ◌≤◌, List, ℕ, length, map, slice_get, slice_index, Some, OnOk, IsErr};
+ghost use Rattle.std.specs.Prelude.{◌≡◌, ◌*◌, List, ℕ, length, set, slice_get, Some, OnOk, IsErr};
+ghost use Rattle.ldm_host.specs.Seen.{image};
 ghost use Rattle.ldm_host.specs.Moves.{Later, Quiet, Rose};
 ghost use Rattle.ldm_group.specs.Database.{Database};
 ghost use Rattle.ldm_label.specs.declared.Label.{Label as LabelModel};
-ghost use Rattle.ldm_label.specs.LabelOf.{Fits};
-ghost use Rattle.ldm_label.specs.Laws.{IsClearOfLabel};
-ghost use Rattle.ldm_label.specs.Written.{IsWritable};
-ghost use Rattle.ldm_copy.specs.Body.{IsBodyOn};
-ghost use Rattle.ldm_init.specs.Moments.{AreMade, IsSigning, IsWriting};
+ghost use Rattle.ldm_init.specs.Bytes.{IsUnsignedImage};
+ghost use Rattle.ldm_init.specs.Images.{NothingPending};
+ghost use Rattle.ldm_init.specs.Moments.{AllOn, AllTake, Before, IsMaking, IsSigning, IsWriting};
 
 use crate::signing::sign_all;
 use crate::writing::write_disk;
@@ -22,17 +21,16 @@ pub fn write_all<H: Host>(
     buffer: &mut [u8],
 ) -> Result<(), Failed>
     requires count { length labels.now ≡ length (H.seen host.old).sizes }
-    requires fits { (i : ℕ) (label : LabelModel) → slice_get labels.now i ≡ Some label → Fits label (slice_index (H.seen host.old).sizes i) }
-    requires clear { (i : ℕ) (label : LabelModel) → slice_get labels.now i ≡ Some label → IsClearOfLabel label }
-    requires writable { (i : ℕ) (label : LabelModel) → slice_get labels.now i ≡ Some label → IsWritable label }
-    requires body { (i : ℕ) (label : LabelModel) → slice_get labels.now i ≡ Some label → length body.now ≤ 512 * label.area_sectors }
+    requires takes { AllTake labels.now body.now (H.seen host.old).sizes }
     requires size { length buffer.old ≡ 512 * 2048 }
-    ensures any_moment { H.tells_disks → (db : Database) → ((i : ℕ) (label : LabelModel) → slice_get labels.now i ≡ Some label → IsBodyOn db label body.now)
-        → IsWriting db labels.now 0 (H.seen host.old)
+    ensures any_moment { H.tells_disks → (db : Database) (start : Before) → AllOn db labels.now body.now
+        → IsWriting db labels.now start 0 (H.seen host.old)
         → (images : List (List ℕ)) (said : List ℕ) → (H.seen host.new).left_since (H.seen host.old).clock images said
-        → AreMade db labels.now images }
-    ensures done { H.tells_disks → OnOk result ((db : Database) → ((i : ℕ) (label : LabelModel) → slice_get labels.now i ≡ Some label → IsBodyOn db label body.now)
-        → IsWriting db labels.now 0 (H.seen host.old) → IsWriting db labels.now (length labels.now) (H.seen host.new)) }
+        → IsMaking db labels.now start images said }
+    ensures done { H.tells_disks → OnOk result ((db : Database) (start : Before) → AllOn db labels.now body.now
+        → IsWriting db labels.now start 0 (H.seen host.old) → IsWriting db labels.now start (length labels.now) (H.seen host.new)) }
+    ensures written { H.tells_disks → OnOk result ((disk : ℕ) (label : LabelModel) → slice_get labels.now disk ≡ Some label
+        → IsUnsignedImage label body.now (image (H.seen host.old).content disk) (image (H.seen host.new).content disk)) }
     ensures later { Later (H.seen host.old) (H.seen host.new) }
     ensures quiet { Quiet (H.seen host.old) (H.seen host.new) }
     ensures cause { IsErr result → Rose (H.seen host.old).disk_faults (H.seen host.new).disk_faults }
@@ -52,17 +50,17 @@ pub fn write_group<H: Host>(
     buffer: &mut [u8],
 ) -> Result<(), Failed>
     requires count { length labels.now ≡ length (H.seen host.old).sizes }
-    requires fits { (i : ℕ) (label : LabelModel) → slice_get labels.now i ≡ Some label → Fits label (slice_index (H.seen host.old).sizes i) }
-    requires clear { (i : ℕ) (label : LabelModel) → slice_get labels.now i ≡ Some label → IsClearOfLabel label }
-    requires writable { (i : ℕ) (label : LabelModel) → slice_get labels.now i ≡ Some label → IsWritable label }
-    requires body { (i : ℕ) (label : LabelModel) → slice_get labels.now i ≡ Some label → length body.now ≤ 512 * label.area_sectors }
+    requires takes { AllTake labels.now body.now (H.seen host.old).sizes }
     requires size { length buffer.old ≡ 512 * 2048 }
-    ensures any_moment { H.tells_disks → (db : Database) → ((i : ℕ) (label : LabelModel) → slice_get labels.now i ≡ Some label → IsBodyOn db label body.now)
-        → IsWriting db labels.now 0 (H.seen host.old)
+    ensures any_moment { H.tells_disks → (db : Database) (start : Before) → AllOn db labels.now body.now
+        → IsWriting db labels.now start 0 (H.seen host.old)
         → (images : List (List ℕ)) (said : List ℕ) → (H.seen host.new).left_since (H.seen host.old).clock images said
-        → AreMade db labels.now images }
-    ensures done { H.tells_disks → OnOk result ((db : Database) → ((i : ℕ) (label : LabelModel) → slice_get labels.now i ≡ Some label → IsBodyOn db label body.now)
-        → IsWriting db labels.now 0 (H.seen host.old) → IsSigning db labels.now (length (H.seen host.old).sizes) (H.seen host.new)) }
+        → IsMaking db labels.now start images said }
+    ensures done { H.tells_disks → OnOk result ((db : Database) (start : Before) → AllOn db labels.now body.now
+        → IsWriting db labels.now start 0 (H.seen host.old) → IsSigning db labels.now start (length labels.now) (H.seen host.new)) }
+    ensures written { H.tells_disks → OnOk result ((disk : ℕ) (label : LabelModel) → slice_get labels.now disk ≡ Some label
+        → (front : List ℕ) × IsUnsignedImage label body.now (image (H.seen host.old).content disk) front × (image (H.seen host.new).content disk ≡ set front 0x1FF 0xAA)) }
+    ensures settled { OnOk result (NothingPending (H.seen host.new)) }
     ensures later { Later (H.seen host.old) (H.seen host.new) }
     ensures quiet { Quiet (H.seen host.old) (H.seen host.new) }
     ensures cause { IsErr result → Rose (H.seen host.old).disk_faults (H.seen host.new).disk_faults }

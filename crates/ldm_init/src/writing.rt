@@ -1,15 +1,14 @@
 //! What is written to a disk before its signature.
-ghost use Rattle.std.specs.Prelude.{◌≡◌, ◌+◌, ◌*◌, ◌<◌, ◌≤◌, List, ℕ, length, slice_index, OnOk, IsErr};
+ghost use Rattle.std.specs.Prelude.{◌≡◌, ◌+◌, ◌*◌, ◌<◌, ◌≤◌, List, ℕ, length, replicate, slice_index, OnOk, IsErr};
 ghost use Rattle.ldm_host.specs.Moves.{Rose, Settled};
 ghost use Rattle.ldm_host.specs.Seen.{image};
 ghost use Rattle.ldm_bytes.specs.Places.{put};
 ghost use Rattle.ldm_label.specs.Laws.{IsClearOfLabel};
-ghost use Rattle.ldm_label.specs.LabelOf.{Fits};
-ghost use Rattle.ldm_label.specs.Written.{IsWritable, written_sectors};
+ghost use Rattle.ldm_label.specs.Written.{written_sectors};
 ghost use Rattle.ldm_group.specs.Database.{Database};
 ghost use Rattle.ldm_copy.specs.Body.{IsBodyOn};
-ghost use Rattle.ldm_init.specs.Moments.{IsReady};
-ghost use Rattle.ldm_init.specs.Bytes.{IsLast};
+ghost use Rattle.ldm_init.specs.Moments.{CanTake, IsReady};
+ghost use Rattle.ldm_init.specs.Bytes.{IsLast, IsUnsignedImage};
 ghost use Rattle.ldm_init.specs.Beside.{IsBeside, ChangesBeside};
 
 use ldm_bytes::put_bytes;
@@ -42,7 +41,13 @@ pub(crate) fn write_unsigned<H: Host>(
     host.sync(disk)
 }
 
-// Fills a buffer with the last 2048 sectors of a disk. What it holds besides stays.
+fn clear(buffer: &mut [u8])
+    ensures { buffer.new ≡ replicate (length buffer.old) 0 }
+{
+    buffer.fill(0);
+}
+
+// Fills a buffer with the last 2048 sectors of a disk, zeros but for the label and the body.
 fn fill_last(buffer: &mut [u8], label: &Label, sectors: &LabelSectors, body: &[u8])
     requires size { length buffer.old ≡ 512 * 2048 }
     requires clear { IsClearOfLabel label.now }
@@ -50,6 +55,7 @@ fn fill_last(buffer: &mut [u8], label: &Label, sectors: &LabelSectors, body: &[u
     requires sectors { sectors.now ≡ written_sectors label.now }
     ensures last { IsLast label.now body.now buffer.new }
 {
+    clear(buffer);
     put_bytes(buffer, 512, &sectors.toc);
     put_bytes(buffer, 512 * 2, &sectors.toc);
     put_bytes(buffer, 512 * label.area_start as usize, body);
@@ -69,14 +75,13 @@ pub fn write_disk<H: Host>(
     buffer: &mut [u8],
 ) -> Result<(), Failed>
     requires disk { disk < length (H.seen host.old).sizes }
-    requires fits { Fits label.now (slice_index (H.seen host.old).sizes disk) }
-    requires clear { IsClearOfLabel label.now }
-    requires writable { IsWritable label.now }
+    requires takes { CanTake label.now body.now (slice_index (H.seen host.old).sizes disk) }
     requires size { length buffer.old ≡ 512 * 2048 }
-    requires body { length body.now ≤ 512 * label.now.area_sectors }
+    ensures written { H.tells_disks → OnOk result (IsUnsignedImage label.now body.now (image (H.seen host.old).content disk) (image (H.seen host.new).content disk)) }
     ensures ready { H.tells_disks → OnOk result ((db : Database) → IsBodyOn db label.now body.now → IsReady db label.now (image (H.seen host.new).content disk)) }
     ensures settled { OnOk result (Settled (H.seen host.new) disk) }
     ensures changes { ChangesBeside (IsBeside (512 * label.now.config_start) (512 * 2048)) disk (H.seen host.old) (H.seen host.new) }
+    ensures size { length buffer.new ≡ 512 * 2048 }
     ensures cause { IsErr result → Rose (H.seen host.old).disk_faults (H.seen host.new).disk_faults }
 {
     let count = host.sectors(disk);

@@ -16,6 +16,8 @@ mod jobs;
 #[cfg(test)]
 mod labels;
 #[cfg(test)]
+mod making;
+#[cfg(test)]
 mod sample;
 #[cfg(test)]
 mod scripts;

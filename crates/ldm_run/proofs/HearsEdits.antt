@@ -1,5 +1,6 @@
 -- How an edit ends, which hears a script first.
-use Rattle.std.proofs.Common.{◌≡◌, ◌≢◌, inl, inr, ⊎_elim, ℕ, ◌<◌, ◌≤◌, Bool, true, false, List, [], ◌++◌, length, codes, refl, sym, ap, subst, ◌∙◌, arith, Option, Some, None, Ok}
+use Rattle.std.proofs.Common.{◌≡◌, ◌≢◌, inl, inr, ⊎_elim, ℕ, ◌/◌, ◌<◌, ◌≤◌, Bool, true, false, List, [], ◌++◌, length, slice_index, codes, refl, sym, ap, subst, ◌∙◌, arith, Option, Some, None, Ok}
+use Rattle.std.specs.Prelude.{IfSome}
 use Rattle.std.proofs.lemmas.Bool.{lt-ltb, le-ltb}
 use Rattle.ldm_host.specs.Seen.{Seen, Leaves, image}
 use Rattle.ldm_host.specs.Moves.{Begins, Still}
@@ -8,7 +9,10 @@ use Rattle.ldm_host.proofs.Relations.{later_trans, moments_trans, still_trans, l
 use Rattle.ldm_label.specs.declared.Label.{Label}
 use Rattle.ldm_words.specs.declared.command.Command.{Command}
 use Rattle.ldm_words.specs.declared.job.Job.{Job}
-use Rattle.ldm_words.specs.declared.job.Job.TheVariants.{Disk, Records, Show, Check, Map, Dump, Scrub, Try, Edit, One, Sample}
+use Rattle.ldm_words.specs.declared.job.Job.TheVariants.{Disk, Records, Show, Check, Map, Dump, Scrub, Table, Try, Edit, One, Init, Sample}
+use Rattle.ldm_words.specs.Jobs.{job_of, HasCount, KeepsLimits}
+use Rattle.ldm_words.proofs.JobLaws.{reading_of}
+use Rattle.ldm_init.proofs.StartLaws.{still_moment}
 use Rattle.ldm_found.specs.declared.found.Found.{Found}
 use Rattle.ldm_found.specs.Opening.{IsGroupIn}
 use Rattle.ldm_found.proofs.FoundLaws.{holds_group, one_image}
@@ -18,16 +22,17 @@ use Rattle.ldm_store.proofs.HealLaws.{still_kept}
 use Rattle.ldm_store.proofs.HasLaws.{outside_is, outside_itself}
 use Rattle.ldm_found.specs.Labels.{AreSameOutside}
 use Rattle.ldm_run.specs.declared.running.Status.{Status}
-use Rattle.ldm_run.specs.declared.running.Status.TheVariants.{DiskFault}
+use Rattle.ldm_run.specs.declared.running.Status.TheVariants.{DiskFault, NoMemory}
 use Rattle.ldm_run.specs.Said.{refused}
 use Rattle.ldm_run.specs.Scripts.{is_long, commands_in}
 use Rattle.ldm_run.specs.Answer.{IsAnswerToScript}
 use Rattle.ldm_run.specs.Kinds.{NothingPending}
 use Rattle.ldm_run.specs.Heard.{Takes, TalkFails}
 use Rattle.ldm_run.specs.Stops.{lines_unless, Reopens, EveryStopReopens, EveryStopSinceSyncs, JobStops, JobSinceSyncs}
-use Rattle.ldm_run.specs.Written.{HoldsAfter}
-use Rattle.ldm_run.specs.Runs.{OnlyReads, StopsAfter, StopsSinceSyncs}
+use Rattle.ldm_run.specs.Written.{HoldsAfter, JobDisks}
+use Rattle.ldm_run.specs.Runs.{DisksAfter, HasImages, OnlyReads, StopsAfter, StopsSinceSyncs}
 use Rattle.ldm_run.specs.Editing.{DoesGroup, HearsAndEdits}
+use Rattle.ldm_run.proofs.MakingLaws.{unmade, unmade_disks}
 use Rattle.ldm_run.proofs.Saying.{answers_as, causes_sooner}
 use Rattle.ldm_run.proofs.ReplyLaws.{fails}
 use Rattle.ldm_run.proofs.ScriptLaws.{long_answer, whole_answer}
@@ -61,19 +66,24 @@ module _ {old mid : Seen} (still : Still old mid) (one_each : length old.content
       record { prefix = first.prefix; few = first.few; opens = first.opens; places = first.places; outside = first.outside; each_answered = let few = first.few in inl (omega (arith, few)) }
 
 -- where no call was made
-module _ {tells : Type 0} {host : Seen} (still : Still host host) (one_each : tells → length host.content ≡ length host.sizes) where
-  job_stops : (job : Job) → JobStops tells job host host
-  job_stops Disk = tt
-  job_stops Records = tt
-  job_stops Show = tt
-  job_stops Check = tt
-  job_stops (Map name first count) = tt
-  job_stops (Dump name) = tt
-  job_stops (Scrub name) = tt
-  job_stops Try = tt
-  job_stops Edit = λ told nothing. silent_reopens still (one_each told) refl _ nothing
-  job_stops (One command) = λ told nothing. silent_reopens still (one_each told) refl _ nothing
-  job_stops (Sample seed) = tt
+module _ {tells : Type 0} {host : Seen} (still : Still host host) (one_each : tells → length host.content ≡ length host.sizes)
+    (lengths : tells → (disk : ℕ) → disk < length host.sizes → length (image host.content disk) / 512 ≡ slice_index host.sizes disk) where
+  job_stops : (job : Job) → HasCount job (length host.sizes) → KeepsLimits job → JobStops tells job host host
+  job_stops Disk many limits = tt
+  job_stops Records many limits = tt
+  job_stops Show many limits = tt
+  job_stops Check many limits = tt
+  job_stops (Map name first count) many limits = tt
+  job_stops (Dump name) many limits = tt
+  job_stops (Scrub name) many limits = tt
+  job_stops (Table name words) many limits = tt
+  job_stops Try many limits = tt
+  job_stops Edit many limits = λ told nothing. silent_reopens still (one_each told) refl _ nothing
+  job_stops (One command) many limits = λ told nothing. silent_reopens still (one_each told) refl _ nothing
+  job_stops (Init name guid disks) many limits = λ told nothing empty images text left.
+      let some : 0 < length host.sizes = (let some = limits.some in omega (arith, some, many)) in
+      unmade name guid disks host images text (still_moment host disks (one_each told) (lengths told) empty nothing name guid some images text (quiet_start still refl images text left))
+  job_stops (Sample seed) many limits = tt
 
   job_since : (job : Job) → JobSinceSyncs tells job host host
   job_since Disk = tt
@@ -83,18 +93,48 @@ module _ {tells : Type 0} {host : Seen} (still : Still host host) (one_each : te
   job_since (Map name first count) = tt
   job_since (Dump name) = tt
   job_since (Scrub name) = tt
+  job_since (Table name words) = tt
   job_since Try = tt
   job_since Edit = λ told short found is editable. inl (quiet_start still refl)
   job_since (One command) = λ told found is editable. inl (quiet_start still refl)
+  job_since (Init name guid disks) = tt
   job_since (Sample seed) = tt
 
   pub since_unchanged : (reading : Option (Job × ℕ)) → StopsSinceSyncs tells reading host host
   since_unchanged None = tt
   since_unchanged (Some reading) = job_since reading.0
 
-  pub stops_unchanged : (reading : Option (Job × ℕ)) → StopsAfter tells reading host host
-  stops_unchanged None = tt
-  stops_unchanged (Some reading) = job_stops reading.0
+  pub stops_unchanged : (reading : Option (Job × ℕ)) → IfSome reading (λ r. HasCount r.0 (length host.sizes) × KeepsLimits r.0) → StopsAfter tells reading host host
+  stops_unchanged None keeps = tt
+  stops_unchanged (Some reading) keeps = job_stops reading.0 keeps.0 keeps.1
+
+-- what is written then
+module _ (tells : Type 0) {host : Seen} (still : Still host host) where
+  job_disks : (job : Job) → JobDisks tells job host host NoMemory
+  job_disks Disk = still
+  job_disks Records = still
+  job_disks Show = still
+  job_disks Check = still
+  job_disks (Map name first count) = still
+  job_disks (Dump name) = still
+  job_disks (Scrub name) = still
+  job_disks (Table name words) = still
+  job_disks Try = still
+  job_disks Edit = record { later = still.later; done = λ told has. absurd has; unwritten = λ told none. refl }
+  job_disks (One command) = record { later = still.later; done = λ told has. absurd has; unwritten = λ told none. refl }
+  job_disks (Init name guid disks) = unmade_disks tells name guid disks host still
+  job_disks (Sample seed) = still
+
+  pub disks_unchanged : (reading : Option (Job × ℕ)) → DisksAfter tells reading host host NoMemory
+  disks_unchanged None = still
+  disks_unchanged (Some reading) = job_disks reading.0
+
+-- what words with a reading keep
+pub keeps_reading : (words : List (List ℕ)) (host : Seen) (o : Option (Job × ℕ)) → job_of words ≡ o → HasImages o host → IfSome o (λ r. HasCount r.0 (length host.sizes) × KeepsLimits r.0)
+keeps_reading words host None is images = tt
+keeps_reading words host (Some reading) is images =
+    let kept = reading_of words reading is in
+    (subst (λ (n : ℕ). HasCount reading.0 n) (sym images) kept.count, kept.limits)
 
 -- memory or the talk failed before the script was heard
 pub unheard_edit : {tells talks : Type 0} {old new : Seen} {status : Status} → TalkFails old new status → (talks → (taken : List ℕ) × Takes old new taken) → new.said ≡ old.said → Still old new

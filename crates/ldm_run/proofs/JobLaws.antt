@@ -1,10 +1,10 @@
 -- What is said of each job, by what its function says.
-use Rattle.std.proofs.Common.{◌≡◌, ◌≢◌, [], ◌∷◌, sym, subst, Some}
+use Rattle.std.proofs.Common.{◌≡◌, ◌≢◌, ℕ, List, [], ◌∷◌, sym, subst, Some}
 use Rattle.ldm_host.specs.Seen.{Seen}
 use Rattle.ldm_host.specs.Moves.{Still}
 use Rattle.ldm_words.specs.declared.command.Command.{Command}
 use Rattle.ldm_words.specs.declared.job.Job.{Job}
-use Rattle.ldm_words.specs.declared.job.Job.TheVariants.{Try, Edit, One}
+use Rattle.ldm_words.specs.declared.job.Job.TheVariants.{Try, Edit, One, Init}
 use Rattle.ldm_run.specs.declared.running.Status.{Status}
 use Rattle.ldm_run.specs.declared.running.Status.TheVariants.{Usage, DiskFault, NoMemory}
 use Rattle.ldm_run.specs.Said.{Answer, SaysNothing}
@@ -13,7 +13,7 @@ use Rattle.ldm_run.specs.Kinds.{kind_of, SameInput, JobPremise, JobInput, JobSay
 use Rattle.ldm_run.specs.Stops.{JobStops, JobSinceSyncs}
 use Rattle.ldm_run.specs.Written.{JobDisks}
 use Rattle.ldm_run.specs.Editing.{DoesGroup, HearsAndEdits}
-use Rattle.ldm_run.specs.Runs.{Answers, Causes, OnlyReads, Streams, HearsAndReplies}
+use Rattle.ldm_run.specs.Runs.{Answers, Causes, OnlyReads, Streams, HearsAndReplies, MakesGroup}
 
 -- what is said of a job
 abbrev pub DoesJob : (tells talks : Type 0) → Job → Seen → Seen → Status → Type 0
@@ -111,4 +111,17 @@ one_job talks command does silent = record {
   silent = silent;
   stops = does.stops;
   since_syncs = does.since_syncs;
+}
+
+pub init_job : {tells : Type 0} {old new : Seen} {status : Status} (talks : Type 0) (name guids : List ℕ) (guid : ℕ) → MakesGroup tells name guid guids old new status
+    → DoesJob tells talks (Init name guid guids) old new status
+init_job talks name guids guid makes = record {
+  answers = λ told free. makes.answers told;
+  no_usage = makes.no_usage;
+  causes = makes.causes;
+  disks = makes.disks;
+  input = makes.input;
+  silent = makes.silent;
+  stops = makes.stops;
+  since_syncs = tt;
 }

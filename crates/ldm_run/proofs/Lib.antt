@@ -1,4 +1,5 @@
 pub mod Saying
+pub mod MakingLaws
 pub mod OneAnswer
 pub mod PlanLaws
 pub mod HeardLaws

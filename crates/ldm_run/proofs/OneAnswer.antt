@@ -1,5 +1,5 @@
 -- There is one answer to the words.
-use Rattle.std.proofs.Common.{◌≡◌, ℕ, Bool, true, false, List, [], ◌∷◌, sym, ap, ◌∙◌, Option, Some, None, Result, Ok, Err}
+use Rattle.std.proofs.Common.{◌≡◌, ℕ, Bool, true, false, List, [], ◌∷◌, map, sym, ap, ◌∙◌, Option, Some, None, Result, Ok, Err}
 use Rattle.ldm_host.specs.Seen.{image}
 use Rattle.ldm_label.specs.declared.Label.{Label}
 use Rattle.ldm_label.specs.declared.LabelFault.{LabelFault}
@@ -7,7 +7,7 @@ use Rattle.ldm_label.specs.LabelOf.{label_of}
 use Rattle.ldm_copy.specs.Copy.{config_area}
 use Rattle.ldm_copy.proofs.OneCopy.{one_copy}
 use Rattle.ldm_words.specs.declared.job.Job.{Job}
-use Rattle.ldm_words.specs.declared.job.Job.TheVariants.{Disk, Records, Show, Check, Map, Dump, Scrub, Try, Edit, One, Sample}
+use Rattle.ldm_words.specs.declared.job.Job.TheVariants.{Disk, Records, Show, Check, Map, Dump, Scrub, Table, Try, Edit, One, Init, Sample}
 use Rattle.ldm_words.specs.Jobs.{job_of}
 use Rattle.ldm_found.specs.declared.found.Found.{Found}
 use Rattle.ldm_found.proofs.GroupLaws.{one_group}
@@ -15,6 +15,9 @@ use Rattle.ldm_run.specs.Said.{Answer}
 use Rattle.ldm_run.specs.Mapping.{map_answer}
 use Rattle.ldm_run.specs.Streaming.{dump_answer, scrub_answer}
 use Rattle.ldm_run.specs.Scripts.{is_long, commands_in, try_answer}
+use Rattle.ldm_label.specs.Fields.{sectors_of}
+use Rattle.ldm_init.proofs.StartLaws.{one_fault}
+use Rattle.ldm_run.specs.Making.{init_answer}
 use Rattle.ldm_run.proofs.SampleLaws.{one_sample}
 use Rattle.ldm_run.specs.Answer.{copy_answer, group_answer, show_answer, check_answer, IsRecordsAnswer, IsGroupAnswer, IsAnswerToScript, IsJobAnswer, IsReadingAnswer, IsAnswerTo}
 
@@ -37,9 +40,11 @@ one_job Check images input a b x y = one_of_group check_answer images a b x y
 one_job (Map name first count) images input a b x y = one_of_group (map_answer name first count) images a b x y
 one_job (Dump name) images input a b x y = one_of_group (dump_answer name images) images a b x y
 one_job (Scrub name) images input a b x y = one_of_group (scrub_answer name images) images a b x y
+one_job (Table name words) images input a b x y = x ∙ sym y
 one_job Try images input a b x y = one_of_script (is_long input) input images a b x y
 one_job Edit images input a b x y = one_of_script (is_long input) input images a b x y
 one_job (One command) images input a b x y = one_of_group (try_answer (Some command ∷ [])) images a b x y
+one_job (Init name guid disks) images input a b x y = x.2 ∙ ap init_answer (one_fault disks (map sectors_of images) images x.0 y.0 x.1 y.1) ∙ sym y.2
 one_job (Sample seed) images input a b x y = one_sample seed a b x y
 
 one_reading : (reading : Option (Job × ℕ)) (images : List (List ℕ)) (input : List ℕ) (a b : Answer) → IsReadingAnswer reading images input a → IsReadingAnswer reading images input b → a ≡ b

@@ -8,7 +8,7 @@ use Rattle.ldm_copy.specs.declared.answer.CopyState.{CopyState}
 use Rattle.ldm_copy.specs.declared.answer.CopyFault.{CopyFault}
 use Rattle.ldm_copy.specs.Copy.{IsCopyOf, config_area}
 use Rattle.ldm_words.specs.declared.job.Job.{Job}
-use Rattle.ldm_words.specs.declared.job.Job.TheVariants.{Disk, Records, Show, Check, Map, Dump, Scrub, Try, Edit, One, Sample}
+use Rattle.ldm_words.specs.declared.job.Job.TheVariants.{Disk, Records, Show, Check, Map, Dump, Scrub, Table, Try, Edit, One, Init, Sample}
 use Rattle.ldm_words.specs.Jobs.{job_of}
 use Rattle.ldm_found.specs.declared.fault.OpenFault.{OpenFault}
 use Rattle.ldm_found.specs.declared.found.Found.{Found}
@@ -22,6 +22,7 @@ use Rattle.ldm_run.specs.Mapping.{map_answer}
 use Rattle.ldm_run.specs.Streaming.{dump_answer, scrub_answer}
 use Rattle.ldm_run.specs.Sample.{IsSampleAnswer}
 use Rattle.ldm_run.specs.Scripts.{is_long, commands_in, try_answer}
+use Rattle.ldm_run.specs.Making.{IsInitAnswer}
 use Rattle.ldm_run.specs.Said.{Answer, refused}
 use Rattle.ldm_run.specs.declared.running.Status.TheVariants.{Done, Refused, Usage}
 
@@ -77,9 +78,11 @@ IsJobAnswer Check images input answer = IsGroupAnswer check_answer images answer
 IsJobAnswer (Map name first count) images input answer = IsGroupAnswer (map_answer name first count) images answer
 IsJobAnswer (Dump name) images input answer = IsGroupAnswer (dump_answer name images) images answer
 IsJobAnswer (Scrub name) images input answer = IsGroupAnswer (scrub_answer name images) images answer
+IsJobAnswer (Table name words) images input answer = answer ≡ refused (codes "not yet")
 IsJobAnswer Try images input answer = IsAnswerToScript (is_long input) input images answer
 IsJobAnswer Edit images input answer = IsAnswerToScript (is_long input) input images answer
 IsJobAnswer (One command) images input answer = IsGroupAnswer (try_answer (Some command ∷ [])) images answer
+IsJobAnswer (Init name guid disks) images input answer = IsInitAnswer disks images answer
 IsJobAnswer (Sample seed) images input answer = IsSampleAnswer seed answer
 
 abbrev pub IsReadingAnswer : Option (Job × ℕ) → List (List ℕ) → List ℕ → Answer → Type 0

@@ -3,6 +3,7 @@ pub mod Mapping
 pub mod Streaming
 pub mod Scripts
 pub mod Heard
+pub mod Making
 pub mod Answer
 pub mod Kinds
 pub mod Writing

@@ -1,11 +1,12 @@
 -- How a run of the program ends.
-use Rattle.std.specs.Prelude.{◌≡◌, ◌≢◌, ◌⊎◌, ℕ, ◌++◌, length, Option, Some, None}
+use Rattle.std.specs.Prelude.{◌≡◌, ◌≢◌, ◌⊎◌, ℕ, List, ◌++◌, length, Option, Some, None}
 use Rattle.ldm_host.specs.Seen.{Seen}
 use Rattle.ldm_host.specs.Moves.{Rose, Begins, Still}
 use Rattle.ldm_words.specs.declared.job.Job.{Job}
 use Rattle.ldm_run.specs.Said.{Answer, HasAnswer, SaysNothing}
 use Rattle.ldm_run.specs.Heard.{HearsScript}
-use Rattle.ldm_run.specs.Kinds.{kind_of, JobPremise, SameInput, JobInput, JobSays}
+use Rattle.ldm_run.specs.Kinds.{kind_of, NothingPending, JobPremise, SameInput, JobInput, JobSays}
+use Rattle.ldm_run.specs.Making.{IsInitAnswer, MakesDisks, EveryStopMakes}
 use Rattle.ldm_run.specs.Stops.{JobStops, JobSinceSyncs}
 use Rattle.ldm_run.specs.Written.{JobDisks}
 use Rattle.ldm_run.specs.declared.running.Status.{Status}
@@ -105,3 +106,13 @@ pub record HearsAndReplies (tells talks : Type 0) (old new : Seen) (IsOne : Answ
   pub silent : status ≡ DiskFault → new.said ≡ old.said
   pub still : Still old new
   pub input : talks → HearsScript old new status
+
+-- What a job does that makes the disks a new group and then says so.
+pub record MakesGroup (tells : Type 0) (name : List ℕ) (guid : ℕ) (guids : List ℕ) (old new : Seen) (status : Status) : Type 0 where
+  pub answers : tells → Answers old new (IsInitAnswer guids old.content) status
+  pub no_usage : status ≢ Usage
+  pub causes : Causes old new status
+  pub silent : SaysNothing status → new.said ≡ old.said
+  pub disks : MakesDisks tells name guid guids old new status
+  pub input : SameInput old new
+  pub stops : tells → NothingPending old → EveryStopMakes name guid guids old new

@@ -6,7 +6,7 @@ use Rattle.ldm_group.specs.Database.{Database}
 use Rattle.ldm_rules.specs.Disjoint.{HasDisjointPlaces}
 use Rattle.ldm_words.specs.declared.command.Command.{Command}
 use Rattle.ldm_words.specs.declared.job.Job.{Job}
-use Rattle.ldm_words.specs.declared.job.Job.TheVariants.{Edit, One}
+use Rattle.ldm_words.specs.declared.job.Job.TheVariants.{Edit, One, Init}
 use Rattle.ldm_edits.specs.Steps.{group_after}
 use Rattle.ldm_found.specs.declared.found.Found.{Found}
 use Rattle.ldm_found.specs.Labels.{AreSameOutside}
@@ -15,6 +15,7 @@ use Rattle.ldm_store.specs.Kept.{Opens}
 use Rattle.ldm_store.specs.Healing.{OnlyStill}
 use Rattle.ldm_run.specs.Scripts.{is_long, commands_in}
 use Rattle.ldm_run.specs.Kinds.{NothingPending}
+use Rattle.ldm_run.specs.Making.{EveryStopMakes}
 
 -- the lines of a script, none where it is too long
 abbrev pub lines_unless : Bool → List ℕ → List (Option Command)
@@ -51,6 +52,7 @@ EveryStopReopens commands start host = (found : Found) → IsGroupIn start.conte
 abbrev pub JobStops : Type 0 → Job → Seen → Seen → Type 0
 JobStops tells Edit old new = tells → NothingPending old → EveryStopReopens (commands_of Edit old.input) old new
 JobStops tells (One command) old new = tells → NothingPending old → EveryStopReopens (commands_of (One command) old.input) old new
+JobStops tells (Init name guid disks) old new = tells → NothingPending old → EveryStopMakes name guid disks old new
 JobStops tells job old new = Unit {0}
 
 -- From some time on, the end of the syncs, whatever a stop may leave reopens. Until then it leaves what it could leave at the

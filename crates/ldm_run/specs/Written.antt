@@ -4,7 +4,7 @@ use Rattle.ldm_host.specs.Seen.{Seen}
 use Rattle.ldm_host.specs.Moves.{Later, Still}
 use Rattle.ldm_words.specs.declared.command.Command.{Command}
 use Rattle.ldm_words.specs.declared.job.Job.{Job}
-use Rattle.ldm_words.specs.declared.job.Job.TheVariants.{Edit, One}
+use Rattle.ldm_words.specs.declared.job.Job.TheVariants.{Edit, One, Init}
 use Rattle.ldm_edits.specs.Steps.{group_after}
 use Rattle.ldm_found.specs.declared.found.Found.{Found}
 use Rattle.ldm_found.specs.Opening.{IsGroupIn}
@@ -13,6 +13,7 @@ use Rattle.ldm_store.specs.Turning.{AllHave, AreRewritten}
 use Rattle.ldm_run.specs.Said.{HasAnswer}
 use Rattle.ldm_run.specs.Scripts.{is_long}
 use Rattle.ldm_run.specs.Kinds.{NothingPending}
+use Rattle.ldm_run.specs.Making.{MakesDisks}
 use Rattle.ldm_run.specs.Stops.{commands_of}
 use Rattle.ldm_run.specs.declared.running.Status.{Status}
 
@@ -34,4 +35,5 @@ pub record EditsDisks (tells : Type 0) (long : Bool) (commands : List (Option Co
 abbrev pub JobDisks : Type 0 → Job → Seen → Seen → Status → Type 0
 JobDisks tells Edit old new status = EditsDisks tells (is_long old.input) (commands_of Edit old.input) old new status
 JobDisks tells (One command) old new status = EditsDisks tells false (commands_of (One command) old.input) old new status
+JobDisks tells (Init name guid disks) old new status = MakesDisks tells name guid disks old new status
 JobDisks tells job old new status = Still old new

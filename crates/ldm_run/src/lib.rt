@@ -6,6 +6,7 @@
 mod dump;
 mod editing;
 mod kinds;
+mod making;
 mod mapping;
 mod replying;
 mod running;

@@ -22,6 +22,7 @@ ghost use Rattle.ldm_run.specs.Runs.{Answers, Completes, Causes, NoFault, HasIma
 
 use crate::dump::dump;
 use crate::editing::{edit_one, edit_script};
+use crate::making::make_group;
 use crate::mapping::mapped;
 use crate::replying::reply_each;
 use crate::sample::sample;
@@ -303,9 +304,14 @@ fn do_job<H: Host>(alloc: Global, job: Job, host: &mut H) -> Status
         Job::Map { name, first, count } => map(alloc, host, &name, first, count),
         Job::Dump { name } => dump(alloc, host, &name),
         Job::Scrub { name } => scrub(alloc, host, &name),
+        Job::Table { .. } => {
+            let line = refusal_text(alloc, b"not yet");
+            say_made(host, line, Status::Refused)
+        }
         Job::Try => try_script(alloc, host),
         Job::Edit => edit(alloc, host),
         Job::One(command) => edit_one(alloc, host, command),
+        Job::Init { name, guid, disks } => make_group(alloc, host, &name, guid, &disks),
         Job::Sample(seed) => sample(alloc, host, seed),
     }
 }

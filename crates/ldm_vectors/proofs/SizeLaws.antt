@@ -1,5 +1,5 @@
 -- How long the sample script is at most.
-use Rattle.std.proofs.Common.{ℕ, zero, suc, ◌+◌, ◌-◌, ◌*◌, ◌/◌, ◌%◌, ◌<◌, ◌≤◌, ◌==◌, Bool, true, false, List, length, length-append, decimal, arith, if◌then◌else◌}
+use Rattle.std.proofs.Common.{ℕ, zero, suc, ◌+◌, ◌*◌, ◌/◌, ◌%◌, ◌<◌, ◌≤◌, ◌==◌, Bool, true, false, List, length, length-append, decimal, arith, if◌then◌else◌}
 use Rattle.std.proofs.lemmas.Fmt.{length-decimal-le}
 use Rattle.ldm_vectors.specs.Script.{draw, span_line, mirror_line, extend_line, delete_line, line_of, lines_of_seed, script_of}
 

@@ -1,10 +1,8 @@
 -- The sample group: `Dg0`, sequence 7, a group record, and one to three disks without a volume.
-use Rattle.std.specs.Prelude.{◌≡◌, ◌⊎◌, ℕ, ◌+◌, ◌*◌, ◌/◌, ◌<◌, ◌≤◌, nat_lt, List, [], ◌∷◌, ◌++◌, map, length, slice_index, codes, Option, Some, None, if◌then◌else◌}
-use Rattle.std.specs.List.{filter_map, range_with_len}
+use Rattle.std.specs.Prelude.{◌≡◌, ◌⊎◌, ℕ, ◌+◌, ◌*◌, ◌/◌, ◌<◌, ◌≤◌, nat_lt, List, map, length, slice_index, codes, Some, None, if◌then◌else◌}
+use Rattle.std.specs.List.{range_with_len}
 use Rattle.ldm_host.specs.Seen.{image}
-use Rattle.ldm_records.specs.declared.types.Record.{Record}
-use Rattle.ldm_made.specs.Made.{new_disk, new_group}
-use Rattle.ldm_vmdb.specs.Made.{IsNewHeader}
+use Rattle.ldm_init.specs.NewGroup.{IsNewGroup}
 use Rattle.ldm_label.specs.declared.Label.{Label}
 use Rattle.ldm_label.specs.Written.{HasLabel, IsOutsideLabel}
 use Rattle.ldm_group.specs.Database.{Database}
@@ -19,18 +17,13 @@ use Rattle.ldm_images.specs.Sample.{guid_with, sample_label, sample_labels}
 abbrev pub sample_name : List ℕ
 sample_name = codes "Dg0"
 
--- the record of the disk of this number, from 0: its id from 2 on, and its name and GUID by digits from 1 on
-abbrev pub sample_disk : ℕ → Option Record
-sample_disk disk = new_disk (disk + 2) (codes "Disk" ++ (49 + disk) ∷ []) (guid_with (disk + 1))
-
--- the group record, and those of so many disks
-abbrev pub sample_records : ℕ → List Record
-sample_records disks = filter_map (λ r. r) (new_group 1 sample_name (guid_with 0xA) ∷ map sample_disk (range_with_len 0 disks))
+-- the GUIDs of so many disks, by digits from 1 on
+abbrev pub sample_guids : ℕ → List ℕ
+sample_guids disks = map (λ disk. guid_with (disk + 1)) (range_with_len 0 disks)
 
 -- the group of so many disks, whose last VBLK sequence is this
-pub record IsSampleDatabase (disks last : ℕ) (db : Database) : Type 0 where
-  pub header_is : IsNewHeader db.header sample_name (guid_with 0xA) last 7
-  pub records_are : db.records ≡ sample_records disks
+abbrev pub IsSampleDatabase : ℕ → ℕ → Database → Type 0
+IsSampleDatabase disks last db = IsNewGroup sample_name (guid_with 0xA) (sample_guids disks) last 7 db
 
 -- ---- its images
 

@@ -1,5 +1,5 @@
 -- The sample script: 200 lines that are drawn from a seed.
-use Rattle.std.specs.Prelude.{ℕ, zero, suc, ◌+◌, ◌-◌, ◌*◌, ◌/◌, ◌%◌, ◌^◌, ◌==◌, List, [], ◌++◌, codes, decimal, if◌then◌else◌}
+use Rattle.std.specs.Prelude.{ℕ, zero, suc, ◌+◌, ◌*◌, ◌/◌, ◌%◌, ◌^◌, ◌==◌, List, [], ◌++◌, codes, decimal, if◌then◌else◌}
 
 -- A linear congruential generator of 64 bits. The state begins as the seed; a draw takes the next state, of which it is the
 -- upper 31 bits.

@@ -1,20 +1,18 @@
 //! The images of the sample group.
-ghost use Rattle.std.specs.Prelude.{◌≡◌, ◌+◌, ◌*◌, ◌<◌, ◌≤◌, Some, All, IfOk, Result, length, vec_len};
+ghost use Rattle.std.specs.Prelude.{◌≡◌, ◌*◌, ◌<◌, ◌≤◌, All, IfOk, Result, length, vec_len};
 ghost use Rattle.ldm_host.specs.Images.{items_of};
 ghost use Rattle.ldm_found.specs.declared.found.Found.{Found};
 ghost use Rattle.ldm_found.specs.Opening.{IsGroupIn};
 ghost use Rattle.ldm_images.specs.Sample.{sample_label, IsZeros};
-ghost use Rattle.ldm_vectors.specs.Sample.{sample_disk, sample_records, IsSampleDatabase, IsSampleImage, AreImagesWith, AreSampleImages, IsSampleGroup};
+ghost use Rattle.ldm_vectors.specs.Sample.{IsSampleDatabase, IsSampleImage, AreImagesWith, AreSampleImages, IsSampleGroup};
 
 use ldm_bytes::{NoMemory, put_bytes};
 use ldm_copy::{Body, bodies_are_copies, body_of};
 use ldm_found::new_groups_open;
-use ldm_group::{Db, DbError};
+use ldm_group::Db;
 use ldm_images::{guid_with, sample_label, zeros};
+use ldm_init::new_database;
 use ldm_label::{write_label, written_label_reads_back};
-use ldm_made::{new_disk, new_group};
-use ldm_records::Record;
-use ldm_vmdb::Header;
 use std::alloc::Global;
 
 /// Bytes of an image: 8192 sectors.
@@ -22,39 +20,14 @@ const IMAGE: usize = 8192 * 512;
 /// Where the config area begins, in bytes.
 const AREA: usize = (6144 + 17) * 512;
 
-// The record of the disk of this number, from 0.
-fn sample_disk(alloc: Global, disk: u8) -> Result<Record, NoMemory>
-    requires { disk < 3 }
-    ensures { IfOk result (λ r. sample_disk disk ≡ Some r) }
-{
-    let name = [b'D', b'i', b's', b'k', b'1' + disk];
-    new_disk(alloc, u64::from(disk) + 2, &name, guid_with(disk + 1))
-}
-
-// The group record, and those of so many disks.
-fn sample_records(alloc: Global, disks: u8) -> Result<Vec<Record>, NoMemory>
-    requires { disks ≤ 3 }
-    ensures { IfOk result (λ records. records.items ≡ sample_records disks) }
-{
-    let mut records = Vec::new(alloc);
-    records.push(new_group(alloc, 1, b"Dg0", guid_with(0xA))?)?;
-    for disk in 0..disks {
-        records.push(sample_disk(alloc, disk)?)?;
-    }
-    Ok(records)
-}
-
-// The group of so many disks. No two of its records have one id.
+// The group of so many disks.
 fn sample_database(alloc: Global, disks: u8, last: u32) -> Result<Db, NoMemory>
     requires { disks ≤ 3 }
     ensures { IfOk result (λ db. IsSampleDatabase disks last db) }
 {
-    let header = Header::new(alloc, b"Dg0", guid_with(0xA), last, 7)?;
-    let records = sample_records(alloc, disks)?;
-    match Db::new(alloc, header, records) {
-        Ok(db) => Ok(db),
-        Err(DbError::SameId { .. } | DbError::NoMemory) => Err(NoMemory),
-    }
+    let guids = [guid_with(1), guid_with(2), guid_with(3)];
+    let first = &guids[..usize::from(disks)];
+    new_database(alloc, b"Dg0", guid_with(0xA), first, last, 7)
 }
 
 // Writes the image of the disk of this number, whose copy is this body, over zeros.

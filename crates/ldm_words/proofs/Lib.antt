@@ -5,4 +5,5 @@ pub mod NameLaws
 pub mod CommandLaws
 pub mod EqualsLaws
 pub mod LimitLaws
+pub mod NewGroupLaws
 pub mod LineLaws

@@ -1,6 +1,7 @@
 pub mod Numbers
 pub mod Names
 pub mod Units
+pub mod NewGroup
 pub mod Jobs
 pub mod Readings
 pub mod Commands

@@ -42,7 +42,7 @@ impl Pieces {
     }
 }
 
-/// The names of disks in a command, in their order. Contracts see them as that list.
+/// The names of disks in a command, or the words of images, in their order. Contracts see them as that list.
 #[derive(Drop)]
 pub struct Names {
     items: Vec<Bytes>,

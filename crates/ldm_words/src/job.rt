@@ -1,15 +1,16 @@
 //! Command lines: the words of a job, and its images.
 ghost use Rattle.std.specs.Prelude.{◌≡◌, ◌≤◌, IfOk, length};
 ghost use Rattle.std.specs.List.{position_or_len};
-ghost use Rattle.ldm_words.specs.Jobs.{texts, is_on, images_of, images_behind, on_one, is_group, on_group, map_form, named_in, dump_form, scrub_form, sample_form, command_form, job_form, job_of, edits_disks, HasCount, KeepsLimits};
+ghost use Rattle.ldm_words.specs.Jobs.{texts, is_on, image_words, images_of, images_behind, on_one, is_group, on_group, map_form, named_in, dump_form, scrub_form, table_form, init_form, sample_form, command_form, job_form, job_of, edits_disks, HasCount, KeepsLimits};
 ghost use Rattle.ldm_words.specs.Commands.{bytes_of};
 ghost use Rattle.ldm_words.specs.Readings.{Reads};
 
-use crate::command::Command;
+use crate::command::{Command, Names};
 use crate::name::read_name;
+use crate::new_group::{Guids, read_group_name, read_guids};
 use crate::number::read_number;
 use crate::reading::read_command;
-use ldm_bytes::{Bytes, NoMemory};
+use ldm_bytes::{Bytes, NoMemory, read_guid};
 use std::alloc::Global;
 use thiserror::Error;
 
@@ -25,17 +26,36 @@ pub enum Job {
     /// What each disk of a group holds, and whether the group may be edited.
     Check,
     /// Where `count` sectors of a volume lie, from the sector `first` on.
-    Map { name: Bytes, first: u64, count: u64 },
+    Map {
+        name: Bytes,
+        first: u64,
+        count: u64,
+    },
     /// The bytes of a volume.
-    Dump { name: Bytes },
+    Dump {
+        name: Bytes,
+    },
     /// Where the copies of a mirror, or the parity of a RAID-5, disagree.
-    Scrub { name: Bytes },
+    Scrub {
+        name: Bytes,
+    },
+    /// The device-mapper tables that make a device of a volume, and the words that name the images.
+    Table {
+        name: Bytes,
+        images: Names,
+    },
     /// What the lines of a script would make of a group.
     Try,
     /// The lines of a script, done to a group.
     Edit,
     /// One command, done to a group.
     One(Command),
+    /// A new group on empty disks: its name, its GUID and those of its disks.
+    Init {
+        name: Bytes,
+        guid: u128,
+        disks: Guids,
+    },
     /// The sample script of this seed, done to a group in memory.
     Sample(u64),
 }
@@ -46,7 +66,7 @@ impl Job {
         ensures { result ≡ edits_disks self.now }
     {
         match self {
-            Job::Edit | Job::One(_) => true,
+            Job::Edit | Job::One(_) | Job::Init { .. } => true,
             Job::Disk
             | Job::Records
             | Job::Show
@@ -54,6 +74,7 @@ impl Job {
             | Job::Map { .. }
             | Job::Dump { .. }
             | Job::Scrub { .. }
+            | Job::Table { .. }
             | Job::Try
             | Job::Sample(_) => false,
         }
@@ -103,6 +124,18 @@ pub fn image_count(words: &[String]) -> usize
         words.len() - place - 1
     } else {
         0
+    }
+}
+
+// The words behind the first word `on`.
+fn image_words(words: &[String]) -> &[String]
+    ensures { texts result.now ≡ image_words (texts words.now) }
+{
+    let place = on_place(words);
+    if place < words.len() {
+        &words[place + 1..]
+    } else {
+        &[]
     }
 }
 
@@ -203,6 +236,51 @@ fn read_scrub(
     }
 }
 
+// The words, each as bytes of its own.
+fn copy_words(alloc: Global, words: &[String]) -> Result<Names, NoMemory>
+    ensures { IfOk result (λ names. names ≡ texts words.now) }
+{
+    let mut names = Vec::new(alloc);
+    for word in words {
+        names.push(Bytes::from_slice(alloc, word.as_bytes())?)?;
+    }
+    Ok(Names::from_vec(names))
+}
+
+// table NAME, with the words of the images
+fn read_table(
+    alloc: Global,
+    rest: &[String],
+    images: Option<usize>,
+    behind: &[String],
+) -> Result<Option<Job>, NoMemory>
+    ensures { IfOk result (λ found. found ≡ table_form (texts rest.now) images (texts behind.now)) }
+{
+    match read_named(alloc, rest, images)? {
+        Some(name) => Ok(Some(Job::Table {
+            name,
+            images: copy_words(alloc, behind)?,
+        })),
+        None => Ok(None),
+    }
+}
+
+// init NAME GUID GUID.., where each image has a GUID
+fn read_init(alloc: Global, rest: &[String], images: Option<usize>) -> Result<Option<Job>, NoMemory>
+    ensures { IfOk result (λ found. found ≡ init_form (texts rest.now) images) }
+{
+    if let [name, guid, disks @ ..] = rest
+        && images == Some(disks.len())
+        && let Some(guid) = read_guid(guid.as_bytes())
+        && let Some(name) = read_group_name(alloc, name.as_bytes())?
+        && let Some(disks) = read_guids(alloc, &tokens_of(alloc, disks)?)?
+    {
+        Ok(Some(Job::Init { name, guid, disks }))
+    } else {
+        Ok(None)
+    }
+}
+
 // sample SEED, without images
 fn read_sample(rest: &[String], images: Option<usize>) -> Option<Job>
     ensures { result ≡ sample_form (texts rest.now) images }
@@ -238,9 +316,14 @@ fn read_one(alloc: Global, words: &[String], images: Option<usize>) -> Result<Op
     }
 }
 
-// The job that stands before `on`.
-fn read_job(alloc: Global, words: &[String], images: Option<usize>) -> Result<Option<Job>, NoMemory>
-    ensures { IfOk result (λ found. found ≡ job_form (texts words.now) images) }
+// The job that stands before `on`, with the words behind it.
+fn read_job(
+    alloc: Global,
+    words: &[String],
+    images: Option<usize>,
+    behind: &[String],
+) -> Result<Option<Job>, NoMemory>
+    ensures { IfOk result (λ found. found ≡ job_form (texts words.now) images (texts behind.now)) }
 {
     let [word, rest @ ..] = words else {
         return Ok(None);
@@ -253,8 +336,10 @@ fn read_job(alloc: Global, words: &[String], images: Option<usize>) -> Result<Op
         "map" => read_map(alloc, rest, images),
         "dump" => read_dump(alloc, rest, images),
         "scrub" => read_scrub(alloc, rest, images),
+        "table" => read_table(alloc, rest, images, behind),
         "try" => Ok(on_group(Job::Try, rest, images)),
         "edit" => Ok(on_group(Job::Edit, rest, images)),
+        "init" => read_init(alloc, rest, images),
         "sample" => Ok(read_sample(rest, images)),
         _ => read_one(alloc, words, images),
     }
@@ -272,7 +357,8 @@ pub fn read_words(alloc: Global, words: &[String]) -> Result<(Job, usize), Words
 {
     let place = on_place(words);
     let images = image_count(words);
-    match read_job(alloc, &words[..place], images_behind(words))? {
+    let behind = image_words(words);
+    match read_job(alloc, &words[..place], images_behind(words), behind)? {
         Some(job) => Ok((job, images)),
         None => Err(WordsError::Usage),
     }

@@ -3,7 +3,7 @@ use super::*;
 use std::test::Fail;
 
 // Words that are separated by a bar, and what is said of them.
-const ROWS: [(&str, &str); 34] = [
+const ROWS: [(&str, &str); 43] = [
     ("on|a", "there is no job"),
     ("chek|on|a", "\"chek\" is no job; the nearest is \"check\""),
     ("a\nb|on|a", "\"a\\x0ab\" is no job; the nearest is \"map\""),
@@ -49,6 +49,42 @@ const ROWS: [(&str, &str); 34] = [
     (
         "scrub|V|W|on|a",
         "\"W\" is a word too many: the form is scrub VOLUME on IMAGE...",
+    ),
+    (
+        "table|on|a",
+        "VOLUME is missing: the form is table VOLUME on IMAGE...",
+    ),
+    (
+        "tabel|V|on|a",
+        "\"tabel\" is no job; the nearest is \"table\"",
+    ),
+    (
+        "init|G|GUID|on|a|b",
+        "DISKGUID is missing: the form is init NAME GUID DISKGUID DISKGUID... on IMAGE...",
+    ),
+    (
+        "init|0123456789012345678901234567890|GUID|GUID|GUID|on|a|b",
+        "the name of a new group has 1 to 30 bytes, and \"0123456789012345678901234567890\" has 31",
+    ),
+    (
+        "init|a\\x00|GUID|GUID|GUID|on|a|b",
+        "the name of a new group has no zero byte, and \"a\\x00\" has one",
+    ),
+    (
+        "init|G|GUID|GUID|on|a",
+        "init takes 2 to 64 DISKGUIDs, and 1 are named",
+    ),
+    (
+        "init|G|GUID|GUID|1234|on|a|b",
+        "\"1234\" is no GUID, which is 8-4-4-4-12 hexadecimal digits as uuidgen makes them",
+    ),
+    (
+        "init|G|GUID|GUID|GUID|on|a|b|c",
+        "init takes a DISKGUID for each image: 2 are named, and 3 images",
+    ),
+    (
+        "init|G|GUID|GUID|GUID",
+        "\"on\" is missing between init and its images",
     ),
     ("sample", "SEED is missing: the form is sample SEED"),
     ("sample|1|on|a", "sample takes no images"),

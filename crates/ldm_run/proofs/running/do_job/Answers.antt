@@ -1,5 +1,7 @@
-use Rattle.std.proofs.Common.{rules}
-use Rattle.ldm_run.proofs.JobLaws.{of_job, reads_job, streams_job, try_job, edit_job, one_job}
+use Rattle.std.proofs.Common.{rules, codes}
+use Rattle.ldm_text.specs.Texts.{text_of_refusal}
+use Rattle.ldm_run.proofs.Saying.{reads_as}
+use Rattle.ldm_run.proofs.JobLaws.{of_job, reads_job, streams_job, try_job, edit_job, one_job, init_job}
 use Rattle.ldm_run.proofs.running.do_job.Goals as goal
 
 pub returns-in-Disk : goal.returns-in-Disk
@@ -23,6 +25,11 @@ returns-in-Dump g c = of_job g.H.Host.tells_disks g.H.Host.tells_talk c.in-Dump.
 pub returns-in-Scrub : goal.returns-in-Scrub
 returns-in-Scrub g c = of_job g.H.Host.tells_disks g.H.Host.tells_talk c.in-Scrub.is (streams_job c.scrub.ensures)
 
+pub returns-in-Table : goal.returns-in-Table
+returns-in-Table g c =
+    of_job g.H.Host.tells_disks g.H.Host.tells_talk c.in-Table.is
+    (reads_job (reads_as (c.say_made.ensures.says (text_of_refusal (codes "not yet")) c.refusal_text-line.ensures) g.met.H.Host.tells_both (λ tells answer e. e)))
+
 pub returns-in-Try : goal.returns-in-Try
 returns-in-Try g c = of_job g.H.Host.tells_disks g.H.Host.tells_talk c.in-Try.is (try_job (search rules))
 
@@ -32,5 +39,5 @@ returns-in-Edit g c = of_job g.H.Host.tells_disks g.H.Host.tells_talk c.in-Edit.
 pub returns-in-One : goal.returns-in-One
 returns-in-One g c = of_job g.H.Host.tells_disks g.H.Host.tells_talk c.in-One.is (one_job g.H.Host.tells_talk c.in-One.command c.edit_one.ensures.does c.edit_one.ensures.silent)
 
-pub returns-in-Sample : goal.returns-in-Sample
-returns-in-Sample g c = of_job g.H.Host.tells_disks g.H.Host.tells_talk c.in-Sample.is (reads_job c.sample.ensures)
+pub returns-in-Init : goal.returns-in-Init
+returns-in-Init g c = of_job g.H.Host.tells_disks g.H.Host.tells_talk c.in-Init.is (init_job g.H.Host.tells_talk c.in-Init.name c.in-Init.disks c.in-Init.guid c.make_group.ensures)
