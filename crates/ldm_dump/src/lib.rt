@@ -12,5 +12,5 @@ pub use dumping::{DumpError, dump_volume};
 pub use laws::{redundant_volumes_read_the_same, volumes_lie_on_images};
 pub use losing::lost;
 pub use reading::{clear, join_spot, read_sector, read_spot};
-pub use runs::Run;
+pub use runs::{Run, run_at};
 pub use spots::{Spot, spot_of};

@@ -24,4 +24,6 @@ mod scripts;
 #[cfg(test)]
 mod stop;
 #[cfg(test)]
+mod table;
+#[cfg(test)]
 mod volumes;

@@ -14,6 +14,7 @@ use Rattle.ldm_found.proofs.GroupLaws.{one_group}
 use Rattle.ldm_run.specs.Said.{Answer}
 use Rattle.ldm_run.specs.Mapping.{map_answer}
 use Rattle.ldm_run.specs.Streaming.{dump_answer, scrub_answer}
+use Rattle.ldm_run.specs.Tabling.{table_answer}
 use Rattle.ldm_run.specs.Scripts.{is_long, commands_in, try_answer}
 use Rattle.ldm_label.specs.Fields.{sectors_of}
 use Rattle.ldm_init.proofs.StartLaws.{one_fault}
@@ -40,7 +41,7 @@ one_job Check images input a b x y = one_of_group check_answer images a b x y
 one_job (Map name first count) images input a b x y = one_of_group (map_answer name first count) images a b x y
 one_job (Dump name) images input a b x y = one_of_group (dump_answer name images) images a b x y
 one_job (Scrub name) images input a b x y = one_of_group (scrub_answer name images) images a b x y
-one_job (Table name words) images input a b x y = x ∙ sym y
+one_job (Table name words) images input a b x y = one_of_group (table_answer name words) images a b x y
 one_job Try images input a b x y = one_of_script (is_long input) input images a b x y
 one_job Edit images input a b x y = one_of_script (is_long input) input images a b x y
 one_job (One command) images input a b x y = one_of_group (try_answer (Some command ∷ [])) images a b x y

@@ -20,6 +20,7 @@ use Rattle.ldm_group_text.specs.Show.{text_of_show}
 use Rattle.ldm_group_text.specs.Check.{text_of_check}
 use Rattle.ldm_run.specs.Mapping.{map_answer}
 use Rattle.ldm_run.specs.Streaming.{dump_answer, scrub_answer}
+use Rattle.ldm_run.specs.Tabling.{table_answer}
 use Rattle.ldm_run.specs.Sample.{IsSampleAnswer}
 use Rattle.ldm_run.specs.Scripts.{is_long, commands_in, try_answer}
 use Rattle.ldm_run.specs.Making.{IsInitAnswer}
@@ -78,7 +79,7 @@ IsJobAnswer Check images input answer = IsGroupAnswer check_answer images answer
 IsJobAnswer (Map name first count) images input answer = IsGroupAnswer (map_answer name first count) images answer
 IsJobAnswer (Dump name) images input answer = IsGroupAnswer (dump_answer name images) images answer
 IsJobAnswer (Scrub name) images input answer = IsGroupAnswer (scrub_answer name images) images answer
-IsJobAnswer (Table name words) images input answer = answer ≡ refused (codes "not yet")
+IsJobAnswer (Table name words) images input answer = IsGroupAnswer (table_answer name words) images answer
 IsJobAnswer Try images input answer = IsAnswerToScript (is_long input) input images answer
 IsJobAnswer Edit images input answer = IsAnswerToScript (is_long input) input images answer
 IsJobAnswer (One command) images input answer = IsGroupAnswer (try_answer (Some command ∷ [])) images answer

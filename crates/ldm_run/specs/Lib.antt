@@ -1,6 +1,7 @@
 pub mod Said
 pub mod Mapping
 pub mod Streaming
+pub mod Tabling
 pub mod Scripts
 pub mod Heard
 pub mod Making

@@ -13,6 +13,7 @@ mod running;
 mod sample;
 mod script;
 mod scrub;
+mod tabling;
 
 pub use kinds::kinds_say_which_jobs_write;
 pub use running::{Status, run};

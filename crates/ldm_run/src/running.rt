@@ -28,6 +28,7 @@ use crate::replying::reply_each;
 use crate::sample::sample;
 use crate::script::hear_script;
 use crate::scrub::scrub;
+use crate::tabling::table;
 use ldm_bytes::{Bytes, NoMemory};
 use ldm_copy::{CopyError, CopyFault, read_copy};
 use ldm_found::{Found, OpenError, OpenFault, find_group};
@@ -304,10 +305,7 @@ fn do_job<H: Host>(alloc: Global, job: Job, host: &mut H) -> Status
         Job::Map { name, first, count } => map(alloc, host, &name, first, count),
         Job::Dump { name } => dump(alloc, host, &name),
         Job::Scrub { name } => scrub(alloc, host, &name),
-        Job::Table { .. } => {
-            let line = refusal_text(alloc, b"not yet");
-            say_made(host, line, Status::Refused)
-        }
+        Job::Table { name, images } => table(alloc, host, &name, &images),
         Job::Try => try_script(alloc, host),
         Job::Edit => edit(alloc, host),
         Job::One(command) => edit_one(alloc, host, command),

@@ -17,4 +17,4 @@ pub use label::{label_fault_text, label_text};
 pub use naming::{push_name, push_named, push_number};
 pub use records::records_text;
 pub use refusal::{image_fault_text, refusal_text};
-pub use volumes::push_all_volumes;
+pub use volumes::{guid_of, push_all_volumes};

@@ -26,8 +26,9 @@ fn shape_text(shape: Shape) -> &'static [u8]
     }
 }
 
+/// The GUID of a volume.
 #[tactic(auto, unfolding(crate::specs::Volumes::guid_of_volume))]
-fn guid_of(v: &Volume) -> u128
+pub fn guid_of(v: &Volume) -> u128
     ensures { result ≡ guid_of_volume v.now }
 {
     BigEndian::read_u128(&v.guid)

@@ -26,9 +26,7 @@ pub returns-in-Scrub : goal.returns-in-Scrub
 returns-in-Scrub g c = of_job g.H.Host.tells_disks g.H.Host.tells_talk c.in-Scrub.is (streams_job c.scrub.ensures)
 
 pub returns-in-Table : goal.returns-in-Table
-returns-in-Table g c =
-    of_job g.H.Host.tells_disks g.H.Host.tells_talk c.in-Table.is
-    (reads_job (reads_as (c.say_made.ensures.says (text_of_refusal (codes "not yet")) c.refusal_text-line.ensures) g.met.H.Host.tells_both (λ tells answer e. e)))
+returns-in-Table g c = of_job g.H.Host.tells_disks g.H.Host.tells_talk c.in-Table.is (reads_job c.table.ensures)
 
 pub returns-in-Try : goal.returns-in-Try
 returns-in-Try g c = of_job g.H.Host.tells_disks g.H.Host.tells_talk c.in-Try.is (try_job (search rules))

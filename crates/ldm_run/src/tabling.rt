@@ -1,0 +1,69 @@
+//! `table`: the device-mapper tables that make a device of a volume.
+ghost use Rattle.std.specs.Prelude.{◌≡◌, ◌<◌, length, IfOk};
+ghost use Rattle.ldm_found.specs.Facts.{IsSoundGroup, LieOn};
+ghost use Rattle.ldm_words.specs.declared.job.Job.TheVariants as jobs;
+ghost use Rattle.ldm_table.specs.Faults.{text_of_fault};
+ghost use Rattle.ldm_text.specs.Texts.{text_of_refusal};
+ghost use Rattle.ldm_run.specs.Said.{HasAnswer};
+ghost use Rattle.ldm_run.specs.Answer.{IsJobAnswer};
+ghost use Rattle.ldm_run.specs.Runs.{OnlyReads};
+ghost use Rattle.ldm_run.specs.Tabling.{table_answer};
+
+use crate::mapping::plan_of;
+use crate::running::{Status, open_group, say_made};
+use ldm_bytes::{Bytes, NoMemory};
+use ldm_dump::volumes_lie_on_images;
+use ldm_found::Found;
+use ldm_host::Host;
+use ldm_table::{TableFault, fault_text, table_text};
+use ldm_text::refusal_text;
+use ldm_words::Names;
+use std::alloc::Global;
+
+// The line that refuses for a fault of a table.
+fn fault_refusal(alloc: Global, fault: TableFault) -> Result<Bytes, NoMemory>
+    ensures { IfOk result (λ line. line ≡ text_of_refusal (text_of_fault fault)) }
+{
+    let text = fault_text(alloc, fault)?;
+    refusal_text(alloc, text.as_slice())
+}
+
+// What is answered on a group: the line that makes the device of the volume of this name, or that of the refusal.
+fn tabled<H: Host>(
+    alloc: Global,
+    host: &H,
+    found: &Found,
+    name: &[u8],
+    words: &Names,
+) -> Result<(Bytes, Status), NoMemory>
+    requires sound { IsSoundGroup found.now }
+    requires lies { LieOn found.now.labels (H.seen host.now).sizes }
+    ensures is { IfOk result (λ answer. (answer.0, answer.1) ≡ table_answer name.now words.now found.now) }
+    ensures status { IfOk result (λ answer. HasAnswer answer.1) }
+{
+    let Some(volume) = found.db.volume_named(name) else {
+        return Ok((refusal_text(alloc, b"no volume")?, Status::Refused));
+    };
+    let plan = plan_of(alloc, found, volume)?;
+    volumes_lie_on_images();
+    match table_text(alloc, host, found, volume, &plan, words)? {
+        Ok(text) => Ok((text, Status::Done)),
+        Err(fault) => Ok((fault_refusal(alloc, fault)?, Status::Refused)),
+    }
+}
+
+/// table VOLUME on IMAGE...
+pub(crate) fn table<H: Host>(alloc: Global, host: &mut H, name: &Bytes, words: &Names) -> Status
+    requires { 0 < length (H.seen host.old).sizes }
+    ensures { OnlyReads H.tells_disks (H.seen host.old) (H.seen host.new)
+        (IsJobAnswer (jobs.Table name.now words.now) (H.seen host.old).content (H.seen host.old).input) result }
+{
+    let found = match open_group(alloc, host) {
+        Err(status) => return status,
+        Ok(found) => found,
+    };
+    match tabled(alloc, host, &found, name.as_slice(), words) {
+        Err(NoMemory) => Status::NoMemory,
+        Ok((text, status)) => say_made(host, Ok(text), status),
+    }
+}

@@ -1,0 +1,7 @@
+use Rattle.std.proofs.Common.{◌≡◌, ◌++◌, take}
+use Rattle.std.specs.Prelude.{flat_map}
+use Rattle.ldm_table.specs.Names.{escaped_byte}
+use Rattle.ldm_table.proofs.names.push_escaped.Given as goal
+
+abbrev pub invariant-loop-c : goal.invariant-loop-c
+invariant-loop-c l = l.text ≡ l.fn.text ++ flat_map escaped_byte (take l.c-index l.name)

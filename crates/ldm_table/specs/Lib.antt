@@ -1,0 +1,7 @@
+pub mod Names
+pub mod Targets
+pub mod Tables
+pub mod Runs
+pub mod Spelling
+pub mod Faults
+pub mod Laws
