@@ -1,3 +1,4 @@
+//! Blocks, what they join to, and how payloads are written into them.
 ghost use Rattle.std.specs.Prelude.{◌≡◌, ◌∷◌, [], IfOk};
 
 use crate::made::check;
