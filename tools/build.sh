@@ -1,5 +1,5 @@
 # shellcheck shell=sh disable=SC2154
-# Read by ./ldm and ./samples, which set `here` (the top of the repository), `crate` (the program's crate) and `me` (the name
+# Read by ./ldm and ./examples, which set `here` (the top of the repository), `crate` (the program's crate) and `me` (the name
 # to speak by). run_program runs the program, built first where the one that is there isn't that of the sources.
 #
 # A program is built from a copy of its sources. The sum of that copy, the sum of the program and the kit's line go into a file
@@ -225,10 +225,14 @@ finish() {
     fi
 }
 
-# How many crates to prove side by side: one for each processor, but no more than one for each 2 GB of free memory.
+count_of_processors() {
+    nproc 2>/dev/null || getconf _NPROCESSORS_ONLN 2>/dev/null || echo 1
+}
+
+# How many crates to prove side by side: two more than there are processors, so that none is idle while crates wait for others,
+# but no more than one for each 2 GB of free memory.
 lanes() {
-    processors=$(nproc 2>/dev/null || getconf _NPROCESSORS_ONLN 2>/dev/null || echo 1)
-    awk -v most="$processors" '
+    awk -v most="$((processors + 2))" '
         $1 == "MemAvailable:" && $2 < 2000000 * most { most = int($2 / 2000000) }
         END { print most < 1 ? 1 : most }' /proc/meminfo 2>/dev/null || echo 1
 }
@@ -237,6 +241,7 @@ lanes() {
 prove_all() {
     left=$(cut -d ' ' -f 2 "$room/plan" | tr '\n' ' ')
     total=$(grep -c . "$room/plan")
+    processors=$(count_of_processors)
     at_once=$(lanes)
     began=$(date +%s)
     spoke=$began
@@ -282,7 +287,7 @@ start() {
     say "crate $started of $total: $1 .."
     jobs=1 back=5
     if is_early "$1"; then
-        jobs=$at_once back=0
+        jobs=$processors back=0
     fi
     date +%s >"$room/$1.began"
     prove "$1" "$jobs" "$back" >"$room/$1.log" 2>&1 &

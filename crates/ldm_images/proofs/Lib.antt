@@ -1,2 +1,1 @@
-pub mod SampleLaws
 pub mod UsualLaws

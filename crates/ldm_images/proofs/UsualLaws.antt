@@ -14,7 +14,7 @@ use Rattle.ldm_label.specs.Fields.{sector}
 use Rattle.ldm_label.specs.LabelOf.{label_of}
 use Rattle.ldm_label.specs.Written.{SameOutsideLabel, IsOutsideLabel, label_places}
 use Rattle.ldm_label.proofs.OkLaws.{same_sector}
-use Rattle.ldm_images.specs.Sample.{sample_label}
+use Rattle.ldm_sample_disks.specs.Disks.{sample_label}
 use Rattle.ldm_images.specs.Usual.{usual_header, IsUsualImage, AreUsualImages, KeepsHeader}
 
 -- ---- what is written behind the header leaves it

@@ -6,7 +6,7 @@ use Rattle.ldm_host.specs.Seen.{image}
 use Rattle.ldm_label.specs.Fields.{sector}
 use Rattle.ldm_label.specs.LabelOf.{label_of}
 use Rattle.ldm_label.specs.Written.{sector_with}
-use Rattle.ldm_images.specs.Sample.{guid_with, sample_label}
+use Rattle.ldm_sample_disks.specs.Disks.{guid_with, sample_label}
 
 -- The fields of the database's header, by their offsets: the last VBLK sequence 5924, blocks of 128 bytes from byte 512 on, no
 -- update in hand, version 4.10, the group `Dg0`, sequence 7 in both places, and three disks in both sets of counts.

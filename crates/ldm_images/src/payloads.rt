@@ -1,7 +1,7 @@
 //! The records of a usual group, each as it is spelled.
 
-use crate::sample::guid_with;
 use ldm_bytes::{NoMemory, number_len, put_number, write_guid};
+use ldm_sample_disks::guid_with;
 use std::alloc::Global;
 
 /// A record as it is spelled, with 8 bytes for its type and length before its fields.

@@ -8,9 +8,9 @@ ghost use Rattle.ldm_images.specs.Usual.{usual_header, IsUsualImage, AreUsualIma
 use crate::payloads::{
     Payload, push_disks, push_mirrored, push_simple, push_spanned, push_striped,
 };
-use crate::sample::{guid_with, sample_label, zeros};
 use ldm_bytes::{NoMemory, put_bytes, put_u16, put_u32, put_u64, write_guid};
 use ldm_label::write_label;
+use ldm_sample_disks::{guid_with, sample_label, zeros};
 use std::alloc::Global;
 
 /// Bytes of an image: 8192 sectors.

@@ -4,7 +4,6 @@ ghost use Rattle.std.specs.Prelude.{◌<◌, ◌≤◌, ◌+◌, ◌*◌, length
 use super::*;
 use ldm_files::{DiskCall, Progress};
 use ldm_host::{Failed, Host, MemoryHost};
-use ldm_images::usual_images;
 use ldm_vectors::sample_images;
 use std::fs;
 use std::fs::File;
@@ -62,9 +61,9 @@ fn folder_with(rt: &HostRuntime, name: &str, images: &[Vec<u8>]) -> Result<PathB
     Ok(folder)
 }
 
-// A folder with the images of the usual group.
-fn usual_folder(rt: &HostRuntime, name: &str) -> Result<PathBuf, Fail> {
-    folder_with(rt, name, &usual_images(rt.alloc())?)
+// A folder with the images of the sample group.
+fn sample_folder(rt: &HostRuntime, name: &str) -> Result<PathBuf, Fail> {
+    folder_with(rt, name, &sample_images(rt.alloc(), 3, 64)?)
 }
 
 // How a job ends: its status, what is said on standard error, and what is said.
@@ -106,20 +105,20 @@ fn run_on(
     })
 }
 
-// The front of what is said of the usual group.
+// What is said of the sample group.
 const IN_ORDER: &[u8] = b"\
-group Dg0 aaaaaaaa-aaaa-aaaa-aaaa-aaaaaaaaaaaa sequence 7 blocks 20 of 5920
-disk 1025 Disk1 11111111-1111-1111-1111-111111111111 image 1 free 3881
-disk 1026 Disk2 22222222-2222-2222-2222-222222222222 image 2 free 4569
-disk 1027 Disk3 33333333-3333-3333-3333-333333333333 image 0 free 4869
+group Dg0 aaaaaaaa-aaaa-aaaa-aaaa-aaaaaaaaaaaa sequence 7 blocks 4 of 60
+disk 2 Disk1 11111111-1111-1111-1111-111111111111 image 1 free 6081
+disk 3 Disk2 22222222-2222-2222-2222-222222222222 image 2 free 6081
+disk 4 Disk3 33333333-3333-3333-3333-333333333333 image 0 free 6081
 ";
 
 #[test]
 fn takes_the_images_in_the_order_of_the_words(rt: HostRuntime) -> Result<(), Fail> {
-    let folder = usual_folder(&rt, "order")?;
+    let folder = sample_folder(&rt, "order")?;
     let end = run_on(&rt, "show", &folder, &["c.img", "a.img", "b.img"], b"")?;
     assert_eq!(rt; end.status, Status::Done);
-    assert!(rt; end.said.get(..IN_ORDER.len()) == Some(IN_ORDER));
+    assert_eq!(rt; end.said.as_slice(), IN_ORDER);
     fs::remove_dir_all(&rt, &folder)?;
     Ok(())
 }
@@ -163,7 +162,7 @@ const EDITS: [Row; 4] = [
 
 #[test]
 fn edits_files(rt: HostRuntime) -> Result<(), Fail> {
-    let folder = folder_with(&rt, "edit", &sample_images(rt.alloc(), 3, 64)?)?;
+    let folder = sample_folder(&rt, "edit")?;
     for (job, input, text, status) in EDITS {
         let end = run_on(&rt, job, &folder, &NAMES, input)?;
         assert_eq!(rt; end.said.as_slice(), text, "{job}");
@@ -189,7 +188,7 @@ fn run_in_memory(
 #[test]
 fn leaves_in_files_the_bytes_of_disks_in_memory(rt: HostRuntime) -> Result<(), Fail> {
     let alloc = rt.alloc();
-    let folder = folder_with(&rt, "bytes", &sample_images(alloc, 3, 64)?)?;
+    let folder = sample_folder(&rt, "bytes")?;
     let end = run_on(&rt, "edit", &folder, &NAMES, SCRIPT)?;
     assert_eq!(rt; end.status, Status::Refused);
     let words = words_on(&rt, "edit", &folder, &NAMES)?;
@@ -207,7 +206,7 @@ fn leaves_in_files_the_bytes_of_disks_in_memory(rt: HostRuntime) -> Result<(), F
 
 #[test]
 fn ends_with_a_talk_fault_where_nothing_can_be_said(rt: HostRuntime) -> Result<(), Fail> {
-    let folder = usual_folder(&rt, "closed")?;
+    let folder = sample_folder(&rt, "closed")?;
     for (job, name) in [("disk", "a.img"), ("delete Volume1", "a.img")] {
         let words = words_on(&rt, job, &folder, &[name])?;
         // As standard output is where the program was started without one.

@@ -23,8 +23,8 @@ use Rattle.ldm_found.specs.declared.notes.Note.{Note}
 use Rattle.ldm_found.specs.declared.notes.Note.TheVariants as notes
 use Rattle.ldm_found.specs.New.{HoldCopies, NewOpens, NewIsEditable}
 use Rattle.ldm_found.specs.Opening.{IsGroupIn, found_with}
-use Rattle.ldm_images.specs.Sample.{sample_label, sample_labels, IsZeros}
-use Rattle.ldm_images.proofs.SampleLaws.{label_fits}
+use Rattle.ldm_sample_disks.specs.Disks.{sample_label, sample_labels, IsZeros}
+use Rattle.ldm_sample_disks.proofs.DiskLaws.{label_fits}
 use Rattle.ldm_vectors.specs.Sample.{IsSampleDatabase, IsSampleImage, AreImagesWith, IsSampleGroup}
 use Rattle.ldm_vectors.proofs.SampleLaws.{label_at, labels_count, labels_apart, label_writable, own_areas, sample_new}
 

@@ -11,7 +11,7 @@ use Rattle.ldm_copy.specs.Body.{IsMadeOf}
 use Rattle.ldm_found.specs.declared.found.Found.{Found}
 use Rattle.ldm_found.specs.declared.fault.OpenFault.TheVariants as faults
 use Rattle.ldm_found.specs.declared.notes.Note.TheVariants as notes
-use Rattle.ldm_images.specs.Sample.{guid_with, sample_label, sample_labels}
+use Rattle.ldm_sample_disks.specs.Disks.{guid_with, sample_label, sample_labels}
 
 -- the name of the group
 abbrev pub sample_name : List ℕ

@@ -3,16 +3,16 @@ ghost use Rattle.std.specs.Prelude.{◌≡◌, ◌*◌, ◌<◌, ◌≤◌, All,
 ghost use Rattle.ldm_host.specs.Images.{items_of};
 ghost use Rattle.ldm_found.specs.declared.found.Found.{Found};
 ghost use Rattle.ldm_found.specs.Opening.{IsGroupIn};
-ghost use Rattle.ldm_images.specs.Sample.{sample_label, IsZeros};
+ghost use Rattle.ldm_sample_disks.specs.Disks.{sample_label, IsZeros};
 ghost use Rattle.ldm_vectors.specs.Sample.{IsSampleDatabase, IsSampleImage, AreImagesWith, AreSampleImages, IsSampleGroup};
 
 use ldm_bytes::{NoMemory, put_bytes};
 use ldm_copy::{Body, bodies_are_copies, body_of};
 use ldm_found::new_groups_open;
 use ldm_group::Db;
-use ldm_images::{guid_with, sample_label, zeros};
 use ldm_init::new_database;
 use ldm_label::{write_label, written_label_reads_back};
+use ldm_sample_disks::{guid_with, sample_label, zeros};
 use std::alloc::Global;
 
 /// Bytes of an image: 8192 sectors.

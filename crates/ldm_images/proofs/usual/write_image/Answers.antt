@@ -2,8 +2,8 @@ use Rattle.std.proofs.Common.{◌≡◌, ◌/◌, ◌∙◌, ap, length, Ok, sym
 use Rattle.ldm_label.specs.declared.Label.{Label}
 use Rattle.ldm_label.specs.LabelOf.{Fits}
 use Rattle.ldm_label.specs.Written.{SameOutsideLabel}
-use Rattle.ldm_images.specs.Sample.{sample_label}
-use Rattle.ldm_images.proofs.SampleLaws.{label_fits}
+use Rattle.ldm_sample_disks.specs.Disks.{sample_label}
+use Rattle.ldm_sample_disks.proofs.DiskLaws.{label_fits}
 use Rattle.ldm_images.proofs.UsualLaws.{image_is, keeps_then}
 use Rattle.ldm_images.proofs.usual.write_image.Goals as goal
 

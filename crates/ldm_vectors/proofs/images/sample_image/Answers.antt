@@ -1,6 +1,6 @@
 use Rattle.std.proofs.Common.{◌≡◌, length, drop, sym, subst, arith}
 use Rattle.std.proofs.lemmas.List.{take_at}
-use Rattle.ldm_images.specs.Sample.{sample_label}
+use Rattle.ldm_sample_disks.specs.Disks.{sample_label}
 use Rattle.ldm_vectors.specs.Sample.{IsSampleImage}
 use Rattle.ldm_vectors.proofs.images.sample_image.Goals as goal
 

@@ -2,8 +2,8 @@ use Rattle.std.proofs.Common.{◌≡◌, ◌/◌, length, sym, subst, arith}
 use Rattle.ldm_label.specs.declared.Label.{Label}
 use Rattle.ldm_label.specs.LabelOf.{Fits}
 use Rattle.ldm_label.specs.Written.{HasLabel, SameOutsideLabel}
-use Rattle.ldm_images.specs.Sample.{sample_label}
-use Rattle.ldm_images.proofs.SampleLaws.{label_fits}
+use Rattle.ldm_sample_disks.specs.Disks.{sample_label}
+use Rattle.ldm_sample_disks.proofs.DiskLaws.{label_fits}
 use Rattle.ldm_vectors.proofs.ImageLaws.{image_of}
 use Rattle.ldm_vectors.proofs.images.write_image.Goals as goal
 

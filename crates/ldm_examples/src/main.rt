@@ -15,8 +15,8 @@ use thiserror::Error;
 
 /// Why not all images were written.
 #[derive(Clone, Copy, Debug, PartialEq, Eq, Drop, Error)]
-enum SamplesError {
-    #[error("usage: samples FOLDER")]
+enum ExamplesError {
+    #[error("usage: examples FOLDER")]
     Usage,
     #[error("no memory")]
     NoMemory,
@@ -29,20 +29,20 @@ enum SamplesError {
     TalkFault,
 }
 
-impl From<NoMemory> for SamplesError {
-    fn from(_: NoMemory) -> SamplesError {
-        SamplesError::NoMemory
+impl From<NoMemory> for ExamplesError {
+    fn from(_: NoMemory) -> ExamplesError {
+        ExamplesError::NoMemory
     }
 }
 
 const NAMES: [&str; 3] = ["a.img", "b.img", "c.img"];
 
 // The folder that the only word of the command line names.
-fn folder_of(rt: &HostRuntime) -> Result<String, SamplesError> {
-    let mut words = env::args(rt).map_err(|_| SamplesError::Usage)?.skip(1);
+fn folder_of(rt: &HostRuntime) -> Result<String, ExamplesError> {
+    let mut words = env::args(rt).map_err(|_| ExamplesError::Usage)?.skip(1);
     match (words.next(), words.next()) {
         (Some(folder), None) => Ok(folder),
-        _ => Err(SamplesError::Usage),
+        _ => Err(ExamplesError::Usage),
     }
 }
 
@@ -54,13 +54,13 @@ fn path_of(alloc: Global, folder: &str, name: &str) -> Result<String, NoMemory>
 }
 
 // Refuses a folder in which one of the names is taken, be it by a link to nothing.
-fn require_free(rt: &HostRuntime, folder: &str) -> Result<(), SamplesError> {
+fn require_free(rt: &HostRuntime, folder: &str) -> Result<(), ExamplesError> {
     for name in NAMES {
         let path = path_of(rt.alloc(), folder, name)?;
         match fs::symlink_metadata(rt, path.as_str()) {
-            Ok(_) => return Err(SamplesError::Taken(name)),
+            Ok(_) => return Err(ExamplesError::Taken(name)),
             Err(error) if error.kind() == ErrorKind::NotFound => {}
-            Err(_) => return Err(SamplesError::CannotWrite(name)),
+            Err(_) => return Err(ExamplesError::CannotWrite(name)),
         }
     }
     Ok(())
@@ -72,26 +72,26 @@ fn write_image(
     folder: &str,
     name: &'static str,
     image: &[u8],
-) -> Result<(), SamplesError> {
+) -> Result<(), ExamplesError> {
     let path = path_of(rt.alloc(), folder, name)?;
     let mut file = match File::create_new(rt, path.as_str()) {
         Ok(file) => file,
         Err(error) if error.kind() == ErrorKind::AlreadyExists => {
-            return Err(SamplesError::Taken(name));
+            return Err(ExamplesError::Taken(name));
         }
-        Err(_) => return Err(SamplesError::CannotWrite(name)),
+        Err(_) => return Err(ExamplesError::CannotWrite(name)),
     };
     file.write_all(image)
-        .map_err(|_| SamplesError::CannotWrite(name))
+        .map_err(|_| ExamplesError::CannotWrite(name))
 }
 
 // Writes the images into the folder, and says the name of each when its file is written and closed.
-fn write_images(rt: &HostRuntime, folder: &str) -> Result<(), SamplesError> {
+fn write_images(rt: &HostRuntime, folder: &str) -> Result<(), ExamplesError> {
     let images = usual_images(rt.alloc())?;
     require_free(rt, folder)?;
     for (name, image) in NAMES.into_iter().zip(images.iter()) {
         write_image(rt, folder, name, image.as_slice())?;
-        println!(rt; "{name}").map_err(|_| SamplesError::TalkFault)?;
+        println!(rt; "{name}").map_err(|_| ExamplesError::TalkFault)?;
     }
     Ok(())
 }
@@ -100,7 +100,7 @@ fn main(rt: HostRuntime) -> ExitCode {
     match folder_of(&rt).and_then(|folder| write_images(&rt, folder.as_str())) {
         Ok(()) => ExitCode::SUCCESS,
         Err(error) => {
-            let _ = eprint!(rt; "samples: {error}\n");
+            let _ = eprint!(rt; "examples: {error}\n");
             ExitCode::FAILURE
         }
     }

@@ -1,6 +1,6 @@
 //! Labels of the disks of the sample groups.
 ghost use Rattle.std.specs.Prelude.{◌≡◌, ◌<◌, IfOk};
-ghost use Rattle.ldm_images.specs.Sample.{guid_with, sample_label, IsZeros};
+ghost use Rattle.ldm_sample_disks.specs.Disks.{guid_with, sample_label, IsZeros};
 
 use ldm_bytes::NoMemory;
 use ldm_label::Label;

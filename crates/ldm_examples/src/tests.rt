@@ -7,7 +7,7 @@ use std::test::Fail;
 fn new_folder(rt: &HostRuntime) -> Result<PathBuf, Fail> {
     let mut folder = env::temp_dir(rt)?;
     let id = std::process::id(rt.process());
-    folder.push(format!(in rt.alloc(); "ldm-samples-{id}")?)?;
+    folder.push(format!(in rt.alloc(); "ldm-examples-{id}")?)?;
     fs::create_dir(rt, &folder)?;
     Ok(folder)
 }
@@ -29,12 +29,12 @@ fn writes_the_images_and_over_no_file(rt: HostRuntime) -> Result<(), Fail> {
         assert!(rt; bytes.as_slice() == image.as_slice(), "{file}");
     }
 
-    assert_eq!(rt; write_images(&rt, name), Err(SamplesError::Taken("a.img")));
+    assert_eq!(rt; write_images(&rt, name), Err(ExamplesError::Taken("a.img")));
     fs::remove_file(&rt, path_of(alloc, name, "a.img")?.as_str())?;
     fs::remove_file(&rt, path_of(alloc, name, "b.img")?.as_str())?;
     let taken = path_of(alloc, name, "c.img")?;
     fs::write(&rt, taken.as_str(), b"mine")?;
-    assert_eq!(rt; write_images(&rt, name), Err(SamplesError::Taken("c.img")));
+    assert_eq!(rt; write_images(&rt, name), Err(ExamplesError::Taken("c.img")));
     assert_eq!(rt;
         fs::read(&rt, taken.as_str())?.as_slice(),
         b"mine".as_slice()
