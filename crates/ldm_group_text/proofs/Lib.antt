@@ -1,2 +1,3 @@
 pub mod ShowLaws
 pub mod MapLaws
+pub mod VolumeLaws

@@ -3,3 +3,4 @@ pub mod Check
 pub mod Show
 pub mod Map
 pub mod Reply
+pub mod Volumes

@@ -12,7 +12,7 @@ use Rattle.ldm_rules.specs.Ends.{sectors_by}
 use Rattle.ldm_rules.specs.Present.{image_with}
 use Rattle.ldm_found.specs.declared.found.Found.{Found}
 use Rattle.ldm_words.specs.Names.{esc}
-use Rattle.ldm_text.specs.Volumes.{text_of_all_volumes}
+use Rattle.ldm_group_text.specs.Volumes.{text_of_all_volumes}
 
 -- group GROUPNAME GUID sequence S blocks NEED of ROOM
 unfoldable pub text_of_group : Database → List ℕ

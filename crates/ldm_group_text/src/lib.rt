@@ -2,11 +2,13 @@
 #![tactic(auto)]
 
 mod check;
+mod lines;
 mod map;
 mod mapped;
 mod opening;
 mod reply;
 mod show;
+mod volumes;
 
 pub use check::check_text;
 pub use map::map_text;

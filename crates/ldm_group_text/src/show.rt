@@ -8,13 +8,14 @@ ghost use Rattle.ldm_found.specs.Facts.{IsSoundGroup};
 ghost use Rattle.ldm_rules.specs.Present.{image_with};
 ghost use Rattle.ldm_group_text.specs.Show.{text_of_group, text_of_place, text_of_disk_at, text_of_disks, text_of_show};
 
+use crate::volumes::push_all_volumes;
 use indexmap::IndexMap;
 use ldm_bytes::{Bytes, NoMemory};
 use ldm_found::Found;
 use ldm_group::{Db, used_of, used_sectors};
 use ldm_label::{Label, Labels};
 use ldm_records::{Disk, Record};
-use ldm_text::{Text, push_all_volumes, push_named, push_number};
+use ldm_text::{Text, push_named, push_number};
 use std::alloc::Global;
 
 // The line of the group.

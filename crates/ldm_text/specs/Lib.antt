@@ -1,4 +1,3 @@
 pub mod Texts
 pub mod Parts
 pub mod Records
-pub mod Volumes

@@ -1,9 +1,15 @@
 -- The exact texts. Numbers are in decimal, GUIDs are GUID texts in lower case, and each line ends with a newline.
 use Rattle.std.specs.Prelude.{ℕ, List, ◌++◌, codes, decimal}
+use Rattle.byteorder.specs.Endian.{big_number}
 use Rattle.ldm_bytes.specs.Guid.{own_guid}
+use Rattle.ldm_records.specs.declared.types.Volume.{Volume}
 use Rattle.ldm_label.specs.declared.Label.{Label}
 use Rattle.ldm_label.specs.declared.LabelFault.{LabelFault}
 use Rattle.ldm_label.specs.declared.LabelFault.TheVariants.{Short, NoSignature, NoLdmEntry, NoPrivhead, Version, DatabaseSize, Range, Guid, PrivheadsDiffer, NoToc, TocsDiffer, TocRange}
+
+-- the GUID whose text has the 16 bytes of a volume's record in their order
+unfoldable pub guid_of_volume : Volume → ℕ
+guid_of_volume v = big_number 16 v.guid
 
 -- A+B
 abbrev pub text_of_range : ℕ → ℕ → List ℕ

@@ -4,17 +4,15 @@
 mod copy_fault;
 mod growing;
 mod label;
-mod lines;
 mod naming;
 mod parts;
 mod records;
 mod refusal;
-mod volumes;
 
 pub use copy_fault::copy_fault_text;
 pub use growing::Text;
 pub use label::{label_fault_text, label_text};
-pub use naming::{push_name, push_named, push_number};
+pub use naming::{guid_of, push_name, push_named, push_number};
+pub use parts::{Part, push_parts};
 pub use records::records_text;
 pub use refusal::{image_fault_text, refusal_text};
-pub use volumes::{guid_of, push_all_volumes};

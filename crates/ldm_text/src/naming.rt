@@ -2,10 +2,13 @@
 ghost use Rattle.std.specs.Prelude.{◌≡◌, ◌<◌, ◌++◌, OnOk, codes, decimal};
 ghost use Rattle.ldm_bytes.specs.Guid.{own_guid};
 ghost use Rattle.ldm_words.specs.Names.{hex_digit, hex_byte, esc_byte, esc};
+ghost use Rattle.ldm_text.specs.Texts.{guid_of_volume};
 
 use crate::growing::Text;
 use crate::parts::{Part, push_parts};
+use byteorder::{BigEndian, ByteOrder};
 use ldm_bytes::NoMemory;
+use ldm_records::Volume;
 use ldm_words::is_plain;
 
 fn hex_digit(d: u8) -> u8
@@ -66,4 +69,12 @@ pub fn push_named(text: &mut Text, word: &[u8], name: &[u8], guid: u128) -> Resu
 {
     push_name(text, word, name)?;
     push_parts(text, &[Part::Word(b" "), Part::Guid(guid)])
+}
+
+/// The GUID of a volume.
+#[tactic(auto, unfolding(crate::specs::Texts::guid_of_volume))]
+pub fn guid_of(v: &Volume) -> u128
+    ensures { result ≡ guid_of_volume v.now }
+{
+    BigEndian::read_u128(&v.guid)
 }

@@ -9,7 +9,7 @@ use std::alloc::Global;
 
 /// A part of a text.
 #[derive(Clone, Copy)]
-pub(crate) enum Part<'a> {
+pub enum Part<'a> {
     /// These bytes.
     Word(&'a [u8]),
     /// A number in decimal.
@@ -32,7 +32,7 @@ fn push_part(text: &mut Text, part: Part) -> Result<(), NoMemory>
 }
 
 /// Adds the parts, one after the other.
-pub(crate) fn push_parts(text: &mut Text, parts: &[Part]) -> Result<(), NoMemory>
+pub fn push_parts(text: &mut Text, parts: &[Part]) -> Result<(), NoMemory>
     ensures { OnOk result (text.new ≡ text.old ++ text_of_parts parts.now) }
 {
     for part in parts {

@@ -4,8 +4,8 @@ use Rattle.std.proofs.lemmas.List.{append-nil}
 use Rattle.std.proofs.lemmas.Result.{IfOk-equal}
 use Rattle.ldm_words.specs.Names.{esc}
 use Rattle.ldm_records.specs.declared.types.Component.{Component}
-use Rattle.ldm_text.specs.Volumes.{text_of_head, text_of_layout, text_of_component}
-use Rattle.ldm_text.proofs.lines.push_component.Goals as goal
+use Rattle.ldm_group_text.specs.Volumes.{text_of_head, text_of_layout, text_of_component}
+use Rattle.ldm_group_text.proofs.lines.push_component.Goals as goal
 
 line_is : (start one two name partitions : List ℕ) (c : Component) → name ≡ c.head.name
     → one ≡ start ++ (codes "  component " ++ (decimal c.head.id ++ (codes " " ++ (esc name ++ [])))) → two ≡ one ++ text_of_layout c.layout c.striping

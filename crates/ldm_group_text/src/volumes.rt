@@ -3,15 +3,13 @@ ghost use Rattle.std.specs.Prelude.{◌≡◌, ◌++◌, [], nat_eq, OnOk, unwra
 ghost use Rattle.std.specs.HashMap as hash;
 ghost use Rattle.ldm_layout.specs.Parts.{plexes_at};
 ghost use Rattle.ldm_layout.specs.Volumes.{shape_of};
-ghost use Rattle.ldm_text.specs.Volumes.{text_of_shape, guid_of_volume, text_of_volume, text_of_volumes, text_of_all_volumes};
+ghost use Rattle.ldm_group_text.specs.Volumes.{text_of_shape, text_of_volume, text_of_volumes, text_of_all_volumes};
 
-use crate::growing::Text;
 use crate::lines::{component_lines, lines_of, partition_lines};
-use crate::parts::{Part, push_parts};
-use byteorder::{BigEndian, ByteOrder};
 use ldm_bytes::NoMemory;
 use ldm_layout::{Parts, Shape, shape_of};
 use ldm_records::{Record, Volume};
+use ldm_text::{Part, Text, guid_of, push_parts};
 use std::alloc::Global;
 use std::collections::HashMap;
 
@@ -24,14 +22,6 @@ fn shape_text(shape: Shape) -> &'static [u8]
         Shape::Mirror => b"mirror",
         Shape::Raid5 => b"raid5",
     }
-}
-
-/// The GUID of a volume.
-#[tactic(auto, unfolding(crate::specs::Volumes::guid_of_volume))]
-pub fn guid_of(v: &Volume) -> u128
-    ensures { result ≡ guid_of_volume v.now }
-{
-    BigEndian::read_u128(&v.guid)
 }
 
 // The line of a volume, and the texts of its components.
@@ -84,7 +74,11 @@ fn push_volumes(
 }
 
 /// The texts of all volumes. What they have is put together once, by parent.
-pub fn push_all_volumes(alloc: Global, text: &mut Text, records: &[Record]) -> Result<(), NoMemory>
+pub(crate) fn push_all_volumes(
+    alloc: Global,
+    text: &mut Text,
+    records: &[Record],
+) -> Result<(), NoMemory>
     ensures { OnOk result (text.new ≡ text.old ++ text_of_all_volumes records.now) }
 {
     let parts = Parts::of(alloc, records)?;

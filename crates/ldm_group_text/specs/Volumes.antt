@@ -1,6 +1,5 @@
 -- The text of the volumes of a group: each with its components, and each of these with its partitions.
 use Rattle.std.specs.Prelude.{ℕ, ◌==◌, List, [], ◌++◌, flat_map, codes, decimal, Option, Some, None, if◌then◌else◌}
-use Rattle.byteorder.specs.Endian.{big_number}
 use Rattle.ldm_bytes.specs.Guid.{own_guid}
 use Rattle.ldm_records.specs.declared.pieces.Head.{Head}
 use Rattle.ldm_records.specs.declared.pieces.Striping.{Striping}
@@ -14,6 +13,7 @@ use Rattle.ldm_layout.specs.Volumes.{shape_of}
 use Rattle.ldm_layout.specs.declared.shape.Shape.{Shape}
 use Rattle.ldm_layout.specs.declared.shape.Shape.TheVariants.{Span, Stripe, Mirror, Raid5}
 use Rattle.ldm_words.specs.Names.{esc}
+use Rattle.ldm_text.specs.Texts.{guid_of_volume}
 
 -- a word, and then ID NAME
 unfoldable pub text_of_head : List ℕ → Head → List ℕ
@@ -76,10 +76,6 @@ text_of_shape Span = codes "span"
 text_of_shape Stripe = codes "stripe"
 text_of_shape Mirror = codes "mirror"
 text_of_shape Raid5 = codes "raid5"
-
--- the GUID whose text has the volume's 16 bytes in their order
-unfoldable pub guid_of_volume : Volume → ℕ
-guid_of_volume v = big_number 16 v.guid
 
 -- SHAPE SIZE GUID
 unfoldable pub text_of_form : Volume → Shape → List ℕ

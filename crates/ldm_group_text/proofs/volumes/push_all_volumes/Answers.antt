@@ -1,8 +1,8 @@
 use Rattle.std.proofs.Common.{◌≡◌, ◌++◌, ℕ, List, [], OnOk, unwrap_or, nat_eq, rules, subst}
 use Rattle.std.specs.HashMap as hash
 use Rattle.ldm_layout.specs.Grouped.{IsListsOf}
-use Rattle.ldm_text.proofs.VolumeLaws.{same_volumes}
-use Rattle.ldm_text.proofs.volumes.push_all_volumes.Goals as goal
+use Rattle.ldm_group_text.proofs.VolumeLaws.{same_volumes}
+use Rattle.ldm_group_text.proofs.volumes.push_all_volumes.Goals as goal
 
 pub returns : goal.returns
 returns c =
