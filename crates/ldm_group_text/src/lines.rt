@@ -1,7 +1,9 @@
 //! The lines of components and partitions.
 ghost use Rattle.std.specs.Prelude.{◌≡◌, ◌==◌, ◌++◌, ℕ, [], nat_eq, OnOk, IfOk, unwrap_or, codes, if◌then◌else◌};
 ghost use Rattle.std.specs.HashMap as hash;
-ghost use Rattle.ldm_group_text.specs.Volumes.{text_of_index, text_of_partition, text_of_partitions, text_of_striping, text_of_layout, text_of_component, text_of_components};
+ghost use Rattle.ldm_group_text.specs.Volumes.{text_of_index, text_of_partition, text_of_partitions};
+ghost use Rattle.ldm_group_text.specs.Volumes.{text_of_striping, text_of_layout, text_of_component};
+ghost use Rattle.ldm_group_text.specs.Volumes.{text_of_components};
 
 use ldm_bytes::NoMemory;
 use ldm_records::{Component, Partition, Record, Striping};

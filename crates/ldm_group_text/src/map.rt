@@ -3,7 +3,8 @@ ghost use Rattle.std.specs.Prelude.{◌≡◌, ◌++◌, ◌+◌, ◌<◌, ◌�
 ghost use Rattle.std.specs.HashMap as hash;
 ghost use Rattle.std.specs.List.{range_with_len};
 ghost use Rattle.ldm_layout.specs.Layouts.{copies_of};
-ghost use Rattle.ldm_group_text.specs.Map.{text_of_image_sector, text_of_sector_on, text_of_copy, text_of_parity, text_of_sector, text_of_sectors, text_of_map};
+ghost use Rattle.ldm_group_text.specs.Map.{text_of_image_sector, text_of_sector_on, text_of_copy, text_of_parity};
+ghost use Rattle.ldm_group_text.specs.Map.{text_of_sector, text_of_sectors, text_of_map};
 
 use crate::mapped::{MappedDisk, mapped_disks};
 use ldm_bytes::{Bytes, NoMemory};

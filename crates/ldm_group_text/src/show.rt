@@ -71,7 +71,8 @@ fn push_disk(
     d: &Disk,
     used: &IndexMap<u64, u128>,
 ) -> Result<(), NoMemory>
-    ensures { OnOk result (text.new ≡ text.old ++ text_of_disk_at (λ disk. unwrap_or (map.get nat_eq used.now disk) 0) found.now.labels d.now) }
+    ensures { OnOk result (text.new ≡ text.old
+        ++ text_of_disk_at (λ disk. unwrap_or (map.get nat_eq used.now disk) 0) found.now.labels d.now) }
 {
     push_number(text, b"disk ", d.head.id)?;
     push_named(text, b" ", d.head.name.as_slice(), d.guid)?;
@@ -81,7 +82,8 @@ fn push_disk(
 
 // A line for each disk, by the sectors that the map has for it.
 fn push_lines(text: &mut Text, found: &Found, used: &IndexMap<u64, u128>) -> Result<(), NoMemory>
-    ensures { OnOk result (text.new ≡ text.old ++ text_of_disks (λ disk. unwrap_or (map.get nat_eq used.now disk) 0) found.now.labels found.now.db.records) }
+    ensures { OnOk result (text.new ≡ text.old
+        ++ text_of_disks (λ disk. unwrap_or (map.get nat_eq used.now disk) 0) found.now.labels found.now.db.records) }
 {
     for r in found.db.as_slice() {
         if let Record::Disk(d) = r {
@@ -93,7 +95,8 @@ fn push_lines(text: &mut Text, found: &Found, used: &IndexMap<u64, u128>) -> Res
 
 // A line for each disk.
 fn push_disks(alloc: Global, text: &mut Text, found: &Found) -> Result<(), NoMemory>
-    ensures { OnOk result (text.new ≡ text.old ++ text_of_disks (used_on found.now.db.records) found.now.labels found.now.db.records) }
+    ensures { OnOk result (text.new ≡ text.old
+        ++ text_of_disks (used_on found.now.db.records) found.now.labels found.now.db.records) }
 {
     let used = used_sectors(alloc, found.db.as_slice())?;
     push_lines(text, found, &used)

@@ -5,7 +5,9 @@ ghost use Rattle.ldm_words.specs.Names.{is_plain};
 ghost use Rattle.ldm_layout.specs.Columns.{columns_of};
 ghost use Rattle.ldm_dump.specs.Sources.{is_lost};
 ghost use Rattle.ldm_table.specs.Tables.{in_rows, array_of};
-ghost use Rattle.ldm_table.specs.Faults.{is_bad_chunk, has_many_columns, is_rebuilt, is_colon, begins_with_slash, is_device_word, is_no_device_word, is_long, is_long_member, volume_fault, text_of_fault};
+ghost use Rattle.ldm_table.specs.Faults.{is_bad_chunk, has_many_columns, is_rebuilt, is_colon, begins_with_slash};
+ghost use Rattle.ldm_table.specs.Faults.{is_device_word, is_no_device_word, is_long, is_long_member, volume_fault};
+ghost use Rattle.ldm_table.specs.Faults.{text_of_fault};
 
 use crate::parts::Member;
 use crate::rows::in_rows;

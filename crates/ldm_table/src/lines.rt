@@ -1,13 +1,17 @@
 //! The lines of a table, as text.
-ghost use Rattle.std.specs.Prelude.{◌≡◌, ◌≢◌, ◌++◌, ◌+◌, ◌-◌, ◌*◌, ◌<◌, ◌≤◌, ℕ, None, Some, Option, List, false, OnOk, IfOk, flat_map, length, map, slice_get, decimal, codes};
+ghost use Rattle.std.specs.Prelude.{◌≡◌, ◌≢◌, ◌++◌, ◌+◌, ◌-◌, ◌*◌, ◌<◌, ◌≤◌, ℕ, None, Some, Option, List, false};
+ghost use Rattle.std.specs.Prelude.{OnOk, IfOk, flat_map, length, map, slice_get, decimal, codes};
 ghost use Rattle.std.specs.List.{range_with_len};
 ghost use Rattle.ldm_layout.specs.Columns.{columns_of, chunk_of};
 ghost use Rattle.ldm_layout.specs.declared.shape.Shape.TheVariants.{Stripe, Raid5};
 ghost use Rattle.ldm_dump.specs.Sources.{first_copy};
 ghost use Rattle.ldm_dump.specs.Runs.{LiesOn};
 ghost use Rattle.ldm_table.specs.Targets.{linear, striped, raid5_ls};
-ghost use Rattle.ldm_table.specs.Tables.{line_of, before, stretches_of, column_spot, column_spots, whole_rows, row_sectors, in_rows, row_lines, rest_lines, array_of};
-ghost use Rattle.ldm_table.specs.Spelling.{text_of_spot, text_of_range, text_of_target, text_of_device, text_of_column, text_of_member, text_of_line, text_of_part, text_of_part_if};
+ghost use Rattle.ldm_table.specs.Tables.{line_of, before, stretches_of, column_spot, column_spots, whole_rows};
+ghost use Rattle.ldm_table.specs.Tables.{row_sectors, in_rows, row_lines, rest_lines, array_of};
+ghost use Rattle.ldm_table.specs.Spelling.{text_of_spot, text_of_range, text_of_target, text_of_device};
+ghost use Rattle.ldm_table.specs.Spelling.{text_of_column, text_of_member, text_of_line, text_of_part};
+ghost use Rattle.ldm_table.specs.Spelling.{text_of_part_if};
 
 use crate::names::{push_argument, push_escaped};
 use crate::parts::Member;

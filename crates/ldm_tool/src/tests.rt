@@ -267,7 +267,8 @@ fn file_of(
 }
 
 fn has<H: Host>(host: &H, disk: usize, at: u64, count: usize) -> bool
-    ensures { IsTrue result → (disk < length (H.seen host.now).sizes) × (at + count ≤ 512 * slice_index (H.seen host.now).sizes disk) }
+    ensures { IsTrue result → (disk < length (H.seen host.now).sizes)
+        × (at + count ≤ 512 * slice_index (H.seen host.now).sizes disk) }
 {
     if disk >= host.disks() {
         return false;

@@ -72,9 +72,11 @@ pub fn sample_images(alloc: Global, disks: u8, last: u32) -> Result<Vec<Vec<u8>>
     requires disks { disks ≤ 3 }
     requires room { 8 ≤ last }
     requires few { last ≤ 5924 }
-    ensures sizes { IfOk result (λ images. (vec_len images ≡ disks) × All (λ image. length image.items ≡ 8192 * 512) images.items) }
+    ensures sizes { IfOk result (λ images. (vec_len images ≡ disks)
+        × All (λ image. length image.items ≡ 8192 * 512) images.items) }
     ensures made { IfOk result (λ images. AreSampleImages disks last (items_of images.items)) }
-    ensures found { IfOk result (λ images. (found : Found) × IsGroupIn (items_of images.items) (Result.Ok found) × IsSampleGroup disks last found) }
+    ensures found { IfOk result (λ images. (found : Found) × IsGroupIn (items_of images.items) (Result.Ok found)
+        × IsSampleGroup disks last found) }
 {
     let db = sample_database(alloc, disks, last)?;
     let body = body_of(alloc, &db)?;
