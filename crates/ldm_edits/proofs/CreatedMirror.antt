@@ -25,7 +25,8 @@ use Rattle.ldm_volumes.specs.Volumes.{there, mirror_parts, mirror_made}
 use Rattle.ldm_edits.proofs.CreatedLayouts.{mirror_plexes, HasCopies, AllSized, mirror_layout}
 use Rattle.ldm_edits.proofs.CreatedIds.{IdsFollow}
 use Rattle.ldm_edits.proofs.MadeParts.{AreNumbers, numbers_head, numbers_tail, extent_is}
-use Rattle.ldm_edits.proofs.CreatedRules.{KeepsRules, IsFresh, IsCreated, IsSomeOn, MayCreate, keeps_volume, keeps_component, keeps_partition, plex_is}
+use Rattle.ldm_rules.proofs.CarryLaws.{KeepsRules}
+use Rattle.ldm_edits.proofs.CreatedRules.{IsFresh, IsCreated, IsSomeOn, MayCreate, keeps_volume, keeps_component, keeps_partition, plex_is}
 
 -- a component of a mirror and its partition
 pub record IsCopy (volume id : ℕ) (c : Component) (p : Partition) (t : Taken) : Type 0 where

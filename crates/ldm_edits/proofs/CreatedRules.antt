@@ -1,8 +1,8 @@
 -- The records that are made for a volume keep the rules of the next group.
-use Rattle.std.proofs.Common.{◌≡◌, ◌≢◌, ◌∙◌, ap, sym, refl, subst, ℕ, ◌+◌, ◌-◌, ◌*◌, ◌%◌, ◌≤◌, ◌<◌, ◌^◌, ◌==◌, not, [], ◌∷◌, length, get_or, map, arith, Some, None, List, Option, Bool, true, false, Result, Ok}
+use Rattle.std.proofs.Common.{◌≡◌, ◌≢◌, ◌∙◌, ap, sym, refl, subst, ℕ, ◌+◌, ◌-◌, ◌*◌, ◌%◌, ◌≤◌, ◌<◌, ◌^◌, ◌==◌, [], ◌∷◌, length, get_or, map, arith, Some, None, List, Option, Bool, true, false, Ok}
 use Rattle.std.specs.Prelude.{count_by, sum_by}
 use Rattle.std.specs.List.{All, cons_option, Contains}
-use Rattle.std.proofs.lemmas.Bool.{eq-eqb, ne_eqb, and_from}
+use Rattle.std.proofs.lemmas.Bool.{ne_eqb}
 use Rattle.std.proofs.lemmas.List.{length-map}
 use Rattle.ldm_records.specs.declared.pieces.Striping.{Striping}
 use Rattle.ldm_records.specs.declared.types.Volume.{Volume}
@@ -12,16 +12,14 @@ use Rattle.ldm_records.specs.declared.types.Record.{Record}
 use Rattle.ldm_made.specs.Made.{IsStriping, new_component, new_volume}
 use Rattle.ldm_made.proofs.MadeLaws.{MakesVolume, makes_volume, MakesComponent, makes_component}
 use Rattle.ldm_records.specs.declared.types.Record.TheVariants as kinds
-use Rattle.ldm_group.specs.Order.{kind_of, id_of}
 use Rattle.ldm_group.specs.Looks.{is_at, children_of, max_id}
-use Rattle.ldm_group.proofs.Rise.{counted_one}
 use Rattle.ldm_layout.specs.Layouts.{Layout}
 use Rattle.ldm_layout.specs.Volumes.{layout_of}
 use Rattle.ldm_layout.specs.Parts.{extent_of, extents_of, plex_of, plexes_of}
 use Rattle.ldm_layout.specs.declared.parts.Extent.{Extent}
 use Rattle.ldm_layout.specs.declared.parts.Plex.{Plex}
-use Rattle.ldm_layout.specs.declared.shape.LayoutFault.{LayoutFault}
-use Rattle.ldm_rules.specs.Rules.{first_broken, lacks_volume, lacks_component, lacks_disk, miscounts_components, miscounts_partitions, is_empty, has_layout_fault, passes_layout, fails, is_short}
+use Rattle.ldm_rules.specs.Rules.{first_broken, lacks_volume, lacks_component}
+use Rattle.ldm_rules.proofs.CarryLaws.{KeepsVolume, KeepsComponent, KeepsPartition, KeepsRules}
 use Rattle.ldm_space.specs.declared.taken.Taken.{Taken}
 use Rattle.ldm_space.specs.Free.{taken_of}
 use Rattle.ldm_volumes.specs.Volumes.{there, span_parts, column_parts, span_made, stripe_made, raid5_made}
@@ -32,23 +30,11 @@ use Rattle.ldm_edits.proofs.MadeParts.{AreNumbers, MakesParts, makes_span_parts,
 use Rattle.ldm_edits.proofs.CreatedLayouts.{AllSized, span_layout, stripe_layout, raid5_layout}
 use Rattle.ldm_edits.proofs.CreatedNext.{AddsTo, IsSingle, IsNew, single_component, single_parts, single_plexes, single_extents, children_are}
 
--- a record keeps the rules on parents, children, sizes and layouts
-pub record KeepsRules (next : List Record) (r : Record) : Type 0 where
-  pub volumes : lacks_volume (λ id. count_by (is_at 3 id) next) r ≡ false
-  pub components : lacks_component (λ id. count_by (is_at 4 id) next) r ≡ false
-  pub disks : lacks_disk (λ id. count_by (is_at 2 id) next) r ≡ false
-  pub component_counts : miscounts_components (λ id. children_of 3 id next) r ≡ false
-  pub partition_counts : miscounts_partitions (λ id. children_of 4 id next) r ≡ false
-  pub sizes : is_empty r ≡ false
-  pub layouts : has_layout_fault next r ≡ false
-  pub capacities : passes_layout next r ≡ false
-
--- what is made is a volume, a component or a partition, whose parent is new
+-- the parent of a component or partition that is made is new
 abbrev pub IsFresh : ℕ → Record → Type 0
-IsFresh top (kinds.Volume v) = Unit {0}
 IsFresh top (kinds.Component c) = top < c.parent
 IsFresh top (kinds.Partition p) = top < p.parent
-IsFresh top _ = ⊥
+IsFresh top _ = Unit {0}
 
 -- what is made keeps them, and its partitions take these sectors
 pub record IsCreated (old next made : List Record) (name : List ℕ) (taken : List Taken) : Type 0 where
@@ -79,48 +65,14 @@ pub record MayCreate (old next made : List Record) (id last : ℕ) (name : List 
 
 -- ---- a volume of one component
 
--- a record that is there is counted
-counted : (kind id : ℕ) (next : List Record) (r : Record) → Contains next r → kind_of r ≡ kind → id_of r ≡ id → (count_by (is_at kind id) next == 0) ≡ false
-counted kind id next r there at_kind at_id =
-    let some : 1 ≤ count_by (is_at kind id) next = counted_one (is_at kind id) next r there.0 there.1
-    (ap (is_at kind id) there.2 ∙ and_from (kind_of r == kind) _ (eq-eqb (kind_of r) kind at_kind) (eq-eqb (id_of r) id at_id)) in
-    ne_eqb (count_by (is_at kind id) next) 0 (λ e. omega arith)
+pub keeps_volume : (next : List Record) (v : Volume) (l : Layout) → v.children ≡ children_of 3 v.head.id next → v.size ≢ 0 → layout_of next v ≡ Ok l → KeepsVolume next v
+keeps_volume next v l children some layout = record { counted = children; some = ne_eqb v.size 0 some; layout = (l, layout) }
 
-pub keeps_volume : (next : List Record) (v : Volume) (l : Layout) → v.children ≡ children_of 3 v.head.id next → v.size ≢ 0 → layout_of next v ≡ Ok l → KeepsRules next (kinds.Volume v)
-keeps_volume next v l children some layout = record {
-  volumes = refl;
-  components = refl;
-  disks = refl;
-  component_counts = ap not (eq-eqb v.children (children_of 3 v.head.id next) children);
-  partition_counts = refl;
-  sizes = ne_eqb v.size 0 some;
-  layouts = ap (λ (o : Result Layout LayoutFault). fails (λ f. not (is_short f)) o) layout;
-  capacities = ap (λ (o : Result Layout LayoutFault). fails is_short o) layout;
-}
+pub keeps_component : (next : List Record) (v : Volume) (c : Component) → Contains next (kinds.Volume v) → c.parent ≡ v.head.id → c.children ≡ children_of 4 c.head.id next → KeepsComponent next c
+keeps_component next v c there parent children = record { parent = (v, there, sym parent); counted = children }
 
-pub keeps_component : (next : List Record) (v : Volume) (c : Component) → Contains next (kinds.Volume v) → c.parent ≡ v.head.id → c.children ≡ children_of 4 c.head.id next → KeepsRules next (kinds.Component c)
-keeps_component next v c there parent children = record {
-  volumes = counted 3 c.parent next (kinds.Volume v) there refl (sym parent);
-  components = refl;
-  disks = refl;
-  component_counts = refl;
-  partition_counts = ap not (eq-eqb c.children (children_of 4 c.head.id next) children);
-  sizes = refl;
-  layouts = refl;
-  capacities = refl;
-}
-
-pub keeps_partition : (next : List Record) (c : Component) (p : Partition) → Contains next (kinds.Component c) → p.parent ≡ c.head.id → IsSomeOn next (taken_of p) → KeepsRules next (kinds.Partition p)
-keeps_partition next c p there parent on = record {
-  volumes = refl;
-  components = counted 4 p.parent next (kinds.Component c) there refl (sym parent);
-  disks = on.1;
-  component_counts = refl;
-  partition_counts = refl;
-  sizes = ne_eqb p.size 0 on.0;
-  layouts = refl;
-  capacities = refl;
-}
+pub keeps_partition : (next : List Record) (c : Component) (p : Partition) → Contains next (kinds.Component c) → p.parent ≡ c.head.id → IsSomeOn next (taken_of p) → KeepsPartition next p
+keeps_partition next c p there parent on = record { parent = (c, there, sym parent); disk = on.1; some = ne_eqb p.size 0 on.0 }
 
 -- a new component, as a layout reads it
 pub plex_is : {id parent layout children : ℕ} {striping : Option Striping} (made : MakesComponent id parent layout children striping)

@@ -1,45 +1,39 @@
 -- Delete: what it keeps of a group.
-use Rattle.std.proofs.Common.{◌≡◌, ℕ, ◌<◌, ◌≤◌, ◌==◌, ◌⊎◌, not, List, [], ◌++◌, Option, Some, Ok, length, get_or, refl, sym, ap, subst, ◌∙◌, inl, inr, arith, true, false, None, Contains, count_by}
+use Rattle.std.proofs.Common.{◌≡◌, ℕ, ◌+◌, ◌<◌, ◌≤◌, ◌==◌, ◌⊎◌, not, List, [], ◌++◌, Option, Some, Ok, get_or, refl, sym, ap, subst, ◌∙◌, inl, inr, arith, true, false, None, Contains}
 use Rattle.std.specs.Prelude.{filter}
 use Rattle.std.proofs.lemmas.Bool.{not-true, eqb-true, eq-eqb}
-use Rattle.std.proofs.lemmas.List.Elements.{All-contains, Contains-get_or}
+use Rattle.std.proofs.lemmas.List.Elements.{All-nil, All-filter, All-contains, Contains-get_or}
 use Rattle.std.proofs.lemmas.List.Kept.{AllPairs-filter}
-use Rattle.std.proofs.lemmas.List.Folds.{list_any_at, Any-from_list_any}
 use Rattle.ldm_records.specs.declared.types.Record.{Record}
 use Rattle.ldm_records.specs.declared.types.Record.TheVariants as kinds
 use Rattle.ldm_records.specs.declared.types.Volume.{Volume}
 use Rattle.ldm_records.specs.declared.types.Component.{Component}
 use Rattle.ldm_records.specs.declared.types.Partition.{Partition}
 use Rattle.ldm_bytes.specs.Tables.{first_of}
-use Rattle.ldm_group.specs.Order.{Rising, kind_of, place_of, in_order}
+use Rattle.ldm_group.specs.Order.{Rising, place_of, in_order}
 use Rattle.ldm_group.specs.Database.{Database}
 use Rattle.ldm_group.specs.Partitions.{EndsInRange}
 use Rattle.ldm_group.specs.Room.{IsFitting}
-use Rattle.ldm_group.specs.Looks.{is_at, is_child, children_of}
+use Rattle.ldm_group.specs.Looks.{is_child}
 use Rattle.ldm_group.proofs.InOrder.{next_rises, member_next, stays_next}
-use Rattle.ldm_group.proofs.KinLaws.{filter_has, filter_keeps, filter_count, kin_same, counted_there, there_counted}
-use Rattle.ldm_group.proofs.KindLaws.{at_volume, at_component, child_component, child_partition}
+use Rattle.ldm_group.proofs.KinLaws.{filter_has, filter_keeps, kin_same}
+use Rattle.ldm_group.proofs.KindLaws.{child_component, child_partition}
 use Rattle.ldm_group.proofs.Rise.{tested}
 use Rattle.ldm_label.specs.declared.Label.{Label}
-use Rattle.ldm_layout.specs.declared.parts.Plex.{Plex}
-use Rattle.ldm_layout.specs.Layouts.{Layout}
-use Rattle.ldm_layout.specs.Parts.{plex_of, plexes_of}
-use Rattle.ldm_layout.specs.Volumes.{layout_of}
-use Rattle.ldm_layout.proofs.ChildLaws.{same_layout, plex_there}
-use Rattle.ldm_layout.proofs.VolumeLaws.{plexes_are, one_component}
-use Rattle.ldm_rules.proofs.GroupLaws.{not_broken, none_broken}
-use Rattle.ldm_rules.proofs.HeadLaws.{SameHeads, none_by, laid_none, disks_kept, ends_kept, group_kept, guids_kept, names_kept}
+use Rattle.ldm_layout.proofs.VolumeLaws.{one_component}
+use Rattle.ldm_rules.proofs.CarryLaws.{HasSameKin, Carries, heads}
+use Rattle.ldm_rules.proofs.HeadLaws.{names_kept}
 use Rattle.ldm_rules.proofs.SoundLaws.{EachRule, sound_from, sound_parts}
-use Rattle.ldm_rules.specs.Rules.{is_short, fails, lacks_volume, lacks_component, lacks_disk, miscounts_components, miscounts_partitions, is_empty, passes_end, has_layout_fault, passes_layout}
 use Rattle.ldm_rules.specs.Ends.{data_size}
-use Rattle.ldm_rules.specs.Disjoint.{AllLaidOut}
 use Rattle.ldm_rules.specs.Facts.{IsSoundOn}
+use Rattle.ldm_space.specs.declared.taken.Taken.{Taken}
 use Rattle.ldm_edits.specs.Changes.{limits, changed}
 use Rattle.ldm_edits.specs.Deleting.{goes, without, deleted}
 use Rattle.ldm_edits.specs.Steps.{Keeps}
 use Rattle.ldm_edits.proofs.KeepLaws.{next_keeps}
 use Rattle.ldm_edits.proofs.LimitLaws.{when_ok, within_limits}
-use Rattle.ldm_edits.proofs.PlacedRules.{none_meet, meet_none}
+use Rattle.ldm_edits.proofs.PlacedRules.{placed_carried}
+use Rattle.ldm_edits.proofs.StayLaws.{own_any, any_own}
 
 -- the next records are those that don't go with the volume
 pub record IsWithout (v : Volume) (old next : List Record) : Type 0 where
@@ -48,104 +42,67 @@ pub record IsWithout (v : Volume) (old next : List Record) : Type 0 where
   pub back : (r : Record) → Contains next r → Contains old r × (goes v.head.id old r ≡ false)
   pub there : (r : Record) → Contains old r → goes v.head.id old r ≡ false → Contains next r
 
--- a partition goes where its component is of the volume
-part_goes : (v : Volume) (old : List Record) (c : Component) (p : Partition) → Contains old (kinds.Component c) → c.parent ≡ v.head.id → c.head.id ≡ p.parent → goes v.head.id old (kinds.Partition p) ≡ true
-part_goes v old c p there parent id =
-    let own : Contains (plexes_of v.head.id old) (plex_of c) = subst (λ (q : ℕ). Contains (plexes_of q old) (plex_of c)) parent (plex_there old c there) in
-    list_any_at (λ plex. plex.id == p.parent) (plexes_of v.head.id old) own.0 (plex_of c) own.1 (ap (λ (x : Plex). x.id == p.parent) own.2 ∙ eq-eqb c.head.id p.parent id)
-
-goes_part : (v : Volume) (old : List Record) (p : Partition) → goes v.head.id old (kinds.Partition p) ≡ true → (c : Component) × Contains old (kinds.Component c) × (c.parent ≡ v.head.id) × (c.head.id ≡ p.parent)
-goes_part v old p h =
-    let any = Any-from_list_any (λ plex. plex.id == p.parent) (plexes_of v.head.id old) h in
-    let is = plexes_are old v.head.id any.0 any.1 any.2 in
-    (is.component, is.there, is.parent, ap (λ (x : Plex). x.id) (is.is ∙ any.3) ∙ eqb-true any.1.id p.parent any.4)
-
 module _ (v : Volume) (old next : List Record) (is : IsWithout v old next) where
-  heads : SameHeads old next
-  heads = record { up = is.up; vp = is.vp; there = λ r k h. is.there r h (low_stays r k); back = λ r k h. (is.back r h).0 }
-    where
-      low_stays : (r : Record) → kind_of r ≤ 2 → goes v.head.id old r ≡ false
-      low_stays (kinds.Group g) h = refl
-      low_stays (kinds.Disk g) h = refl
-      low_stays (kinds.Volume g) h = absurd (omega arith)
-      low_stays (kinds.Component g) h = absurd (omega arith)
-      low_stays (kinds.Partition g) h = absurd (omega arith)
+  -- a component of a volume that stays does,
+  component_stays : (w : Volume) → Contains next (kinds.Volume w) → (c : Component) → Contains old (kinds.Component c) → c.parent ≡ w.head.id → Contains next (kinds.Component c)
+  component_stays w there c at parent = is.there (kinds.Component c) at (ap (λ (n : ℕ). n == v.head.id) parent ∙ (is.back (kinds.Volume w) there).1)
 
-  -- a volume that stays keeps its components,
+  -- and so do its partitions
+  partition_stays : (c : Component) → Contains next (kinds.Component c) → (p : Partition) → p.parent ≡ c.head.id → goes v.head.id old (kinds.Partition p) ≡ false
+  partition_stays c there p parent = elim (tested (goes v.head.id old (kinds.Partition p))) [
+    | inr fails ↦ fails
+    | inl holds ↦ (let was = is.back (kinds.Component c) there in
+        let of = any_own old v.head.id p.parent holds in
+        let one : of.component ≡ c = one_component old of.component c is.up of.there was.0 (of.id ∙ parent) in
+        let own : goes v.head.id old (kinds.Component c) ≡ true = eq-eqb c.parent v.head.id (sym (ap (λ (x : Component). x.parent) one) ∙ of.parent) in
+        let not_own = was.1 in
+        absurd cc)
+  ]
+
+  -- so each has the same children
   components_stay : (w : Volume) → Contains next (kinds.Volume w) → filter (is_child 3 w.head.id) old ≡ filter (is_child 3 w.head.id) next
-  components_stay w there = kin_same (is_child 3 w.head.id) old next is.up is.vp (λ r h at. stays r h at (child_component w.head.id r h)) (λ r h at. (is.back r at).0)
+  components_stay w there = kin_same (is_child 3 w.head.id) old next is.up is.vp (λ r h at. stays r at (child_component w.head.id r h)) (λ r h at. (is.back r at).0)
     where
-      stays : (r : Record) → is_child 3 w.head.id r ≡ true → Contains old r → (c : Component) × (r ≡ kinds.Component c) × (c.parent ≡ w.head.id) → Contains next r
-      stays r h at (c, e, parent) = is.there r at (ap (goes v.head.id old) e ∙ ap (λ (n : ℕ). n == v.head.id) parent ∙ (is.back (kinds.Volume w) there).1)
+      stays : (r : Record) → Contains old r → (c : Component) × (r ≡ kinds.Component c) × (c.parent ≡ w.head.id) → Contains next r
+      stays r at (c, e, parent) = subst (λ (x : Record). Contains next x) (sym e) (component_stays w there c (subst (λ (x : Record). Contains old x) e at) parent)
 
-  -- and a component that stays its partitions
   partitions_stay : (c : Component) → Contains next (kinds.Component c) → filter (is_child 4 c.head.id) old ≡ filter (is_child 4 c.head.id) next
   partitions_stay c there = kin_same (is_child 4 c.head.id) old next is.up is.vp (λ r h at. is.there r at (stays r (child_partition c.head.id r h))) (λ r h at. (is.back r at).0)
     where
-      was : Contains old (kinds.Component c) × (goes v.head.id old (kinds.Component c) ≡ false)
-      was = is.back (kinds.Component c) there
-
       stays : (r : Record) → (p : Partition) × (r ≡ kinds.Partition p) × (p.parent ≡ c.head.id) → goes v.head.id old r ≡ false
-      stays r (p, e, parent) = ap (goes v.head.id old) e ∙ elim (tested (goes v.head.id old (kinds.Partition p))) [
-        | inr fails ↦ fails
-        | inl holds ↦ (let of = goes_part v old p holds in
-            let one : of.0 ≡ c = one_component old of.0 c is.up of.1 was.0 (of.3 ∙ parent) in
-            let own : goes v.head.id old (kinds.Component c) ≡ true = eq-eqb c.parent v.head.id (sym (ap (λ (x : Component). x.parent) one) ∙ of.2) in
-            let not_own = was.1 in
-            absurd cc)
-      ]
+      stays r (p, e, parent) = ap (goes v.head.id old) e ∙ partition_stays c there p parent
 
-  layout_stays : (w : Volume) → Contains next (kinds.Volume w) → layout_of old w ≡ layout_of next w
-  layout_stays w there = same_layout old next w (components_stay w there) (λ k d lt. own (get_or (plexes_of w.head.id old) k d) k d lt)
-    where
-      own : (p : Plex) (k : ℕ) (d : Plex) → k < length (plexes_of w.head.id old)
-          → filter (is_child 4 (get_or (plexes_of w.head.id old) k d).id) old ≡ filter (is_child 4 (get_or (plexes_of w.head.id old) k d).id) next
-      own p k d lt =
-          let at = plexes_are old w.head.id k d lt in
-          let stays : Contains next (kinds.Component at.component) = is.there (kinds.Component at.component) at.there (ap (λ (n : ℕ). n == v.head.id) at.parent ∙ (is.back (kinds.Volume w) there).1) in
-          subst (λ (n : ℕ). filter (is_child 4 n) old ≡ filter (is_child 4 n) next) (ap (λ (x : Plex). x.id) at.is) (partitions_stay at.component stays)
+  -- a component that goes takes its partitions along
+  whose_stays : (p : Partition) → Contains next (kinds.Partition p) → (c : Component) → Contains old (kinds.Component c) → c.head.id ≡ p.parent → goes v.head.id old (kinds.Component c) ≡ false
+  whose_stays p there c at id = elim (tested (c.parent == v.head.id)) [
+    | inr fails ↦ fails
+    | inl holds ↦ (let goes = own_any old v.head.id p.parent (record { component = c; there = at; parent = eqb-true c.parent v.head.id holds; id = id }) in
+        let stays = (is.back (kinds.Partition p) there).1 in absurd cc)
+  ]
 
-  module _ (labels : List Label) (laid : AllLaidOut old) (each : EachRule old labels) where
-    volumes_there : (c : Component) → Contains next (kinds.Component c) → (count_by (is_at 3 c.parent) next == 0) ≡ false
-    volumes_there c there =
-        let was = is.back (kinds.Component c) there in
-        let some = counted_there (is_at 3 c.parent) old (kinds.Component c) (not_broken (lacks_volume (λ id. count_by (is_at 3 id) old)) old (kinds.Component c) each.volumes was.0) in
-        let volume = at_volume c.parent some.0 some.2 in
-        there_counted (is_at 3 c.parent) next some.0 (is.there some.0 some.1 (ap (goes v.head.id old) volume.1 ∙ ap (λ (n : ℕ). n == v.head.id) volume.2 ∙ was.1)) some.2
+  kin : (r : Record) → Contains next r → HasSameKin old next r
+  kin (kinds.Group g) there = tt
+  kin (kinds.Disk d) there = tt
+  kin (kinds.Volume w) there = record { components = components_stay w there; partitions = λ c at parent. partitions_stay c (component_stays w there c at parent) }
+  kin (kinds.Component c) there = record {
+    parent = λ w. (w.0, is.there (kinds.Volume w.0) w.1 (ap (λ (n : ℕ). n == v.head.id) w.2 ∙ (is.back (kinds.Component c) there).1), w.2);
+    partitions = partitions_stay c there;
+  }
+  kin (kinds.Partition p) there = λ c. (c.0, is.there (kinds.Component c.0) c.1 (whose_stays p there c.0 c.1 c.2), c.2)
 
-    components_there : (p : Partition) → Contains next (kinds.Partition p) → (count_by (is_at 4 p.parent) next == 0) ≡ false
-    components_there p there =
-        let was = is.back (kinds.Partition p) there in
-        let some = counted_there (is_at 4 p.parent) old (kinds.Partition p) (not_broken (lacks_component (λ id. count_by (is_at 4 id) old)) old (kinds.Partition p) each.components was.0) in
-        let component = at_component p.parent some.0 some.2 in
-        let at : Contains old (kinds.Component component.0) = subst (λ (r : Record). Contains old r) component.1 some.1 in
-        let stays : goes v.head.id old some.0 ≡ false = ap (goes v.head.id old) component.1 ∙ elim (tested (component.0.parent == v.head.id)) [
-          | inr fails ↦ fails
-          | inl holds ↦ (let goes = part_goes v old component.0 p at (eqb-true component.0.parent v.head.id holds) component.2 in let stays = was.1 in absurd cc)
-        ] in
-        there_counted (is_at 4 p.parent) next some.0 (is.there some.0 some.1 stays) some.2
+  carries : Carries old next
+  carries = record {
+    up = is.up;
+    vp = is.vp;
+    groups = λ g at. is.there (kinds.Group g) at refl;
+    disks = λ d at. is.there (kinds.Disk d) at refl;
+    each = λ r at. inl ((is.back r at).0, kin r at);
+  }
 
-    next_laid : (w : Volume) → Contains next (kinds.Volume w) → (l : Layout) × (layout_of next w ≡ Ok l)
-    next_laid w there = let has = laid w (is.back (kinds.Volume w) there).0 in (has.0, sym (layout_stays w there) ∙ has.1.layout)
-
-    pub without_each : EachRule next labels
-    without_each = record {
-      one_group = group_kept old next heads each.one_group;
-      guids = guids_kept old next heads each.guids;
-      names = names_kept old next is.vp (λ w there. (w, (is.back (kinds.Volume w) there).0, refl)) each.names;
-      volumes = none_by _ next (λ g. refl) (λ d. refl) (λ w there. refl) volumes_there (λ p there. refl);
-      components = none_by _ next (λ g. refl) (λ d. refl) (λ w there. refl) (λ c there. refl) components_there;
-      disks = disks_kept old next heads (none_broken _ next (λ r there. not_broken (lacks_disk (λ id. count_by (is_at 2 id) old)) old r each.disks (is.back r there).0));
-      component_counts = none_by _ next (λ g. refl) (λ d. refl) (λ w there. ap (λ (n : ℕ). not (w.children == n)) (sym (filter_count (is_child 3 w.head.id) old next (components_stay w there)))
-          ∙ not_broken (miscounts_components (λ id. children_of 3 id old)) old (kinds.Volume w) each.component_counts (is.back (kinds.Volume w) there).0) (λ c there. refl) (λ p there. refl);
-      partition_counts = none_by _ next (λ g. refl) (λ d. refl) (λ w there. refl) (λ c there. ap (λ (n : ℕ). not (c.children == n)) (sym (filter_count (is_child 4 c.head.id) old next (partitions_stay c there)))
-          ∙ not_broken (miscounts_partitions (λ id. children_of 4 id old)) old (kinds.Component c) each.partition_counts (is.back (kinds.Component c) there).0) (λ p there. refl);
-      sizes = none_broken _ next (λ r there. not_broken is_empty old r each.sizes (is.back r there).0);
-      ends = ends_kept old next heads labels (none_broken _ next (λ r there. not_broken (passes_end (data_size labels old)) old r each.ends (is.back r there).0));
-      meetings = meet_none next (λ p q at_p at_q. none_meet old each.meetings p q (is.back (kinds.Partition p) at_p).0 (is.back (kinds.Partition q) at_q).0);
-      layouts = laid_none next (λ f. not (is_short f)) next_laid (has_layout_fault next) (λ g. refl) (λ d. refl) (λ c. refl) (λ p. refl) (λ w. refl);
-      capacities = laid_none next is_short next_laid (passes_layout next) (λ g. refl) (λ d. refl) (λ c. refl) (λ p. refl) (λ w. refl);
-    }
+  without_each : (labels : List Label) → EachRule old labels → EachRule next labels
+  without_each labels each = placed_carried labels old next [] carries each
+      (record { members = λ p at. inl (is.back (kinds.Partition p) at).0; within = All-nil (λ (t : Taken). t.start + t.size ≤ data_size labels old t.disk); free = tt })
+      (names_kept old next is.vp (λ w there. (w, (is.back (kinds.Volume w) there).0, refl)) each.names)
 
 -- ---- the whole law
 
@@ -176,9 +133,9 @@ without_keeps db labels v up old within =
     let is : IsWithout v db.records next = without_next v db.records up in (
       is.vp,
       next_keeps db labels 0 (without v db.records) old
-          (λ k d lt. All-contains IsFitting db.records _ old.room.each (filter_has (λ r. not (goes v.head.id db.records r)) db.records _ (Contains-get_or (filter (λ r. not (goes v.head.id db.records r)) db.records) k d lt)).0)
-          (within_limits db labels 0 (without v db.records) within) (heads v db.records next is)
-          (sound_from next labels (without_each v db.records next is labels old.laid_out (sound_parts db.records labels old.sound)))
+          (All-filter (λ r. not (goes v.head.id db.records r)) IsFitting db.records old.room.each)
+          (within_limits db labels 0 (without v db.records) within) (heads (carries v db.records next is))
+          (sound_from next labels (without_each v db.records next is labels (sound_parts db.records labels old.sound)))
           (λ k d lt. All-contains EndsInRange db.records (get_or next k d) old.ends (is.back (get_or next k d) (Contains-get_or next k d lt)).0),
     )
 

@@ -26,13 +26,14 @@ use Rattle.ldm_layout.proofs.LongerSpan.{tiles_append, by_offset_more, some_tile
 use Rattle.ldm_layout.proofs.TileLaws.{tiles_zero}
 use Rattle.ldm_layout.proofs.VolumeLaws.{plexes_are}
 use Rattle.ldm_rules.proofs.GroupLaws.{not_broken}
-use Rattle.ldm_rules.proofs.HeadLaws.{none_by, laid_none, disks_kept, data_same, group_kept, guids_kept, names_kept}
+use Rattle.ldm_rules.proofs.HeadLaws.{none_by, laid_none, disks_kept, ends_kept, group_kept, guids_kept, names_kept}
 use Rattle.ldm_rules.proofs.SoundLaws.{EachRule}
 use Rattle.ldm_rules.specs.Rules.{is_short, lacks_volume, lacks_component, lacks_disk, miscounts_components, miscounts_partitions, is_empty, has_layout_fault, passes_layout}
 use Rattle.ldm_rules.specs.Ends.{data_size}
 use Rattle.ldm_rules.specs.Disjoint.{AllLaidOut}
 use Rattle.ldm_edits.specs.Extending.{changes}
-use Rattle.ldm_edits.proofs.PlacedRules.{none_meet, meet_none, meetings_next, ends_next}
+use Rattle.ldm_rules.proofs.MeetLaws.{none_meet, meet_none}
+use Rattle.ldm_edits.proofs.PlacedRules.{meetings_next, ends_next}
 use Rattle.ldm_edits.proofs.ExtendedFrom.{IsLonger, volume_from, component_from, partition_from, w_there, d_there, d_id, d_parent, only_plex, other_component, components_same, partitions_same, components_were, components_are, partitions_are, heads}
 use Rattle.ldm_edits.proofs.SingleLists.{records_of, part_extents}
 
@@ -189,7 +190,7 @@ module _ {labels : List Label} {old next : List Record} {v w : Volume} {c d : Co
       | inl h ↦ not_broken is_empty old (kinds.Partition x) each.sizes h
       | inr new ↦ (is.each x new).some
     ]);
-    ends = ends_next (data_size labels old) (data_size labels next) old next parts each.ends (λ disk. sym (data_same old next (heads is) labels disk)) (partition_from is) is.within;
+    ends = ends_kept old next (heads is) labels (ends_next (data_size labels old) old next parts each.ends (partition_from is) is.within);
     meetings = meet_none next (meetings_next old next parts (none_meet old each.meetings) (partition_from is) is.free);
     layouts = laid_none next (λ f. not (is_short f)) next_laid (has_layout_fault next) (λ g. refl) (λ g. refl) (λ x. refl) (λ x. refl) (λ x. refl);
     capacities = laid_none next is_short next_laid (passes_layout next) (λ g. refl) (λ g. refl) (λ x. refl) (λ x. refl) (λ x. refl);

@@ -28,12 +28,13 @@ use Rattle.ldm_layout.proofs.LongerSpan.{tiles_append, by_offset_more, some_tile
 use Rattle.ldm_layout.proofs.TileLaws.{tiles_zero}
 use Rattle.ldm_layout.proofs.VolumeLaws.{plexes_are}
 use Rattle.ldm_rules.proofs.GroupLaws.{not_broken}
-use Rattle.ldm_rules.proofs.HeadLaws.{none_by, laid_none, disks_kept, data_same, group_kept, guids_kept, names_kept}
+use Rattle.ldm_rules.proofs.HeadLaws.{none_by, laid_none, disks_kept, ends_kept, group_kept, guids_kept, names_kept}
 use Rattle.ldm_rules.proofs.SoundLaws.{EachRule}
 use Rattle.ldm_rules.specs.Rules.{is_short, lacks_volume, lacks_component, lacks_disk, miscounts_components, miscounts_partitions, is_empty, has_layout_fault, passes_layout}
 use Rattle.ldm_rules.specs.Ends.{data_size}
 use Rattle.ldm_rules.specs.Disjoint.{AllLaidOut}
-use Rattle.ldm_edits.proofs.PlacedRules.{none_meet, meet_none, meetings_next, ends_next}
+use Rattle.ldm_rules.proofs.MeetLaws.{none_meet, meet_none}
+use Rattle.ldm_edits.proofs.PlacedRules.{meetings_next, ends_next}
 use Rattle.ldm_edits.proofs.MirrorLayouts.{copies_in, mirror_laid, HoldsMirror, mirror_holds, map_map, map_same, all_pass, one_passes, least_more}
 use Rattle.ldm_edits.specs.Mirroring.{held_in, changes}
 use Rattle.ldm_edits.proofs.Grown.{Share, olds, news, parts_of, share_holds, IsGrown}
@@ -248,7 +249,7 @@ module _ {labels : List Label} {old next : List Record} {v w : Volume} {len : �
       | inl h ↦ not_broken is_empty old (kinds.Partition x) each.sizes h
       | inr s ↦ ap (λ (y : Partition). y.size == 0) s.2 ∙ ap (λ (n : ℕ). n == 0) (is.each s.0 s.1).size ∙ is.some
     ]);
-    ends = ends_next (data_size labels old) (data_size labels next) old next (parts_of ss) each.ends (λ disk. sym (data_same old next (heads is) labels disk)) (partition_listed is) is.within;
+    ends = ends_kept old next (heads is) labels (ends_next (data_size labels old) old next (parts_of ss) each.ends (partition_listed is) is.within);
     meetings = meet_none next (meetings_next old next (parts_of ss) (none_meet old each.meetings) (partition_listed is) is.free);
     layouts = laid_none next (λ f. not (is_short f)) next_laid (has_layout_fault next) (λ g. refl) (λ g. refl) (λ x. refl) (λ x. refl) (λ x. refl);
     capacities = laid_none next is_short next_laid (passes_layout next) (λ g. refl) (λ g. refl) (λ x. refl) (λ x. refl) (λ x. refl);

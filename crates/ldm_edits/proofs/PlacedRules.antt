@@ -1,18 +1,22 @@
 -- New partitions at their first fits end within their disks, and meet none of the group.
-use Rattle.std.proofs.Common.{◌≡◌, ◌⊎◌, inl, inr, ℕ, ◌+◌, ◌<◌, ◌≤◌, ◌==◌, ◌&&◌, not, List, length, get_or, map, refl, sym, ap, subst, ◌∙◌, arith, false, None}
-use Rattle.std.specs.List.{All, Contains, list_any}
+use Rattle.std.proofs.Common.{◌≡◌, ◌⊎◌, inl, inr, ℕ, ◌+◌, ◌<◌, ◌≤◌, List, length, get_or, map, refl, sym, ap, subst, ◌∙◌, arith, false, None, count_by}
+use Rattle.std.specs.List.{All, Contains}
 use Rattle.std.proofs.lemmas.List.{length-map, get_or-map, get_or_default}
-use Rattle.std.proofs.lemmas.List.Elements.{Contains-get_or}
-use Rattle.std.proofs.lemmas.List.Folds.{list_any_at, list_any_none}
-use Rattle.std.proofs.lemmas.Bool.{and_cases, and_left, and_right, eqb-true, eq-eqb, not-false, le-ltb, ltb-false, cases_order, false_from_ne_true, false≢true}
+use Rattle.std.proofs.lemmas.Bool.{le-ltb, cases_order}
 use Rattle.ldm_records.specs.declared.types.Record.{Record}
 use Rattle.ldm_records.specs.declared.types.Record.TheVariants as kinds
 use Rattle.ldm_records.specs.declared.types.Partition.{Partition}
+use Rattle.ldm_group.specs.Looks.{is_volume_named}
 use Rattle.ldm_group.specs.Partitions.{meets}
 use Rattle.ldm_group.proofs.KinLaws.{named_there}
-use Rattle.ldm_rules.specs.Rules.{first_broken, passes_end, is_other_meeting, meets_another}
+use Rattle.ldm_label.specs.declared.Label.{Label}
+use Rattle.ldm_rules.specs.Ends.{data_size}
+use Rattle.ldm_rules.specs.Rules.{first_broken, has_namesake, passes_end}
+use Rattle.ldm_rules.proofs.CarryLaws.{Carries, carried}
 use Rattle.ldm_rules.proofs.GroupLaws.{not_broken}
 use Rattle.ldm_rules.proofs.HeadLaws.{none_by}
+use Rattle.ldm_rules.proofs.MeetLaws.{NoneMeet, none_meet}
+use Rattle.ldm_rules.proofs.SoundLaws.{EachRule}
 use Rattle.ldm_space.specs.declared.taken.Taken.{Taken}
 use Rattle.ldm_space.specs.Free.{taken_of, taken_by, taken_in, clash}
 use Rattle.ldm_space.specs.Placed.{AreApart, AllEndWithin}
@@ -35,53 +39,16 @@ IsOldOrNew old next new = (p : Partition) → Contains next (kinds.Partition p) 
 
 -- ---- ends
 
-pub ends_next : (sectors later : ℕ → ℕ) (old next : List Record) (new : List Partition) → first_broken (passes_end sectors) old ≡ None → ((disk : ℕ) → later disk ≡ sectors disk)
-    → IsOldOrNew old next new → AllEndWithin sectors (map taken_of new) → first_broken (passes_end later) next ≡ None
-ends_next sectors later old next new sound same members within = none_by (passes_end later) next (λ g. refl) (λ d. refl) (λ v there. refl) (λ c there. refl) one
-  where
-    old_one : (p : Partition) → Contains old (kinds.Partition p) → p.start + p.size ≤ sectors p.disk
-    old_one p there = ltb-false (sectors p.disk) (p.start + p.size) (not_broken (passes_end sectors) old (kinds.Partition p) sound there)
-
-    new_one : (p : Partition) → Contains new p → p.start + p.size ≤ sectors p.disk
-    new_one p (k, lt, is) =
-        subst (λ (t : Taken). t.start + t.size ≤ sectors t.disk) (map_at taken_of new k p (taken_of p) lt is) (within k (taken_of p) (omega (arith, length-map new taken_of)))
-
-    one : (p : Partition) → Contains next (kinds.Partition p) → passes_end later (kinds.Partition p) ≡ false
-    one p there =
-        let ends : p.start + p.size ≤ sectors p.disk = elim (members p there) [ inl o ↦ old_one p o | inr n ↦ new_one p n ] in
-        le-ltb (later p.disk) (p.start + p.size) (let e = same p.disk in omega arith)
+pub ends_next : (sectors : ℕ → ℕ) (old next : List Record) (new : List Partition) → first_broken (passes_end sectors) old ≡ None
+    → IsOldOrNew old next new → AllEndWithin sectors (map taken_of new) → first_broken (passes_end sectors) next ≡ None
+ends_next sectors old next new sound members within = none_by (passes_end sectors) next (λ g. refl) (λ d. refl) (λ v there. refl) (λ c there. refl) (λ p there.
+    elim (members p there) [
+      | inl was ↦ not_broken (passes_end sectors) old (kinds.Partition p) sound was
+      | inr (k, lt, is) ↦ le-ltb (sectors p.disk) (p.start + p.size)
+          (subst (λ (t : Taken). t.start + t.size ≤ sectors t.disk) (map_at taken_of new k p (taken_of p) lt is) (within k (taken_of p) (omega (arith, length-map new taken_of))))
+    ])
 
 -- ---- meeting
-
--- two partitions of one id, or without a sector in common
-abbrev pub NoneMeet : List Record → Type 0
-NoneMeet records = (p q : Partition) → Contains records (kinds.Partition p) → Contains records (kinds.Partition q) → (q.head.id ≡ p.head.id) ⊎ (meets p q ≡ false)
-
-pub none_meet : (records : List Record) → first_broken (meets_another records) records ≡ None → NoneMeet records
-none_meet records sound p q at_p at_q =
-    let pass : list_any (is_other_meeting p) records ≡ false = not_broken (meets_another records) records (kinds.Partition p) sound at_p in
-    let one : (not (q.head.id == p.head.id) && meets p q) ≡ false = false_from_ne_true _
-    (λ met. false≢true (sym pass ∙ list_any_at (is_other_meeting p) records at_q.0 (kinds.Partition q) at_q.1 (ap (is_other_meeting p) at_q.2 ∙ met))) in
-    elim (and_cases (not (q.head.id == p.head.id)) (meets p q) one) [
-      | inl same ↦ inl (eqb-true q.head.id p.head.id (not-false (q.head.id == p.head.id) same))
-      | inr apart ↦ inr apart
-    ]
-
-pub meet_none : (records : List Record) → NoneMeet records → first_broken (meets_another records) records ≡ None
-meet_none records apart = none_by (meets_another records) records (λ g. refl) (λ d. refl) (λ v there. refl) (λ c there. refl) one
-  where
-    other : (p : Partition) → Contains records (kinds.Partition p) → (r : Record) → Contains records r → is_other_meeting p r ≡ false
-    other p at (kinds.Partition q) there = elim (apart p q at there) [
-      | inl same ↦ and_left (not (q.head.id == p.head.id)) (meets p q) (ap not (eq-eqb q.head.id p.head.id same))
-      | inr none ↦ and_right (not (q.head.id == p.head.id)) (meets p q) none
-    ]
-    other p at (kinds.Group g) there = refl
-    other p at (kinds.Disk g) there = refl
-    other p at (kinds.Volume g) there = refl
-    other p at (kinds.Component g) there = refl
-
-    one : (p : Partition) → Contains records (kinds.Partition p) → meets_another records (kinds.Partition p) ≡ false
-    one p at = list_any_none (is_other_meeting p) records (λ k d lt. other p at (get_or records k d) (Contains-get_or records k d lt))
 
 -- what a partition takes is taken
 pub taken_there : (records : List Record) (p : Partition) → Contains records (kinds.Partition p) → Contains (taken_in records) (taken_of p)
@@ -115,3 +82,18 @@ meetings_next old next new apart members free p q at_p at_q =
                 inr ((λ k. clash (sym t_p k) (sym t_q k)) ∙ none))
           ]
         ]
+
+-- ---- the rules
+
+-- new partitions end within their disks, and lie where none was
+pub record ArePlaced (labels : List Label) (old next : List Record) (new : List Partition) : Type 0 where
+  pub members : IsOldOrNew old next new
+  pub within : AllEndWithin (data_size labels old) (map taken_of new)
+  pub free : AreApart (taken_in old) (map taken_of new)
+
+-- so what a change carries over keeps the rules, where no two volumes have one name
+pub placed_carried : (labels : List Label) (old next : List Record) (new : List Partition) → Carries old next → EachRule old labels → ArePlaced labels old next new
+    → first_broken (has_namesake (λ name. count_by (is_volume_named name) next)) next ≡ None → EachRule next labels
+placed_carried labels old next new carries each placed names =
+    carried carries labels each names (ends_next (data_size labels old) old next new each.ends placed.members placed.within)
+    (meetings_next old next new (none_meet old each.meetings) placed.members placed.free)

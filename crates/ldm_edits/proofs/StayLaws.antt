@@ -19,18 +19,18 @@ use Rattle.ldm_layout.proofs.VolumeLaws.{plexes_are}
 use Rattle.ldm_edits.specs.Staying.{is_own, is_component_of}
 
 -- a component of the volume, of this id
-record IsOwn (records : List Record) (volume q : ℕ) : Type 0 where
+pub record IsOwn (records : List Record) (volume q : ℕ) : Type 0 where
   pub component : Component
   pub there : Contains records (kinds.Component component)
   pub parent : component.parent ≡ volume
   pub id : component.head.id ≡ q
 
-own_any : (records : List Record) (volume q : ℕ) → IsOwn records volume q → list_any (λ plex. plex.id == q) (plexes_of volume records) ≡ true
+pub own_any : (records : List Record) (volume q : ℕ) → IsOwn records volume q → list_any (λ plex. plex.id == q) (plexes_of volume records) ≡ true
 own_any records volume q is =
     let own : Contains (plexes_of volume records) (plex_of is.component) = subst (λ (n : ℕ). Contains (plexes_of n records) (plex_of is.component)) is.parent (plex_there records is.component is.there) in
     list_any_at (λ plex. plex.id == q) (plexes_of volume records) own.0 (plex_of is.component) own.1 (ap (λ (x : Plex). x.id == q) own.2 ∙ eq-eqb is.component.head.id q is.id)
 
-any_own : (records : List Record) (volume q : ℕ) → list_any (λ plex. plex.id == q) (plexes_of volume records) ≡ true → IsOwn records volume q
+pub any_own : (records : List Record) (volume q : ℕ) → list_any (λ plex. plex.id == q) (plexes_of volume records) ≡ true → IsOwn records volume q
 any_own records volume q h =
     let any = Any-from_list_any (λ plex. plex.id == q) (plexes_of volume records) h in
     let is = plexes_are records volume any.0 any.1 any.2 in

@@ -1,9 +1,10 @@
 -- Which rules the group and disk records keep alone, and which a test on each other record does.
-use Rattle.std.proofs.Common.{◌≡◌, ℕ, ◌+◌, ◌*◌, ◌^◌, ◌≤◌, ◌==◌, List, refl, sym, ap, subst, ◌∙◌, arith, Bool, true, false, Option, None, Ok, find, count_by, Contains, bytes_eq}
+use Rattle.std.proofs.Common.{◌≡◌, ◌⊎◌, inl, inr, ℕ, ◌+◌, ◌*◌, ◌^◌, ◌≤◌, ◌==◌, List, refl, sym, ap, subst, ◌∙◌, arith, Bool, true, false, Option, Some, None, Ok, find, count_by, Contains, bytes_eq}
 use Rattle.std.specs.Prelude.{is_some, nat_le, option_and_then}
 use Rattle.std.specs.List.{filter_map}
 use Rattle.std.specs.Option.{option_map}
 use Rattle.std.proofs.lemmas.Bool.{eqb-true}
+use Rattle.std.proofs.lemmas.Slice.Eq.{bytes_eq-Decides}
 use Rattle.ldm_records.specs.declared.types.Record.{Record}
 use Rattle.ldm_records.specs.declared.types.Record.TheVariants as kinds
 use Rattle.ldm_records.specs.declared.types.Volume.{Volume}
@@ -101,26 +102,58 @@ module _ (old next : List Record) (heads : SameHeads old next) where
 
 -- ---- names
 
--- each volume has the id and name of one that was there
-pub names_kept : (old next : List Record) → Rising next → ((v : Volume) → Contains next (kinds.Volume v) → (w : Volume) × Contains old (kinds.Volume w) × (w.head ≡ v.head))
+-- each volume has the id and name of one that was there, or those that are new, whose name no other had
+pub record AreNamed (old next : List Record) (new : Option Head) : Type 0 where
+  pub from : (v : Volume) → Contains next (kinds.Volume v) → ((w : Volume) × Contains old (kinds.Volume w) × (w.head ≡ v.head)) ⊎ (new ≡ Some v.head)
+  pub free : (head : Head) → new ≡ Some head → (w : Volume) → Contains old (kinds.Volume w) → bytes_eq w.head.name head.name ≡ false
+
+same_bytes : (a b : List ℕ) → bytes_eq a b ≡ true → a ≡ b
+same_bytes a b h = (bytes_eq-Decides a b).0 h
+
+bytes_same : (a b : List ℕ) → a ≡ b → bytes_eq a b ≡ true
+bytes_same a b h = (bytes_eq-Decides a b).1 h
+
+pub names_next : (old next : List Record) (new : Option Head) → Rising next → AreNamed old next new
     → first_broken (has_namesake (λ name. count_by (is_volume_named name) old)) old ≡ None → first_broken (has_namesake (λ name. count_by (is_volume_named name) next)) next ≡ None
 unfolding place_of
-names_kept old next vp back h = none_by (has_namesake (λ name. count_by (is_volume_named name) next)) next (λ g. refl) (λ d. refl) at (λ c there. refl) (λ p there. refl)
+names_next old next new vp are h = none_by (has_namesake (λ name. count_by (is_volume_named name) next)) next (λ g. refl) (λ d. refl) at (λ c there. refl) (λ p there. refl)
   where
-    placed : (v w : Volume) → w.head ≡ v.head → place_of (kinds.Volume v) ≡ place_of (kinds.Volume w)
-    placed v w e = ap (λ (x : Head). 3 * 2 ^ 64 + x.id) (sym e)
+    From : Volume → Type 0
+    From v = ((w : Volume) × Contains old (kinds.Volume w) × (w.head ≡ v.head)) ⊎ (new ≡ Some v.head)
+
+    placed : (v w : Volume) → v.head ≡ w.head → place_of (kinds.Volume v) ≡ place_of (kinds.Volume w)
+    placed v w e = ap (λ (x : Head). 3 * 2 ^ 64 + x.id) e
+
+    -- an old name isn't the new one
+    apart : (v w x : Volume) → Contains old (kinds.Volume w) → w.head ≡ v.head → new ≡ Some x.head → v.head.name ≡ x.head.name → ⊥
+    apart v w x there head is same =
+        let fails = are.free x.head is w there in
+        let holds = bytes_same w.head.name x.head.name (ap (λ (k : Head). k.name) head ∙ same) in
+        absurd cc
+
+    -- two of one name stand at one place
+    one : (v w : Volume) → From v → From w → v.head.name ≡ w.head.name → place_of (kinds.Volume v) ≡ place_of (kinds.Volume w)
+    one v w (inl a) (inl b) same =
+        let name : b.0.head.name ≡ a.0.head.name = ap (λ (k : Head). k.name) b.2 ∙ sym same ∙ ap (λ (k : Head). k.name) (sym a.2) in
+        let few = not_broken (has_namesake (λ name. count_by (is_volume_named name) old)) old (kinds.Volume a.0) h a.1 in
+        placed v a.0 (sym a.2)
+        ∙ once_at (is_volume_named a.0.head.name) old (kinds.Volume a.0) (kinds.Volume b.0) few a.1 b.1 (bytes_same a.0.head.name a.0.head.name refl) (bytes_same b.0.head.name a.0.head.name name)
+        ∙ placed b.0 w b.2
+    one v w (inl a) (inr b) same = absurd (apart v a.0 w a.1 a.2 b same)
+    one v w (inr a) (inl b) same = absurd (apart w b.0 v b.1 b.2 a (sym same))
+    one v w (inr a) (inr b) same = placed v w (let both : Some v.head ≡ Some w.head = sym a ∙ b in cc)
 
     at : (v : Volume) → Contains next (kinds.Volume v) → nat_le 2 (count_by (is_volume_named v.head.name) next) ≡ false
-    at v there =
-        let was = back v there in
-        let few : nat_le 2 (count_by (is_volume_named v.head.name) old) ≡ false =
-        ap (λ (x : Head). nat_le 2 (count_by (is_volume_named x.name) old)) (sym was.2) ∙ not_broken (has_namesake (λ name. count_by (is_volume_named name) old)) old (kinds.Volume was.0) h was.1 in
-        once_from (is_volume_named v.head.name) next (kinds.Volume v) vp (λ r s at_r at_s holds_r holds_s.
+    at v there = once_from (is_volume_named v.head.name) next (kinds.Volume v) vp (λ r s at_r at_s holds_r holds_s.
         let a = named_volume v.head.name r holds_r in
         let b = named_volume v.head.name s holds_s in
-        let c = back a.0 (subst (λ (x : Record). Contains next x) a.1 at_r) in
-        let d = back b.0 (subst (λ (x : Record). Contains next x) b.1 at_s) in
-        let of_c : is_volume_named v.head.name (kinds.Volume c.0) ≡ true = ap (λ (x : Head). bytes_eq x.name v.head.name) c.2 ∙ ap (is_volume_named v.head.name) (sym a.1) ∙ holds_r in
-        let of_d : is_volume_named v.head.name (kinds.Volume d.0) ≡ true = ap (λ (x : Head). bytes_eq x.name v.head.name) d.2 ∙ ap (is_volume_named v.head.name) (sym b.1) ∙ holds_s in
-        let one = once_at (is_volume_named v.head.name) old (kinds.Volume c.0) (kinds.Volume d.0) few c.1 d.1 of_c of_d in
-        ap place_of a.1 ∙ placed a.0 c.0 c.2 ∙ one ∙ sym (placed b.0 d.0 d.2) ∙ sym (ap place_of b.1))
+        let name_a = same_bytes a.0.head.name v.head.name (ap (is_volume_named v.head.name) (sym a.1) ∙ holds_r) in
+        let name_b = same_bytes b.0.head.name v.head.name (ap (is_volume_named v.head.name) (sym b.1) ∙ holds_s) in
+        ap place_of a.1
+        ∙ one a.0 b.0 (are.from a.0 (subst (λ (x : Record). Contains next x) a.1 at_r)) (are.from b.0 (subst (λ (x : Record). Contains next x) b.1 at_s)) (name_a ∙ sym name_b)
+        ∙ sym (ap place_of b.1))
+
+-- where none is new
+pub names_kept : (old next : List Record) → Rising next → ((v : Volume) → Contains next (kinds.Volume v) → (w : Volume) × Contains old (kinds.Volume w) × (w.head ≡ v.head))
+    → first_broken (has_namesake (λ name. count_by (is_volume_named name) old)) old ≡ None → first_broken (has_namesake (λ name. count_by (is_volume_named name) next)) next ≡ None
+names_kept old next vp back h = names_next old next None vp (record { from = λ v there. inl (back v there); free = λ head e w at. absurd cc }) h

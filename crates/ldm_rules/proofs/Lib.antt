@@ -10,5 +10,7 @@ pub mod PresentLaws
 pub mod EndLaws
 pub mod SoundLaws
 pub mod HeadLaws
+pub mod MeetLaws
+pub mod CarryLaws
 pub mod DisksAlone
 pub mod NewLaws

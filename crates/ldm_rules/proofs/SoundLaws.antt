@@ -102,13 +102,15 @@ has_layout : (records : List Record) (v : Volume) (r : Result Layout LayoutFault
 has_layout records v (Ok l) is a b = (l, is)
 has_layout records v (Err f) is a b = absurd (one_of_two (is_short f) a b)
 
-pub layout_there : (records : List Record) (labels : List Label) (v : Volume) → IsSound records labels → Contains records (kinds.Volume v) → (l : Layout) × HasLayout records v l
-layout_there records labels v sound there =
-    let each = sound_parts records labels sound in
+pub each_laid : (records : List Record) (labels : List Label) (v : Volume) → EachRule records labels → Contains records (kinds.Volume v) → (l : Layout) × HasLayout records v l
+each_laid records labels v each there =
     let found = has_layout records v (layout_of records v) refl
     (not_broken (has_layout_fault records) records (kinds.Volume v) each.layouts there)
     (not_broken (passes_layout records) records (kinds.Volume v) each.capacities there) in
     (found.0, record { there = there; layout = found.1 })
+
+pub layout_there : (records : List Record) (labels : List Label) (v : Volume) → IsSound records labels → Contains records (kinds.Volume v) → (l : Layout) × HasLayout records v l
+layout_there records labels v sound there = each_laid records labels v (sound_parts records labels sound) there
 
 -- a check that finds nothing tells it
 pub checked_layouts : (records : List Record) (labels : List Label) (r : Result (Unit {0}) RuleError) → ChecksAs r (first_broken_rule records labels) → OnOk r (AllLaidOut records)
