@@ -1,5 +1,5 @@
 -- A walk over the words of a command, one disk after the other.
-use Rattle.std.proofs.Common.{◌≡◌, ℕ, suc, ◌+◌, ◌<◌, ◌≤◌, List, [], ◌∷◌, ◌++◌, length, get_or, map, drop, refl, sym, ap, ◌∙◌, append_assoc, arith, Option, Some, None, Result, Ok, Err, drop-cons}
+use Rattle.std.proofs.Common.{◌≡◌, ℕ, suc, ◌+◌, ◌<◌, ◌≤◌, List, [], ◌∷◌, ◌++◌, length, get_or, map, drop, refl, sym, ap, ◌∙◌, arith, Option, Some, None, Result, Ok, Err, drop-cons}
 use Rattle.std.specs.Option.{option_map}
 use Rattle.std.proofs.Math.ListN.{get_or-map}
 use Rattle.std.proofs.lemmas.List.{drop_all, append-nil}
@@ -7,16 +7,9 @@ use Rattle.ldm_records.specs.declared.types.Disk.{Disk}
 use Rattle.ldm_records.specs.declared.types.Record.{Record}
 use Rattle.ldm_group.specs.Looks.{disk_named}
 use Rattle.ldm_space.specs.declared.placed.Wanted.{Wanted}
-use Rattle.ldm_edits.specs.Asked.{in_front, ask, asked_for}
-
--- what is asked for before the rest
-abbrev pub ahead : List Wanted → Result (List Wanted) ℕ → Result (List Wanted) ℕ
-ahead done (Ok more) = Ok (done ++ more)
-ahead done (Err place) = Err place
-
-ahead_front : (done : List Wanted) (w : Wanted) (rest : Result (List Wanted) ℕ) → ahead done (in_front w rest) ≡ ahead (done ++ w ∷ []) rest
-ahead_front done w (Ok more) = ap (λ (l : List Wanted). Ok l) (sym (append_assoc done (w ∷ []) more))
-ahead_front done w (Err place) = refl
+use Rattle.ldm_space.specs.Wanted.{in_front}
+use Rattle.ldm_space.proofs.PlacedWalk.{ahead, ahead_none, ahead_front}
+use Rattle.ldm_edits.specs.Asked.{ask, asked_for}
 
 abbrev pub asked_of : (ℕ → ℕ) → ℕ → Option Disk → Option Wanted
 asked_of sectors size disk = option_map (λ d. record { disk = d.head.id; limit = sectors d.head.id; size = size }) disk
@@ -32,10 +25,6 @@ ask_none sectors at size (Some d) rest h = absurd cc
 -- so much of the words is done
 abbrev pub IsAskedTo : (ℕ → ℕ) → List Record → List (List ℕ × ℕ) → ℕ → List Wanted → Type 0
 IsAskedTo sectors records words at done = asked_for sectors records 0 words ≡ ahead done (asked_for sectors records at (drop at words))
-
-ahead_none : (rest : Result (List Wanted) ℕ) → rest ≡ ahead [] rest
-ahead_none (Ok more) = refl
-ahead_none (Err place) = refl
 
 -- nothing is, at first
 pub asked_first : (sectors : ℕ → ℕ) (records : List Record) (words : List (List ℕ × ℕ)) → IsAskedTo sectors records words 0 []

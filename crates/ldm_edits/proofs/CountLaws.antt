@@ -11,8 +11,8 @@ use Rattle.ldm_group.proofs.Rise.{count_yes, count_no}
 use Rattle.ldm_layout.specs.Volumes.{layout_of, shape_of}
 use Rattle.ldm_rules.specs.Ends.{data_size}
 use Rattle.ldm_space.specs.Free.{taken_in}
-use Rattle.ldm_space.specs.Placed.{taken_at}
 use Rattle.ldm_space.specs.Wanted.{placed}
+use Rattle.ldm_space.specs.declared.taken.Taken.{Taken}
 use Rattle.ldm_space.specs.declared.placed.Wanted.{Wanted}
 use Rattle.ldm_words.specs.declared.command.Command.{Command}
 use Rattle.ldm_words.specs.declared.command.Command.TheVariants.{Create, Extend, Delete, Begin, Commit, Cancel}
@@ -57,10 +57,10 @@ refused_up db (Some refusal) next up = tt
 
 -- ---- create
 
-places_up : (db : Database) (labels : List Label) (name : List ℕ) (guid : ℕ) (layout : NewLayout) (wanted : List Wanted) (places : Result (List ℕ) ℕ) → IsUp db (at_places db labels name guid layout wanted places)
+places_up : (db : Database) (labels : List Label) (name : List ℕ) (guid : ℕ) (layout : NewLayout) (wanted : List Wanted) (places : Result (List Taken) ℕ) → IsUp db (at_places db labels name guid layout wanted places)
 places_up db labels name guid layout wanted (Err place) = tt
-places_up db labels name guid layout wanted (Ok starts) =
-    let change = change_for db name guid layout wanted starts in
+places_up db labels name guid layout wanted (Ok spots) =
+    let change = change_for db name guid layout spots in
     unless_up db (first_of (limits db labels (fresh_for layout) change)) change
 
 disks_up : (db : Database) (labels : List Label) (name : List ℕ) (guid : ℕ) (layout : NewLayout) (asked : Result (List Wanted) ℕ) → IsUp db (on_disks db labels name guid layout asked)
@@ -79,11 +79,11 @@ created_up db labels name guid layout =
 
 -- ---- extend
 
-lengthen_up : (db : Database) (labels : List Label) (v : Volume) (component : Option Component) (wanted : List Wanted) (places : Result (List ℕ) ℕ) → IsUp db (lengthen db labels v component wanted places)
+lengthen_up : (db : Database) (labels : List Label) (v : Volume) (component : Option Component) (wanted : List Wanted) (places : Result (List Taken) ℕ) → IsUp db (lengthen db labels v component wanted places)
 lengthen_up db labels v None wanted places = tt
 lengthen_up db labels v (Some c) wanted (Err piece) = tt
-lengthen_up db labels v (Some c) wanted (Ok starts) =
-    let change = lengthened db.records v c (held (layout_of db.records v)) (taken_at wanted starts) in
+lengthen_up db labels v (Some c) wanted (Ok spots) =
+    let change = lengthened db.records v c (held (layout_of db.records v)) spots in
     unless_up db (first_of (limits db labels (length wanted) change)) change
 
 wanted_up : (db : Database) (labels : List Label) (v : Volume) (asked : Result (List Wanted) ℕ) → IsUp db (with_wanted db labels v asked)
@@ -99,10 +99,10 @@ extended_up db labels pieces (Some v) =
     let asked = asked_for (data_size labels db.records) db.records 0 (map (λ (p : Piece). (p.disk, p.len)) pieces) in
     refused_up db (unlengthened db.records v) (with_wanted db labels v asked) (wanted_up db labels v asked)
 
-mirror_up : (db : Database) (labels : List Label) (v : Volume) (wanted : List Wanted) (places : Result (List ℕ) ℕ) → IsUp db (mirror_placed db labels v wanted places)
+mirror_up : (db : Database) (labels : List Label) (v : Volume) (wanted : List Wanted) (places : Result (List Taken) ℕ) → IsUp db (mirror_placed db labels v wanted places)
 mirror_up db labels v wanted (Err piece) = tt
-mirror_up db labels v wanted (Ok starts) =
-    let change = grown db.records v (held (layout_of db.records v) + len_of wanted) (taken_at wanted starts) in
+mirror_up db labels v wanted (Ok spots) =
+    let change = grown db.records v (held (layout_of db.records v) + len_of wanted) spots in
     unless_up db (first_of (limits db labels (length wanted) change)) change
 
 mirrors_up : (db : Database) (labels : List Label) (v : Volume) (asked : Result (List Wanted) ℕ) → IsUp db (mirror_wanted db labels v asked)

@@ -11,7 +11,6 @@ use Rattle.ldm_space.specs.declared.taken.Taken.{Taken}
 use Rattle.ldm_space.specs.declared.placed.Wanted.{Wanted}
 use Rattle.ldm_space.specs.Free.{taken_in}
 use Rattle.ldm_space.specs.Wanted.{placed}
-use Rattle.ldm_space.specs.Placed.{taken_at}
 use Rattle.ldm_words.specs.declared.command.NewLayout.{NewLayout}
 use Rattle.ldm_edits.specs.declared.leaving.Leaving.TheVariants as leavings
 use Rattle.ldm_edits.specs.declared.reply.Refusal.{Refusal}
@@ -73,16 +72,16 @@ module _ (db : Database) (labels : List Label) (name : List ℕ) (guid : ℕ) (l
   pub no_space : (place : ℕ) → placed (taken_in db.records) 0 wanted ≡ Err place → created db labels name guid layout ≡ Err (refusals.NoSpace place)
   no_space place h = by_places ∙ ap (at_places db labels name guid layout wanted) h
 
-  pub no_ids : (starts : List ℕ) → placed (taken_in db.records) 0 wanted ≡ Ok starts → 2 ^ 64 - 1 < max_id db.records + fresh_for layout → created db labels name guid layout ≡ Err refusals.IdsSpent
-  no_ids starts h spent =
-      let change : Change = change_for db name guid layout wanted starts in
+  pub no_ids : (spots : List Taken) → placed (taken_in db.records) 0 wanted ≡ Ok spots → 2 ^ 64 - 1 < max_id db.records + fresh_for layout → created db labels name guid layout ≡ Err refusals.IdsSpent
+  no_ids spots h spent =
+      let change : Change = change_for db name guid layout spots in
       by_places ∙ ap (at_places db labels name guid layout wanted) h ∙ ap (λ (o : Option Refusal). unless o (changed db change)) (sym (ids_spent db labels (fresh_for layout) change spent))
 
   -- what is made is tested by the limits
-  pub by_limits : (starts : List ℕ) (taken : List Taken) (made : List Record) (id : ℕ) → placed (taken_in db.records) 0 wanted ≡ Ok starts → taken ≡ taken_at wanted starts → id ≡ max_id db.records + 1
+  pub by_limits : (spots : List Taken) (taken : List Taken) (made : List Record) (id : ℕ) → placed (taken_in db.records) 0 wanted ≡ Ok spots → taken ≡ spots → id ≡ max_id db.records + 1
       → made ≡ made_for layout id name guid taken → change_to db labels (fresh_for layout) (change_of leavings.Nothing db.records made) ≡ created db labels name guid layout
-  by_limits starts taken made id h taken_is id_is made_is =
-      let change : Change = change_for db name guid layout wanted starts in
+  by_limits spots taken made id h taken_is id_is made_is =
+      let change : Change = change_for db name guid layout spots in
       let all : made ≡ change.made = made_is ∙ (λ i. made_for layout (id_is i) name guid (taken_is i)) in
       let same : change_of leavings.Nothing db.records made ≡ change = (λ i. record { stay = all_stay db.records i; made = all i }) in
       ap (change_to db labels (fresh_for layout)) same ∙ sym (by_places ∙ ap (at_places db labels name guid layout wanted) h)

@@ -21,8 +21,9 @@ use Rattle.ldm_space.specs.declared.taken.Taken.{Taken}
 use Rattle.ldm_space.specs.Free.{taken_in}
 use Rattle.ldm_space.specs.declared.placed.Wanted.{Wanted}
 use Rattle.ldm_space.specs.Wanted.{placed}
-use Rattle.ldm_space.specs.Placed.{taken_at, AreFirstFits, AllEndWithin}
-use Rattle.ldm_space.proofs.PlacedLaws.{placing, placed_fit, fits_apart, fits_within}
+use Rattle.ldm_space.specs.Placed.{AreFirstFits, AllEndWithin}
+use Rattle.ldm_space.specs.Wanted.{placing}
+use Rattle.ldm_space.proofs.PlacedLaws.{placed_fit, fits_apart, fits_within}
 use Rattle.ldm_words.specs.declared.command.NewLayout.{NewLayout}
 use Rattle.ldm_words.specs.Limits.{IsCreate}
 use Rattle.ldm_edits.specs.declared.reply.Refusal.{Refusal}
@@ -45,14 +46,14 @@ use Rattle.ldm_edits.proofs.CreatedForms.{made_adds, made_created}
 -- nothing refuses it
 pub record IsAccepted (db : Database) (labels : List Label) (name : List ℕ) (guid : ℕ) (layout : NewLayout) (next : Database) : Type 0 where
   pub wanted : List Wanted
-  pub starts : List ℕ
+  pub spots : List Taken
   pub free : volume_named name db.records ≡ None
   pub found : asked_for (data_size labels db.records) db.records 0 (words_of layout) ≡ Ok wanted
   pub disks : is_same_disk layout wanted ≡ false
   pub sizes : is_bad_size layout ≡ false
-  pub places : placed (taken_in db.records) 0 wanted ≡ Ok starts
-  pub within : first_of (limits db labels (fresh_for layout) (change_for db name guid layout wanted starts)) ≡ None
-  pub next_is : changed db (change_for db name guid layout wanted starts) ≡ next
+  pub places : placed (taken_in db.records) 0 wanted ≡ Ok spots
+  pub within : first_of (limits db labels (fresh_for layout) (change_for db name guid layout spots)) ≡ None
+  pub next_is : changed db (change_for db name guid layout spots) ≡ next
 
 -- what isn't refused passed the test
 test_ok : (b : Bool) (refusal : Refusal) (rest : Result Database Refusal) (next : Database) → (if b then Err refusal else rest) ≡ Ok next → (b ≡ false) × (rest ≡ Ok next)
@@ -73,11 +74,11 @@ accepted db labels name guid layout next h =
     let apart = test_ok (is_same_disk layout wanted) refusals.SameDisk (if is_bad_size layout then Err refusals.BadSize else at_places db labels name guid layout wanted (placed (taken_in db.records) 0 wanted)) next disks.2 in
     let sized = test_ok (is_bad_size layout) refusals.BadSize (at_places db labels name guid layout wanted (placed (taken_in db.records) 0 wanted)) next apart.1 in
     let places = places_ok wanted (placed (taken_in db.records) 0 wanted) sized.1 in
-    let change : Change = change_for db name guid layout wanted places.0 in
+    let change : Change = change_for db name guid layout places.0 in
     let within = when_ok (first_of (limits db labels (fresh_for layout) change)) (changed db change) next places.2 in
     record {
       wanted = wanted;
-      starts = places.0;
+      spots = places.0;
       free = none_some (volume_named name db.records) named.0;
       found = disks.1;
       disks = apart.0;
@@ -91,8 +92,8 @@ accepted db labels name guid layout next h =
     disks_ok (Ok wanted) h = (wanted, refl, h)
     disks_ok (Err place) h = absurd cc
 
-    places_ok : (wanted : List Wanted) (o : Result (List ℕ) ℕ) → at_places db labels name guid layout wanted o ≡ Ok next → (starts : List ℕ) × (o ≡ Ok starts) × (at_places db labels name guid layout wanted (Ok starts) ≡ Ok next)
-    places_ok wanted (Ok starts) h = (starts, refl, h)
+    places_ok : (wanted : List Wanted) (o : Result (List Taken) ℕ) → at_places db labels name guid layout wanted o ≡ Ok next → (spots : List Taken) × (o ≡ Ok spots) × (at_places db labels name guid layout wanted (Ok spots) ≡ Ok next)
+    places_ok wanted (Ok spots) h = (spots, refl, h)
     places_ok wanted (Err place) h = absurd cc
 
 -- ---- names
@@ -112,7 +113,7 @@ unnamed name records h r at = ap (is_volume_named name) (sym at.2) ∙ none_foun
 module _ (db : Database) (labels : List Label) (name : List ℕ) (guid : ℕ) (layout : NewLayout) (next : Database) (up : Rising db.records) (low : All (λ (l : Label). l.data_size < 2 ^ 64) labels) (old : IsSoundOn db labels)
     (grammar : IsCreate name layout) (is : IsAccepted db labels name guid layout next) where
   abbrev ts : List Taken
-  ts = taken_at is.wanted is.starts
+  ts = is.spots
 
   abbrev made : List Record
   made = made_for layout (max_id db.records + 1) name guid ts
@@ -123,24 +124,24 @@ module _ (db : Database) (labels : List Label) (name : List ℕ) (guid : ℕ) (l
   found : AreFound (data_size labels db.records) db.records (words_of layout) is.wanted
   found = are_found (data_size labels db.records) db.records 0 (words_of layout) is.wanted is.found
 
-  fits : AreFirstFits (taken_in db.records) is.wanted is.starts
-  fits = placed_fit is.wanted (taken_in db.records) 0 is.starts is.places
+  fits : AreFirstFits (taken_in db.records) is.wanted is.spots
+  fits = placed_fit is.wanted (taken_in db.records) 0 is.spots is.places
 
-  limited : IsWithinLimits db labels (fresh_for layout) (change_for db name guid layout is.wanted is.starts)
-  limited = within_limits db labels (fresh_for layout) (change_for db name guid layout is.wanted is.starts) is.within
+  limited : IsWithinLimits db labels (fresh_for layout) (change_for db name guid layout is.spots)
+  limited = within_limits db labels (fresh_for layout) (change_for db name guid layout is.spots) is.within
 
   short : length name ≤ 255
   short = let s = grammar.short in omega arith
 
   taken : IsTakenFor layout ts
-  taken = let ids = limited.ids in taken_for layout (data_size labels db.records) db.records is.wanted is.starts grammar.layout_is is.sizes (omega arith) is.found is.places
+  taken = let ids = limited.ids in taken_for layout (data_size labels db.records) db.records is.wanted is.spots grammar.layout_is is.sizes (omega arith) is.found is.places
 
   adds : AddsTo db.records made records
   adds = let ids = limited.ids in made_adds db.records layout name guid ts up grammar.layout_is is.sizes taken short (omega arith)
 
   there : All (IsSomeOn records) ts
   there =
-      taken_all (IsSomeOn records) is.wanted is.starts
+      taken_all (IsSomeOn records) is.wanted (taken_in db.records) is.spots fits
       (found_all (λ w. (start : ℕ) → IsSomeOn records (placing w start)) IsSize (data_size labels db.records) db.records (words_of layout) is.wanted
       (λ size w f h start. (λ e. h.0 (sym f.size_is ∙ e), there_counted (is_at 2 w.disk) records (kinds.Disk f.disk) (adds.kept (kinds.Disk f.disk) f.there) (eq-eqb f.disk.head.id w.disk (sym f.disk_is))))
       found (word_sizes layout grammar.layout_is is.sizes))
@@ -164,15 +165,15 @@ module _ (db : Database) (labels : List Label) (name : List ℕ) (guid : ℕ) (l
 
   within : AllEndWithin (data_size labels db.records) ts
   within =
-      fits_within (data_size labels db.records) is.wanted (taken_in db.records) is.starts
+      fits_within (data_size labels db.records) is.wanted (taken_in db.records) is.spots
       (found_all (λ w. w.limit ≡ data_size labels db.records w.disk) IsSize (data_size labels db.records) db.records (words_of layout) is.wanted (λ size w f h. f.limit_is) found (word_sizes layout grammar.layout_is is.sizes)) fits
 
   sound : IsSound records labels
-  sound = sound_from records labels (created_each db.records records made name ts up is_created labels rules (unnamed name db.records is.free) (fits_apart is.wanted (taken_in db.records) is.starts fits) within)
+  sound = sound_from records labels (created_each db.records records made name ts up is_created labels rules (unnamed name db.records is.free) (fits_apart is.wanted (taken_in db.records) is.spots fits) within)
 
-  kept : Keeps labels db (changed db (change_for db name guid layout is.wanted is.starts))
+  kept : Keeps labels db (changed db (change_for db name guid layout is.spots))
   kept =
-      next_keeps db labels (fresh_for layout) (change_for db name guid layout is.wanted is.starts) old old.room.each limited (created_heads db.records records made name ts up is_created) sound (ends_in_range records labels low sound)
+      next_keeps db labels (fresh_for layout) (change_for db name guid layout is.spots) old old.room.each limited (created_heads db.records records made name ts up is_created) sound (ends_in_range records labels low sound)
 
   next_kept : Rising next.records × Keeps labels db next
   next_kept = subst (λ (d : Database). Rising d.records × Keeps labels db d) is.next_is (adds.rising, kept)

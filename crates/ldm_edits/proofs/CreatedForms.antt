@@ -13,7 +13,6 @@ use Rattle.ldm_space.specs.declared.taken.Taken.{Taken}
 use Rattle.ldm_space.specs.Free.{taken_in}
 use Rattle.ldm_space.specs.declared.placed.Wanted.{Wanted}
 use Rattle.ldm_space.specs.Wanted.{placed}
-use Rattle.ldm_space.specs.Placed.{taken_at}
 use Rattle.ldm_words.specs.declared.command.Piece.{Piece}
 use Rattle.ldm_words.specs.declared.command.NewLayout.{NewLayout}
 use Rattle.ldm_words.specs.declared.command.NewLayout.TheVariants as layouts
@@ -94,13 +93,13 @@ made_adds old layout name guid ts up grammar good taken short few =
     adds_made old (made_for layout (max_id old + 1) name guid ts) (max_id old + 1) up follow.0 (omega arith) (omega arith)
 
 -- and what is made of what was asked for and placed does, where its ids are those of the format
-pub created_rises : (old : List Record) (layout : NewLayout) (name : List ℕ) (guid : ℕ) (sectors : ℕ → ℕ) (wanted : List Wanted) (starts : List ℕ) → Rising old → IsCreate name layout → is_bad_size layout ≡ false
-    → asked_for sectors old 0 (words_of layout) ≡ Ok wanted → placed (taken_in old) 0 wanted ≡ Ok starts → max_id old + fresh_for layout < 2 ^ 64
-    → Rising (in_order (old ++ made_for layout (max_id old + 1) name guid (taken_at wanted starts)))
-created_rises old layout name guid sectors wanted starts up grammar good asked places few =
+pub created_rises : (old : List Record) (layout : NewLayout) (name : List ℕ) (guid : ℕ) (sectors : ℕ → ℕ) (wanted : List Wanted) (spots : List Taken) → Rising old → IsCreate name layout → is_bad_size layout ≡ false
+    → asked_for sectors old 0 (words_of layout) ≡ Ok wanted → placed (taken_in old) 0 wanted ≡ Ok spots → max_id old + fresh_for layout < 2 ^ 64
+    → Rising (in_order (old ++ made_for layout (max_id old + 1) name guid spots))
+created_rises old layout name guid sectors wanted spots up grammar good asked places few =
     let short = grammar.short in
-    let taken = taken_for layout sectors old wanted starts grammar.layout_is good (omega arith) asked places in
-    (made_adds old layout name guid (taken_at wanted starts) up grammar.layout_is good taken (omega arith) few).rising
+    let taken = taken_for layout sectors old wanted spots grammar.layout_is good (omega arith) asked places in
+    (made_adds old layout name guid spots up grammar.layout_is good taken (omega arith) few).rising
 
 -- ---- rules
 

@@ -15,8 +15,9 @@ use Rattle.ldm_space.specs.declared.taken.Taken.{Taken}
 use Rattle.ldm_space.specs.Free.{taken_in}
 use Rattle.ldm_space.specs.declared.placed.Wanted.{Wanted}
 use Rattle.ldm_space.specs.Wanted.{placed}
-use Rattle.ldm_space.specs.Placed.{taken_at, AreFirstFits}
-use Rattle.ldm_space.proofs.PlacedLaws.{placing, placed_fit}
+use Rattle.ldm_space.specs.Placed.{AreFirstFits}
+use Rattle.ldm_space.specs.Wanted.{placing}
+use Rattle.ldm_space.proofs.PlacedLaws.{placed_fit}
 use Rattle.ldm_words.specs.declared.command.Piece.{Piece}
 use Rattle.ldm_words.specs.declared.command.NewLayout.{NewLayout}
 use Rattle.ldm_words.specs.declared.command.NewLayout.TheVariants as layouts
@@ -62,31 +63,35 @@ pub record IsTakenFor (layout : NewLayout) (taken : List Taken) : Type 0 where
   pub numbers : AreNumbers taken
 
 -- what holds of what is asked for, wherever it is placed
-pub taken_all : (P : Taken → Type 0) (wanted : List Wanted) (starts : List ℕ) → All (λ w. (start : ℕ) → P (placing w start)) wanted → All P (taken_at wanted starts)
-taken_all P [] starts h = All-nil P
-taken_all P (w ∷ more) [] h = All-nil P
-taken_all P (w ∷ more) (s ∷ starts) h =
-    All-cons P (placing w s) (taken_at more starts) (h 0 w (omega arith) s) (taken_all P more starts (All-tail (λ (v : Wanted). (start : ℕ) → P (placing v start)) w more h))
+pub taken_all : (P : Taken → Type 0) (wanted : List Wanted) (taken spots : List Taken) → AreFirstFits taken wanted spots → All (λ w. (start : ℕ) → P (placing w start)) wanted → All P spots
+taken_all P [] taken [] fits h = All-nil P
+taken_all P [] taken (s ∷ spots) fits h = absurd fits
+taken_all P (w ∷ more) taken [] fits h = absurd fits
+taken_all P (w ∷ more) taken (s ∷ spots) fits h =
+    let here : placing w s.start ≡ s = λ i. record { disk = fits.0.disk i; start = s.start; size = fits.0.size i } in
+    All-cons P s spots (subst P here (h 0 w (omega arith) s.start)) (taken_all P more (s ∷ taken) spots fits.1 (All-tail (λ (v : Wanted). (start : ℕ) → P (placing v start)) w more h))
 
-taken_sizes : (sectors : ℕ → ℕ) (records : List Record) (words : List (List ℕ × ℕ)) (wanted : List Wanted) (taken : List Taken) (starts : List ℕ)
-    → AreFound sectors records words wanted → AreFirstFits taken wanted starts → map (λ (t : Taken). t.size) (taken_at wanted starts) ≡ map word_size words
-taken_sizes sectors records [] [] taken starts found fits = refl
-taken_sizes sectors records [] (w ∷ wanted) taken starts found fits = absurd found
-taken_sizes sectors records (word ∷ words) [] taken starts found fits = absurd found
+taken_sizes : (sectors : ℕ → ℕ) (records : List Record) (words : List (List ℕ × ℕ)) (wanted : List Wanted) (taken : List Taken) (spots : List Taken)
+    → AreFound sectors records words wanted → AreFirstFits taken wanted spots → map (λ (t : Taken). t.size) spots ≡ map word_size words
+taken_sizes sectors records [] [] taken [] found fits = refl
+taken_sizes sectors records [] [] taken (s ∷ spots) found fits = absurd fits
+taken_sizes sectors records [] (w ∷ wanted) taken spots found fits = absurd found
+taken_sizes sectors records (word ∷ words) [] taken spots found fits = absurd found
 taken_sizes sectors records (word ∷ words) (w ∷ wanted) taken [] found fits = absurd fits
-taken_sizes sectors records (word ∷ words) (w ∷ wanted) taken (s ∷ starts) found fits =
-    let here = found.0.size_is in
-    let rest = taken_sizes sectors records words wanted (placing w s ∷ taken) starts found.1 fits.1 in
+taken_sizes sectors records (word ∷ words) (w ∷ wanted) taken (s ∷ spots) found fits =
+    let here = sym fits.0.size ∙ found.0.size_is in
+    let rest = taken_sizes sectors records words wanted (s ∷ taken) spots found.1 fits.1 in
     λ i. here i ∷ rest i
 
 -- what is asked for by the words, where it is placed
-pub taken_for : (layout : NewLayout) (sectors : ℕ → ℕ) (records : List Record) (wanted : List Wanted) (starts : List ℕ) → IsNewLayout layout → is_bad_size layout ≡ false → max_id records < 2 ^ 64
-    → asked_for sectors records 0 (words_of layout) ≡ Ok wanted → placed (taken_in records) 0 wanted ≡ Ok starts → IsTakenFor layout (taken_at wanted starts)
-taken_for layout sectors records wanted starts grammar good ids asked places =
+pub taken_for : (layout : NewLayout) (sectors : ℕ → ℕ) (records : List Record) (wanted : List Wanted) (spots : List Taken) → IsNewLayout layout → is_bad_size layout ≡ false → max_id records < 2 ^ 64
+    → asked_for sectors records 0 (words_of layout) ≡ Ok wanted → placed (taken_in records) 0 wanted ≡ Ok spots → IsTakenFor layout spots
+taken_for layout sectors records wanted spots grammar good ids asked places =
     let found = are_found sectors records 0 (words_of layout) wanted asked in
+    let fits = placed_fit wanted (taken_in records) 0 spots places in
     record {
-      sizes = taken_sizes sectors records (words_of layout) wanted (taken_in records) starts found (placed_fit wanted (taken_in records) 0 starts places);
-      numbers = taken_all (λ t. (t.disk < 2 ^ 64) × (t.size < 2 ^ 64)) wanted starts
+      sizes = taken_sizes sectors records (words_of layout) wanted (taken_in records) spots found fits;
+      numbers = taken_all (λ t. (t.disk < 2 ^ 64) × (t.size < 2 ^ 64)) wanted (taken_in records) spots fits
           (found_all (λ w. ℕ → (w.disk < 2 ^ 64) × (w.size < 2 ^ 64)) IsSize sectors records (words_of layout) wanted (λ size w is h start. (
             (let most = max_above records (kinds.Disk is.disk) is.there in let e = is.disk_is in omega arith),
             (let e = is.size_is in let few = h.1 in omega arith),

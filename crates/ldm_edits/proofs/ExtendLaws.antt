@@ -29,7 +29,7 @@ use Rattle.ldm_space.specs.declared.taken.Taken.{Taken}
 use Rattle.ldm_space.specs.Free.{taken_of, taken_in}
 use Rattle.ldm_space.specs.declared.placed.Wanted.{Wanted}
 use Rattle.ldm_space.specs.Wanted.{placed}
-use Rattle.ldm_space.specs.Placed.{taken_at, AllEndWithin, AreApart}
+use Rattle.ldm_space.specs.Placed.{AllEndWithin, AreApart}
 use Rattle.ldm_space.proofs.PlacedLaws.{fits_apart, fits_within}
 use Rattle.ldm_words.specs.declared.command.Piece.{Piece}
 use Rattle.ldm_edits.specs.declared.reply.Refusal.{Refusal}
@@ -50,14 +50,14 @@ use Rattle.ldm_edits.proofs.TakenExtents.{tile_extents, tiles_on, tiles_sum, til
 
 -- ---- the next group
 
-module _ {db : Database} {labels : List Label} {v : Volume} {c : Component} {wanted : List Wanted} {starts : List ℕ} (up : Rising db.records) (old : IsSoundOn db labels) (may : MayExtend db labels v c wanted starts) where
+module _ {db : Database} {labels : List Label} {v : Volume} {c : Component} {wanted : List Wanted} {spots : List Taken} (up : Rising db.records) (old : IsSoundOn db labels) (may : MayExtend db labels v c wanted spots) where
   abbrev change : Change
-  change = lengthened db.records v c (held (layout_of db.records v)) (taken_at wanted starts)
+  change = lengthened db.records v c (held (layout_of db.records v)) spots
 
   abbrev taken : List Taken
-  taken = taken_at wanted starts
+  taken = spots
 
-  abbrev makes : MakesLonger db v c (held (layout_of db.records v)) (taken_at wanted starts)
+  abbrev makes : MakesLonger db v c (held (layout_of db.records v)) spots
   makes = makes_longer up old may
 
   taken_is : map taken_of makes.parts.parts ≡ taken
@@ -84,11 +84,11 @@ module _ {db : Database} {labels : List Label} {v : Volume} {c : Component} {wan
         let ext = ap (sum_by (λ (e : Extent). e.size)) makes.parts.extents_are ∙ tiles_sum c.head.id (held (layout_of db.records v)) taken in omega arith);
     same_plex = plex_is makes.component;
     children = (let grown = makes.component.children_is in let long = length-map makes.parts.parts taken_of in let same = ap (λ (l : List Taken). length l) taken_is in omega arith);
-    each = new_part labels db.records c (held (layout_of db.records v)) wanted starts makes.parts.parts (on_disks up old may) (some_wanted up old may) makes.parts.ids makes.parts.extents_are taken_is;
+    each = new_part labels db.records c (held (layout_of db.records v)) wanted (taken_in db.records) spots makes.parts.parts (fits up old may) (on_disks up old may) (some_wanted up old may) makes.parts.ids makes.parts.extents_are taken_is;
     rise = parts_rise (max_id db.records + 1) makes.parts.parts makes.parts.ids;
     within = subst (λ (l : List Taken). AllEndWithin (data_size labels db.records) l) {x = taken} (sym taken_is)
-        (fits_within (data_size labels db.records) wanted (taken_in db.records) starts (λ k e lt. (on_disks up old may (get_or wanted k e) (Contains-get_or wanted k e lt)).limit) (fits up old may));
-    free = subst (λ (l : List Taken). AreApart (taken_in db.records) l) {x = taken} (sym taken_is) (fits_apart wanted (taken_in db.records) starts (fits up old may));
+        (fits_within (data_size labels db.records) wanted (taken_in db.records) spots (λ k e lt. (on_disks up old may (get_or wanted k e) (Contains-get_or wanted k e lt)).limit) (fits up old may));
+    free = subst (λ (l : List Taken). AreApart (taken_in db.records) l) {x = taken} (sym taken_is) (fits_apart wanted (taken_in db.records) spots (fits up old may));
     tiled = subst (λ (n : ℕ). tiles_from n (map extent_of makes.parts.parts) ≡ true) (capacity_is up old may)
         (subst (λ (es : List Extent). tiles_from (held (layout_of db.records v)) es ≡ true) {y = map extent_of makes.parts.parts} (sym makes.parts.extents_are) (tiles_on c.head.id (held (layout_of db.records v)) taken));
   }
@@ -131,13 +131,13 @@ extended_from db labels pieces (Some v) next up low ed at h =
     ask words asked refl open'.1 (not_unlengthened db.records v open'.0)
   where
     lay : (words : List (List ℕ × ℕ)) (wanted : List Wanted) → asked_for (data_size labels db.records) db.records 0 words ≡ Ok wanted → is_bad_length (held (layout_of db.records v)) wanted ≡ false → (c : Option Component) → component_of v db.records ≡ c
-        → (r : Result (List ℕ) ℕ) → placed (taken_in db.records) 0 wanted ≡ r → lengthen db labels v c wanted r ≡ Ok next → shape_of (plexes_of v.head.id db.records) ≡ Some shapes.Span → Rising next.records × Keeps labels db next
+        → (r : Result (List Taken) ℕ) → placed (taken_in db.records) 0 wanted ≡ r → lengthen db labels v c wanted r ≡ Ok next → shape_of (plexes_of v.head.id db.records) ≡ Some shapes.Span → Rising next.records × Keeps labels db next
     lay words wanted asked good None found r places e shape = absurd cc
     lay words wanted asked good (Some c) found (Err piece) places e shape = absurd cc
-    lay words wanted asked good (Some c) found (Ok starts) places e shape =
-        let change : Change = lengthened db.records v c (held (layout_of db.records v)) (taken_at wanted starts) in
+    lay words wanted asked good (Some c) found (Ok spots) places e shape =
+        let change : Change = lengthened db.records v c (held (layout_of db.records v)) spots in
         let made = when_ok (first_of (limits db labels (length wanted) change)) (changed db change) next e in
-        let may : MayExtend db labels v c wanted starts = record {
+        let may : MayExtend db labels v c wanted spots = record {
           there = at v refl;
           span = shape;
           component = found;

@@ -20,7 +20,6 @@ use Rattle.ldm_space.specs.declared.taken.Taken.{Taken}
 use Rattle.ldm_space.specs.declared.placed.Wanted.{Wanted}
 use Rattle.ldm_space.specs.Free.{taken_in}
 use Rattle.ldm_space.specs.Wanted.{placed}
-use Rattle.ldm_space.specs.Placed.{taken_at}
 use Rattle.ldm_volumes.specs.Volumes.{span_parts, there}
 use Rattle.ldm_words.specs.declared.command.Piece.{Piece}
 use Rattle.ldm_edits.specs.declared.leaving.Leaving.TheVariants as leavings
@@ -93,18 +92,18 @@ module _ (db : Database) (labels : List Label) (pieces : List Piece) (v : Volume
   pub no_space : (c : Component) (piece : ℕ) → component_of v db.records ≡ Some c → placed (taken_in db.records) 0 wanted ≡ Err piece → extended_span db labels pieces (Some v) ≡ Err (refusals.NoSpace piece)
   no_space c piece h places = by_component (Some c) h ∙ ap (lengthen db labels v (Some c) wanted) places
 
-  pub no_ids : (c : Component) (starts : List ℕ) → component_of v db.records ≡ Some c → placed (taken_in db.records) 0 wanted ≡ Ok starts → 2 ^ 64 - 1 < max_id db.records + length wanted
+  pub no_ids : (c : Component) (spots : List Taken) → component_of v db.records ≡ Some c → placed (taken_in db.records) 0 wanted ≡ Ok spots → 2 ^ 64 - 1 < max_id db.records + length wanted
       → extended_span db labels pieces (Some v) ≡ Err refusals.IdsSpent
-  no_ids c starts h places spent =
-      let change : Change = lengthened db.records v c (held (layout_of db.records v)) (taken_at wanted starts) in
+  no_ids c spots h places spent =
+      let change : Change = lengthened db.records v c (held (layout_of db.records v)) spots in
       by_component (Some c) h ∙ ap (lengthen db labels v (Some c) wanted) places ∙ ap (λ (o : Option Refusal). unless o (changed db change)) (sym (ids_spent db labels (length wanted) change spent))
 
   -- what is made is tested by the limits
-  pub by_limits : (c : Component) (starts : List ℕ) (taken : List Taken) (made : List Record) (id capacity : ℕ) → component_of v db.records ≡ Some c → placed (taken_in db.records) 0 wanted ≡ Ok starts
-      → taken ≡ taken_at wanted starts → id ≡ max_id db.records + 1 → capacity ≡ held (layout_of db.records v) → made ≡ longer_parts v c capacity id taken
+  pub by_limits : (c : Component) (spots : List Taken) (taken : List Taken) (made : List Record) (id capacity : ℕ) → component_of v db.records ≡ Some c → placed (taken_in db.records) 0 wanted ≡ Ok spots
+      → taken ≡ spots → id ≡ max_id db.records + 1 → capacity ≡ held (layout_of db.records v) → made ≡ longer_parts v c capacity id taken
       → change_to db labels (length wanted) (change_of (leavings.Changed v.head.id c.head.id) db.records made) ≡ extended_span db labels pieces (Some v)
-  by_limits c starts taken made id capacity h places taken_is id_is capacity_is made_is =
-      let change : Change = lengthened db.records v c (held (layout_of db.records v)) (taken_at wanted starts) in
+  by_limits c spots taken made id capacity h places taken_is id_is capacity_is made_is =
+      let change : Change = lengthened db.records v c (held (layout_of db.records v)) spots in
       let all : made ≡ change.made = made_is ∙ (λ i. longer_parts v c (capacity_is i) (id_is i) (taken_is i)) in
       let same : change_of (leavings.Changed v.head.id c.head.id) db.records made ≡ change = (λ i. record { stay = change.stay; made = all i }) in
       ap (change_to db labels (length wanted)) same ∙ sym (by_component (Some c) h ∙ ap (lengthen db labels v (Some c) wanted) places)

@@ -25,7 +25,7 @@ use Rattle.ldm_rules.specs.Ends.{data_size}
 use Rattle.ldm_space.specs.declared.taken.Taken.{Taken}
 use Rattle.ldm_space.specs.Free.{taken_of}
 use Rattle.ldm_space.specs.declared.placed.Wanted.{Wanted}
-use Rattle.ldm_space.specs.Placed.{taken_at, AreFirstFits}
+use Rattle.ldm_space.specs.Placed.{AreFirstFits}
 use Rattle.ldm_edits.specs.Extending.{changes}
 use Rattle.ldm_volumes.specs.Volumes.{there}
 use Rattle.ldm_edits.proofs.AskedLaws.{AreFound}
@@ -59,18 +59,19 @@ wanted_there labels records (word ∷ words) (x ∷ wanted) found w (suc k, lt, 
 
 -- ---- what is taken
 
-pub taken_from : (wanted : List Wanted) (starts : List ℕ) (t : Taken) → Contains (taken_at wanted starts) t → (w : Wanted) × Contains wanted w × (w.disk ≡ t.disk) × (w.size ≡ t.size)
-taken_from [] starts t (k, lt, is) = absurd (omega arith)
-taken_from (w ∷ more) [] t (k, lt, is) = absurd (omega arith)
-taken_from (w ∷ more) (start ∷ starts) t (zero, lt, is) = (w, (0, omega arith, refl), ap (λ (x : Taken). x.disk) is, ap (λ (x : Taken). x.size) is)
-taken_from (w ∷ more) (start ∷ starts) t (suc k, lt, is) = (let rest = taken_from more starts t (k, omega arith, is) in (rest.0, (suc rest.1.0, (let in' = rest.1.1 in omega arith), rest.1.2), rest.2, rest.3))
+pub taken_from : (wanted : List Wanted) (taken spots : List Taken) (t : Taken) → AreFirstFits taken wanted spots → Contains spots t → (w : Wanted) × Contains wanted w × (w.disk ≡ t.disk) × (w.size ≡ t.size)
+taken_from wanted taken [] t h (k, lt, is) = absurd (omega arith)
+taken_from [] taken (s ∷ spots) t h at = absurd h
+taken_from (w ∷ more) taken (s ∷ spots) t h (zero, lt, is) = (w, (0, omega arith, refl), h.0.disk ∙ ap (λ (x : Taken). x.disk) is, h.0.size ∙ ap (λ (x : Taken). x.size) is)
+taken_from (w ∷ more) taken (s ∷ spots) t h (suc k, lt, is) = (let rest = taken_from more (s ∷ taken) spots t h.1 (k, omega arith, is) in (rest.0, (suc rest.1.0, (let in' = rest.1.1 in omega arith), rest.1.2), rest.2, rest.3))
 
-pub taken_sum : (wanted : List Wanted) (taken : List Taken) (starts : List ℕ) → AreFirstFits taken wanted starts → sum_by (λ (t : Taken). t.size) (taken_at wanted starts) ≡ sum_by (λ (w : Wanted). w.size) wanted
-taken_sum [] taken starts h = refl
+pub taken_sum : (wanted : List Wanted) (taken : List Taken) (spots : List Taken) → AreFirstFits taken wanted spots → sum_by (λ (t : Taken). t.size) spots ≡ sum_by (λ (w : Wanted). w.size) wanted
+taken_sum [] taken [] h = refl
+taken_sum [] taken (s ∷ spots) h = absurd h
 taken_sum (w ∷ more) taken [] h = absurd h
-taken_sum (w ∷ more) taken (start ∷ starts) h =
-    sum_by-cons (λ (t : Taken). t.size) (record { disk = w.disk; start = start; size = w.size }) (taken_at more starts)
-    ∙ ap (λ (n : ℕ). w.size + n) (taken_sum more (record { disk = w.disk; start = start; size = w.size } ∷ taken) starts h.1)
+taken_sum (w ∷ more) taken (s ∷ spots) h =
+    sum_by-cons (λ (t : Taken). t.size) s spots
+    ∙ (λ i. sym h.0.size i + taken_sum more (s ∷ taken) spots h.1 i)
     ∙ sym (sum_by-cons (λ (x : Wanted). x.size) w more)
 
 -- ---- the new partitions
@@ -146,26 +147,26 @@ longer_rises old made v w c d parts up is low v_there c_there head id ids =
 
 -- ---- what is known of what is taken
 
-pub taken_facts : (labels : List Label) (old : List Record) (wanted : List Wanted) (starts : List ℕ) → ((w : Wanted) → Contains wanted w → IsOnDisk labels old w) → ((w : Wanted) → Contains wanted w → (w.size == 0) ≡ false)
-    → max_id old < 2 ^ 64 → sum_by (λ (t : Taken). t.size) (taken_at wanted starts) < 2 ^ 64 → All (λ (t : Taken). (t.disk < 2 ^ 64) × (t.size < 2 ^ 64) × (1 ≤ t.size)) (taken_at wanted starts)
-taken_facts labels old wanted starts on some low fits k d lt =
-    let t : Taken = get_or (taken_at wanted starts) k d in
-    let from = taken_from wanted starts t (Contains-get_or (taken_at wanted starts) k d lt) in
+pub taken_facts : (labels : List Label) (old : List Record) (wanted : List Wanted) (taken spots : List Taken) → AreFirstFits taken wanted spots → ((w : Wanted) → Contains wanted w → IsOnDisk labels old w) → ((w : Wanted) → Contains wanted w → (w.size == 0) ≡ false)
+    → max_id old < 2 ^ 64 → sum_by (λ (t : Taken). t.size) spots < 2 ^ 64 → All (λ (t : Taken). (t.disk < 2 ^ 64) × (t.size < 2 ^ 64) × (1 ≤ t.size)) spots
+taken_facts labels old wanted taken spots are on some low fits k d lt =
+    let t : Taken = get_or spots k d in
+    let from = taken_from wanted taken spots t are (Contains-get_or spots k d lt) in
     let disk : from.0.disk ≡ t.disk = from.2 in
     let size : from.0.size ≡ t.size = from.3 in
     let below = (on from.0 from.1).low in
     let none = eqb-false from.0.size 0 (some from.0 from.1) in
-    let part = get_or-le-sum_by (λ (t : Taken). t.size) (taken_at wanted starts) k d lt in
+    let part = get_or-le-sum_by (λ (t : Taken). t.size) spots k d lt in
     (omega arith, omega arith, omega arith)
 
-pub new_part : (labels : List Label) (old : List Record) (c : Component) (cap : ℕ) (wanted : List Wanted) (starts : List ℕ) (parts : List Partition) → ((w : Wanted) → Contains wanted w → IsOnDisk labels old w)
-    → ((w : Wanted) → Contains wanted w → (w.size == 0) ≡ false) → IdsFrom (max_id old + 1) parts → map extent_of parts ≡ tile_extents c.head.id cap (taken_at wanted starts)
-    → map taken_of parts ≡ taken_at wanted starts → (p : Partition) → Contains parts p → IsNewPart labels old c p
-new_part labels old c cap wanted starts parts on some ids extents taken p at =
-    let from = taken_from wanted starts (taken_of p) (subst (λ (l : List Taken). Contains l (taken_of p)) taken (map_there taken_of parts p at)) in
+pub new_part : (labels : List Label) (old : List Record) (c : Component) (cap : ℕ) (wanted : List Wanted) (before spots : List Taken) (parts : List Partition) → AreFirstFits before wanted spots → ((w : Wanted) → Contains wanted w → IsOnDisk labels old w)
+    → ((w : Wanted) → Contains wanted w → (w.size == 0) ≡ false) → IdsFrom (max_id old + 1) parts → map extent_of parts ≡ tile_extents c.head.id cap spots
+    → map taken_of parts ≡ spots → (p : Partition) → Contains parts p → IsNewPart labels old c p
+new_part labels old c cap wanted before spots parts are on some ids extents taken p at =
+    let from = taken_from wanted before spots (taken_of p) are (subst (λ (l : List Taken). Contains l (taken_of p)) taken (map_there taken_of parts p at)) in
     record {
       above = (let least = ids_least (max_id old + 1) parts p ids at in omega arith);
-      parent = All-contains (λ (e : Extent). e.component ≡ c.head.id) (tile_extents c.head.id cap (taken_at wanted starts)) (extent_of p) (tiles_of c.head.id cap (taken_at wanted starts)).own (subst (λ (l : List Extent). Contains l (extent_of p)) extents (map_there extent_of parts p at));
+      parent = All-contains (λ (e : Extent). e.component ≡ c.head.id) (tile_extents c.head.id cap spots) (extent_of p) (tiles_of c.head.id cap spots).own (subst (λ (l : List Extent). Contains l (extent_of p)) extents (map_there extent_of parts p at));
       disk = subst (λ (n : ℕ). (count_by (is_at 2 n) old == 0) ≡ false) from.2 (on from.0 from.1).disk;
       some = subst (λ (n : ℕ). (n == 0) ≡ false) from.3 (some from.0 from.1);
     }

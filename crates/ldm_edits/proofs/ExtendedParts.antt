@@ -36,7 +36,7 @@ use Rattle.ldm_space.specs.declared.taken.Taken.{Taken}
 use Rattle.ldm_space.specs.Free.{taken_in}
 use Rattle.ldm_space.specs.declared.placed.Wanted.{Wanted}
 use Rattle.ldm_space.specs.Wanted.{placed}
-use Rattle.ldm_space.specs.Placed.{taken_at, AreFirstFits}
+use Rattle.ldm_space.specs.Placed.{AreFirstFits}
 use Rattle.ldm_space.proofs.PlacedLaws.{placed_fit, as_many}
 use Rattle.ldm_edits.specs.Asked.{asked_for, is_much}
 use Rattle.ldm_edits.specs.Changes.{changed}
@@ -95,14 +95,14 @@ each_some wanted none w at = elim (tested (w.size == 0)) [
 ]
 
 -- nothing refuses it before the limits but for IdsSpent
-pub record MayExtend (db : Database) (labels : List Label) (v : Volume) (c : Component) (wanted : List Wanted) (starts : List ℕ) : Type 0 where
+pub record MayExtend (db : Database) (labels : List Label) (v : Volume) (c : Component) (wanted : List Wanted) (spots : List Taken) : Type 0 where
   pub there : Contains db.records (kinds.Volume v)
   pub span : shape_of (plexes_of v.head.id db.records) ≡ Some Span
   pub component : component_of v db.records ≡ Some c
   pub words : List (List ℕ × ℕ)
   pub asked : asked_for (data_size labels db.records) db.records 0 words ≡ Ok wanted
   pub sizes : is_bad_length (held (layout_of db.records v)) wanted ≡ false
-  pub places : placed (taken_in db.records) 0 wanted ≡ Ok starts
+  pub places : placed (taken_in db.records) 0 wanted ≡ Ok spots
   pub ids : max_id db.records + length wanted ≤ 2 ^ 64 - 1
 
 -- the volume, its component and the partitions that take these sectors are made
@@ -113,15 +113,15 @@ pub record MakesLonger (db : Database) (v : Volume) (c : Component) (capacity : 
   pub size_low : capacity + sum_by (λ (t : Taken). t.size) taken < 2 ^ 64
   pub children_low : c.children + length taken < 2 ^ 64
 
-module _ {db : Database} {labels : List Label} {v : Volume} {c : Component} {wanted : List Wanted} {starts : List ℕ} (up : Rising db.records) (sound : IsSoundOn db labels) (may : MayExtend db labels v c wanted starts) where
+module _ {db : Database} {labels : List Label} {v : Volume} {c : Component} {wanted : List Wanted} {spots : List Taken} (up : Rising db.records) (sound : IsSoundOn db labels) (may : MayExtend db labels v c wanted spots) where
   abbrev capacity : ℕ
   capacity = held (layout_of db.records v)
 
   abbrev taken : List Taken
-  taken = taken_at wanted starts
+  taken = spots
 
-  pub fits : AreFirstFits (taken_in db.records) wanted starts
-  fits = placed_fit wanted (taken_in db.records) 0 starts may.places
+  pub fits : AreFirstFits (taken_in db.records) wanted spots
+  fits = placed_fit wanted (taken_in db.records) 0 spots may.places
 
   pub on_disks : (w : Wanted) → Contains wanted w → IsOnDisk labels db.records w
   on_disks = wanted_there labels db.records may.words wanted (are_found (data_size labels db.records) db.records 0 may.words wanted may.asked)
@@ -143,9 +143,9 @@ module _ {db : Database} {labels : List Label} {v : Volume} {c : Component} {wan
       let ids : max_id db.records + length wanted ≤ 2 ^ 64 - 1 = may.ids in
       let size : capacity + sum_by (λ (w : Wanted). w.size) wanted ≤ 2 ^ 64 - 1 =
       ltb-false (2 ^ 64 - 1) _ (or_parts (list_any (λ (w : Wanted). w.size == 0) wanted) (is_much (capacity + sum_by (λ (w : Wanted). w.size) wanted)) may.sizes).1 in
-      let many : length taken ≡ length wanted = as_many wanted (taken_in db.records) starts fits in
-      let sum : sum_by (λ (t : Taken). t.size) taken ≡ sum_by (λ (w : Wanted). w.size) wanted = taken_sum wanted (taken_in db.records) starts fits in
-      let facts = taken_facts labels db.records wanted starts on_disks some_wanted (omega arith) (omega arith) in
+      let many : length taken ≡ length wanted = as_many wanted (taken_in db.records) spots fits in
+      let sum : sum_by (λ (t : Taken). t.size) taken ≡ sum_by (λ (w : Wanted). w.size) wanted = taken_sum wanted (taken_in db.records) spots fits in
+      let facts = taken_facts labels db.records wanted (taken_in db.records) spots fits on_disks some_wanted (omega arith) (omega arith) in
       let few : length taken ≤ sum_by (λ (t : Taken). t.size) taken = few_by (λ (t : Taken). t.size) taken (λ k d lt. (facts k d lt).2) in
       let kids = few_children db.records labels c (sound_parts db.records labels sound.sound) own.0 in
       let held_is = capacity_is in

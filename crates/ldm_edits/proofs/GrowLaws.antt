@@ -34,7 +34,7 @@ use Rattle.ldm_rules.specs.Facts.{IsSoundOn}
 use Rattle.ldm_space.specs.declared.taken.Taken.{Taken}
 use Rattle.ldm_space.specs.Free.{taken_in}
 use Rattle.ldm_space.specs.declared.placed.Wanted.{Wanted}
-use Rattle.ldm_space.specs.Placed.{taken_at, AllEndWithin, AreApart, AreFirstFits}
+use Rattle.ldm_space.specs.Placed.{AllEndWithin, AreApart, AreFirstFits}
 use Rattle.ldm_space.proofs.PlacedLaws.{placed_fit, as_many, fits_apart, fits_within}
 use Rattle.ldm_edits.specs.Changes.{Change, limits, changed}
 use Rattle.ldm_edits.specs.Extending.{held}
@@ -81,18 +81,18 @@ component_is records v c at =
     let has = filter_has (is_child 3 v.head.id) records (kinds.Component c) listed in
     (has.0, eqb-true c.parent v.head.id has.1)
 
-module _ {db : Database} {labels : List Label} {v : Volume} {len : ℕ} {wanted : List Wanted} {starts : List ℕ} (up : Rising db.records) (old : IsSoundOn db labels) (may : MayGrow db labels v len wanted starts) where
+module _ {db : Database} {labels : List Label} {v : Volume} {len : ℕ} {wanted : List Wanted} {spots : List Taken} (up : Rising db.records) (old : IsSoundOn db labels) (may : MayGrow db labels v len wanted spots) where
   abbrev taken : List Taken
-  taken = taken_at wanted starts
+  taken = spots
 
   abbrev capacity : ℕ
   capacity = held (layout_of db.records v)
 
   abbrev change : Change
-  change = grown db.records v (held (layout_of db.records v) + len) (taken_at wanted starts)
+  change = grown db.records v (held (layout_of db.records v) + len) spots
 
-  fits : AreFirstFits (taken_in db.records) wanted starts
-  fits = placed_fit wanted (taken_in db.records) 0 starts may.places
+  fits : AreFirstFits (taken_in db.records) wanted spots
+  fits = placed_fit wanted (taken_in db.records) 0 spots may.places
 
   on_disks : (w : Wanted) → Contains wanted w → IsOnDisk labels db.records w
   on_disks = wanted_there labels db.records may.words wanted (are_found (data_size labels db.records) db.records 0 may.words wanted may.asked)
@@ -119,7 +119,7 @@ module _ {db : Database} {labels : List Label} {v : Volume} {len : ℕ} {wanted 
 
   takes : (t : Taken) → Contains taken t → IsTaken db.records len t
   takes t at =
-      let from = taken_from wanted starts t at in
+      let from = taken_from wanted (taken_in db.records) spots t fits at in
       let on = on_disks from.0 from.1 in
       let low = on.low in
       let ids = may.ids in
@@ -137,7 +137,7 @@ module _ {db : Database} {labels : List Label} {v : Volume} {len : ℕ} {wanted 
   volume = makes_size v (capacity + len) (let room = may.fits in omega arith) (spelled_by (kinds.Volume v) (All-contains IsFitting db.records (kinds.Volume v) old.room.each may.there))
 
   pub many : length taken ≡ length wanted
-  many = as_many wanted (taken_in db.records) starts fits
+  many = as_many wanted (taken_in db.records) spots fits
 
   shares : MakesShares db.records len (max_id db.records + 1) (components_of v db.records) taken
   shares = makes_shares db.records len (max_id db.records + 1) (components_of v db.records) taken (let a = many in let b = may.one_each in omega arith) (let a = many in let b = may.ids in omega arith) ready takes
@@ -193,13 +193,13 @@ module _ {db : Database} {labels : List Label} {v : Volume} {len : ℕ} {wanted 
       size = is.size;
     });
     within = subst (λ (l : List Taken). AllEndWithin (data_size labels db.records) l) (sym shares.taken_are)
-        (fits_within (data_size labels db.records) wanted (taken_in db.records) starts (λ k e lt. (on_disks (get_or wanted k e) (Contains-get_or wanted k e lt)).limit) fits);
-    free = subst (λ (l : List Taken). AreApart (taken_in db.records) l) (sym shares.taken_are) (fits_apart wanted (taken_in db.records) starts fits);
+        (fits_within (data_size labels db.records) wanted (taken_in db.records) spots (λ k e lt. (on_disks (get_or wanted k e) (Contains-get_or wanted k e lt)).limit) fits);
+    free = subst (λ (l : List Taken). AreApart (taken_in db.records) l) (sym shares.taken_are) (fits_apart wanted (taken_in db.records) spots fits);
   }
 
   -- a group whose mirror is longer is as sound
-  pub grown_keeps : All (λ l. l.data_size < 2 ^ 64) labels → first_of (limits db labels (length wanted) (grown db.records v (held (layout_of db.records v) + len) (taken_at wanted starts))) ≡ None
-      → Rising (changed db (grown db.records v (held (layout_of db.records v) + len) (taken_at wanted starts))).records × Keeps labels db (changed db (grown db.records v (held (layout_of db.records v) + len) (taken_at wanted starts)))
+  pub grown_keeps : All (λ l. l.data_size < 2 ^ 64) labels → first_of (limits db labels (length wanted) (grown db.records v (held (layout_of db.records v) + len) spots)) ≡ None
+      → Rising (changed db (grown db.records v (held (layout_of db.records v) + len) spots)).records × Keeps labels db (changed db (grown db.records v (held (layout_of db.records v) + len) spots))
   grown_keeps low within =
       let sound = sound_from (changed db change).records labels (grown_each is_grown old.laid_out rules) in (
         rises,

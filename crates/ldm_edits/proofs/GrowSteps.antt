@@ -21,7 +21,6 @@ use Rattle.ldm_space.specs.declared.taken.Taken.{Taken}
 use Rattle.ldm_space.specs.declared.placed.Wanted.{Wanted}
 use Rattle.ldm_space.specs.Free.{taken_in}
 use Rattle.ldm_space.specs.Wanted.{placed}
-use Rattle.ldm_space.specs.Placed.{taken_at}
 use Rattle.ldm_volumes.specs.Volumes.{there}
 use Rattle.ldm_edits.specs.declared.leaving.Leaving.TheVariants as leavings
 use Rattle.ldm_edits.specs.declared.reply.Refusal.{Refusal}
@@ -45,14 +44,14 @@ made_all cs are k d lt =
     ap (λ (o : Option Component). is_some o) (makes_children c (c.children + 1) is.few is.spelled).made
 
 -- what the records of the longer mirror ask for
-pub record Grows (db : Database) (v : Volume) (len : ℕ) (wanted : List Wanted) (starts : List ℕ) : Type 0 where
+pub record Grows (db : Database) (v : Volume) (len : ℕ) (wanted : List Wanted) (spots : List Taken) : Type 0 where
   pub volume_there : is_some (resized v (held (layout_of db.records v) + len)) ≡ true
   pub few : All (λ c. c.children + 1 < 2 ^ 64) (components_of v db.records)
   pub made : All (λ c. is_some (with_children c (c.children + 1)) ≡ true) (components_of v db.records)
-  pub rising : Rising (changed db (grown db.records v (held (layout_of db.records v) + len) (taken_at wanted starts))).records
+  pub rising : Rising (changed db (grown db.records v (held (layout_of db.records v) + len) spots)).records
 
-pub grows : {db : Database} {labels : List Label} {v : Volume} {len : ℕ} {wanted : List Wanted} {starts : List ℕ} → Rising db.records → IsSoundOn db labels → MayGrow db labels v len wanted starts → Grows db v len wanted starts
-grows {db} {labels} {v} {len} {wanted} {starts} up old may = record {
+pub grows : {db : Database} {labels : List Label} {v : Volume} {len : ℕ} {wanted : List Wanted} {spots : List Taken} → Rising db.records → IsSoundOn db labels → MayGrow db labels v len wanted spots → Grows db v len wanted spots
+grows {db} {labels} {v} {len} {wanted} {spots} up old may = record {
   volume_there = ap (λ (o : Option Volume). is_some o) (volume up old may).made;
   few = few_all (components_of v db.records) (ready up old may);
   made = made_all (components_of v db.records) (ready up old may);
@@ -63,17 +62,17 @@ module _ (db : Database) (labels : List Label) (v : Volume) (wanted : List Wante
   pub no_spot : (piece : ℕ) → placed (taken_in db.records) 0 wanted ≡ Err piece → mirror_placed db labels v wanted (placed (taken_in db.records) 0 wanted) ≡ Err (refusals.NoSpace piece)
   no_spot piece places = ap (mirror_placed db labels v wanted) places
 
-  pub no_more_ids : (starts : List ℕ) → placed (taken_in db.records) 0 wanted ≡ Ok starts → 2 ^ 64 - 1 < max_id db.records + length wanted → mirror_placed db labels v wanted (placed (taken_in db.records) 0 wanted) ≡ Err refusals.IdsSpent
-  no_more_ids starts places spent =
-      let change : Change = grown db.records v (held (layout_of db.records v) + len_of wanted) (taken_at wanted starts) in
+  pub no_more_ids : (spots : List Taken) → placed (taken_in db.records) 0 wanted ≡ Ok spots → 2 ^ 64 - 1 < max_id db.records + length wanted → mirror_placed db labels v wanted (placed (taken_in db.records) 0 wanted) ≡ Err refusals.IdsSpent
+  no_more_ids spots places spent =
+      let change : Change = grown db.records v (held (layout_of db.records v) + len_of wanted) spots in
       ap (mirror_placed db labels v wanted) places ∙ ap (λ (o : Option Refusal). unless o (changed db change)) (sym (ids_spent db labels (length wanted) change spent))
 
   -- what is made is tested by the limits
-  pub grown_by_limits : (starts : List ℕ) (taken : List Taken) (made : List Record) (id size : ℕ) → placed (taken_in db.records) 0 wanted ≡ Ok starts → taken ≡ taken_at wanted starts → id ≡ max_id db.records + 1
+  pub grown_by_limits : (spots : List Taken) (taken : List Taken) (made : List Record) (id size : ℕ) → placed (taken_in db.records) 0 wanted ≡ Ok spots → taken ≡ spots → id ≡ max_id db.records + 1
       → size ≡ held (layout_of db.records v) + len_of wanted → made ≡ grown_made db.records v size id taken
       → change_to db labels (length wanted) (change_of (leavings.Grown v.head.id) db.records made) ≡ mirror_placed db labels v wanted (placed (taken_in db.records) 0 wanted)
-  grown_by_limits starts taken made id size places taken_is id_is size_is made_is =
-      let change : Change = grown db.records v (held (layout_of db.records v) + len_of wanted) (taken_at wanted starts) in
+  grown_by_limits spots taken made id size places taken_is id_is size_is made_is =
+      let change : Change = grown db.records v (held (layout_of db.records v) + len_of wanted) spots in
       let all : made ≡ change.made = made_is ∙ (λ i. grown_made db.records v (size_is i) (id_is i) (taken_is i)) in
       let same : change_of (leavings.Grown v.head.id) db.records made ≡ change = (λ i. record { stay = change.stay; made = all i }) in
       ap (change_to db labels (length wanted)) same ∙ sym (ap (mirror_placed db labels v wanted) places)

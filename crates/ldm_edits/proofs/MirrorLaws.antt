@@ -23,10 +23,10 @@ use Rattle.ldm_layout.specs.Parts.{plexes_of}
 use Rattle.ldm_layout.specs.Volumes.{layout_of, shape_of}
 use Rattle.ldm_rules.specs.Ends.{data_size}
 use Rattle.ldm_rules.specs.Facts.{IsSoundOn}
+use Rattle.ldm_space.specs.declared.taken.Taken.{Taken}
 use Rattle.ldm_space.specs.declared.placed.Wanted.{Wanted}
 use Rattle.ldm_space.specs.Free.{taken_in}
 use Rattle.ldm_space.specs.Wanted.{placed}
-use Rattle.ldm_space.specs.Placed.{taken_at}
 use Rattle.ldm_words.specs.declared.command.Piece.{Piece}
 use Rattle.ldm_edits.specs.declared.reply.Refusal.{Refusal}
 use Rattle.ldm_edits.specs.declared.reply.Refusal.TheVariants as refusals
@@ -83,15 +83,15 @@ mirror_keeps db labels pieces v next up low ed at shape some small h =
     ask words asked refl open'.1 (eqb-true (length pieces) (length cs) (not-false (length pieces == length cs) count)) (length-map pieces (λ (p : Piece). (p.disk, p.len)))
   where
     lay : (words : List (List ℕ × ℕ)) (wanted : List Wanted) → asked_for (data_size labels db.records) db.records 0 words ≡ Ok wanted → is_bad_growth db.records (held (layout_of db.records v)) (components_of v db.records) wanted ≡ false
-        → length wanted ≡ length pieces → length pieces ≡ length (components_of v db.records) → (r : Result (List ℕ) ℕ) → placed (taken_in db.records) 0 wanted ≡ r → mirror_placed db labels v wanted r ≡ Ok next → Rising next.records × Keeps labels db next
+        → length wanted ≡ length pieces → length pieces ≡ length (components_of v db.records) → (r : Result (List Taken) ℕ) → placed (taken_in db.records) 0 wanted ≡ r → mirror_placed db labels v wanted r ≡ Ok next → Rising next.records × Keeps labels db next
     lay words wanted asked good many each (Err piece) places e = absurd cc
-    lay words wanted asked good many each (Ok starts) places e =
-        let change : Change = grown db.records v (held (layout_of db.records v) + len_of wanted) (taken_at wanted starts) in
+    lay words wanted asked good many each (Ok spots) places e =
+        let change : Change = grown db.records v (held (layout_of db.records v) + len_of wanted) spots in
         let made = when_ok (first_of (limits db labels (length wanted) change)) (changed db change) next e in
         let one = either (is_uneven (len_of wanted) wanted) _ good in
         let two = either (is_much (held (layout_of db.records v) + len_of wanted)) _ one.1 in
         let sizes = even_sizes (len_of wanted) wanted one.0 in
-        let may : MayGrow db labels v (len_of wanted) wanted starts = record {
+        let may : MayGrow db labels v (len_of wanted) wanted spots = record {
           there = at;
           shape = shape;
           words = words;

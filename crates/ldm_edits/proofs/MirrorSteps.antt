@@ -14,6 +14,7 @@ use Rattle.ldm_group.specs.Looks.{max_id}
 use Rattle.ldm_layout.specs.declared.shape.Shape.TheVariants.{Mirror}
 use Rattle.ldm_layout.specs.Parts.{plexes_of}
 use Rattle.ldm_layout.specs.Volumes.{layout_of, shape_of}
+use Rattle.ldm_space.specs.declared.taken.Taken.{Taken}
 use Rattle.ldm_space.specs.declared.placed.Wanted.{Wanted}
 use Rattle.ldm_space.specs.Free.{taken_in}
 use Rattle.ldm_space.specs.Wanted.{placed}
@@ -76,8 +77,8 @@ good_lengths records capacity cs wanted good =
 
 pub may_grow : (db : Database) (labels : List Label) (pieces : List Piece) (v : Volume) (wanted : List Wanted) → Contains db.records (kinds.Volume v) → shape_of (plexes_of v.head.id db.records) ≡ Some Mirror
     → asked_by db labels pieces ≡ Ok wanted → length wanted ≡ length (components_of v db.records) → 0 < length wanted → IsEven db.records (held (layout_of db.records v)) (components_of v db.records) wanted → db.header.last < 2 ^ 32
-    → (starts : List ℕ) → placed (taken_in db.records) 0 wanted ≡ Ok starts → max_id db.records + length wanted ≤ 2 ^ 64 - 1 → MayGrow db labels v (len_of wanted) wanted starts
-may_grow db labels pieces v wanted there shape asked each some even low starts places ids = record {
+    → (spots : List Taken) → placed (taken_in db.records) 0 wanted ≡ Ok spots → max_id db.records + length wanted ≤ 2 ^ 64 - 1 → MayGrow db labels v (len_of wanted) wanted spots
+may_grow db labels pieces v wanted there shape asked each some even low spots places ids = record {
   there = there;
   shape = shape;
   words = map (λ (p : Piece). (p.disk, p.len)) pieces;

@@ -1,5 +1,5 @@
 -- What the calls answer.
-use Rattle.std.specs.Prelude.{◌≡◌, ℕ, ◌<◌, ◌^◌, List, All, Result, Ok, Err}
+use Rattle.std.specs.Prelude.{◌≡◌, ℕ, ◌<◌, ◌^◌, All, Result, Ok, Err}
 use Rattle.std.specs.Global.{Vec}
 use Rattle.ldm_group.specs.Database.{Database}
 use Rattle.ldm_space.specs.declared.placed.Wanted.{Wanted}
@@ -12,11 +12,6 @@ abbrev pub StepsTo : Result Database StepError → Result Database Refusal → T
 StepsTo (Ok next) step = step ≡ Ok next
 StepsTo (Err (errors.Refused refusal)) step = step ≡ Err refusal
 StepsTo (Err errors.NoMemory) step = Unit {0}
-
--- exactly what is asked for, or the place of the first word whose disk isn't there
-abbrev pub AsksAs : Result (List Wanted) ℕ → Result (Vec Wanted) ℕ → Type 0
-AsksAs asked (Ok wanted) = asked ≡ Ok wanted.items
-AsksAs asked (Err at) = asked ≡ Err at
 
 -- the limits are numbers of the format
 abbrev pub AreLow : Result (Vec Wanted) ℕ → Type 0

@@ -5,11 +5,7 @@ use Rattle.ldm_records.specs.declared.types.Record.{Record}
 use Rattle.ldm_records.specs.declared.types.Disk.{Disk}
 use Rattle.ldm_group.specs.Looks.{disk_named}
 use Rattle.ldm_space.specs.declared.placed.Wanted.{Wanted}
-
--- one more that is asked for, in front
-abbrev pub in_front : Wanted → Result (List Wanted) ℕ → Result (List Wanted) ℕ
-in_front w (Ok more) = Ok (w ∷ more)
-in_front w (Err place) = Err place
+use Rattle.ldm_space.specs.Wanted.{in_front}
 
 abbrev pub ask : (ℕ → ℕ) → ℕ → ℕ → Option Disk → Result (List Wanted) ℕ → Result (List Wanted) ℕ
 ask sectors at size None rest = Err at

@@ -11,7 +11,6 @@ use Rattle.ldm_space.specs.declared.taken.Taken.{Taken}
 use Rattle.ldm_space.specs.Free.{taken_in}
 use Rattle.ldm_space.specs.declared.placed.Wanted.{Wanted}
 use Rattle.ldm_space.specs.Wanted.{placed}
-use Rattle.ldm_space.specs.Placed.{taken_at}
 use Rattle.ldm_words.specs.declared.command.NewLayout.{NewLayout}
 use Rattle.ldm_words.specs.declared.command.NewLayout.TheVariants as layouts
 use Rattle.ldm_edits.specs.declared.reply.Refusal.{Refusal}
@@ -57,14 +56,14 @@ fresh_for (layouts.Stripe chunk len disks) = 2 + length disks
 fresh_for (layouts.Mirror len disks) = 1 + 2 * length disks
 fresh_for (layouts.Raid5 chunk len disks) = 2 + length disks
 
-abbrev pub change_for : Database → List ℕ → ℕ → NewLayout → List Wanted → List ℕ → Change
-change_for db name guid layout wanted starts =
-    record { stay = db.records; made = made_for layout (max_id db.records + 1) name guid (taken_at wanted starts) }
+abbrev pub change_for : Database → List ℕ → ℕ → NewLayout → List Taken → Change
+change_for db name guid layout spots =
+    record { stay = db.records; made = made_for layout (max_id db.records + 1) name guid spots }
 
-abbrev pub at_places : Database → List Label → List ℕ → ℕ → NewLayout → List Wanted → Result (List ℕ) ℕ → Result Database Refusal
+abbrev pub at_places : Database → List Label → List ℕ → ℕ → NewLayout → List Wanted → Result (List Taken) ℕ → Result Database Refusal
 at_places db labels name guid layout wanted (Err place) = Err (refusals.NoSpace place)
-at_places db labels name guid layout wanted (Ok starts) =
-    unless (first_of (limits db labels (fresh_for layout) (change_for db name guid layout wanted starts))) (changed db (change_for db name guid layout wanted starts))
+at_places db labels name guid layout wanted (Ok spots) =
+    unless (first_of (limits db labels (fresh_for layout) (change_for db name guid layout spots))) (changed db (change_for db name guid layout spots))
 
 abbrev pub on_disks : Database → List Label → List ℕ → ℕ → NewLayout → Result (List Wanted) ℕ → Result Database Refusal
 on_disks db labels name guid layout (Err place) = Err (refusals.NoDisk place)

@@ -13,10 +13,10 @@ use Rattle.ldm_layout.specs.declared.shape.Shape.TheVariants.{Span, Stripe, Mirr
 use Rattle.ldm_layout.specs.Parts.{plexes_of}
 use Rattle.ldm_layout.specs.Volumes.{layout_of, shape_of}
 use Rattle.ldm_rules.specs.Ends.{data_size}
+use Rattle.ldm_space.specs.declared.taken.Taken.{Taken}
 use Rattle.ldm_space.specs.Free.{taken_in}
 use Rattle.ldm_space.specs.declared.placed.Wanted.{Wanted}
 use Rattle.ldm_space.specs.Wanted.{placed}
-use Rattle.ldm_space.specs.Placed.{taken_at}
 use Rattle.ldm_words.specs.declared.command.Piece.{Piece}
 use Rattle.ldm_edits.specs.declared.reply.Refusal.{Refusal}
 use Rattle.ldm_edits.specs.declared.reply.Refusal.TheVariants as refusals
@@ -55,9 +55,9 @@ is_bad_growth records capacity cs wanted =
     is_uneven (len_of wanted) wanted || (is_much (capacity + len_of wanted) || list_any (λ c. is_much (component_holds records c)) cs)
 
 -- the next group, where its pieces are placed
-abbrev pub mirror_placed : Database → List Label → Volume → List Wanted → Result (List ℕ) ℕ → Result Database Refusal
-mirror_placed db labels v wanted (Ok starts) =
-    let change = grown db.records v (held (layout_of db.records v) + len_of wanted) (taken_at wanted starts) in
+abbrev pub mirror_placed : Database → List Label → Volume → List Wanted → Result (List Taken) ℕ → Result Database Refusal
+mirror_placed db labels v wanted (Ok spots) =
+    let change = grown db.records v (held (layout_of db.records v) + len_of wanted) spots in
     unless (first_of (limits db labels (length wanted) change)) (changed db change)
 mirror_placed db labels v wanted (Err piece) = Err (refusals.NoSpace piece)
 

@@ -22,7 +22,6 @@ use Rattle.ldm_space.specs.declared.taken.Taken.{Taken}
 use Rattle.ldm_space.specs.Free.{taken_in}
 use Rattle.ldm_space.specs.declared.placed.Wanted.{Wanted}
 use Rattle.ldm_space.specs.Wanted.{placed}
-use Rattle.ldm_space.specs.Placed.{taken_at}
 use Rattle.ldm_words.specs.declared.command.Piece.{Piece}
 use Rattle.ldm_edits.specs.declared.reply.Refusal.{Refusal}
 use Rattle.ldm_edits.specs.declared.reply.Refusal.TheVariants as refusals
@@ -82,12 +81,12 @@ unlengthened records v = first_of (when (not (is_span (shape_of (plexes_of v.hea
 abbrev pub is_bad_length : ℕ → List Wanted → Bool
 is_bad_length capacity wanted = list_any (λ w. w.size == 0) wanted || is_much (capacity + sum_by (λ w. w.size) wanted)
 
-abbrev pub lengthen : Database → List Label → Volume → Option Component → List Wanted → Result (List ℕ) ℕ → Result Database Refusal
-lengthen db labels v (Some c) wanted (Ok starts) =
-    let change = lengthened db.records v c (held (layout_of db.records v)) (taken_at wanted starts) in
+abbrev pub lengthen : Database → List Label → Volume → Option Component → List Wanted → Result (List Taken) ℕ → Result Database Refusal
+lengthen db labels v (Some c) wanted (Ok spots) =
+    let change = lengthened db.records v c (held (layout_of db.records v)) spots in
     unless (first_of (limits db labels (length wanted) change)) (changed db change)
 lengthen db labels v (Some c) wanted (Err piece) = Err (refusals.NoSpace piece)
-lengthen db labels v None wanted starts = Err refusals.NotSpan
+lengthen db labels v None wanted spots = Err refusals.NotSpan
 
 abbrev pub with_wanted : Database → List Label → Volume → Result (List Wanted) ℕ → Result Database Refusal
 with_wanted db labels v (Err piece) = Err (refusals.NoDisk piece)

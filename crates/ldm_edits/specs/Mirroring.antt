@@ -67,7 +67,7 @@ grown records v size taken = record {
 }
 
 -- nothing refuses it before the limits but for IdsSpent: one piece of these sectors for each component, each placed
-pub record MayGrow (db : Database) (labels : List Label) (v : Volume) (len : ℕ) (wanted : List Wanted) (starts : List ℕ) : Type 0 where
+pub record MayGrow (db : Database) (labels : List Label) (v : Volume) (len : ℕ) (wanted : List Wanted) (spots : List Taken) : Type 0 where
   pub there : Contains db.records (kinds.Volume v)
   pub shape : shape_of (plexes_of v.head.id db.records) ≡ Some Mirror
   pub words : List (List ℕ × ℕ)
@@ -76,6 +76,6 @@ pub record MayGrow (db : Database) (labels : List Label) (v : Volume) (len : ℕ
   pub sizes : All (λ w. w.size ≡ len) wanted
   pub some : (len == 0) ≡ false
   pub fits : held (layout_of db.records v) + len ≤ 2 ^ 64 - 1
-  pub places : placed (taken_in db.records) 0 wanted ≡ Ok starts
+  pub places : placed (taken_in db.records) 0 wanted ≡ Ok spots
   pub ids : max_id db.records + length wanted ≤ 2 ^ 64 - 1
   pub low : db.header.last < 2 ^ 32

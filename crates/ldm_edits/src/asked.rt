@@ -7,7 +7,8 @@ ghost use Rattle.ldm_rules.specs.Ends.{data_size};
 ghost use Rattle.ldm_words.specs.declared.command.Piece.{Piece};
 ghost use Rattle.ldm_edits.specs.Asked.{asked_for, has_twins};
 ghost use Rattle.ldm_edits.specs.Extending.{is_bad_length};
-ghost use Rattle.ldm_edits.specs.Answers.{AsksAs, AreLow};
+ghost use Rattle.ldm_space.specs.Placed.{ListsAs};
+ghost use Rattle.ldm_edits.specs.Answers.{AreLow};
 
 use ldm_bytes::{Bytes, NoMemory};
 use ldm_group::Db;
@@ -37,7 +38,7 @@ pub fn asked_pieces(
     labels: &Labels,
     pieces: &[Piece],
 ) -> Result<Result<Vec<Wanted>, usize>, NoMemory>
-    ensures is { IfOk result (AsksAs (asked_for (data_size labels.now db.now.records) db.now.records 0 (map (λ p. (p.disk, p.len)) pieces.now))) }
+    ensures is { IfOk result (ListsAs (asked_for (data_size labels.now db.now.records) db.now.records 0 (map (λ p. (p.disk, p.len)) pieces.now))) }
     ensures low { IfOk result AreLow }
 {
     let mut wanted = Vec::new(alloc);
@@ -59,7 +60,7 @@ pub fn asked_disks(
     disks: &[Bytes],
     size: u64,
 ) -> Result<Result<Vec<Wanted>, usize>, NoMemory>
-    ensures is { IfOk result (AsksAs (asked_for (data_size labels.now db.now.records) db.now.records 0 (map (λ name. (name, size)) disks.now))) }
+    ensures is { IfOk result (ListsAs (asked_for (data_size labels.now db.now.records) db.now.records 0 (map (λ name. (name, size)) disks.now))) }
     ensures low { IfOk result AreLow }
 {
     let mut wanted = Vec::new(alloc);

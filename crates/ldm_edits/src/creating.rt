@@ -4,7 +4,8 @@ ghost use Rattle.ldm_rules.specs.Ends.{data_size};
 ghost use Rattle.ldm_rules.specs.Facts.{IsSoundOn};
 ghost use Rattle.ldm_words.specs.Limits.{IsNewLayout, IsCreate};
 ghost use Rattle.ldm_edits.specs.Asked.{asked_for};
-ghost use Rattle.ldm_edits.specs.Answers.{AsksAs, AreLow, StepsTo};
+ghost use Rattle.ldm_space.specs.Placed.{ListsAs};
+ghost use Rattle.ldm_edits.specs.Answers.{AreLow, StepsTo};
 ghost use Rattle.ldm_edits.specs.Changes.{AreasFit};
 ghost use Rattle.ldm_edits.specs.Creating.{words_of, is_same_disk, is_bad_column, is_bad_size, made_for, fresh_for, created};
 
@@ -30,7 +31,7 @@ fn asked(
     labels: &Labels,
     layout: &NewLayout,
 ) -> Result<Result<Vec<Wanted>, usize>, NoMemory>
-    ensures is { IfOk result (AsksAs (asked_for (data_size labels.now db.now.records) db.now.records 0 (words_of layout.now))) }
+    ensures is { IfOk result (ListsAs (asked_for (data_size labels.now db.now.records) db.now.records 0 (words_of layout.now))) }
     ensures low { IfOk result AreLow }
 {
     match layout {

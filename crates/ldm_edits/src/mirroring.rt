@@ -8,6 +8,7 @@ ghost use Rattle.ldm_layout.specs.Parts.{plexes_of};
 ghost use Rattle.ldm_layout.specs.Volumes.{layout_of, shape_of};
 ghost use Rattle.ldm_rules.specs.Facts.{IsSoundOn};
 ghost use Rattle.ldm_space.specs.Free.{taken_in};
+ghost use Rattle.ldm_space.specs.declared.taken.Taken.{Taken};
 ghost use Rattle.ldm_space.specs.Wanted.{placed};
 ghost use Rattle.ldm_words.specs.Limits.{ArePieces};
 ghost use Rattle.ldm_edits.specs.declared.reply.Refusal.TheVariants as refusals;
@@ -54,7 +55,7 @@ fn grow(
     requires limits { All (λ w. w.limit < 2 ^ 64) wanted.now }
     requires sizes { All (λ w. 0 < w.size) wanted.now }
     requires low { All (λ c. component_holds db.now.records c < 2 ^ 64) (components_of volume.now db.now.records) }
-    requires may { (starts : List ℕ) → placed (taken_in db.now.records) 0 wanted.now ≡ Ok starts → max_id db.now.records + length wanted.now ≤ 2 ^ 64 - 1 → MayGrow db.now labels.now volume.now (len_of wanted.now) wanted.now starts }
+    requires may { (spots : List Taken) → placed (taken_in db.now.records) 0 wanted.now ≡ Ok spots → max_id db.now.records + length wanted.now ≤ 2 ^ 64 - 1 → MayGrow db.now labels.now volume.now (len_of wanted.now) wanted.now spots }
     ensures { StepsTo result (mirror_placed db.now labels.now volume.now wanted.now (placed (taken_in db.now.records) 0 wanted.now)) }
 {
     let placed = match place_all(alloc, db.as_slice(), wanted)? {

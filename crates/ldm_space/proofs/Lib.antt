@@ -3,6 +3,6 @@ pub mod GapLaws
 pub mod GapTake
 pub mod GapWalk
 pub mod OneMap
-pub mod PlacedLaws
 pub mod PlacedWalk
 pub mod PlacedMaps
+pub mod PlacedLaws

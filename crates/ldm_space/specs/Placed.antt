@@ -5,17 +5,16 @@ use Rattle.ldm_space.specs.declared.taken.Taken.{Taken}
 use Rattle.ldm_space.specs.Free.{is_taken, IsFirstFree}
 use Rattle.ldm_space.specs.declared.placed.Wanted.{Wanted}
 
--- what is taken by partitions that start there
-abbrev pub taken_at : List Wanted → List ℕ → List Taken
-taken_at [] starts = []
-taken_at (w ∷ more) [] = []
-taken_at (w ∷ more) (start ∷ starts) = record { disk = w.disk; start = start; size = w.size } ∷ taken_at more starts
+-- the first fit of what is asked for
+pub record IsFirstFit (taken : List Taken) (w : Wanted) (spot : Taken) : Type 0 where
+  pub disk : w.disk ≡ spot.disk
+  pub size : w.size ≡ spot.size
+  pub first : IsFirstFree taken w.disk w.limit w.size spot.start
 
--- each start is the first fit, where those before it are taken too
-abbrev pub AreFirstFits : List Taken → List Wanted → List ℕ → Type 0
+-- each is the first fit, where those before it are taken too
+abbrev pub AreFirstFits : List Taken → List Wanted → List Taken → Type 0
 AreFirstFits taken [] [] = Unit {0}
-AreFirstFits taken (w ∷ more) (start ∷ starts) =
-    IsFirstFree taken w.disk w.limit w.size start × AreFirstFits (record { disk = w.disk; start = start; size = w.size } ∷ taken) more starts
+AreFirstFits taken (w ∷ more) (spot ∷ spots) = IsFirstFit taken w spot × AreFirstFits (spot ∷ taken) more spots
 AreFirstFits taken _ _ = ⊥
 
 -- each has no sector of those before it, and none that was taken before
@@ -31,7 +30,7 @@ AllEndWithin sectors taken = All (λ t. t.start + t.size ≤ sectors t.disk) tak
 abbrev pub AllLimited : (ℕ → ℕ) → List Wanted → Type 0
 AllLimited sectors wanted = All (λ w. w.limit ≡ sectors w.disk) wanted
 
--- exactly what is placed: the sectors that are taken, or the place of the first that finds no fit
-abbrev pub PlacesAs : Result (List ℕ) ℕ → List Wanted → Result (Vec Taken) ℕ → Type 0
-PlacesAs places wanted (Ok taken) = (starts : List ℕ) × (places ≡ Ok starts) × (taken.items ≡ taken_at wanted starts)
-PlacesAs places wanted (Err at) = places ≡ Err at
+-- exactly that list, or that place
+abbrev pub ListsAs : {T : Type 0} → Result (List T) ℕ → Result (Vec T) ℕ → Type 0
+ListsAs answer (Ok list) = answer ≡ Ok list.items
+ListsAs answer (Err place) = answer ≡ Err place

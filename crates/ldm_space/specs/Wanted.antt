@@ -1,20 +1,28 @@
--- The partitions that a command asks for, in the order of its words, and where they are placed.
+-- The partitions that a command asks for, in the order of its words, and what they take.
 use Rattle.std.specs.Prelude.{ℕ, ◌+◌, List, [], ◌∷◌, Option, Some, None, Result, Ok, Err}
+use Rattle.std.specs.Option.{option_map}
 pub use Rattle.ldm_space.specs.declared.placed.Wanted.{Wanted}
-use Rattle.ldm_space.specs.declared.taken.Taken.{Taken}
+pub use Rattle.ldm_space.specs.declared.taken.Taken.{Taken}
 use Rattle.ldm_space.specs.Free.{first_free_start}
 
-abbrev pub place_rest : ℕ → ℕ → (ℕ → Result (List ℕ) ℕ) → Option ℕ → Result (List ℕ) ℕ
-place_rest at size rest None = Err at
-place_rest at size rest (Some start) = onto (rest start)
-  where
-    onto : Result (List ℕ) ℕ → Result (List ℕ) ℕ
-    onto (Ok starts) = Ok (start ∷ starts)
-    onto (Err place) = Err place
+-- so many sectors of its disk, from a start on
+abbrev pub placing : Wanted → ℕ → Taken
+placing w start = record { disk = w.disk; start = start; size = w.size }
 
--- where each starts: at its first fit, where those before it are taken too; or the place of the first that finds none
-abbrev pub placed : List Taken → ℕ → List Wanted → Result (List ℕ) ℕ
+-- the first fit of what is asked for, beside what is taken
+abbrev pub first_fit : List Taken → Wanted → Option Taken
+first_fit taken w = option_map (placing w) (first_free_start taken w.disk w.limit w.size)
+
+-- one more in front
+abbrev pub in_front : {T : Type 0} → T → Result (List T) ℕ → Result (List T) ℕ
+in_front x (Ok more) = Ok (x ∷ more)
+in_front x (Err place) = Err place
+
+abbrev pub place_rest : ℕ → (Taken → Result (List Taken) ℕ) → Option Taken → Result (List Taken) ℕ
+place_rest at rest None = Err at
+place_rest at rest (Some spot) = in_front spot (rest spot)
+
+-- what each takes: its first fit, where those before it are taken too; or the place of the first that finds none
+abbrev pub placed : List Taken → ℕ → List Wanted → Result (List Taken) ℕ
 placed taken at [] = Ok []
-placed taken at (w ∷ more) =
-    place_rest at w.size (λ start. placed (record { disk = w.disk; start = start; size = w.size } ∷ taken) (at + 1) more)
-    (first_free_start taken w.disk w.limit w.size)
+placed taken at (w ∷ more) = place_rest at (λ spot. placed (spot ∷ taken) (at + 1) more) (first_fit taken w)

@@ -4,7 +4,7 @@ ghost use Rattle.ldm_group.specs.Partitions.{EndsInRange};
 ghost use Rattle.ldm_space.specs.Free.{Taken, taken_in, first_free_start};
 ghost use Rattle.ldm_space.specs.Gaps.{AreGaps};
 ghost use Rattle.ldm_space.specs.Wanted.{placed};
-ghost use Rattle.ldm_space.specs.Placed.{PlacesAs};
+ghost use Rattle.ldm_space.specs.Placed.{ListsAs};
 
 use crate::gaps::FreeMap;
 use crate::taken::Taken;
@@ -60,7 +60,7 @@ pub fn place_all(
     requires ends { All EndsInRange records.now }
     requires some { All (λ w. 0 < w.size) wanted.now }
     requires limits { All (λ w. w.limit < 2 ^ 64) wanted.now }
-    ensures { IfOk result (PlacesAs (placed (taken_in records.now) 0 wanted.now) wanted.now) }
+    ensures { IfOk result (ListsAs (placed (taken_in records.now) 0 wanted.now)) }
 {
     let mut maps = BTreeMap::new(alloc);
     let mut spots = Vec::new(alloc);

@@ -8,7 +8,9 @@ use Rattle.ldm_group.specs.Looks.{max_id}
 use Rattle.ldm_group.specs.Database.{Database}
 use Rattle.ldm_rules.specs.Ends.{data_size}
 use Rattle.ldm_space.specs.declared.taken.Taken.{Taken}
+use Rattle.ldm_space.specs.Free.{taken_in}
 use Rattle.ldm_space.specs.declared.placed.Wanted.{Wanted}
+use Rattle.ldm_space.specs.Wanted.{placed}
 use Rattle.ldm_edits.specs.declared.leaving.Leaving.TheVariants as leavings
 use Rattle.ldm_edits.specs.declared.reply.Refusal.{Refusal}
 use Rattle.ldm_edits.specs.Asked.{asked_for}
@@ -20,7 +22,7 @@ use Rattle.ldm_edits.proofs.AskedLaws.{are_found, found_all}
 use Rattle.ldm_edits.proofs.CreatedForms.{created_rises}
 use Rattle.ldm_edits.proofs.CreatedSizes.{IsSize, word_sizes, taken_for}
 use Rattle.ldm_edits.proofs.CreateSteps.{IsAsked, all_stay, name_taken, no_disk, same_disk, bad_size, no_space, no_ids, by_limits}
-use Rattle.ldm_edits.proofs.WalkAnswers.{ArePlaced, copied_some, asked_ok, asked_err, asked_sizes, placed_ok, placed_err}
+use Rattle.ldm_edits.proofs.WalkAnswers.{copied_some, asked_ok, asked_err, asked_sizes, placed_ok, placed_err}
 use Rattle.ldm_edits.proofs.creating.create.Goals as goal
 
 pub returns-then-is_some : goal.returns-then-is_some
@@ -86,9 +88,9 @@ returns-in_default c =
     let found : asked_for (data_size c.args.labels.now c.args.db.now.records) c.args.db.now.records 0 (words_of c.args.layout.now) ≡ Ok c.in-Ok.wanted.items = asked_ok (asked_for (data_size c.args.labels.now c.args.db.now.records) c.args.db.now.records 0 (words_of c.args.layout.now)) c.in_ok-wanted.field-0 c.in-Ok.wanted c.in_ok-wanted.ensures.is c.in-Ok.is in
     let apart = ap (is_same_disk c.args.layout.now) (sym c.as_slice.ensures.value) ∙ sym c.is_same_disk.ensures ∙ c.if-is_same_disk.false in
     let is : IsAsked c.args.db.now c.args.labels.now c.args.name.now c.args.layout.now c.in-Ok.wanted.items = record { free = free; found = found; apart = apart; sizes = sym c.is_bad_size.ensures ∙ c.if-is_bad_size.false } in
-    let at : ArePlaced c.args.db.now.records c.in-Ok.wanted.items c.in-Ok-2.spots.items =
+    let places : placed (taken_in c.args.db.now.records) 0 c.in-Ok.wanted.items ≡ Ok c.in-Ok-2.spots.items =
     placed_ok c.args.db.now.records c.as_slice-3.result.now c.in-Ok.wanted.items c.as_slice-4.result.now c.in_ok-spots.field-0 c.in-Ok-2.spots c.in_ok-spots.ensures c.as_slice-3.ensures.all c.as_slice-4.ensures.value c.in-Ok-2.is in
-    no_ids c.args.db.now c.args.labels.now c.args.name.now c.args.guid c.args.layout.now c.in-Ok.wanted.items is at.starts at.places (subst (λ (n : ℕ). 2 ^ 64 - 1 < max_id c.args.db.now.records + n) c.fresh_for-fresh.ensures c.in_default.ensures)
+    no_ids c.args.db.now c.args.labels.now c.args.name.now c.args.guid c.args.layout.now c.in-Ok.wanted.items is c.in-Ok-2.spots.items places (subst (λ (n : ℕ). 2 ^ 64 - 1 < max_id c.args.db.now.records + n) c.fresh_for-fresh.ensures c.in_default.ensures)
 
 pub made_for-requires-clause-short : goal.made_for-requires-clause-short
 made_for-requires-clause-short c = (let short = c.requires.limits.short in omega arith)
@@ -108,10 +110,10 @@ made_for-requires-clause-sizes c =
     let found : asked_for (data_size c.args.labels.now c.args.db.now.records) c.args.db.now.records 0 (words_of c.args.layout.now) ≡ Ok c.in-Ok.wanted.items = asked_ok (asked_for (data_size c.args.labels.now c.args.db.now.records) c.args.db.now.records 0 (words_of c.args.layout.now)) c.in_ok-wanted.field-0 c.in-Ok.wanted c.in_ok-wanted.ensures.is c.in-Ok.is in
     let apart = ap (is_same_disk c.args.layout.now) (sym c.as_slice.ensures.value) ∙ sym c.is_same_disk.ensures ∙ c.if-is_same_disk.false in
     let is : IsAsked c.args.db.now c.args.labels.now c.args.name.now c.args.layout.now c.in-Ok.wanted.items = record { free = free; found = found; apart = apart; sizes = sym c.is_bad_size.ensures ∙ c.if-is_bad_size.false } in
-    let at : ArePlaced c.args.db.now.records c.in-Ok.wanted.items c.in-Ok-2.spots.items =
+    let places : placed (taken_in c.args.db.now.records) 0 c.in-Ok.wanted.items ≡ Ok c.in-Ok-2.spots.items =
     placed_ok c.args.db.now.records c.as_slice-3.result.now c.in-Ok.wanted.items c.as_slice-4.result.now c.in_ok-spots.field-0 c.in-Ok-2.spots c.in_ok-spots.ensures c.as_slice-3.ensures.all c.as_slice-4.ensures.value c.in-Ok-2.is in
-    ap (map (λ (t : Taken). t.size)) (c.as_slice-5.ensures.value ∙ at.spots_are)
-    ∙ (taken_for c.args.layout.now (data_size c.args.labels.now c.args.db.now.records) c.args.db.now.records c.in-Ok.wanted.items at.starts c.requires.limits.layout_is is.sizes (let ids = c.in-Some.ensures.1 in omega arith) found at.places).sizes
+    ap (map (λ (t : Taken). t.size)) (c.as_slice-5.ensures.value)
+    ∙ (taken_for c.args.layout.now (data_size c.args.labels.now c.args.db.now.records) c.args.db.now.records c.in-Ok.wanted.items c.in-Ok-2.spots.items c.requires.limits.layout_is is.sizes (let ids = c.in-Some.ensures.1 in omega arith) found places).sizes
 
 pub change-requires-clause-fits : goal.change-requires-clause-fits
 change-requires-clause-fits c = c.requires.sound.room.each
@@ -122,12 +124,12 @@ change-requires-clause-rising c up =
     let found : asked_for (data_size c.args.labels.now c.args.db.now.records) c.args.db.now.records 0 (words_of c.args.layout.now) ≡ Ok c.in-Ok.wanted.items = asked_ok (asked_for (data_size c.args.labels.now c.args.db.now.records) c.args.db.now.records 0 (words_of c.args.layout.now)) c.in_ok-wanted.field-0 c.in-Ok.wanted c.in_ok-wanted.ensures.is c.in-Ok.is in
     let apart = ap (is_same_disk c.args.layout.now) (sym c.as_slice.ensures.value) ∙ sym c.is_same_disk.ensures ∙ c.if-is_same_disk.false in
     let is : IsAsked c.args.db.now c.args.labels.now c.args.name.now c.args.layout.now c.in-Ok.wanted.items = record { free = free; found = found; apart = apart; sizes = sym c.is_bad_size.ensures ∙ c.if-is_bad_size.false } in
-    let at : ArePlaced c.args.db.now.records c.in-Ok.wanted.items c.in-Ok-2.spots.items =
+    let places : placed (taken_in c.args.db.now.records) 0 c.in-Ok.wanted.items ≡ Ok c.in-Ok-2.spots.items =
     placed_ok c.args.db.now.records c.as_slice-3.result.now c.in-Ok.wanted.items c.as_slice-4.result.now c.in_ok-spots.field-0 c.in-Ok-2.spots c.in_ok-spots.ensures c.as_slice-3.ensures.all c.as_slice-4.ensures.value c.in-Ok-2.is in
-    let made_is = c.in_ok-made.ensures ∙ (λ i. made_for c.args.layout.now (c.in-Some.ensures.0 i) c.args.name.now c.args.guid ((c.as_slice-5.ensures.value ∙ at.spots_are) i)) in
+    let made_is = c.in_ok-made.ensures ∙ (λ i. made_for c.args.layout.now (c.in-Some.ensures.0 i) c.args.name.now c.args.guid ((c.as_slice-5.ensures.value) i)) in
     let few : max_id c.args.db.now.records + fresh_for c.args.layout.now < 2 ^ 64 = (let ids = c.in-Some.ensures.1 in let fresh = c.fresh_for-fresh.ensures in omega arith) in
     subst (λ (l : List Record). Rising (in_order l)) (λ i. sym (all_stay c.args.db.now.records) i ++ sym made_is i)
-    (created_rises c.args.db.now.records c.args.layout.now c.args.name.now c.args.guid (data_size c.args.labels.now c.args.db.now.records) c.in-Ok.wanted.items at.starts up c.requires.limits is.sizes found at.places few)
+    (created_rises c.args.db.now.records c.args.layout.now c.args.name.now c.args.guid (data_size c.args.labels.now c.args.db.now.records) c.in-Ok.wanted.items c.in-Ok-2.spots.items up c.requires.limits is.sizes found places few)
 
 pub returns : goal.returns
 returns c =
@@ -135,8 +137,8 @@ returns c =
     let found : asked_for (data_size c.args.labels.now c.args.db.now.records) c.args.db.now.records 0 (words_of c.args.layout.now) ≡ Ok c.in-Ok.wanted.items = asked_ok (asked_for (data_size c.args.labels.now c.args.db.now.records) c.args.db.now.records 0 (words_of c.args.layout.now)) c.in_ok-wanted.field-0 c.in-Ok.wanted c.in_ok-wanted.ensures.is c.in-Ok.is in
     let apart = ap (is_same_disk c.args.layout.now) (sym c.as_slice.ensures.value) ∙ sym c.is_same_disk.ensures ∙ c.if-is_same_disk.false in
     let is : IsAsked c.args.db.now c.args.labels.now c.args.name.now c.args.layout.now c.in-Ok.wanted.items = record { free = free; found = found; apart = apart; sizes = sym c.is_bad_size.ensures ∙ c.if-is_bad_size.false } in
-    let at : ArePlaced c.args.db.now.records c.in-Ok.wanted.items c.in-Ok-2.spots.items =
+    let places : placed (taken_in c.args.db.now.records) 0 c.in-Ok.wanted.items ≡ Ok c.in-Ok-2.spots.items =
     placed_ok c.args.db.now.records c.as_slice-3.result.now c.in-Ok.wanted.items c.as_slice-4.result.now c.in_ok-spots.field-0 c.in-Ok-2.spots c.in_ok-spots.ensures c.as_slice-3.ensures.all c.as_slice-4.ensures.value c.in-Ok-2.is in
     subst (λ (r : Result Database Refusal). StepsTo c.change.result r)
     (ap (λ (n : ℕ). change_to c.args.db.now c.args.labels.now n (change_of leavings.Nothing c.args.db.now.records c.in_ok-made.made.items)) c.fresh_for-fresh.ensures
-    ∙ by_limits c.args.db.now c.args.labels.now c.args.name.now c.args.guid c.args.layout.now c.in-Ok.wanted.items is at.starts c.as_slice-5.result.now c.in_ok-made.made.items c.in-Some.id at.places (c.as_slice-5.ensures.value ∙ at.spots_are) c.in-Some.ensures.0 c.in_ok-made.ensures) c.change.ensures
+    ∙ by_limits c.args.db.now c.args.labels.now c.args.name.now c.args.guid c.args.layout.now c.in-Ok.wanted.items is c.in-Ok-2.spots.items c.as_slice-5.result.now c.in_ok-made.made.items c.in-Some.id places (c.as_slice-5.ensures.value) c.in-Some.ensures.0 c.in_ok-made.ensures) c.change.ensures

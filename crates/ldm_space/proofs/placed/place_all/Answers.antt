@@ -1,20 +1,18 @@
-use Rattle.std.proofs.Common.{◌≡◌, ◌++◌, ℕ, ◌-◌, ◌^◌, ap, sym, ◌∙◌, refl, subst, arith, get_or, take, List}
-use Rattle.std.proofs.lemmas.List.{take_all}
+use Rattle.std.proofs.Common.{◌++◌, ◌-◌, ◌^◌, sym, ◌∙◌, refl, subst, arith, get_or, List}
 use Rattle.ldm_space.specs.declared.taken.Taken.{Taken}
 use Rattle.ldm_space.specs.declared.placed.Wanted.{Wanted}
 use Rattle.ldm_space.specs.Free.{taken_in}
 use Rattle.ldm_space.specs.Gaps.{AreGaps}
-use Rattle.ldm_space.specs.Placed.{taken_at, AreFirstFits}
-use Rattle.ldm_space.proofs.PlacedLaws.{fit_placed}
-use Rattle.ldm_space.proofs.PlacedWalk.{IsSoFar, starts_of, so_far_more, so_far_none}
+use Rattle.ldm_space.specs.Wanted.{placing, placed}
+use Rattle.ldm_space.proofs.PlacedWalk.{IsPlacedTo, ahead_none, placed_more, placed_none, placed_all}
 use Rattle.ldm_space.proofs.PlacedMaps.{AreMaps, no_maps, map_there, maps_more}
 use Rattle.ldm_space.proofs.placed.place_all.Goals as goal
 
 pub loop-at-init : goal.loop-at-init
 loop-at-init c =
     let taken : List Taken = taken_in c.args.records.now in
-    subst (λ (l : List Taken). record { so_far : IsSoFar taken c.args.wanted.now 0 l; maps : AreMaps taken l c.new-maps.result }) (sym c.new-spots.ensures.items) (record {
-      so_far = record { fits = tt; taken_are = refl };
+    subst (λ (l : List Taken). record { so_far : IsPlacedTo taken c.args.wanted.now 0 l; maps : AreMaps taken l c.new-maps.result }) (sym c.new-spots.ensures.items) (record {
+      so_far = ahead_none (placed taken 0 c.args.wanted.now);
       maps = no_maps taken c.new-maps.result c.new-maps.ensures.empty;
     })
 
@@ -26,7 +24,7 @@ returns-in_default c =
     let w : Wanted = get_or c.args.wanted.now c.loop-at.at d in
     let are : AreGaps c.in_ok-map.map (spots ++ taken) w.disk (2 ^ 64 - 1) =
     map_there taken spots c.loop-at.maps w.disk c.remove-kept.result c.in_ok-map.map c.loop-at.invariant.maps c.remove-kept.ensures.value c.in_ok-map.ensures in
-    so_far_none taken c.args.wanted.now c.loop-at.at spots w d c.loop-at-test.true refl (sym c.in_default.is ∙ c.fit.ensures.first (spots ++ taken) are) c.loop-at.invariant.so_far
+    placed_none taken c.args.wanted.now c.loop-at.at spots w d c.loop-at-test.true refl (sym c.in_default.is ∙ c.fit.ensures.first (spots ++ taken) are) c.loop-at.invariant.so_far
 
 pub loop-at-preserved : goal.loop-at-preserved
 loop-at-preserved c =
@@ -37,14 +35,10 @@ loop-at-preserved c =
     let are : AreGaps c.in_ok-map.map (spots ++ taken) w.disk (2 ^ 64 - 1) =
     map_there taken spots c.loop-at.maps w.disk c.remove-kept.result c.in_ok-map.map c.loop-at.invariant.maps c.remove-kept.ensures.value c.in_ok-map.ensures in
     record {
-      so_far = so_far_more taken c.args.wanted.now c.loop-at.at spots c.push.new.self.items w d c.in-Some.start c.loop-at-test.true refl (c.in-Some.ensures.first (spots ++ taken) are) c.in_ok-push.ensures.items c.loop-at.invariant.so_far;
-      maps = maps_more taken spots c.push.new.self.items c.loop-at.maps c.remove-kept.new.self c.insert.new.self w c.in-Some.start c.fit.new.map c.loop-at.invariant.maps c.remove-kept.ensures.updates c.in_ok-insert.ensures.updates
+      so_far = placed_more taken c.args.wanted.now c.loop-at.at spots c.push.new.self.items w d c.in-Some.start c.loop-at-test.true refl (c.in-Some.ensures.first (spots ++ taken) are) c.in_ok-push.ensures.items c.loop-at.invariant.so_far;
+      maps = maps_more taken spots c.push.new.self.items c.loop-at.maps c.remove-kept.new.self c.insert.new.self (placing w c.in-Some.start) c.fit.new.map c.loop-at.invariant.maps c.remove-kept.ensures.updates c.in_ok-insert.ensures.updates
           (c.in-Some.ensures.left (spots ++ taken) are) c.in_ok-push.ensures.items;
     }
 
 pub returns : goal.returns
-returns c =
-    let taken : List Taken = taken_in c.args.records.now in
-    let ss : List ℕ = starts_of c.loop-at.spots.items in
-    let whole : take c.loop-at.at c.args.wanted.now ≡ c.args.wanted.now = take_all c.loop-at.at c.args.wanted.now (omega arith) in
-    (ss, fit_placed c.args.wanted.now taken 0 ss (subst (λ (l : List Wanted). AreFirstFits taken l ss) whole c.loop-at.invariant.so_far.fits), c.loop-at.invariant.so_far.taken_are ∙ ap (λ (l : List Wanted). taken_at l ss) whole)
+returns c = placed_all (taken_in c.args.records.now) c.args.wanted.now c.loop-at.at c.loop-at.spots.items (omega arith) c.loop-at.invariant.so_far

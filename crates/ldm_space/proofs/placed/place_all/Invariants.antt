@@ -1,10 +1,10 @@
 use Rattle.ldm_space.specs.Free.{taken_in}
-use Rattle.ldm_space.proofs.PlacedWalk.{IsSoFar}
+use Rattle.ldm_space.proofs.PlacedWalk.{IsPlacedTo}
 use Rattle.ldm_space.proofs.PlacedMaps.{AreMaps}
 use Rattle.ldm_space.proofs.placed.place_all.Given as goal
 
 abbrev pub invariant-loop-at : goal.invariant-loop-at
 invariant-loop-at l = record {
-  so_far : IsSoFar (taken_in l.records) l.wanted l.at l.spots.items;
+  so_far : IsPlacedTo (taken_in l.records) l.wanted l.at l.spots.items;
   maps : AreMaps (taken_in l.records) l.spots.items l.maps;
 }
