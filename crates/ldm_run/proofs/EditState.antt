@@ -1,12 +1,11 @@
 -- Line by line: what holds between two lines, and how lines end.
-use Rattle.std.proofs.Common.{◌≡◌, ◌≢◌, ◌⊎◌, inl, inr, ⊎_elim, ℕ, ◌+◌, ◌≤◌, Bool, true, false, ◌||◌, if◌then◌else◌, List, [], ◌∷◌, ◌++◌, length, refl, sym, ap, subst, ◌∙◌, append_assoc, arith, Option, None}
+use Rattle.std.proofs.Common.{◌≡◌, ◌⊎◌, inl, inr, ⊎_elim, ℕ, ◌+◌, ◌≤◌, Bool, false, ◌||◌, if◌then◌else◌, List, [], ◌∷◌, ◌++◌, length, refl, sym, ap, subst, ◌∙◌, append_assoc, arith, Option, None}
 use Rattle.std.specs.List.{list_any}
 use Rattle.std.proofs.lemmas.List.{append-nil, length-append}
 use Rattle.std.proofs.lemmas.List.Folds.{list_any-append}
 use Rattle.ldm_host.specs.Seen.{Seen, Leaves}
 use Rattle.ldm_host.specs.Moves.{Begins, Later}
-use Rattle.ldm_host.specs.StoryLaws.{begins_itself}
-use Rattle.ldm_host.proofs.Relations.{later_trans, moments_trans, rose_sooner, begins_trans}
+use Rattle.ldm_host.proofs.Relations.{later_trans, moments_trans, begins_trans}
 use Rattle.ldm_label.specs.declared.Label.{Label}
 use Rattle.ldm_group.specs.Database.{Database}
 use Rattle.ldm_copy.specs.declared.answer.CopyState.TheVariants.{Valid}
@@ -19,14 +18,15 @@ use Rattle.ldm_store.specs.Turning.{AllHave}
 use Rattle.ldm_store.specs.Sessions.{IsEditable, Opened, RestsOn, HoldsGroup}
 use Rattle.ldm_group_text.specs.Reply.{text_of_reply, text_of_replies}
 use Rattle.ldm_run.specs.declared.running.Status.{Status}
-use Rattle.ldm_run.specs.declared.running.Status.TheVariants.{Done, Refused, Usage, DiskFault, NoMemory, TalkFault}
+use Rattle.ldm_run.specs.declared.running.Status.TheVariants.{Done, Refused, DiskFault, NoMemory}
 use Rattle.ldm_run.specs.Said.{HasAnswer}
-use Rattle.ldm_run.specs.Scripts.{is_refused, status_of, replies_from}
+use Rattle.ldm_run.specs.Scripts.{is_refused, status_of}
 use Rattle.ldm_run.specs.Kinds.{SameInput, SaysLines}
 use Rattle.ldm_run.specs.Stops.{Reopens}
-use Rattle.ldm_run.specs.Runs.{Causes}
 use Rattle.ldm_run.specs.Editing.{EditFails, turn_on, IsDoing, IsAnswering, IsAnswered, AreWritten, DoesLines}
-use Rattle.ldm_run.proofs.ReplyLaws.{not_usage, not_disk, not_talk, has_answer}
+pub use Rattle.ldm_run.proofs.Saying.{Failing, failing}
+use Rattle.ldm_run.proofs.Saying.{causes_since, ends_part, ends_whole, not_fault}
+use Rattle.ldm_run.proofs.ReplyLaws.{has_answer, or_false}
 use Rattle.ldm_run.proofs.TurnLists.{after_lines, no_lines_after, db_more, draft_more, replies_more, text_more, text_front}
 use Rattle.ldm_run.proofs.LineCounts.{ends_in_line}
 use Rattle.ldm_run.proofs.OpenLaws.{ComesAfter, found_apart, answered_is, doing_reopens, answering_reopens}
@@ -77,10 +77,6 @@ all_done : {tells : Type 0} {first : Opened} {all before : List (Option Command)
     → IsEditedTo tells first all before [] start now session number refused → before ≡ all
 all_done {before = before} state = sym (state.all_is ∙ append-nil before)
 
-any_one : (b : Bool) → (b || false) ≡ b
-any_one true = refl
-any_one false = refl
-
 -- lines after others
 written_on : (labels : List Label) (first mid last : Database) (old now new : List (List ℕ)) → AreWritten labels first mid old now → AreWritten labels mid last now new → AreWritten labels first last old new
 written_on labels first mid last old now new before (inl all) = inl all
@@ -114,26 +110,6 @@ lines_sooner old mid new same lines = subst (λ (l : List ℕ). (new.said ≡ l)
 
 -- ---- where it stops
 
--- what follows where a line, or its reply, failed
-pub record Failing (old new : Seen) (status : Status) : Type 0 where
-  pub none : HasAnswer status → ⊥
-  pub no_usage : status ≢ Usage
-  pub causes : Causes old new status
-
-pub failing : (old new : Seen) (status : Status) → EditFails old new status → Failing old new status
-failing old new DiskFault rose = record { none = λ has. has; no_usage = λ is. cc; causes = record { disk = λ is. rose; talk = λ is. absurd cc } }
-failing old new TalkFault rose = record { none = λ has. has; no_usage = λ is. cc; causes = record { disk = λ is. absurd cc; talk = λ is. rose } }
-failing old new NoMemory free = record { none = λ has. has; no_usage = λ is. cc; causes = record { disk = λ is. absurd cc; talk = λ is. absurd cc } }
-failing old new Done never = absurd never
-failing old new Refused never = absurd never
-failing old new Usage never = absurd never
-
-pub causes_since : (old mid new : Seen) (status : Status) → Later old mid → Causes mid new status → Causes old new status
-causes_since old mid new status later causes = record {
-  disk = λ is. rose_sooner old.disk_faults mid.disk_faults new.disk_faults later.disk_faults (causes.disk is);
-  talk = λ is. rose_sooner old.talk_faults mid.talk_faults new.talk_faults later.talk_faults (causes.talk is);
-}
-
 -- it stops with a failure, after a part of the replies was said
 stops_with : {tells : Type 0} {first : Opened} {all : List (Option Command)} {start now : Seen} {status : Status} → Later start now → SameInput start now → Failing start now status
     → (tells → Begins now.said (start.said ++ text_of_replies 1 (replies_to first.labels first.db all))) → (tells → status ≡ DiskFault → SaysLines start now) → (tells → AllReopen first all start now)
@@ -141,9 +117,7 @@ stops_with : {tells : Type 0} {first : Opened} {all : List (Option Command)} {st
 stops_with {tells} {first} {all} {start} {now} {status} later input fails front lines reopen = record {
   later = later;
   input = input;
-  no_usage = fails.no_usage;
-  causes = fails.causes;
-  answers = λ told. record { whole = λ is. absurd (fails.none is); since = later.said; front = inr (replies_from 1 (replies_to first.labels first.db all), refl, front told) };
+  ends = ends_part fails front later.said;
   whole_lines = lines;
   stops = reopen;
   current = λ told has. absurd (fails.none has);
@@ -183,14 +157,8 @@ ended {tells} {first} {all} {before} {start} {now} {session} {number} {refused} 
     record {
       later = later;
       input = input;
-      no_usage = not_usage status has;
-      causes = record { disk = λ disk. absurd (not_disk status has disk); talk = λ talk. absurd (not_talk status has talk) };
-      answers = λ told. record {
-        whole = λ _. (replies_from 1 replies, refl, record { status_is = answer_is; said = said told });
-        since = later.said;
-        front = inr (replies_from 1 replies, refl, subst (λ (l : List ℕ). Begins now.said l) (said told) (begins_itself now.said));
-      };
-      whole_lines = λ told disk. absurd (not_disk status has disk);
+      ends = ends_whole has (λ told. answer_is) said later.said;
+      whole_lines = λ told disk. absurd (not_fault {fault = DiskFault} has (λ no. no) disk);
       stops = state.reopen;
       current = λ told _. (subst (λ (s : Opened). HoldsGroup s now.content) is (holds told)).current;
       written = λ told _. subst (λ (lines : List (Option Command)). AreWritten first.labels first.db (group_after first.labels first.db lines) start.content now.content) done (state.comes told).written;
@@ -274,7 +242,7 @@ module _ {tells : Type 0} {first : Opened} {all before after : List (Option Comm
       next_db = answered.db ∙ ap (λ (s : Opened). (turn_on s line).state.db) state.session_is ∙ db_more first before line
 
       was_is : was ≡ list_any is_refused ((turn_on (after_lines first before) line).reply ∷ [])
-      was_is = answered.refused_is ∙ ap (λ (s : Opened). is_refused (turn_on s line).reply) state.session_is ∙ sym (any_one (is_refused (turn_on (after_lines first before) line).reply))
+      was_is = answered.refused_is ∙ ap (λ (s : Opened). is_refused (turn_on s line).reply) state.session_is ∙ sym (or_false (is_refused (turn_on (after_lines first before) line).reply))
 
       same_session : {other : Opened} → next.db ≡ other.db → next.labels ≡ other.labels → next.draft ≡ other.draft → next ≡ other
       same_session {other} db labels draft = λ i. record { db = db i; labels = labels i; draft = draft i }

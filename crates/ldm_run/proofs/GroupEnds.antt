@@ -29,9 +29,9 @@ use Rattle.ldm_run.specs.Kinds.{NothingPending}
 use Rattle.ldm_run.specs.Stops.{answered, Reopens, EveryStopReopens, EveryStopSinceSyncs}
 use Rattle.ldm_run.specs.Runs.{OnlyReads}
 use Rattle.ldm_run.specs.Editing.{AreWritten, DoesLines, DoesGroup}
-use Rattle.ldm_run.proofs.Saying.{answers_as}
+use Rattle.ldm_run.proofs.Saying.{Failing, ends_first, ends_silent}
 use Rattle.ldm_run.proofs.DoingLaws.{Counts}
-use Rattle.ldm_run.proofs.EditState.{Failing, causes_since, lines_sooner}
+use Rattle.ldm_run.proofs.EditState.{lines_sooner}
 use Rattle.ldm_run.proofs.OpenLaws.{outside_trans, reopens_first}
 
 -- nothing is pending on a disk that has a label
@@ -127,9 +127,7 @@ module _ {tells : Type 0} {old mid new : Seen} {session : Opened} {lines : List 
   pub grouped : DoesGroup tells lines old new status
   grouped = record {
     input = record { input = does.input.input ∙ quiet.input; heard = does.input.heard ∙ quiet.heard };
-    no_usage = does.no_usage;
-    causes = causes_since old mid new status later does.causes;
-    answers = λ told. answers_as old mid new _ (IsGroupAnswer (try_answer lines) old.content) status quiet.said (is_answer told) (does.answers told);
+    ends = ends_first does.ends later quiet.said (λ told. told) is_answer;
     whole_lines = λ told is. lines_sooner old mid new quiet.said (does.whole_lines told is);
     stops = every_stop;
     since_syncs = since_syncs;
@@ -152,9 +150,7 @@ pub unopened : {tells : Type 0} {old new : Seen} {status : Status} (lines : List
     → (tells → (found : Found) → IsGroupIn old.content (Ok found) → found.blocked ≡ None → NothingPending old → AlwaysKept found.labels found.db found.db old new) → (tells → OnlyStill old new ⊎ OneGroup old new) → DoesGroup tells lines old new status
 unopened {tells} {old} {new} {status} lines fails later quiet wrote kept moments = record {
   input = record { input = quiet.input; heard = quiet.heard };
-  no_usage = fails.no_usage;
-  causes = fails.causes;
-  answers = λ told. record { whole = λ has. absurd (fails.none has); since = later.said; front = inl quiet.said };
+  ends = ends_silent fails quiet.said later.said;
   whole_lines = λ told is. inl quiet.said;
   stops = λ told nothing found is editable images said left. reopens_first old found lines images said is editable (kept told found is editable nothing images said left);
   since_syncs = λ told. since_reopens old new lines (moments told);
@@ -171,9 +167,7 @@ pub refused_group : {tells talks : Type 0} {old mid new : Seen} {status : Status
     → (tells → IsGroupIn old.content (Err fault) ⊎ ((found : Found) × IsGroupIn old.content (Ok found) × (found.blocked ≡ Some fault))) → DoesGroup tells lines old new status
 refused_group {tells} {talks} {old} {mid} {new} {status} {fault} lines settles reads both faulty = record {
   input = record { input = reads.input.input ∙ settles.quiet.input; heard = reads.input.heard ∙ settles.quiet.heard };
-  no_usage = reads.no_usage;
-  causes = causes_since old mid new status settles.later reads.causes;
-  answers = λ told. answers_as old mid new _ (IsGroupAnswer (try_answer lines) old.content) status settles.quiet.said (is_answer told) (reads.answers (both told));
+  ends = ends_first reads.ends settles.later settles.quiet.said both is_answer;
   whole_lines = λ told is. inl (reads.silent (subst (λ (s : Status). SaysNothing s) (sym is) tt) ∙ settles.quiet.said);
   stops = λ told nothing found is editable. not_none old.content found is editable (none told);
   since_syncs = λ told found is editable. not_none old.content found is editable (none told);

@@ -1,9 +1,12 @@
 -- What is heard piece by piece.
-use Rattle.std.proofs.Common.{◌≡◌, ℕ, ◌+◌, ◌<◌, ◌≤◌, List, [], ◌++◌, length, take, arith, sym, ap, ◌∙◌, append_assoc}
+use Rattle.std.proofs.Common.{◌≡◌, ◌≢◌, ◌⊎◌, ℕ, ◌+◌, ◌<◌, ◌≤◌, List, [], ◌++◌, length, take, arith, sym, ap, ◌∙◌, append_assoc}
 use Rattle.std.proofs.lemmas.List.{nil_from_length, length-append, length-take-le, append-nil}
 use Rattle.ldm_host.specs.Seen.{Seen}
-use Rattle.ldm_host.specs.Moves.{Quiet}
-use Rattle.ldm_run.specs.Heard.{Takes}
+use Rattle.ldm_run.specs.declared.running.Status.{Status}
+use Rattle.ldm_run.specs.declared.running.Status.TheVariants.{DiskFault}
+use Rattle.ldm_run.specs.Said.{HasAnswer}
+use Rattle.ldm_run.specs.Kinds.{SameInput}
+use Rattle.ldm_run.specs.Heard.{Takes, HearsScript}
 
 -- so many bytes more were heard
 pub takes_more : (old mid new : Seen) (taken bytes : List ℕ) (n : ℕ) → Takes old mid taken → n ≤ length bytes → mid.input ≡ take n bytes ++ new.input → new.heard ≡ mid.heard ++ take n bytes
@@ -15,10 +18,10 @@ takes_more old mid new taken bytes n first within input heard few = record {
 }
 
 -- a call that hears nothing changes nothing of it
-pub takes_quiet : (old mid new : Seen) (taken : List ℕ) → Takes old mid taken → Quiet mid new → Takes old new taken
-takes_quiet old mid new taken first quiet = record {
-  input = first.input ∙ ap (λ (l : List ℕ). taken ++ l) (sym quiet.input);
-  heard = quiet.heard ∙ first.heard;
+pub takes_on : {old mid new : Seen} {taken : List ℕ} → Takes old mid taken → SameInput mid new → Takes old new taken
+takes_on {taken = taken} first same = record {
+  input = first.input ∙ ap (λ (l : List ℕ). taken ++ l) (sym same.input);
+  heard = same.heard ∙ first.heard;
   few = first.few;
 }
 
@@ -32,3 +35,14 @@ at_end old mid new script piece takes input none = (
   sym (takes.input ∙ ap (λ (l : List ℕ). script ++ l) (nil_from_length mid.input none) ∙ append-nil script),
   nil_from_length new.input (omega (arith, none, ap length input, length-append piece new.input)),
 )
+
+-- ---- all of it
+
+-- after the script was heard nothing more is
+pub heard_script : {old mid new : Seen} {status : Status} → (taken : List ℕ) × Takes old mid taken → SameInput mid new → (HasAnswer status → (new.input ≡ []) ⊎ (1048576 < length old.input))
+    → (1048576 < length old.input → status ≢ DiskFault) → ((1048576 < length old.input) ⊎ (new.input ≢ []) → new.wrote ≡ old.wrote) → HearsScript old new status
+heard_script takes same whole no_disk unwritten = record { taken = takes.0; takes = takes_on takes.1 same; whole = whole; no_disk = no_disk; unwritten = unwritten }
+
+-- it was not heard whole
+pub unheard_script : {old new : Seen} {status : Status} → (taken : List ℕ) × Takes old new taken → (HasAnswer status → ⊥) → status ≢ DiskFault → new.wrote ≡ old.wrote → HearsScript old new status
+unheard_script takes none no_disk wrote = record { taken = takes.0; takes = takes.1; whole = λ has. absurd (none has); no_disk = λ long. no_disk; unwritten = λ some. wrote }

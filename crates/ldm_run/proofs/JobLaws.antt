@@ -1,127 +1,135 @@
--- What is said of each job, by what its function says.
-use Rattle.std.proofs.Common.{◌≡◌, ◌≢◌, ℕ, List, [], ◌∷◌, sym, subst, Some}
-use Rattle.ldm_host.specs.Seen.{Seen}
+-- What a job does, and what is done of words.
+use Rattle.std.proofs.Common.{◌≡◌, inl, ℕ, ◌/◌, ◌<◌, false, List, [], ◌∷◌, length, slice_index, refl, sym, ap, subst, arith, Option, Some, None}
+use Rattle.std.proofs.lemmas.List.{append-nil}
+use Rattle.ldm_host.specs.Seen.{Seen, image}
 use Rattle.ldm_host.specs.Moves.{Still}
 use Rattle.ldm_words.specs.declared.command.Command.{Command}
 use Rattle.ldm_words.specs.declared.job.Job.{Job}
-use Rattle.ldm_words.specs.declared.job.Job.TheVariants.{Try, Edit, One, Init}
+use Rattle.ldm_words.specs.declared.job.Job.TheVariants.{Edit, One, Init}
+use Rattle.ldm_words.specs.Jobs.{job_of, HasCount, KeepsLimits}
+use Rattle.ldm_words.proofs.JobLaws.{reading_of}
+use Rattle.ldm_init.proofs.StartLaws.{still_moment}
 use Rattle.ldm_run.specs.declared.running.Status.{Status}
-use Rattle.ldm_run.specs.declared.running.Status.TheVariants.{Usage, DiskFault, NoMemory}
-use Rattle.ldm_run.specs.Said.{Answer, SaysNothing}
+use Rattle.ldm_run.specs.declared.running.Status.TheVariants.{DiskFault, NoMemory}
 use Rattle.ldm_run.specs.Answer.{IsJobAnswer}
-use Rattle.ldm_run.specs.Kinds.{kind_of, SameInput, JobPremise, JobInput, JobSays}
+use Rattle.ldm_run.specs.Kinds.{Kind, Reads, Streams, Hears, Edits, Does, Makes, kind_of, JobInput, JobSays, JobTalk}
+use Rattle.ldm_run.specs.Writing.{writes}
 use Rattle.ldm_run.specs.Stops.{JobStops, JobSinceSyncs}
 use Rattle.ldm_run.specs.Written.{JobDisks}
-use Rattle.ldm_run.specs.Editing.{DoesGroup, HearsAndEdits}
-use Rattle.ldm_run.specs.Runs.{Answers, Causes, OnlyReads, Streams, HearsAndReplies, MakesGroup}
-
--- what is said of a job
-abbrev pub DoesJob : (tells talks : Type 0) → Job → Seen → Seen → Status → Type 0
-DoesJob tells talks job old new status = record {
-  answers : tells → JobPremise (kind_of job) old → Answers old new (IsJobAnswer job old.content old.input) status;
-  no_usage : status ≢ Usage;
-  causes : Causes old new status;
-  disks : JobDisks tells job old new status;
-  input : JobInput talks (kind_of job) old new status;
-  silent : JobSays tells (kind_of job) old new status;
-  stops : JobStops tells job old new;
-  since_syncs : JobSinceSyncs tells job old new;
-}
+use Rattle.ldm_run.specs.Editing.{DoesGroup}
+use Rattle.ldm_run.specs.Runs.{DoesJob, Ends, HasImages, OfJob, OnlyReads, Streams as Streaming}
+use Rattle.ldm_run.proofs.MakingLaws.{unmade, unmade_disks}
+use Rattle.ldm_run.proofs.Saying.{Failing, failing, ends_silent}
+use Rattle.ldm_run.proofs.StillLaws.{quiet_start, silent_reopens}
 
 -- what is said of a job, where it is this one
-pub of_job : (tells talks : Type 0) {job one : Job} {old new : Seen} {status : Status} → job ≡ one → DoesJob tells talks one old new status → DoesJob tells talks job old new status
-of_job tells talks {job} {one} {old} {new} {status} is does = subst (λ (j : Job). DoesJob tells talks j old new status) (sym is) does
+pub of_job : {tells talks : Type 0} {job one : Job} {old new : Seen} {status : Status} → job ≡ one → DoesJob tells talks one old new status → DoesJob tells talks job old new status
+of_job {tells} {talks} {job} {one} {old} {new} {status} is does = subst (λ (j : Job). DoesJob tells talks j old new status) (sym is) does
 
--- a job that only reads
-pub reads_job : {tells : Type 0} {old new : Seen} {IsOne : Answer → Type 0} {status : Status} → OnlyReads tells old new IsOne status → record {
-  answers : tells → Unit {0} → Answers old new IsOne status;
-  no_usage : status ≢ Usage;
-  causes : Causes old new status;
-  disks : Still old new;
-  input : SameInput old new;
-  silent : SaysNothing status → new.said ≡ old.said;
-  stops : Unit {0};
-  since_syncs : Unit {0};
-}
-reads_job reads = record {
-  answers = λ told free. reads.answers told;
-  no_usage = reads.no_usage;
-  causes = reads.causes;
-  disks = reads.still;
-  input = reads.input;
-  silent = reads.silent;
-  stops = tt;
-  since_syncs = tt;
-}
+-- ---- a job that writes nothing
 
--- a job that says its answer while it reads on
-pub streams_job : {tells : Type 0} {old new : Seen} {IsOne : Answer → Type 0} {status : Status} → Streams tells old new IsOne status → record {
-  answers : tells → Unit {0} → Answers old new IsOne status;
-  no_usage : status ≢ Usage;
-  causes : Causes old new status;
-  disks : Still old new;
-  input : SameInput old new;
-  silent : status ≡ NoMemory → new.said ≡ old.said;
-  stops : Unit {0};
-  since_syncs : Unit {0};
-}
-streams_job streams = record {
-  answers = λ told free. streams.answers told;
-  no_usage = streams.no_usage;
-  causes = streams.causes;
-  disks = streams.still;
-  input = streams.input;
-  silent = streams.silent;
-  stops = tt;
-  since_syncs = tt;
-}
+still_disks : (tells : Type 0) {old new : Seen} (status : Status) (job : Job) → writes (kind_of job) ≡ false → Still old new → JobDisks tells job old new status × JobStops tells job old new × JobSinceSyncs tells job old new
+still_disks tells status Edit is still = absurd cc
+still_disks tells status (One command) is still = absurd cc
+still_disks tells status (Init name guid disks) is still = absurd cc
+still_disks tells status job is still = (still, tt, tt)
 
-pub try_job : {tells talks : Type 0} {old new : Seen} {status : Status} → HearsAndReplies tells talks old new (IsJobAnswer Try old.content old.input) status → DoesJob tells talks Try old new status
-try_job hears = record {
-  answers = λ told free. hears.answers told;
-  no_usage = hears.no_usage;
-  causes = hears.causes;
-  disks = hears.still;
-  input = hears.input;
-  silent = hears.silent;
-  stops = tt;
-  since_syncs = tt;
-}
+pub still_job : {tells talks : Type 0} {old new : Seen} {status : Status} (job : Job) → writes (kind_of job) ≡ false → Ends tells old new (IsJobAnswer job old.content old.input) status
+    → JobTalk tells talks (kind_of job) old new status → Still old new → DoesJob tells talks job old new status
+still_job {tells} {talks} {old} {new} {status} job is ends talk still =
+    let left = still_disks tells status job is still in
+    record { ends = ends; disks = left.0; talk = talk; stops = left.1; since_syncs = left.2 }
 
-pub edit_job : {tells talks : Type 0} {old new : Seen} {status : Status} → HearsAndEdits tells talks old new status → DoesJob tells talks Edit old new status
-edit_job edits = record {
-  answers = λ told settled. edits.answers told;
-  no_usage = edits.no_usage;
-  causes = edits.causes;
-  disks = edits.disks;
-  input = edits.input;
-  silent = edits.whole_lines;
-  stops = edits.stops;
-  since_syncs = edits.since_syncs;
-}
+-- it reads first, and then says its answer
+pub reads_job : {tells talks : Type 0} {old new : Seen} {status : Status} (job : Job) → kind_of job ≡ Reads → OnlyReads tells old new (IsJobAnswer job old.content old.input) status → DoesJob tells talks job old new status
+reads_job {tells} {talks} {old} {new} {status} job is says =
+    still_job job (ap writes is) says.ends (subst (λ (k : Kind). JobTalk tells talks k old new status) (sym is) (record { input = says.input; silent = says.silent })) says.still
 
-pub one_job : {tells : Type 0} {old new : Seen} {status : Status} (talks : Type 0) (command : Command) → DoesGroup tells (Some command ∷ []) old new status → (status ≡ DiskFault → new.said ≡ old.said)
+-- it says its answer while it reads on
+pub streams_job : {tells talks : Type 0} {old new : Seen} {status : Status} (job : Job) → kind_of job ≡ Streams → Streaming tells old new (IsJobAnswer job old.content old.input) status → DoesJob tells talks job old new status
+streams_job {tells} {talks} {old} {new} {status} job is says =
+    still_job job (ap writes is) says.ends (subst (λ (k : Kind). JobTalk tells talks k old new status) (sym is) (record { input = says.input; silent = says.silent })) says.still
+
+-- ---- a command
+
+pub one_job : {tells talks : Type 0} {old new : Seen} {status : Status} (command : Command) → DoesGroup tells (Some command ∷ []) old new status → (status ≡ DiskFault → new.said ≡ old.said)
     → DoesJob tells talks (One command) old new status
-one_job talks command does silent = record {
-  answers = λ told settled. does.answers told;
-  no_usage = does.no_usage;
-  causes = does.causes;
-  disks = does.disks;
-  input = does.input;
-  silent = silent;
-  stops = does.stops;
-  since_syncs = does.since_syncs;
-}
+one_job command does silent = record { ends = does.ends; disks = does.disks; talk = record { input = does.input; silent = silent }; stops = does.stops; since_syncs = does.since_syncs }
 
-pub init_job : {tells : Type 0} {old new : Seen} {status : Status} (talks : Type 0) (name guids : List ℕ) (guid : ℕ) → MakesGroup tells name guid guids old new status
-    → DoesJob tells talks (Init name guid guids) old new status
-init_job talks name guids guid makes = record {
-  answers = λ told free. makes.answers told;
-  no_usage = makes.no_usage;
-  causes = makes.causes;
-  disks = makes.disks;
-  input = makes.input;
-  silent = makes.silent;
-  stops = makes.stops;
-  since_syncs = tt;
-}
+-- ---- where nothing was done, since memory or the talk failed before
+
+-- a job that makes disks has some
+abbrev pub HasSome : Job → ℕ → Type 0
+HasSome (Init name guid disks) images = 0 < images
+HasSome job images = Unit {0}
+
+module _ {tells : Type 0} {old new : Seen} {status : Status} (fails : Failing old new status) (silent : new.said ≡ old.said) (still : Still old new) (one_each : tells → length old.content ≡ length old.sizes)
+    (lengths : tells → (disk : ℕ) → disk < length old.sizes → length (image old.content disk) / 512 ≡ slice_index old.sizes disk) where
+  undone_disks : (job : Job) → JobDisks tells job old new status
+  undone_disks Edit = record { later = still.later; done = λ told has. absurd (fails.none has); unwritten = λ told none. still.wrote }
+  undone_disks (One command) = record { later = still.later; done = λ told has. absurd (fails.none has); unwritten = λ told none. still.wrote }
+  undone_disks (Init name guid disks) = unmade_disks tells name guid disks old new status still silent fails.none
+  undone_disks job = still
+
+  undone_says : (kind : Kind) → JobSays tells kind old new status
+  undone_says Reads = λ is. silent
+  undone_says Streams = λ is. silent
+  undone_says Hears = λ is. silent
+  undone_says Edits = λ told is. inl silent
+  undone_says Does = λ is. silent
+  undone_says Makes = λ is. silent
+
+  undone_stops : (job : Job) → HasSome job (length old.sizes) → JobStops tells job old new
+  undone_stops Edit some = λ told nothing. silent_reopens still (one_each told) silent _ nothing
+  undone_stops (One command) some = λ told nothing. silent_reopens still (one_each told) silent _ nothing
+  undone_stops (Init name guid disks) some = λ told nothing empty images text left.
+      unmade name guid disks old images text (still_moment old disks (one_each told) (lengths told) empty nothing name guid some images text (quiet_start still silent images text left))
+  undone_stops job some = tt
+
+  undone_since : (job : Job) → JobSinceSyncs tells job old new
+  undone_since Edit = λ told short found is editable. inl (quiet_start still silent)
+  undone_since (One command) = λ told found is editable. inl (quiet_start still silent)
+  undone_since job = tt
+
+  pub undone : {talks : Type 0} (job : Job) → HasSome job (length old.sizes) → JobInput talks (kind_of job) old new status → DoesJob tells talks job old new status
+  undone job some input = record {
+    ends = ends_silent fails silent still.later.said;
+    disks = undone_disks job;
+    talk = record { input = input; silent = undone_says (kind_of job) };
+    stops = undone_stops job some;
+    since_syncs = undone_since job;
+  }
+
+-- ---- the words
+
+-- what is so where they have no reading, and where they have this one
+pub of_none : {reading : Option (Job × ℕ)} (Unread : Type 0) (Done : Job → Type 0) → reading ≡ None → Unread → OfJob reading Unread Done
+of_none Unread Done is there = subst (λ (o : Option (Job × ℕ)). OfJob o Unread Done) (sym is) there
+
+pub of_some : {reading : Option (Job × ℕ)} {some : Job × ℕ} (Unread : Type 0) (Done : Job → Type 0) → reading ≡ Some some → Done some.0 → OfJob reading Unread Done
+of_some Unread Done is there = subst (λ (o : Option (Job × ℕ)). OfJob o Unread Done) (sym is) there
+
+pub each_job : (reading : Option (Job × ℕ)) (Unread Other : Type 0) (Done Left : Job → Type 0) → (Unread → Other) → ((job : Job) → Done job → Left job) → OfJob reading Unread Done → OfJob reading Other Left
+each_job None Unread Other Done Left unread job is = unread is
+each_job (Some reading) Unread Other Done Left unread job is = job reading.0 is
+
+has_some : (job : Job) (images : ℕ) → HasCount job images → KeepsLimits job → HasSome job images
+has_some (Init name guid disks) images count limits = let some = limits.some in omega (arith, some, count)
+has_some job images count limits = tt
+
+unheard_input : (talks : Type 0) (host : Seen) (kind : Kind) → JobInput talks kind host host NoMemory
+unheard_input talks host Reads = record { input = refl; heard = refl }
+unheard_input talks host Streams = record { input = refl; heard = refl }
+unheard_input talks host Hears = λ told. record { taken = []; takes = record { input = refl; heard = sym (append-nil host.heard); few = omega arith }; whole = λ has. absurd has; no_disk = λ long is. cc; unwritten = λ some. refl }
+unheard_input talks host Edits = λ told. record { taken = []; takes = record { input = refl; heard = sym (append-nil host.heard); few = omega arith }; whole = λ has. absurd has; no_disk = λ long is. cc; unwritten = λ some. refl }
+unheard_input talks host Does = record { input = refl; heard = refl }
+unheard_input talks host Makes = record { input = refl; heard = refl }
+
+-- memory ran out before they were read
+pub nothing_read : (tells talks : Type 0) {host : Seen} {Unread : Type 0} (words : List (List ℕ)) (reading : Option (Job × ℕ)) → job_of words ≡ reading → HasImages reading host → Still host host
+    → (tells → length host.content ≡ length host.sizes) → (tells → (disk : ℕ) → disk < length host.sizes → length (image host.content disk) / 512 ≡ slice_index host.sizes disk) → Unread
+    → OfJob reading Unread (λ job. DoesJob tells talks job host host NoMemory)
+nothing_read tells talks words None is images still one_each lengths unread = unread
+nothing_read tells talks {host} words (Some reading) is images still one_each lengths unread =
+    let kept = reading_of words reading is in
+    undone (failing host host NoMemory tt) refl still one_each lengths reading.0 (subst (λ (n : ℕ). HasSome reading.0 n) (sym images) (has_some reading.0 reading.1 kept.count kept.limits)) (unheard_input talks host (kind_of reading.0))

@@ -13,10 +13,11 @@ pub mod OpenLaws
 pub mod DoingLaws
 pub mod EditState
 pub mod GroupEnds
+pub mod StillLaws
+pub mod JobLaws
+pub mod RunLaws
 pub mod HearsEdits
 pub mod SampleLaws
 pub mod SampleLines
-pub mod JobLaws
 pub mod KindLaws
-pub mod StreamLaws
 pub mod DumpLaws

@@ -1,20 +1,21 @@
 -- How the making of a new group ends.
-use Rattle.std.proofs.Common.{◌≡◌, ◌≢◌, inl, inr, ⊎_elim, ℕ, ◌<◌, List, [], ◌++◌, map, length, Some, None, refl, sym, ap, subst, ◌∙◌, arith, length-append}
+use Rattle.std.proofs.Common.{◌≡◌, ◌≢◌, inr, ⊎_elim, ℕ, ◌<◌, List, [], ◌++◌, map, length, Some, None, refl, sym, ap, subst, ◌∙◌, arith, length-append}
 use Rattle.std.proofs.lemmas.List.{same_lists, get_or_default}
 use Rattle.ldm_host.specs.Seen.{Seen, Leaves, image}
 use Rattle.ldm_host.specs.Moves.{Begins, Later, Quiet, Rose, Still}
-use Rattle.ldm_host.proofs.Relations.{later_trans, moments_trans, rose_sooner}
+use Rattle.ldm_host.proofs.Relations.{later_trans, moments_trans}
 use Rattle.ldm_label.specs.Fields.{sectors_of}
+use Rattle.ldm_words.specs.declared.job.Job.TheVariants.{Init}
 use Rattle.ldm_init.specs.declared.faults.InitFault.{InitFault}
 use Rattle.ldm_init.specs.Faults.{IsInitFault}
 use Rattle.ldm_init.specs.Images.{AreNewImages, HoldNewGroup, IsInitMoment, NothingPending}
 use Rattle.ldm_init.proofs.StartLaws.{one_fault}
 use Rattle.ldm_run.specs.declared.running.Status.{Status}
 use Rattle.ldm_run.specs.declared.running.Status.TheVariants.{Done, Refused, DiskFault, NoMemory}
-use Rattle.ldm_run.specs.Said.{refused}
+use Rattle.ldm_run.specs.Said.{HasAnswer, refused}
 use Rattle.ldm_run.specs.Making.{text_of_init_fault, made_text, IsInitAnswer, MakesDisks, MakesAtMoment}
-use Rattle.ldm_run.specs.Runs.{MakesGroup, OnlyReads}
-use Rattle.ldm_run.proofs.Saying.{answers_as, reads_first}
+use Rattle.ldm_run.specs.Runs.{DoesJob, OnlyReads}
+use Rattle.ldm_run.proofs.Saying.{ends_first, ends_silent, failing, says_first}
 
 -- what says nothing doesn't say the reply
 not_said : (before text : List ℕ) → text ≡ before → Begins (before ++ made_text) text → ⊥
@@ -42,12 +43,9 @@ module _ (tells : Type 0) (name : List ℕ) (guid : ℕ) (guids : List ℕ) (old
 
   -- a disk failed
   pub fails_making : Later old mid → Quiet old mid → Rose old.disk_faults mid.disk_faults → Moments → (tells → (fault : InitFault) → IsInitFault guids old.content (Some fault) → Still old mid)
-      → MakesGroup tells name guid guids old mid DiskFault
+      → {talks : Type 0} → DoesJob tells talks (Init name guid guids) old mid DiskFault
   fails_making later quiet rose moments faulty = record {
-    answers = λ told. record { whole = λ no. absurd no; since = later.said; front = inl quiet.said };
-    no_usage = λ is. absurd cc;
-    causes = record { disk = λ is. rose; talk = λ is. absurd cc };
-    silent = λ silent. quiet.said;
+    ends = ends_silent (failing old mid DiskFault rose) quiet.said later.said;
     disks = record {
       later = later;
       made = λ told none has. ⊎_elim (λ is. absurd cc) (λ says. absurd (not_said old.said mid.said quiet.said says)) has;
@@ -55,37 +53,17 @@ module _ (tells : Type 0) (name : List ℕ) (guid : ℕ) (guids : List ℕ) (old
       refused = λ is. absurd cc;
       no_memory = λ is. absurd cc;
     };
-    input = record { input = quiet.input; heard = quiet.heard };
+    talk = record { input = record { input = quiet.input; heard = quiet.heard }; silent = λ silent. quiet.said };
     stops = λ told nothing none images text left. unmade name guid guids old images text (moments told nothing none images text left);
+    since_syncs = tt;
   }
 
-  -- memory ran out
-  pub lacks_memory : Still old mid → Quiet old mid → Moments → MakesGroup tells name guid guids old mid NoMemory
-  lacks_memory still quiet moments = record {
-    answers = λ told. record { whole = λ no. absurd no; since = still.later.said; front = inl quiet.said };
-    no_usage = λ is. absurd cc;
-    causes = record { disk = λ is. absurd cc; talk = λ is. absurd cc };
-    silent = λ silent. quiet.said;
-    disks = record {
-      later = still.later;
-      made = λ told none has. ⊎_elim (λ is. absurd cc) (λ says. absurd (not_said old.said mid.said quiet.said says)) has;
-      faulty = λ told fault is. still;
-      refused = λ is. absurd cc;
-      no_memory = λ is. still;
-    };
-    input = record { input = quiet.input; heard = quiet.heard };
-    stops = λ told nothing none images text left. unmade name guid guids old images text (moments told nothing none images text left);
-  }
-
-  module _ {talks : Type 0} {new : Seen} {status : Status} (both : tells → talks) where
+  module _ {talks own : Type 0} {new : Seen} {status : Status} (both : tells → own) where
     -- the disks have a fault
     pub refuses : (fault : InitFault) → Still old mid → Quiet old mid → (tells → IsInitFault guids old.content (Some fault))
-        → OnlyReads talks mid new (λ answer. answer ≡ refused (text_of_init_fault fault)) status → MakesGroup tells name guid guids old new status
+        → OnlyReads own mid new (λ answer. answer ≡ refused (text_of_init_fault fault)) status → DoesJob tells talks (Init name guid guids) old new status
     refuses fault still quiet is last = record {
-      answers = reads.answers;
-      no_usage = reads.no_usage;
-      causes = reads.causes;
-      silent = reads.silent;
+      ends = reads.ends;
       disks = record {
         later = reads.still.later;
         made = λ told none has. absurd (two_faults guids old.content fault (is told) none);
@@ -93,26 +71,21 @@ module _ (tells : Type 0) (name : List ℕ) (guid : ℕ) (guids : List ℕ) (old
         refused = λ same. reads.still;
         no_memory = λ same. reads.still;
       };
-      input = reads.input;
+      talk = record { input = reads.input; silent = reads.silent };
       stops = λ told nothing none. absurd (two_faults guids old.content fault (is told) none);
+      since_syncs = tt;
     }
       where
         reads : OnlyReads tells old new (IsInitAnswer guids old.content) status
-        reads = reads_first last quiet still both (λ told answer e. (Some fault, is told, e))
+        reads = says_first last quiet still both (λ told answer e. (Some fault, is told, e))
 
     -- the group was made, and that is said
     pub makes : Later old mid → Quiet old mid → (tells → IsInitFault guids old.content None) → Moments → NothingPending mid
         → (tells → AreNewImages name guid guids old.sizes old.content mid.content) → (tells → NothingPending old → HoldNewGroup name guid guids old.sizes mid.content)
         → (tells → length mid.content ≡ length mid.sizes) → ((images : List (List ℕ)) → Leaves mid images → mid.left_since old.clock images mid.said)
-        → OnlyReads talks mid new (λ answer. answer ≡ (made_text, Done)) status → status ≢ Refused → status ≢ NoMemory → MakesGroup tells name guid guids old new status
+        → OnlyReads own mid new (λ answer. answer ≡ (made_text, Done)) status → status ≢ Refused → status ≢ NoMemory → DoesJob tells talks (Init name guid guids) old new status
     makes later quiet none moments settled images holds counts now last not_refused not_memory = record {
-      answers = λ told. answers_as old mid new _ (IsInitAnswer guids old.content) status quiet.said (λ answer e. (None, none told, e)) (last.answers (both told));
-      no_usage = last.no_usage;
-      causes = record {
-        disk = λ is. rose_sooner old.disk_faults mid.disk_faults new.disk_faults later.disk_faults (last.causes.disk is);
-        talk = λ is. rose_sooner old.talk_faults mid.talk_faults new.talk_faults later.talk_faults (last.causes.talk is);
-      };
-      silent = λ silent. last.silent silent ∙ quiet.said;
+      ends = ends_first last.ends later quiet.said both (λ told answer e. (None, none told, e));
       disks = record {
         later = later_trans old mid new later last.still.later;
         made = λ told free has. record {
@@ -125,7 +98,8 @@ module _ (tells : Type 0) (name : List ℕ) (guid : ℕ) (guids : List ℕ) (old
         refused = λ is. absurd (not_refused is);
         no_memory = λ is. absurd (not_memory is);
       };
-      input = record { input = last.input.input ∙ quiet.input; heard = last.input.heard ∙ quiet.heard };
+      talk = record { input = record { input = last.input.input ∙ quiet.input; heard = last.input.heard ∙ quiet.heard }; silent = λ silent. last.silent silent ∙ quiet.said };
+      since_syncs = tt;
       stops = λ told nothing free. moments_trans old mid new (MakesAtMoment name guid guids old) later last.still.later
           (λ images text left. unmade name guid guids old images text (moments told nothing free images text left))
           (λ images text left.
@@ -144,11 +118,11 @@ module _ (tells : Type 0) (name : List ℕ) (guid : ℕ) (guids : List ℕ) (old
             let near : k < length mid.sizes = omega (arith, lt, leaves.one_each) in
             get_or_default images k d [] lt ∙ settled k near (image images k) (leaves.each k near) ∙ get_or_default mid.content k [] d (omega (arith, near, counts told)))
 
--- where nothing was done, since memory ran out before
-pub unmade_disks : (tells : Type 0) (name : List ℕ) (guid : ℕ) (guids : List ℕ) (host : Seen) → Still host host → MakesDisks tells name guid guids host host NoMemory
-unmade_disks tells name guid guids host still = record {
+-- where nothing was done, since memory or the talk failed before
+pub unmade_disks : (tells : Type 0) (name : List ℕ) (guid : ℕ) (guids : List ℕ) (old new : Seen) (status : Status) → Still old new → new.said ≡ old.said → (HasAnswer status → ⊥) → MakesDisks tells name guid guids old new status
+unmade_disks tells name guid guids old new status still silent none = record {
   later = still.later;
-  made = λ told none has. ⊎_elim (λ is. absurd cc) (λ says. absurd (not_said host.said host.said refl says)) has;
+  made = λ told free has. ⊎_elim (λ is. absurd (none (subst HasAnswer (sym is) tt))) (λ says. absurd (not_said old.said new.said silent says)) has;
   faulty = λ told fault is. still;
   refused = λ is. still;
   no_memory = λ is. still;

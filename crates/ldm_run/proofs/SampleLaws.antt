@@ -36,7 +36,7 @@ use Rattle.ldm_run.specs.Scripts.{is_long, commands_in, is_refused, replies_from
 use Rattle.ldm_run.specs.Answer.{group_answer, IsAnswerToScript}
 use Rattle.ldm_run.specs.Stops.{lines_unless, commands_of, answered, Reopens}
 use Rattle.ldm_run.specs.Written.{HoldsAfter}
-use Rattle.ldm_run.specs.Editing.{HearsAndEdits}
+use Rattle.ldm_run.specs.Runs.{DoesJob}
 use Rattle.ldm_run.specs.Sample.{text_of_summary, summary_of, sample_lines, IsSampleAnswer, IsSampleStart, IsSampleHost}
 use Rattle.ldm_run.proofs.LineCounts.{line_count, reply_lines}
 use Rattle.ldm_run.proofs.SampleLines.{is_undone, undone_refused}
@@ -79,7 +79,7 @@ pub holds_now : (m : MemoryHost) → (memory_seen m).left_since 0 (memory_seen m
 holds_now m = law_counts_now m 0 (memory_seen m).content (omega arith) (record { one_each = law_one_each m; each = λ disk lt. law_may_stay m disk })
 
 module _ {seed : ℕ} {start : MemoryHost} (host : MemoryHost) {status : Status} {found : Found} (starts : IsSampleStart seed found start) (short : length (script_of seed) ≤ 20000)
-    (does : HearsAndEdits ⊤ ⊤ (memory_seen start) (memory_seen host) status) (has : HasAnswer status) (dry : (counts_of host).dry ≡ 0) (first : (memory_seen start).left_since 0 (memory_seen start).content (memory_seen start).said) where
+    (does : DoesJob ⊤ ⊤ Edit (memory_seen start) (memory_seen host) status) (has : HasAnswer status) (dry : (counts_of host).dry ≡ 0) (first : (memory_seen start).left_since 0 (memory_seen start).content (memory_seen start).said) where
   not_long : is_long (memory_seen start).input ≡ false
   not_long = le-ltb 1048576 (length (memory_seen start).input) (rw starts.input (omega (arith, short)))
 
@@ -87,12 +87,12 @@ module _ {seed : ℕ} {start : MemoryHost} (host : MemoryHost) {status : Status}
   lines_are = ap (λ (b : Bool). lines_unless b (memory_seen start).input) not_long ∙ ap commands_in starts.input
 
   heard_all : (memory_seen host).input ≡ []
-  heard_all = ⊎_elim (λ none. none) (λ long. absurd (let few = starts.input in omega (arith, long, short, ap length starts.input))) ((does.input tt).whole has)
+  heard_all = ⊎_elim (λ none. none) (λ long. absurd (let few = starts.input in omega (arith, long, short, ap length starts.input))) ((does.talk.input tt).whole has)
 
   heard_is : (memory_seen host).heard ≡ script_of seed
   heard_is =
-      let takes = (does.input tt).takes in
-      let taken = (does.input tt).taken in
+      let takes = (does.talk.input tt).takes in
+      let taken = (does.talk.input tt).taken in
       takes.heard ∙ ap (λ (l : List ℕ). l ++ taken) starts.heard ∙ sym (append-nil taken) ∙ ap (λ (l : List ℕ). taken ++ l) (sym heard_all) ∙ sym takes.input ∙ starts.input
 
   text_is : (answer : Answer) → IsAnswerToScript (is_long (memory_seen start).input) (memory_seen start).input (memory_seen start).content answer
@@ -108,7 +108,7 @@ module _ {seed : ℕ} {start : MemoryHost} (host : MemoryHost) {status : Status}
 
   said_is : (memory_seen host).said ≡ text_of_replies 1 (replies_to found.labels found.db (sample_lines seed))
   said_is =
-      let whole = (does.answers tt).whole has in
+      let whole = (does.ends.answers tt).whole has in
       whole.2.said ∙ ap (λ (l : List ℕ). l ++ whole.0.0) starts.said ∙ text_is whole.0 whole.1
 
   pub sampled : IsSampleHost seed host

@@ -1,36 +1,54 @@
 -- What was said, and how a run goes on.
-use Rattle.std.proofs.Common.{◌≡◌, ◌≢◌, inl, inr, ⊎_elim, ℕ, List, ◌++◌, take, drop, refl, sym, ◌∙◌, ap, append_assoc}
+use Rattle.std.proofs.Common.{◌≡◌, ◌≢◌, inl, inr, ⊎_elim, ℕ, List, ◌++◌, take, drop, refl, sym, ◌∙◌, ap, subst, append_assoc}
 use Rattle.std.proofs.lemmas.List.{take-append-drop}
 use Rattle.ldm_host.specs.Seen.{Seen}
-use Rattle.ldm_host.specs.Moves.{Rose, Quiet, Still}
+use Rattle.ldm_host.specs.Moves.{Begins, Later, Quiet, Rose, Still}
+use Rattle.ldm_host.specs.StoryLaws.{begins_itself}
 use Rattle.ldm_host.proofs.Relations.{rose_sooner, still_trans}
 use Rattle.ldm_run.specs.declared.running.Status.{Status}
 use Rattle.ldm_run.specs.declared.running.Status.TheVariants.{Done, Refused, Usage, DiskFault, NoMemory, TalkFault}
-use Rattle.ldm_run.specs.Said.{Answer}
+use Rattle.ldm_run.specs.Said.{Answer, HasAnswer, SaysNothing}
+use Rattle.ldm_run.specs.Heard.{TalkFails}
 use Rattle.ldm_run.specs.Kinds.{SameInput}
-use Rattle.ldm_run.specs.Runs.{Answers, Completes, Causes, NoFault, OnlyReads}
+use Rattle.ldm_run.specs.Editing.{EditFails}
+use Rattle.ldm_run.specs.Runs.{Answers, Completes, Causes, Ends, NoFault, OnlyReads, Says}
 
--- a part of the text was said, since the talk failed
-pub talk_failed : {tells : Type 0} {old new : Seen} {text : List ℕ} {wanted : Status} (n : ℕ) → new.said ≡ old.said ++ take n text → Rose old.talk_faults new.talk_faults → Still old new
-    → SameInput old new → OnlyReads tells old new (λ answer. answer ≡ (text, wanted)) TalkFault
-talk_failed {tells} {old} {new} {text} {wanted} n said rose still input = record {
-  answers = λ told. record {
-    whole = λ no. absurd no;
-    since = still.later.said;
-    front = inr (
-      (text, wanted),
-      refl,
-      (
-        drop n text,
-        ap (λ (l : List ℕ). old.said ++ l) (sym (take-append-drop n text)) ∙ sym (append_assoc old.said (take n text) (drop n text)) ∙ ap (λ (l : List ℕ). l ++ drop n text) (sym said),
-      ),
-    );
-  };
-  no_usage = λ is. cc;
-  causes = record { disk = λ is. absurd cc; talk = λ is. rose };
-  silent = λ silent. absurd silent;
-  still = still;
-  input = input;
+-- ---- statuses
+
+-- the status of an answer is none of the others
+pub not_fault : {status fault : Status} → HasAnswer status → (HasAnswer fault → ⊥) → status ≢ fault
+not_fault has none = λ is. none (subst HasAnswer is has)
+
+-- what follows where a disk, the talk or memory failed
+pub record Failing (old new : Seen) (status : Status) : Type 0 where
+  pub none : HasAnswer status → ⊥
+  pub no_usage : status ≢ Usage
+  pub causes : Causes old new status
+
+pub failing : (old new : Seen) (status : Status) → EditFails old new status → Failing old new status
+failing old new DiskFault rose = record { none = λ has. has; no_usage = λ is. cc; causes = record { disk = λ is. rose; talk = λ is. absurd cc } }
+failing old new TalkFault rose = record { none = λ has. has; no_usage = λ is. cc; causes = record { disk = λ is. absurd cc; talk = λ is. rose } }
+failing old new NoMemory free = record { none = λ has. has; no_usage = λ is. cc; causes = record { disk = λ is. absurd cc; talk = λ is. absurd cc } }
+failing old new Done never = absurd never
+failing old new Refused never = absurd never
+failing old new Usage never = absurd never
+
+-- where no disk failed
+pub talk_failing : {old new : Seen} (status : Status) → TalkFails old new status → Failing old new status × (status ≢ DiskFault)
+talk_failing {old} {new} TalkFault rose = (failing old new TalkFault rose, λ is. cc)
+talk_failing {old} {new} NoMemory free = (failing old new NoMemory free, λ is. cc)
+talk_failing Done never = absurd never
+talk_failing Refused never = absurd never
+talk_failing Usage never = absurd never
+talk_failing DiskFault never = absurd never
+
+-- ---- how a job ends
+
+-- a fault since a later state is one since the old
+pub causes_since : (old mid new : Seen) (status : Status) → Later old mid → Causes mid new status → Causes old new status
+causes_since old mid new status later causes = record {
+  disk = λ is. rose_sooner old.disk_faults mid.disk_faults new.disk_faults later.disk_faults (causes.disk is);
+  talk = λ is. rose_sooner old.talk_faults mid.talk_faults new.talk_faults later.talk_faults (causes.talk is);
 }
 
 -- what was quiet before adds nothing, and what is an answer of one kind may be one of another
@@ -45,46 +63,42 @@ answers_as old mid new IsOne IsOther status same turn a = record {
       a.front;
 }
 
--- a fault since a later state is one since the old
-pub causes_sooner : (old mid new : Seen) (status : Status) → Still old mid → Causes mid new status → Causes old new status
-causes_sooner old mid new status still causes = record {
-  disk = λ is. rose_sooner old.disk_faults mid.disk_faults new.disk_faults still.later.disk_faults (causes.disk is);
-  talk = λ is. rose_sooner old.talk_faults mid.talk_faults new.talk_faults still.later.talk_faults (causes.talk is);
-}
-
--- what is quiet and changes no disk may come before
-pub reads_first : {talks tells : Type 0} {old mid new : Seen} {IsOne IsOther : Answer → Type 0} {status : Status} → OnlyReads talks mid new IsOne status → Quiet old mid → Still old mid
-    → (tells → talks) → (tells → (answer : Answer) → IsOne answer → IsOther answer) → OnlyReads tells old new IsOther status
-reads_first {talks} {tells} {old} {mid} {new} {IsOne} {IsOther} {status} last quiet still both turn = record {
-  answers = λ told. answers_as old mid new IsOne IsOther status quiet.said (turn told) (last.answers (both told));
+pub ends_first : {talks tells : Type 0} {old mid new : Seen} {IsOne IsOther : Answer → Type 0} {status : Status} → Ends talks mid new IsOne status → Later old mid → mid.said ≡ old.said
+    → (tells → talks) → (tells → (answer : Answer) → IsOne answer → IsOther answer) → Ends tells old new IsOther status
+ends_first {talks} {tells} {old} {mid} {new} {IsOne} {IsOther} {status} last later same both turn = record {
+  answers = λ told. answers_as old mid new IsOne IsOther status same (turn told) (last.answers (both told));
   no_usage = last.no_usage;
-  causes = causes_sooner old mid new status still last.causes;
-  silent = λ silent. last.silent silent ∙ quiet.said;
-  still = still_trans old mid new still last.still;
-  input = record { input = last.input.input ∙ quiet.input; heard = last.input.heard ∙ quiet.heard };
+  causes = causes_since old mid new status later last.causes;
 }
 
--- what is an answer of one kind may be one of another
-pub reads_as : {talks tells : Type 0} {old new : Seen} {IsOne IsOther : Answer → Type 0} {status : Status} → OnlyReads talks old new IsOne status
-    → (tells → talks) → (tells → (answer : Answer) → IsOne answer → IsOther answer) → OnlyReads tells old new IsOther status
-reads_as {talks} {tells} {old} {new} {IsOne} {IsOther} {status} reads both turn = record {
-  answers = λ told. answers_as old old new IsOne IsOther status refl (turn told) (reads.answers (both told));
-  no_usage = reads.no_usage;
-  causes = reads.causes;
-  silent = reads.silent;
-  still = reads.still;
-  input = reads.input;
+-- an answer was said whole
+pub ends_whole : {tells : Type 0} {old new : Seen} {answer : Answer} {status : Status} → HasAnswer status → (tells → status ≡ answer.1) → (tells → new.said ≡ old.said ++ answer.0) → Begins old.said new.said
+    → Ends tells old new (λ a. a ≡ answer) status
+ends_whole {tells} {old} {new} {answer} {status} has is said since = record {
+  answers = λ told. record {
+    whole = λ _. (answer, refl, record { status_is = is told; said = said told });
+    since = since;
+    front = inr (answer, refl, subst (λ (l : List ℕ). Begins new.said l) (said told) (begins_itself new.said));
+  };
+  no_usage = not_fault has (λ no. no);
+  causes = record { disk = λ is. absurd (not_fault {fault = DiskFault} has (λ no. no) is); talk = λ is. absurd (not_fault {fault = TalkFault} has (λ no. no) is) };
 }
 
--- where memory fails before a call is made
-pub reads_nothing : {tells : Type 0} {host : Seen} {IsOne : Answer → Type 0} → Still host host → OnlyReads tells host host IsOne NoMemory
-reads_nothing {tells} {host} still = record {
-  answers = λ told. record { whole = λ no. absurd no; since = still.later.said; front = inl refl };
-  no_usage = λ is. absurd cc;
-  causes = record { disk = λ is. absurd cc; talk = λ is. absurd cc };
-  silent = λ silent. refl;
-  still = still;
-  input = record { input = refl; heard = refl };
+-- a part of one was said
+pub ends_part : {tells : Type 0} {old new : Seen} {answer : Answer} {status : Status} → Failing old new status → (tells → Begins new.said (old.said ++ answer.0)) → Begins old.said new.said
+    → Ends tells old new (λ a. a ≡ answer) status
+ends_part {answer = answer} fails front since = record {
+  answers = λ told. record { whole = λ has. absurd (fails.none has); since = since; front = inr (answer, refl, front told) };
+  no_usage = fails.no_usage;
+  causes = fails.causes;
+}
+
+-- nothing was said
+pub ends_silent : {tells : Type 0} {old new : Seen} {IsOne : Answer → Type 0} {status : Status} → Failing old new status → new.said ≡ old.said → Begins old.said new.said → Ends tells old new IsOne status
+ends_silent fails silent since = record {
+  answers = λ told. record { whole = λ has. absurd (fails.none has); since = since; front = inl silent };
+  no_usage = fails.no_usage;
+  causes = fails.causes;
 }
 
 -- Where no count rose, an answer that isn't want of memory is whole.
@@ -96,3 +110,68 @@ complete old new IsOne Usage usage a c n m = usage refl
 complete old new IsOne DiskFault usage a c n m = absurd (n.disk (c.disk refl))
 complete old new IsOne NoMemory usage a c n m = absurd (m refl)
 complete old new IsOne TalkFault usage a c n m = absurd (n.talk (c.talk refl))
+
+-- ---- what only says an answer
+
+-- what is quiet and changes no disk may come before
+pub says_first : {talks tells : Type 0} {IsSilent : Status → Type 0} {old mid new : Seen} {IsOne IsOther : Answer → Type 0} {status : Status} → Says talks IsSilent mid new IsOne status → Quiet old mid → Still old mid
+    → (tells → talks) → (tells → (answer : Answer) → IsOne answer → IsOther answer) → Says tells IsSilent old new IsOther status
+says_first {talks} {tells} {IsSilent} {old} {mid} {new} {IsOne} {IsOther} {status} last quiet still both turn = record {
+  ends = ends_first last.ends still.later quiet.said both turn;
+  silent = λ is. last.silent is ∙ quiet.said;
+  still = still_trans old mid new still last.still;
+  input = record { input = last.input.input ∙ quiet.input; heard = last.input.heard ∙ quiet.heard };
+}
+
+-- what is an answer of one kind may be one of another
+pub says_as : {talks tells : Type 0} {IsSilent : Status → Type 0} {old new : Seen} {IsOne IsOther : Answer → Type 0} {status : Status} → Says talks IsSilent old new IsOne status
+    → (tells → talks) → (tells → (answer : Answer) → IsOne answer → IsOther answer) → Says tells IsSilent old new IsOther status
+says_as {talks} {tells} {IsSilent} {old} {new} {IsOne} {IsOther} {status} says both turn = record {
+  ends = record { answers = λ told. answers_as old old new IsOne IsOther status refl (turn told) (says.ends.answers (both told)); no_usage = says.ends.no_usage; causes = says.ends.causes };
+  silent = says.silent;
+  still = says.still;
+  input = says.input;
+}
+
+-- what is said at once is said after all that may fail
+pub says_at_once : {tells : Type 0} {fault : Status} {old new : Seen} {IsOne : Answer → Type 0} {status : Status} → SaysNothing fault → OnlyReads tells old new IsOne status
+    → Says tells (λ s. s ≡ fault) old new IsOne status
+says_at_once none reads = record { ends = reads.ends; silent = λ is. reads.silent (subst SaysNothing (sym is) none); still = reads.still; input = reads.input }
+
+-- all was said
+pub says_all : {tells : Type 0} {fault : Status} {old new : Seen} {answer : Answer} {status : Status} → (HasAnswer fault → ⊥) → HasAnswer status → (tells → status ≡ answer.1) → (tells → new.said ≡ old.said ++ answer.0)
+    → Still old new → SameInput old new → Says tells (λ s. s ≡ fault) old new (λ a. a ≡ answer) status
+says_all {fault = fault} none has is said still input = record {
+  ends = ends_whole has is said still.later.said;
+  silent = λ is. absurd (not_fault {fault = fault} has none is);
+  still = still;
+  input = input;
+}
+
+-- a fault came in the middle
+pub says_part : {tells : Type 0} {IsSilent : Status → Type 0} {old new : Seen} {answer : Answer} {status : Status} → (IsSilent status → ⊥) → Failing old new status → (tells → Begins new.said (old.said ++ answer.0))
+    → Still old new → SameInput old new → Says tells IsSilent old new (λ a. a ≡ answer) status
+says_part loud fails front still input = record {
+  ends = ends_part fails front still.later.said;
+  silent = λ is. absurd (loud is);
+  still = still;
+  input = input;
+}
+
+-- something failed before anything was said
+pub says_nothing : {tells : Type 0} {IsSilent : Status → Type 0} {old new : Seen} {IsOne : Answer → Type 0} {status : Status} → Failing old new status → Quiet old new → Still old new → Says tells IsSilent old new IsOne status
+says_nothing fails quiet still = record {
+  ends = ends_silent fails quiet.said still.later.said;
+  silent = λ is. quiet.said;
+  still = still;
+  input = record { input = quiet.input; heard = quiet.heard };
+}
+
+-- the talk failed in the middle of the text
+pub talk_failed : {tells : Type 0} {old new : Seen} {text : List ℕ} {wanted : Status} (n : ℕ) → new.said ≡ old.said ++ take n text → Rose old.talk_faults new.talk_faults → Still old new
+    → SameInput old new → OnlyReads tells old new (λ answer. answer ≡ (text, wanted)) TalkFault
+talk_failed {tells} {old} {new} {text} {wanted} n said rose still input =
+    says_part (λ silent. silent) (failing old new TalkFault rose) (λ told. (
+      drop n text,
+      ap (λ (l : List ℕ). old.said ++ l) (sym (take-append-drop n text)) ∙ sym (append_assoc old.said (take n text) (drop n text)) ∙ ap (λ (l : List ℕ). l ++ drop n text) (sym said),
+    )) still input

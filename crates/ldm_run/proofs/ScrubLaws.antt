@@ -1,5 +1,5 @@
 -- What is answered where the copies or the rows of a volume are to be compared.
-use Rattle.std.proofs.Common.{◌≡◌, ◌≢◌, ℕ, ◌==◌, Bool, true, false, List, codes, Option, Some, None, Result, Ok, if◌then◌else◌, ap, sym, ◌∙◌, subst}
+use Rattle.std.proofs.Common.{◌≡◌, ℕ, ◌==◌, Bool, true, false, List, codes, Option, Some, None, Result, Ok, if◌then◌else◌, ap, sym, ◌∙◌}
 use Rattle.ldm_records.specs.declared.types.Volume.{Volume}
 use Rattle.ldm_group.specs.Looks.{volume_named}
 use Rattle.ldm_layout.specs.Layouts.{Layout}
@@ -9,7 +9,6 @@ use Rattle.ldm_found.specs.declared.found.Found.{Found}
 use Rattle.ldm_scrub.specs.Missing.{missing_of}
 use Rattle.ldm_run.specs.Said.{HasAnswer, refused}
 use Rattle.ldm_run.specs.Streaming.{laid_answer, named_answer, is_compared, status_of, places_answer, volume_scrub, scrub_answer}
-use Rattle.ldm_run.specs.declared.running.Status.{Status}
 use Rattle.ldm_run.specs.declared.running.Status.TheVariants.{Done, Refused}
 
 -- the status of a count is an answer's
@@ -19,10 +18,6 @@ status_answers bad = go (bad == 0)
     go : (b : Bool) → HasAnswer (if b then Done else Refused)
     go true = tt
     go false = tt
-
--- and so it is none of the others
-pub not_fault : {status fault : Status} → HasAnswer status → (HasAnswer fault → ⊥) → status ≢ fault
-not_fault has none = λ is. none (subst HasAnswer is has)
 
 -- where no volume has the name
 pub no_scrub : (name : List ℕ) (images : List (List ℕ)) (found : Found) → volume_named name found.db.records ≡ None → refused (codes "no volume") ≡ scrub_answer name images found

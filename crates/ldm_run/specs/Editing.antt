@@ -1,12 +1,11 @@
 -- What becomes of the host while lines are done to a group, each on all disks and then answered.
-use Rattle.std.specs.Prelude.{◌≡◌, ◌≢◌, ◌⊎◌, ℕ, Bool, false, List, ◌++◌, Option}
+use Rattle.std.specs.Prelude.{◌≡◌, ◌⊎◌, ℕ, Bool, false, List, ◌++◌, Option}
 use Rattle.ldm_host.specs.Seen.{Seen}
 use Rattle.ldm_host.specs.Moves.{Rose, Begins, Later}
 use Rattle.ldm_label.specs.declared.Label.{Label}
 use Rattle.ldm_group.specs.Database.{Database}
 use Rattle.ldm_copy.specs.declared.answer.CopyState.TheVariants.{Valid}
 use Rattle.ldm_words.specs.declared.command.Command.{Command}
-use Rattle.ldm_words.specs.declared.job.Job.TheVariants.{Edit}
 use Rattle.ldm_edits.specs.Steps.{Turn, turn_of, group_after, replies_to}
 use Rattle.ldm_found.specs.Labels.{AreSameOutside}
 use Rattle.ldm_store.specs.Kept.{IsCurrent, Opens}
@@ -14,15 +13,14 @@ use Rattle.ldm_store.specs.Turning.{AllSettled, AllHave}
 use Rattle.ldm_store.specs.Sessions.{Opened, state_in}
 use Rattle.ldm_group_text.specs.Reply.{text_of_reply}
 use Rattle.ldm_run.specs.declared.running.Status.{Status}
-use Rattle.ldm_run.specs.declared.running.Status.TheVariants.{Usage, DiskFault, NoMemory, TalkFault}
+use Rattle.ldm_run.specs.declared.running.Status.TheVariants.{DiskFault, NoMemory, TalkFault}
 use Rattle.ldm_run.specs.Said.{HasAnswer}
 use Rattle.ldm_run.specs.Scripts.{is_refused, replies_from, try_answer}
-use Rattle.ldm_run.specs.Answer.{IsGroupAnswer, IsJobAnswer}
+use Rattle.ldm_run.specs.Answer.{IsGroupAnswer}
 use Rattle.ldm_run.specs.Kinds.{SameInput, SaysLines, NothingPending}
-use Rattle.ldm_run.specs.Stops.{Reopens, EveryStopReopens, EveryStopSinceSyncs, JobStops, JobSinceSyncs}
-use Rattle.ldm_run.specs.Written.{EditsDisks, JobDisks}
-use Rattle.ldm_run.specs.Heard.{HearsScript}
-use Rattle.ldm_run.specs.Runs.{Answers, Causes}
+use Rattle.ldm_run.specs.Stops.{Reopens, EveryStopReopens, EveryStopSinceSyncs}
+use Rattle.ldm_run.specs.Written.{EditsDisks}
+use Rattle.ldm_run.specs.Runs.{Ends}
 
 -- a disk or the talk failed, or memory did
 abbrev pub EditFails : Seen → Seen → Status → Type 0
@@ -66,11 +64,9 @@ AreWritten labels before after old new = AllHave labels new (λ copy. copy ≡ V
 
 -- What is done to the group of a session whose copies are open and that has no batch open, with these lines.
 pub record DoesLines (tells : Type 0) (session : Opened) (lines : List (Option Command)) (old new : Seen) (status : Status) : Type 0 where
+  pub ends : Ends tells old new (λ answer. answer ≡ replies_from 1 (replies_to session.labels session.db lines)) status
   pub later : Later old new
   pub input : SameInput old new
-  pub no_usage : status ≢ Usage
-  pub causes : Causes old new status
-  pub answers : tells → Answers old new (λ answer. answer ≡ replies_from 1 (replies_to session.labels session.db lines)) status
   -- what was said before a disk fails is whole lines
   pub whole_lines : tells → status ≡ DiskFault → SaysLines old new
   pub stops : tells → (images : List (List ℕ)) (said : List ℕ) → new.left_since old.clock images said → Reopens session.labels session.db lines old images said
@@ -80,22 +76,9 @@ pub record DoesLines (tells : Type 0) (session : Opened) (lines : List (Option C
 
 -- What is done to the group that the disks hold, with these lines.
 pub record DoesGroup (tells : Type 0) (lines : List (Option Command)) (old new : Seen) (status : Status) : Type 0 where
+  pub ends : Ends tells old new (IsGroupAnswer (try_answer lines) old.content) status
   pub input : SameInput old new
-  pub no_usage : status ≢ Usage
-  pub causes : Causes old new status
-  pub answers : tells → Answers old new (IsGroupAnswer (try_answer lines) old.content) status
   pub whole_lines : tells → status ≡ DiskFault → SaysLines old new
   pub stops : tells → NothingPending old → EveryStopReopens lines old new
   pub since_syncs : tells → EveryStopSinceSyncs lines old new
   pub disks : EditsDisks tells false lines old new status
-
--- What an edit does, which hears a script first.
-pub record HearsAndEdits (tells talks : Type 0) (old new : Seen) (status : Status) : Type 0 where
-  pub no_usage : status ≢ Usage
-  pub causes : Causes old new status
-  pub answers : tells → Answers old new (IsJobAnswer Edit old.content old.input) status
-  pub whole_lines : tells → status ≡ DiskFault → SaysLines old new
-  pub stops : JobStops tells Edit old new
-  pub since_syncs : JobSinceSyncs tells Edit old new
-  pub disks : JobDisks tells Edit old new status
-  pub input : talks → HearsScript old new status

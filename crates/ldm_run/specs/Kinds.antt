@@ -1,4 +1,4 @@
--- What a job asks of the disks, and what it leaves of the input and of what was said. This goes by its kind.
+-- What a job leaves of the talk: of the input, and of what was said. This goes by its kind.
 use Rattle.std.specs.Prelude.{◌≡◌, ◌⊎◌, ℕ, List, [], ◌∷◌, ◌++◌}
 use Rattle.ldm_host.specs.Seen.{Seen}
 pub use Rattle.ldm_init.specs.Images.{NothingPending}
@@ -40,16 +40,6 @@ kind_of (One command) = Does
 kind_of (Init name guid disks) = Makes
 kind_of (Sample seed) = Reads
 
--- What a job asks of the disks for its answer to be that of their content: nothing, where it only reads, or makes a new group
--- of what a read gives. One that changes a group asks that nothing is pending.
-abbrev pub JobPremise : Kind → Seen → Type 0
-JobPremise Reads host = Unit {0}
-JobPremise Streams host = Unit {0}
-JobPremise Hears host = Unit {0}
-JobPremise Edits host = NothingPending host
-JobPremise Does host = NothingPending host
-JobPremise Makes host = Unit {0}
-
 -- What is left of the input, also where the host tells it: all of it, by a job that hears no script. One that hears a
 -- script says it of a host that tells the talk.
 abbrev pub JobInput : Type 0 → Kind → Seen → Seen → Status → Type 0
@@ -73,3 +63,8 @@ JobSays tells Hears old new status = status ≡ DiskFault → new.said ≡ old.s
 JobSays tells Edits old new status = tells → status ≡ DiskFault → SaysLines old new
 JobSays tells Does old new status = status ≡ DiskFault → new.said ≡ old.said
 JobSays tells Makes old new status = SaysNothing status → new.said ≡ old.said
+
+-- what a job leaves of the talk
+pub record JobTalk (tells talks : Type 0) (kind : Kind) (old new : Seen) (status : Status) : Type 0 where
+  pub input : JobInput talks kind old new status
+  pub silent : JobSays tells kind old new status

@@ -1,12 +1,11 @@
 -- How a run of the program ends.
-use Rattle.std.specs.Prelude.{◌≡◌, ◌≢◌, ◌⊎◌, ℕ, List, ◌++◌, length, Option, Some, None}
+use Rattle.std.specs.Prelude.{◌≡◌, ◌≢◌, ◌⊎◌, ℕ, ◌++◌, length, Option, Some, None}
 use Rattle.ldm_host.specs.Seen.{Seen}
 use Rattle.ldm_host.specs.Moves.{Rose, Begins, Still}
 use Rattle.ldm_words.specs.declared.job.Job.{Job}
 use Rattle.ldm_run.specs.Said.{Answer, HasAnswer, SaysNothing}
-use Rattle.ldm_run.specs.Heard.{HearsScript}
-use Rattle.ldm_run.specs.Kinds.{kind_of, NothingPending, JobPremise, SameInput, JobInput, JobSays}
-use Rattle.ldm_run.specs.Making.{IsInitAnswer, MakesDisks, EveryStopMakes}
+use Rattle.ldm_run.specs.Answer.{IsJobAnswer}
+use Rattle.ldm_run.specs.Kinds.{kind_of, SameInput, JobTalk}
 use Rattle.ldm_run.specs.Stops.{JobStops, JobSinceSyncs}
 use Rattle.ldm_run.specs.Written.{JobDisks}
 use Rattle.ldm_run.specs.declared.running.Status.{Status}
@@ -42,77 +41,48 @@ abbrev pub HasImages : Option (Job × ℕ) → Seen → Type 0
 HasImages None host = Unit {0}
 HasImages (Some reading) host = length host.sizes ≡ reading.1
 
-abbrev pub Premise : Option (Job × ℕ) → Seen → Type 0
-Premise None host = Unit {0}
-Premise (Some reading) host = JobPremise (kind_of reading.0) host
+-- this holds where the words have no reading, and that of the job where they have one
+abbrev pub OfJob : Option (Job × ℕ) → Type 0 → (Job → Type 0) → Type 0
+OfJob None Unread Does = Unread
+OfJob (Some reading) Unread Does = Does reading.0
 
-abbrev pub DisksAfter : Type 0 → Option (Job × ℕ) → Seen → Seen → Status → Type 0
-DisksAfter tells None old new status = Still old new
-DisksAfter tells (Some reading) old new status = JobDisks tells reading.0 old new status
+-- the statuses of words that weren't read
+abbrev pub IsUnread : Status → Type 0
+IsUnread Usage = Unit {0}
+IsUnread NoMemory = Unit {0}
+IsUnread _ = ⊥
 
--- what a stop leaves at any moment
-abbrev pub StopsAfter : Type 0 → Option (Job × ℕ) → Seen → Seen → Type 0
-StopsAfter tells None old new = Unit {0}
-StopsAfter tells (Some reading) old new = JobStops tells reading.0 old new
-
--- the same, where anything was pending at the start
-abbrev pub StopsSinceSyncs : Type 0 → Option (Job × ℕ) → Seen → Seen → Type 0
-StopsSinceSyncs tells None old new = Unit {0}
-StopsSinceSyncs tells (Some reading) old new = JobSinceSyncs tells reading.0 old new
-
-abbrev pub InputAfter : Type 0 → Option (Job × ℕ) → Seen → Seen → Status → Type 0
-InputAfter tells None old new status = SameInput old new
-InputAfter tells (Some reading) old new status = JobInput tells (kind_of reading.0) old new status
-
--- what was said before a fault came
-abbrev pub SaysBefore : Type 0 → Option (Job × ℕ) → Seen → Seen → Status → Type 0
-SaysBefore tells None old new status = new.said ≡ old.said
-SaysBefore tells (Some reading) old new status = JobSays tells (kind_of reading.0) old new status
-
--- What a job that only reads does: it answers one of these, or says why not, and changes nothing.
-pub record OnlyReads (tells : Type 0) (old new : Seen) (IsOne : Answer → Type 0) (status : Status) : Type 0 where
+-- How a job ends: with one of these answers, or with a fault that has its cause.
+pub record Ends (tells : Type 0) (old new : Seen) (IsOne : Answer → Type 0) (status : Status) : Type 0 where
   pub answers : tells → Answers old new IsOne status
   pub no_usage : status ≢ Usage
   pub causes : Causes old new status
-  pub silent : SaysNothing status → new.said ≡ old.said
+
+-- What is done where one of these answers is said and nothing else is changed. With some statuses nothing was said.
+pub record Says (tells : Type 0) (IsSilent : Status → Type 0) (old new : Seen) (IsOne : Answer → Type 0) (status : Status) : Type 0 where
+  pub ends : Ends tells old new IsOne status
+  pub silent : IsSilent status → new.said ≡ old.said
   pub still : Still old new
   pub input : SameInput old new
 
--- What a job does that says its answer while it reads on: it changes nothing else. Where a disk or the talk fails in the middle,
--- what was said stays said. Want of memory comes before.
-pub record Streams (tells : Type 0) (old new : Seen) (IsOne : Answer → Type 0) (status : Status) : Type 0 where
-  pub answers : tells → Answers old new IsOne status
-  pub no_usage : status ≢ Usage
-  pub causes : Causes old new status
-  pub silent : status ≡ NoMemory → new.said ≡ old.said
-  pub still : Still old new
-  pub input : SameInput old new
+-- The disks are read, and then the answer is said.
+abbrev pub OnlyReads : Type 0 → Seen → Seen → (Answer → Type 0) → Status → Type 0
+OnlyReads tells old new IsOne status = Says tells SaysNothing old new IsOne status
 
--- What a job does that reads the disks and then says its answer piece by piece: it changes nothing else. Where memory or the
--- talk fails in the middle, what was said stays said.
-pub record Replies (tells : Type 0) (old new : Seen) (IsOne : Answer → Type 0) (status : Status) : Type 0 where
-  pub answers : tells → Answers old new IsOne status
-  pub no_usage : status ≢ Usage
-  pub causes : Causes old new status
-  pub silent : status ≡ DiskFault → new.said ≡ old.said
-  pub still : Still old new
-  pub input : SameInput old new
+-- The answer is said while the disks are read on. Where a disk or the talk fails in the middle, what was said stays said.
+-- Want of memory comes before.
+abbrev pub Streams : Type 0 → Seen → Seen → (Answer → Type 0) → Status → Type 0
+Streams tells old new IsOne status = Says tells (λ s. s ≡ NoMemory) old new IsOne status
 
--- What such a job does that hears a script first.
-pub record HearsAndReplies (tells talks : Type 0) (old new : Seen) (IsOne : Answer → Type 0) (status : Status) : Type 0 where
-  pub answers : tells → Answers old new IsOne status
-  pub no_usage : status ≢ Usage
-  pub causes : Causes old new status
-  pub silent : status ≡ DiskFault → new.said ≡ old.said
-  pub still : Still old new
-  pub input : talks → HearsScript old new status
+-- The disks are read, and then the answer is said piece by piece. Where memory or the talk fails in the middle, what was said
+-- stays said.
+abbrev pub Replies : Type 0 → Seen → Seen → (Answer → Type 0) → Status → Type 0
+Replies tells old new IsOne status = Says tells (λ s. s ≡ DiskFault) old new IsOne status
 
--- What a job does that makes the disks a new group and then says so.
-pub record MakesGroup (tells : Type 0) (name : List ℕ) (guid : ℕ) (guids : List ℕ) (old new : Seen) (status : Status) : Type 0 where
-  pub answers : tells → Answers old new (IsInitAnswer guids old.content) status
-  pub no_usage : status ≢ Usage
-  pub causes : Causes old new status
-  pub silent : SaysNothing status → new.said ≡ old.said
-  pub disks : MakesDisks tells name guid guids old new status
-  pub input : SameInput old new
-  pub stops : tells → NothingPending old → EveryStopMakes name guid guids old new
+-- What a job does: how it ends, what it leaves of the disks and of the talk, and what a stop leaves.
+pub record DoesJob (tells talks : Type 0) (job : Job) (old new : Seen) (status : Status) : Type 0 where
+  pub ends : Ends tells old new (IsJobAnswer job old.content old.input) status
+  pub disks : JobDisks tells job old new status
+  pub talk : JobTalk tells talks (kind_of job) old new status
+  pub stops : JobStops tells job old new
+  pub since_syncs : JobSinceSyncs tells job old new

@@ -6,8 +6,7 @@ ghost use Rattle.ldm_dump.specs.Sources.{is_lost};
 ghost use Rattle.ldm_dump.specs.Bytes.{text_of_volume};
 ghost use Rattle.ldm_dump.specs.Runs.{LiesOn};
 ghost use Rattle.ldm_words.specs.declared.job.Job.TheVariants as jobs;
-ghost use Rattle.ldm_run.specs.Answer.{IsJobAnswer};
-ghost use Rattle.ldm_run.specs.Runs.{Streams};
+ghost use Rattle.ldm_run.specs.Runs.{DoesJob, Streams};
 ghost use Rattle.ldm_run.specs.Streaming.{dump_answer};
 
 use crate::mapping::plan_of;
@@ -76,8 +75,7 @@ fn dump_found<H: Host>(alloc: Global, host: &mut H, found: &Found, name: &[u8]) 
 /// dump NAME on IMAGE...
 pub(crate) fn dump<H: Host>(alloc: Global, host: &mut H, name: &Bytes) -> Status
     requires { 0 < length (H.seen host.old).sizes }
-    ensures { Streams H.tells_disks (H.seen host.old) (H.seen host.new)
-        (IsJobAnswer (jobs.Dump name.now) (H.seen host.old).content (H.seen host.old).input) result }
+    ensures { DoesJob H.tells_disks H.tells_talk (jobs.Dump name.now) (H.seen host.old) (H.seen host.new) result }
 {
     match open_group(alloc, host) {
         Err(status) => status,

@@ -2,6 +2,7 @@
 ghost use Rattle.std.specs.Prelude.{if◌then◌else◌, ◌≡◌, ◌≤◌, ◌<◌, ◌⊎◌, ◌++◌, List, ℕ, length, IfOk, IfErr, IfSome, OnOk, ◌∷◌, [], Option, Some, None, Ok};
 ghost use Rattle.ldm_host.specs.Moves.{Later, Quiet, Begins};
 ghost use Rattle.ldm_words.specs.declared.command.Command.{Command as Line};
+ghost use Rattle.ldm_words.specs.declared.job.Job.TheVariants as jobs;
 ghost use Rattle.ldm_words.specs.Limits.{IsCommand};
 ghost use Rattle.ldm_found.specs.declared.found.Found.{Found};
 ghost use Rattle.ldm_found.specs.Opening.{IsGroupIn};
@@ -12,6 +13,7 @@ ghost use Rattle.ldm_store.specs.Sessions.{RestsOn, HoldsSession, IsTurnOf, IsOp
 ghost use Rattle.ldm_group_text.specs.Reply.{text_of_reply};
 ghost use Rattle.ldm_run.specs.Kinds.{SameInput, NothingPending};
 ghost use Rattle.ldm_run.specs.Scripts.{command_in, commands_in};
+ghost use Rattle.ldm_run.specs.Runs.{DoesJob};
 ghost use Rattle.ldm_run.specs.Editing.{EditFails, turn_on, IsDoing, IsAnswering, IsAnswered, AreWritten, DoesLines, DoesGroup};
 
 use crate::replying::is_refused;
@@ -220,8 +222,7 @@ fn edit_alone<H: Host>(alloc: Global, host: &mut H, session: Session, command: C
 pub(crate) fn edit_one<H: Host>(alloc: Global, host: &mut H, command: Command) -> Status
     requires images { 0 < length (H.seen host.old).sizes }
     requires limits { IsCommand command }
-    ensures does { DoesGroup H.tells_disks (Some command ∷ []) (H.seen host.old) (H.seen host.new) result }
-    ensures silent { result ≡ Status.DiskFault → (H.seen host.new).said ≡ (H.seen host.old).said }
+    ensures { DoesJob H.tells_disks H.tells_talk (jobs.One command) (H.seen host.old) (H.seen host.new) result }
 {
     match open_session(alloc, host) {
         Err(status) => status,

@@ -1,9 +1,10 @@
 //! `init`: a new group on empty disks.
 ghost use Rattle.std.specs.Prelude.{◌≡◌, ◌≢◌, ◌++◌, length, codes, decimal, IfOk};
 ghost use Rattle.ldm_words.specs.NewGroup as words;
+ghost use Rattle.ldm_words.specs.declared.job.Job.TheVariants as jobs;
 ghost use Rattle.ldm_run.specs.Said.{refused};
 ghost use Rattle.ldm_run.specs.Making.{text_of_init_fault, made_text};
-ghost use Rattle.ldm_run.specs.Runs.{OnlyReads, MakesGroup};
+ghost use Rattle.ldm_run.specs.Runs.{DoesJob, OnlyReads};
 
 use crate::running::{Status, say_made};
 use ldm_bytes::{Bytes, NoMemory};
@@ -72,7 +73,7 @@ pub(crate) fn make_group<H: Host>(
 ) -> Status
     requires words { words.IsNewGroup name.now disks.now }
     requires count { length disks.now ≡ length (H.seen host.old).sizes }
-    ensures { MakesGroup H.tells_disks name.now guid disks.now (H.seen host.old) (H.seen host.new) result }
+    ensures { DoesJob H.tells_disks H.tells_talk (jobs.Init name.now guid disks.now) (H.seen host.old) (H.seen host.new) result }
 {
     match ldm_init::init(alloc, host, name, guid, disks) {
         Err(InitError::Disk) => Status::DiskFault,

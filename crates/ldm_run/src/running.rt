@@ -12,13 +12,12 @@ ghost use Rattle.ldm_found.specs.declared.found.Found.{Found};
 ghost use Rattle.ldm_found.specs.Opening.{IsGroupIn};
 ghost use Rattle.ldm_found.specs.Facts.{IsSoundGroup, LieOn};
 ghost use Rattle.ldm_run.specs.Said.{Answer, HasAnswer};
-ghost use Rattle.ldm_run.specs.Answer.{IsAnswerTo, IsJobAnswer, IsCopyAnswer, IsGroupAnswer, refusal};
+ghost use Rattle.ldm_run.specs.Answer.{IsAnswerTo, IsCopyAnswer, IsGroupAnswer, refusal};
 ghost use Rattle.ldm_run.specs.Scripts.{commands_in, try_answer};
-ghost use Rattle.ldm_run.specs.Kinds.{kind_of, JobPremise, JobInput, JobSays};
+ghost use Rattle.ldm_run.specs.Kinds.{kind_of, JobTalk};
 ghost use Rattle.ldm_run.specs.Stops.{JobStops, JobSinceSyncs};
 ghost use Rattle.ldm_run.specs.Written.{JobDisks};
-ghost use Rattle.ldm_run.specs.Editing.{HearsAndEdits};
-ghost use Rattle.ldm_run.specs.Runs.{Answers, Completes, Causes, NoFault, HasImages, Premise, DisksAfter, InputAfter, SaysBefore, StopsAfter, StopsSinceSyncs, OnlyReads, Replies, HearsAndReplies};
+ghost use Rattle.ldm_run.specs.Runs.{Answers, Completes, Causes, DoesJob, NoFault, HasImages, IsUnread, OfJob, OnlyReads, Replies};
 
 use crate::dump::dump;
 use crate::editing::{edit_one, edit_script};
@@ -118,8 +117,7 @@ fn refuse_copy<H: Host>(alloc: Global, host: &mut H, fault: CopyFault) -> Status
 // disk on IMAGE
 fn disk<H: Host>(alloc: Global, host: &mut H) -> Status
     requires { length (H.seen host.old).sizes ≡ 1 }
-    ensures { OnlyReads H.tells_disks (H.seen host.old) (H.seen host.new)
-        (IsJobAnswer jobs.Disk (H.seen host.old).content (H.seen host.old).input) result }
+    ensures { DoesJob H.tells_disks H.tells_talk jobs.Disk (H.seen host.old) (H.seen host.new) result }
 {
     match read_label(host, 0) {
         Err(LabelError::Disk) => Status::DiskFault,
@@ -147,8 +145,7 @@ fn copy_of_label<H: Host>(alloc: Global, host: &mut H, label: &Label) -> Status
 // records on IMAGE
 fn records<H: Host>(alloc: Global, host: &mut H) -> Status
     requires { length (H.seen host.old).sizes ≡ 1 }
-    ensures { OnlyReads H.tells_disks (H.seen host.old) (H.seen host.new)
-        (IsJobAnswer jobs.Records (H.seen host.old).content (H.seen host.old).input) result }
+    ensures { DoesJob H.tells_disks H.tells_talk jobs.Records (H.seen host.old) (H.seen host.new) result }
 {
     match read_label(host, 0) {
         Err(LabelError::Disk) => Status::DiskFault,
@@ -197,8 +194,7 @@ pub(crate) fn open_group<H: Host>(alloc: Global, host: &mut H) -> Result<Found, 
 // show on IMAGE...
 fn show<H: Host>(alloc: Global, host: &mut H) -> Status
     requires { 0 < length (H.seen host.old).sizes }
-    ensures { OnlyReads H.tells_disks (H.seen host.old) (H.seen host.new)
-        (IsJobAnswer jobs.Show (H.seen host.old).content (H.seen host.old).input) result }
+    ensures { DoesJob H.tells_disks H.tells_talk jobs.Show (H.seen host.old) (H.seen host.new) result }
 {
     match open_group(alloc, host) {
         Err(status) => status,
@@ -209,8 +205,7 @@ fn show<H: Host>(alloc: Global, host: &mut H) -> Status
 // check on IMAGE...
 fn check<H: Host>(alloc: Global, host: &mut H) -> Status
     requires { 0 < length (H.seen host.old).sizes }
-    ensures { OnlyReads H.tells_disks (H.seen host.old) (H.seen host.new)
-        (IsJobAnswer jobs.Check (H.seen host.old).content (H.seen host.old).input) result }
+    ensures { DoesJob H.tells_disks H.tells_talk jobs.Check (H.seen host.old) (H.seen host.new) result }
 {
     match open_group(alloc, host) {
         Err(status) => status,
@@ -221,8 +216,7 @@ fn check<H: Host>(alloc: Global, host: &mut H) -> Status
 // map NAME FIRST COUNT on IMAGE...
 fn map<H: Host>(alloc: Global, host: &mut H, name: &Bytes, first: u64, count: u64) -> Status
     requires { 0 < length (H.seen host.old).sizes }
-    ensures { OnlyReads H.tells_disks (H.seen host.old) (H.seen host.new)
-        (IsJobAnswer (jobs.Map name.now first count) (H.seen host.old).content (H.seen host.old).input) result }
+    ensures { DoesJob H.tells_disks H.tells_talk (jobs.Map name.now first count) (H.seen host.old) (H.seen host.new) result }
 {
     let found = match open_group(alloc, host) {
         Err(status) => return status,
@@ -255,8 +249,7 @@ fn try_lines<H: Host>(alloc: Global, host: &mut H, script: &[u8]) -> Status
 // try on IMAGE...
 fn try_script<H: Host>(alloc: Global, host: &mut H) -> Status
     requires { 0 < length (H.seen host.old).sizes }
-    ensures { HearsAndReplies H.tells_disks H.tells_talk (H.seen host.old) (H.seen host.new)
-        (IsJobAnswer jobs.Try (H.seen host.old).content (H.seen host.old).input) result }
+    ensures { DoesJob H.tells_disks H.tells_talk jobs.Try (H.seen host.old) (H.seen host.new) result }
 {
     match hear_script(alloc, host) {
         Err(status) => status,
@@ -271,7 +264,7 @@ fn try_script<H: Host>(alloc: Global, host: &mut H) -> Status
 /// edit on IMAGE...
 pub(crate) fn edit<H: Host>(alloc: Global, host: &mut H) -> Status
     requires { 0 < length (H.seen host.old).sizes }
-    ensures { HearsAndEdits H.tells_disks H.tells_talk (H.seen host.old) (H.seen host.new) result }
+    ensures { DoesJob H.tells_disks H.tells_talk jobs.Edit (H.seen host.old) (H.seen host.new) result }
 {
     match hear_script(alloc, host) {
         Err(status) => status,
@@ -287,15 +280,7 @@ pub(crate) fn edit<H: Host>(alloc: Global, host: &mut H) -> Status
 fn do_job<H: Host>(alloc: Global, job: Job, host: &mut H) -> Status
     requires count { HasCount job (length (H.seen host.old).sizes) }
     requires limits { KeepsLimits job }
-    ensures answers { H.tells_disks → JobPremise (kind_of job) (H.seen host.old)
-        → Answers (H.seen host.old) (H.seen host.new) (IsJobAnswer job (H.seen host.old).content (H.seen host.old).input) result }
-    ensures no_usage { result ≢ Status.Usage }
-    ensures causes { Causes (H.seen host.old) (H.seen host.new) result }
-    ensures disks { JobDisks H.tells_disks job (H.seen host.old) (H.seen host.new) result }
-    ensures input { JobInput H.tells_talk (kind_of job) (H.seen host.old) (H.seen host.new) result }
-    ensures silent { JobSays H.tells_disks (kind_of job) (H.seen host.old) (H.seen host.new) result }
-    ensures stops { JobStops H.tells_disks job (H.seen host.old) (H.seen host.new) }
-    ensures since_syncs { JobSinceSyncs H.tells_disks job (H.seen host.old) (H.seen host.new) }
+    ensures { DoesJob H.tells_disks H.tells_talk job (H.seen host.old) (H.seen host.new) result }
 {
     match job {
         Job::Disk => disk(alloc, host),
@@ -314,38 +299,44 @@ fn do_job<H: Host>(alloc: Global, job: Job, host: &mut H) -> Status
     }
 }
 
-/// Runs a command line over the images that it names: the disks of the host, in their order.
-#[tactic(auto, using(crate::proofs::OneAnswer::one_answer))]
-pub fn run<H: Host>(alloc: Global, words: &[String], host: &mut H) -> Status
+// Does the job of words that have a reading.
+fn do_words<H: Host>(alloc: Global, words: &[String], host: &mut H) -> Status
     requires { HasImages (job_of (texts words.now)) (H.seen host.old) }
-    // Usage comes exactly where the words have no reading, and then no call of the host is made.
-    ensures usage { result ≢ Status.NoMemory → (result ≡ Status.Usage) ↔ (job_of (texts words.now) ≡ None) }
-    ensures nothing { job_of (texts words.now) ≡ None → host.new ≡ host.old }
-    // Done and Refused are the answer, and nothing is said but the beginning of its text. There is one answer.
-    ensures answers { H.tells_disks → Premise (job_of (texts words.now)) (H.seen host.old)
-        → Answers (H.seen host.old) (H.seen host.new) (IsAnswerTo (texts words.now) (H.seen host.old).content (H.seen host.old).input) result }
-    ensures one { (a b : Answer) → IsAnswerTo (texts words.now) (H.seen host.old).content (H.seen host.old).input a
-        → IsAnswerTo (texts words.now) (H.seen host.old).content (H.seen host.old).input b → a ≡ b }
-    // A fault comes only where its count rose.
-    ensures causes { Causes (H.seen host.old) (H.seen host.new) result }
-    // Where no count rose, the answer comes, or NoMemory.
-    ensures complete { H.tells_disks → Premise (job_of (texts words.now)) (H.seen host.old)
-        → NoFault (H.seen host.old) (H.seen host.new) → result ≢ Status.NoMemory
-        → Completes (H.seen host.old) (H.seen host.new) (IsAnswerTo (texts words.now) (H.seen host.old).content (H.seen host.old).input) result }
-    ensures disks { DisksAfter H.tells_disks (job_of (texts words.now)) (H.seen host.old) (H.seen host.new) result }
-    ensures input { InputAfter H.tells_talk (job_of (texts words.now)) (H.seen host.old) (H.seen host.new) result }
-    // After a fault nothing more is said, but where the answer is said while the disks are read on.
-    ensures silent { SaysBefore H.tells_disks (job_of (texts words.now)) (H.seen host.old) (H.seen host.new) result }
-    // Whatever a stop leaves at any moment of a job that writes, and after it, opens as the group after some first lines,
-    // among them each that was answered.
-    ensures stops { StopsAfter H.tells_disks (job_of (texts words.now)) (H.seen host.old) (H.seen host.new) }
-    // Where anything was pending at the start, so it is from the end of the syncs on; until then a stop leaves what it could
-    // leave before.
-    ensures since_syncs { StopsSinceSyncs H.tells_disks (job_of (texts words.now)) (H.seen host.old) (H.seen host.new) }
+    ensures { OfJob (job_of (texts words.now)) (IsUnread result × (host.new ≡ host.old))
+        (λ job. DoesJob H.tells_disks H.tells_talk job (H.seen host.old) (H.seen host.new) result) }
 {
     match read_words(alloc, words) {
         Err(WordsError::Usage) => Status::Usage,
         Err(WordsError::NoMemory) => Status::NoMemory,
         Ok((job, _)) => do_job(alloc, job, host),
     }
+}
+
+/// Runs a command line over the images that it names: the disks of the host, in their order.
+#[tactic(auto, using(crate::proofs::OneAnswer::one_answer))]
+pub fn run<H: Host>(alloc: Global, words: &[String], host: &mut H) -> Status
+    requires { HasImages (job_of (texts words.now)) (H.seen host.old) }
+    // Usage comes exactly where the words have no reading.
+    ensures usage { result ≢ Status.NoMemory → (result ≡ Status.Usage) ↔ (job_of (texts words.now) ≡ None) }
+    // Done and Refused are the answer, and nothing is said but the beginning of its text. There is one answer.
+    ensures answers { H.tells_disks → Answers (H.seen host.old) (H.seen host.new) (IsAnswerTo (texts words.now) (H.seen host.old).content (H.seen host.old).input) result }
+    ensures one { (a b : Answer) → IsAnswerTo (texts words.now) (H.seen host.old).content (H.seen host.old).input a
+        → IsAnswerTo (texts words.now) (H.seen host.old).content (H.seen host.old).input b → a ≡ b }
+    // A fault comes only where its count rose.
+    ensures causes { Causes (H.seen host.old) (H.seen host.new) result }
+    // Where no count rose, the answer comes, or NoMemory.
+    ensures complete { H.tells_disks → NoFault (H.seen host.old) (H.seen host.new) → result ≢ Status.NoMemory
+        → Completes (H.seen host.old) (H.seen host.new) (IsAnswerTo (texts words.now) (H.seen host.old).content (H.seen host.old).input) result }
+    // No call of the host is made where the words have no reading.
+    ensures disks { OfJob (job_of (texts words.now)) (host.new ≡ host.old) (λ job. JobDisks H.tells_disks job (H.seen host.old) (H.seen host.new) result) }
+    // After a fault nothing more is said, but where the answer is said while the disks are read on.
+    ensures talk { OfJob (job_of (texts words.now)) (host.new ≡ host.old) (λ job. JobTalk H.tells_disks H.tells_talk (kind_of job) (H.seen host.old) (H.seen host.new) result) }
+    // Whatever a stop leaves at any moment of a job that writes, and after it, opens as the group after some first lines,
+    // among them each that was answered.
+    ensures stops { OfJob (job_of (texts words.now)) (host.new ≡ host.old) (λ job. JobStops H.tells_disks job (H.seen host.old) (H.seen host.new)) }
+    // Where anything was pending at the start, so it is from the end of the syncs on; until then a stop leaves what it could
+    // leave before.
+    ensures since_syncs { OfJob (job_of (texts words.now)) (host.new ≡ host.old) (λ job. JobSinceSyncs H.tells_disks job (H.seen host.old) (H.seen host.new)) }
+{
+    do_words(alloc, words, host)
 }

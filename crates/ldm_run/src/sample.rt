@@ -1,7 +1,8 @@
 //! The sample: a script from a seed, done to a group of three images in memory.
 ghost use Rattle.std.specs.Prelude.{◌≡◌, ◌==◌, count_by, IfOk, string_bytes};
+ghost use Rattle.ldm_words.specs.declared.job.Job.TheVariants as jobs;
 ghost use Rattle.ldm_run.specs.declared.running.Status.{Status as Ending};
-ghost use Rattle.ldm_run.specs.Runs.{OnlyReads};
+ghost use Rattle.ldm_run.specs.Runs.{DoesJob};
 ghost use Rattle.ldm_run.specs.Sample.{text_of_counts, text_of_group, text_of_summary, IsSampleAnswer, IsSampleHost};
 
 use crate::running::{Status, edit, say_made};
@@ -96,7 +97,7 @@ fn sample_text(alloc: Global, seed: u64) -> Result<Bytes, NoMemory>
 
 /// sample SEED
 pub(crate) fn sample<H: Host>(alloc: Global, host: &mut H, seed: u64) -> Status
-    ensures { OnlyReads H.tells_disks (H.seen host.old) (H.seen host.new) (IsSampleAnswer seed) result }
+    ensures { DoesJob H.tells_disks H.tells_talk (jobs.Sample seed) (H.seen host.old) (H.seen host.new) result }
 {
     match sample_text(alloc, seed) {
         Err(NoMemory) => Status::NoMemory,

@@ -7,8 +7,7 @@ ghost use Rattle.ldm_scrub.specs.Compare.{places_of};
 ghost use Rattle.ldm_scrub.specs.Lines.{bad_of, text_of_scrub};
 ghost use Rattle.ldm_words.specs.Names.{esc};
 ghost use Rattle.ldm_words.specs.declared.job.Job.TheVariants as jobs;
-ghost use Rattle.ldm_run.specs.Answer.{IsJobAnswer};
-ghost use Rattle.ldm_run.specs.Runs.{Streams};
+ghost use Rattle.ldm_run.specs.Runs.{DoesJob, Streams};
 ghost use Rattle.ldm_run.specs.Streaming.{is_compared, status_of, scrub_answer};
 
 use crate::mapping::plan_of;
@@ -138,8 +137,7 @@ fn scrub_found<H: Host>(alloc: Global, host: &mut H, found: &Found, name: &[u8])
 /// scrub NAME on IMAGE...
 pub(crate) fn scrub<H: Host>(alloc: Global, host: &mut H, name: &Bytes) -> Status
     requires { 0 < length (H.seen host.old).sizes }
-    ensures { Streams H.tells_disks (H.seen host.old) (H.seen host.new)
-        (IsJobAnswer (jobs.Scrub name.now) (H.seen host.old).content (H.seen host.old).input) result }
+    ensures { DoesJob H.tells_disks H.tells_talk (jobs.Scrub name.now) (H.seen host.old) (H.seen host.new) result }
 {
     match open_group(alloc, host) {
         Err(status) => status,

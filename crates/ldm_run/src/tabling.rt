@@ -5,8 +5,7 @@ ghost use Rattle.ldm_words.specs.declared.job.Job.TheVariants as jobs;
 ghost use Rattle.ldm_table.specs.Faults.{text_of_fault};
 ghost use Rattle.ldm_text.specs.Texts.{text_of_refusal};
 ghost use Rattle.ldm_run.specs.Said.{HasAnswer};
-ghost use Rattle.ldm_run.specs.Answer.{IsJobAnswer};
-ghost use Rattle.ldm_run.specs.Runs.{OnlyReads};
+ghost use Rattle.ldm_run.specs.Runs.{DoesJob};
 ghost use Rattle.ldm_run.specs.Tabling.{table_answer};
 
 use crate::mapping::plan_of;
@@ -55,8 +54,7 @@ fn tabled<H: Host>(
 /// table VOLUME on IMAGE...
 pub(crate) fn table<H: Host>(alloc: Global, host: &mut H, name: &Bytes, words: &Names) -> Status
     requires { 0 < length (H.seen host.old).sizes }
-    ensures { OnlyReads H.tells_disks (H.seen host.old) (H.seen host.new)
-        (IsJobAnswer (jobs.Table name.now words.now) (H.seen host.old).content (H.seen host.old).input) result }
+    ensures { DoesJob H.tells_disks H.tells_talk (jobs.Table name.now words.now) (H.seen host.old) (H.seen host.new) result }
 {
     let found = match open_group(alloc, host) {
         Err(status) => return status,

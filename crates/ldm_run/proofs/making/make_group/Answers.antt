@@ -1,5 +1,9 @@
-use Rattle.std.proofs.Common.{rules, ⊎_elim}
-use Rattle.ldm_run.proofs.MakingLaws.{fails_making, lacks_memory, refuses, makes}
+use Rattle.std.proofs.Common.{rules, arith, ⊎_elim}
+use Rattle.ldm_words.specs.declared.job.Job.TheVariants.{Init}
+use Rattle.ldm_run.specs.declared.running.Status.TheVariants.{NoMemory}
+use Rattle.ldm_run.proofs.JobLaws.{undone}
+use Rattle.ldm_run.proofs.Saying.{failing}
+use Rattle.ldm_run.proofs.MakingLaws.{fails_making, refuses, makes}
 use Rattle.ldm_run.proofs.making.make_group.Goals as goal
 
 pub returns-in-Err-Disk : goal.returns-in-Err-Disk
@@ -11,11 +15,11 @@ returns-in-Err-Disk g c =
 
 pub returns-in-Err-NoMemory : goal.returns-in-Err-NoMemory
 returns-in-Err-NoMemory g c =
-    let old = g.H.Host.seen c.args.host.now in
-    let mid = g.H.Host.seen c.init.new.host in
+    let host = c.args.host.now in
     let made = c.init.ensures in
     let still = ⊎_elim (λ may. absurd may) (λ still. still) (rw c.in-Err-NoMemory.field-0-is at c.in-Err-NoMemory.ensures.unwritten) in
-    lacks_memory g.H.Host.tells_disks c.args.name.now c.args.guid c.args.disks.now old mid still made.quiet made.any_moment
+    undone (failing (g.H.Host.seen host) (g.H.Host.seen c.init.new.host) NoMemory tt) made.quiet.said still (λ tells. g.met.H.Host.one_each tells host) (λ tells. g.met.H.Host.lengths tells host)
+    (Init c.args.name.now c.args.guid c.args.disks.now) (let some = c.requires.words.some in let count = c.requires.count in omega (arith, some, count)) (record { input = made.quiet.input; heard = made.quiet.heard })
 
 pub returns-in-Err-Fault : goal.returns-in-Err-Fault
 returns-in-Err-Fault g c =

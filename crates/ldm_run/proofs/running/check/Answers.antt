@@ -1,13 +1,15 @@
-use Rattle.std.proofs.Common.{Ok}
+use Rattle.std.proofs.Common.{refl, Ok}
 use Rattle.ldm_group_text.specs.Check.{text_of_check}
+use Rattle.ldm_words.specs.declared.job.Job.TheVariants.{Check}
 use Rattle.ldm_run.specs.Answer.{check_answer}
-use Rattle.ldm_run.proofs.Saying.{reads_first}
+use Rattle.ldm_run.proofs.JobLaws.{reads_job}
+use Rattle.ldm_run.proofs.Saying.{says_first}
 use Rattle.ldm_run.proofs.running.check.Goals as goal
 
 pub returns-in-Err : goal.returns-in-Err
-returns-in-Err g c = c.in-Err.ensures.fault check_answer
+returns-in-Err g c = reads_job Check refl (c.in-Err.ensures.fault check_answer)
 
 pub returns-in-Ok : goal.returns-in-Ok
 returns-in-Ok g c =
-    reads_first (c.say_made.ensures.says (text_of_check c.in-Ok.found) c.check_text.ensures) c.in-Ok.ensures.quiet c.in-Ok.ensures.still g.met.H.Host.tells_both
-    (λ tells answer e. (Ok c.in-Ok.found, c.in-Ok.ensures.found tells, e))
+    reads_job Check refl (says_first (c.say_made.ensures.says (text_of_check c.in-Ok.found) c.check_text.ensures) c.in-Ok.ensures.quiet c.in-Ok.ensures.still g.met.H.Host.tells_both
+    (λ tells answer e. (Ok c.in-Ok.found, c.in-Ok.ensures.found tells, e)))

@@ -1,15 +1,17 @@
-use Rattle.std.proofs.Common.{sym, ◌∙◌, ap}
+use Rattle.std.proofs.Common.{refl, sym, ◌∙◌, ap}
 use Rattle.ldm_text.specs.Texts.{text_of_label}
+use Rattle.ldm_words.specs.declared.job.Job.TheVariants.{Disk}
 use Rattle.ldm_run.specs.Answer.{disk_answer}
-use Rattle.ldm_run.proofs.Saying.{reads_first}
+use Rattle.ldm_run.proofs.JobLaws.{reads_job}
+use Rattle.ldm_run.proofs.Saying.{says_first}
 use Rattle.ldm_run.proofs.running.disk.Goals as goal
 
 pub returns-in-Err-Fault : goal.returns-in-Err-Fault
 returns-in-Err-Fault g c =
-    reads_first c.refuse_label.ensures c.read_label.ensures.quiet c.read_label.ensures.still g.met.H.Host.tells_both
-    (λ tells answer e. let is = rw c.in-Err-Fault.field-0-is at (c.in-Err-Fault.ensures.is tells) in e ∙ ap disk_answer (sym is))
+    reads_job Disk refl (says_first c.refuse_label.ensures c.read_label.ensures.quiet c.read_label.ensures.still g.met.H.Host.tells_both
+    (λ tells answer e. let is = rw c.in-Err-Fault.field-0-is at (c.in-Err-Fault.ensures.is tells) in e ∙ ap disk_answer (sym is)))
 
 pub returns-in-Ok : goal.returns-in-Ok
 returns-in-Ok g c =
-    reads_first (c.say_made.ensures.says (text_of_label c.in-Ok.label) c.label_text.ensures) c.read_label.ensures.quiet c.read_label.ensures.still g.met.H.Host.tells_both
-    (λ tells answer e. e ∙ ap disk_answer (sym (c.in-Ok.ensures.is tells)))
+    reads_job Disk refl (says_first (c.say_made.ensures.says (text_of_label c.in-Ok.label) c.label_text.ensures) c.read_label.ensures.quiet c.read_label.ensures.still g.met.H.Host.tells_both
+    (λ tells answer e. e ∙ ap disk_answer (sym (c.in-Ok.ensures.is tells))))

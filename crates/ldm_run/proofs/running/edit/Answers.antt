@@ -1,10 +1,13 @@
 use Rattle.std.proofs.Common.{rules, ◌≤◌, length, codes, ◌∙◌}
 use Rattle.ldm_text.specs.Texts.{text_of_refusal}
-use Rattle.ldm_run.proofs.HearsEdits.{unheard_edit, long_edit, script_edit}
+use Rattle.ldm_words.specs.declared.job.Job.TheVariants.{Edit}
+use Rattle.ldm_run.proofs.HearsEdits.{unheard, long_edit, script_edit}
 use Rattle.ldm_run.proofs.running.edit.Goals as goal
 
 pub returns-in-Err : goal.returns-in-Err
-returns-in-Err g c = unheard_edit c.in-Err.ensures.fault c.hear_script.ensures.takes c.hear_script.ensures.silent c.hear_script.ensures.still (λ tells. g.met.H.Host.one_each tells c.args.host.now)
+returns-in-Err g c =
+    let host = c.args.host.now in
+    unheard Edit (λ heard. heard) tt c.in-Err.ensures.fault c.hear_script.ensures.takes c.hear_script.ensures.silent c.hear_script.ensures.still (λ tells. g.met.H.Host.one_each tells host) (λ tells. g.met.H.Host.lengths tells host)
 
 pub returns-in-Ok-None : goal.returns-in-Ok-None
 returns-in-Ok-None g c =

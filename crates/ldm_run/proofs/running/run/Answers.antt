@@ -1,34 +1,41 @@
-use Rattle.std.proofs.Common.{rules, ◌≡◌, ℕ, [], sym, refl, subst, Option, None}
-use Rattle.std.proofs.lemmas.List.{append-nil}
-use Rattle.ldm_words.specs.declared.job.Job.{Job}
+use Rattle.std.proofs.Common.{ap}
 use Rattle.ldm_words.specs.Jobs.{texts, job_of}
-use Rattle.ldm_run.specs.declared.running.Status.TheVariants.{Usage}
-use Rattle.ldm_run.specs.Answer.{IsReadingAnswer}
-use Rattle.ldm_host.proofs.Relations.{still_itself}
-use Rattle.ldm_run.proofs.HearsEdits.{stops_unchanged, since_unchanged, disks_unchanged, keeps_reading}
+use Rattle.ldm_run.proofs.JobLaws.{each_job}
+use Rattle.ldm_run.proofs.RunLaws.{usage_is, answers_to, causes_of, completes}
 use Rattle.ldm_run.proofs.running.run.Goals as goal
 
-pub returns-in-Err-Usage-clause-complete : goal.returns-in-Err-Usage-clause-complete
-returns-in-Err-Usage-clause-complete g c tells premise none memory =
-    let host = g.H.Host.seen c.args.host.now in
-    let unread : job_of (texts c.args.words.now) ≡ None = search rules in (
-      ([], Usage),
-      subst (λ (reading : Option (Job × ℕ)). IsReadingAnswer reading host.content host.input ([], Usage)) (sym unread) refl,
-      record { status_is = refl; said = sym (append-nil host.said) },
-    )
+pub returns-clause-usage : goal.returns-clause-usage
+returns-clause-usage g c =
+    let reading = job_of (texts c.args.words.now) in
+    usage_is g.H.Host.tells_disks g.H.Host.tells_talk (g.H.Host.seen c.args.host.now) (g.H.Host.seen c.do_words.new.host) c.do_words.result reading
+    (each_job reading _ _ _ _ (λ unread. (unread.0, ap (λ h. (g.H.Host.seen h).said) unread.1)) (λ job does. does) c.do_words.ensures)
 
-pub returns-in-Err-NoMemory-clause-stops : goal.returns-in-Err-NoMemory-clause-stops
-returns-in-Err-NoMemory-clause-stops g c =
-    let host = c.args.host.now in
-    stops_unchanged (still_itself (g.H.Host.seen host) (g.met.H.Host.counts_now host) (g.met.H.Host.only_now host)) (λ tells. g.met.H.Host.one_each tells host) (λ tells. g.met.H.Host.lengths tells host) (job_of (texts c.args.words.now))
-    (keeps_reading (texts c.args.words.now) (g.H.Host.seen host) (job_of (texts c.args.words.now)) refl c.requires)
+pub returns-clause-answers : goal.returns-clause-answers
+returns-clause-answers g c =
+    let reading = job_of (texts c.args.words.now) in
+    answers_to g.H.Host.tells_disks g.H.Host.tells_talk (g.H.Host.seen c.args.host.now) (g.H.Host.seen c.do_words.new.host) c.do_words.result reading
+    (each_job reading _ _ _ _ (λ unread. (unread.0, ap (λ h. (g.H.Host.seen h).said) unread.1)) (λ job does. does) c.do_words.ensures)
 
-pub returns-in-Err-NoMemory-clause-since_syncs : goal.returns-in-Err-NoMemory-clause-since_syncs
-returns-in-Err-NoMemory-clause-since_syncs g c =
-    let host = c.args.host.now in
-    since_unchanged (still_itself (g.H.Host.seen host) (g.met.H.Host.counts_now host) (g.met.H.Host.only_now host)) (λ tells. g.met.H.Host.one_each tells host) (λ tells. g.met.H.Host.lengths tells host) (job_of (texts c.args.words.now))
+pub returns-clause-causes : goal.returns-clause-causes
+returns-clause-causes g c =
+    let reading = job_of (texts c.args.words.now) in
+    causes_of g.H.Host.tells_disks g.H.Host.tells_talk (g.H.Host.seen c.args.host.now) (g.H.Host.seen c.do_words.new.host) c.do_words.result reading
+    (each_job reading _ _ _ _ (λ unread. (unread.0, ap (λ h. (g.H.Host.seen h).said) unread.1)) (λ job does. does) c.do_words.ensures)
 
-pub returns-in-Err-NoMemory-clause-disks : goal.returns-in-Err-NoMemory-clause-disks
-returns-in-Err-NoMemory-clause-disks g c =
-    let host = c.args.host.now in
-    disks_unchanged g.H.Host.tells_disks (still_itself (g.H.Host.seen host) (g.met.H.Host.counts_now host) (g.met.H.Host.only_now host)) (job_of (texts c.args.words.now))
+pub returns-clause-complete : goal.returns-clause-complete
+returns-clause-complete g c =
+    let reading = job_of (texts c.args.words.now) in
+    completes g.H.Host.tells_disks g.H.Host.tells_talk (g.H.Host.seen c.args.host.now) (g.H.Host.seen c.do_words.new.host) c.do_words.result reading
+    (each_job reading _ _ _ _ (λ unread. (unread.0, ap (λ h. (g.H.Host.seen h).said) unread.1)) (λ job does. does) c.do_words.ensures)
+
+pub returns-clause-disks : goal.returns-clause-disks
+returns-clause-disks g c = each_job (job_of (texts c.args.words.now)) _ _ _ _ (λ unread. unread.1) (λ job does. does.disks) c.do_words.ensures
+
+pub returns-clause-talk : goal.returns-clause-talk
+returns-clause-talk g c = each_job (job_of (texts c.args.words.now)) _ _ _ _ (λ unread. unread.1) (λ job does. does.talk) c.do_words.ensures
+
+pub returns-clause-stops : goal.returns-clause-stops
+returns-clause-stops g c = each_job (job_of (texts c.args.words.now)) _ _ _ _ (λ unread. unread.1) (λ job does. does.stops) c.do_words.ensures
+
+pub returns-clause-since_syncs : goal.returns-clause-since_syncs
+returns-clause-since_syncs g c = each_job (job_of (texts c.args.words.now)) _ _ _ _ (λ unread. unread.1) (λ job does. does.since_syncs) c.do_words.ensures

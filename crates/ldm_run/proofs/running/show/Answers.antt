@@ -1,13 +1,15 @@
-use Rattle.std.proofs.Common.{Ok}
+use Rattle.std.proofs.Common.{refl, Ok}
 use Rattle.ldm_group_text.specs.Show.{text_of_show}
+use Rattle.ldm_words.specs.declared.job.Job.TheVariants.{Show}
 use Rattle.ldm_run.specs.Answer.{show_answer}
-use Rattle.ldm_run.proofs.Saying.{reads_first}
+use Rattle.ldm_run.proofs.JobLaws.{reads_job}
+use Rattle.ldm_run.proofs.Saying.{says_first}
 use Rattle.ldm_run.proofs.running.show.Goals as goal
 
 pub returns-in-Err : goal.returns-in-Err
-returns-in-Err g c = c.in-Err.ensures.fault show_answer
+returns-in-Err g c = reads_job Show refl (c.in-Err.ensures.fault show_answer)
 
 pub returns-in-Ok : goal.returns-in-Ok
 returns-in-Ok g c =
-    reads_first (c.say_made.ensures.says (text_of_show c.in-Ok.found) c.show_text.ensures) c.in-Ok.ensures.quiet c.in-Ok.ensures.still g.met.H.Host.tells_both
-    (λ tells answer e. (Ok c.in-Ok.found, c.in-Ok.ensures.found tells, e))
+    reads_job Show refl (says_first (c.say_made.ensures.says (text_of_show c.in-Ok.found) c.show_text.ensures) c.in-Ok.ensures.quiet c.in-Ok.ensures.still g.met.H.Host.tells_both
+    (λ tells answer e. (Ok c.in-Ok.found, c.in-Ok.ensures.found tells, e)))

@@ -1,13 +1,20 @@
 use Rattle.std.proofs.Common.{rules, arith, ◌≤◌, length, codes, inl, inr, ap, ◌∙◌}
 use Rattle.ldm_text.specs.Texts.{text_of_refusal}
-use Rattle.ldm_run.proofs.ReplyLaws.{reads_replies, hears_first}
+use Rattle.ldm_words.specs.declared.job.Job.TheVariants.{Try}
+use Rattle.ldm_run.proofs.Saying.{says_at_once}
+use Rattle.ldm_run.proofs.HearsEdits.{hears_first, unheard}
 use Rattle.ldm_run.proofs.ScriptLaws.{long_answer, whole_answer}
 use Rattle.ldm_run.proofs.running.try_script.Goals as goal
+
+pub returns-in-Err : goal.returns-in-Err
+returns-in-Err g c =
+    let host = c.args.host.now in
+    unheard Try (λ heard. heard) tt c.in-Err.ensures.fault c.hear_script.ensures.takes c.hear_script.ensures.silent c.hear_script.ensures.still (λ tells. g.met.H.Host.one_each tells host) (λ tells. g.met.H.Host.lengths tells host)
 
 pub returns-in-Ok-None : goal.returns-in-Ok-None
 returns-in-Ok-None g c =
     let old = g.H.Host.seen c.args.host.now in
-    hears_first (reads_replies (c.say_made.ensures.says (text_of_refusal (codes "script too long")) c.refusal_text-line.ensures))
+    hears_first (says_at_once tt (c.say_made.ensures.says (text_of_refusal (codes "script too long")) c.refusal_text-line.ensures))
     c.hear_script.ensures.takes c.hear_script.ensures.silent c.hear_script.ensures.still g.met.H.Host.tells_both
     (λ tells answer e. long_answer old.input old.content answer (rw c.in-Ok-None.field-0-is at (c.in-Ok-None.ensures.script (g.met.H.Host.tells_both tells))) e)
     (λ told. inr (rw c.in-Ok-None.field-0-is at (c.in-Ok-None.ensures.script told)))

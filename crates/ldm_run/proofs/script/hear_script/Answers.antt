@@ -2,7 +2,7 @@ use Rattle.std.proofs.Common.{rules, ◌≡◌, ◌≤◌, List, ℕ, length, �
 use Rattle.std.proofs.lemmas.List.{take-append-le, length-append, length-take-le}
 use Rattle.ldm_host.proofs.Relations.{rose_sooner, still_trans}
 use Rattle.ldm_run.specs.Heard.{Takes}
-use Rattle.ldm_run.proofs.HeardLaws.{at_end, takes_more, takes_quiet, too_long}
+use Rattle.ldm_run.proofs.HeardLaws.{at_end, takes_more, takes_on, too_long}
 use Rattle.ldm_run.proofs.script.hear_script.Goals as goal
 
 pub returns-then-count-eq0-clause-script : goal.returns-then-count-eq0-clause-script
@@ -56,7 +56,7 @@ pub returns-then-is_err-clause-silent : goal.returns-then-is_err-clause-silent
 returns-then-is_err-clause-silent g c = c.hear.ensures.silent ∙ c.hearing.invariant.silent
 
 pub returns-in_default-clause-takes : goal.returns-in_default-clause-takes
-returns-in_default-clause-takes g c tells = (_, takes_quiet _ _ _ _ (c.hearing.invariant.takes tells) c.in_default.ensures.nothing)
+returns-in_default-clause-takes g c tells = (_, let nothing = c.in_default.ensures.nothing in takes_on (c.hearing.invariant.takes tells) (record { input = nothing.input; heard = nothing.heard }))
 
 pub returns-in_default-clause-fault : goal.returns-in_default-clause-fault
 returns-in_default-clause-fault g c = rose_sooner _ _ _ c.hearing.invariant.still.later.talk_faults (c.in_default.ensures.cause refl)

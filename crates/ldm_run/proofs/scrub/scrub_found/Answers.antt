@@ -4,23 +4,22 @@ use Rattle.ldm_layout.specs.declared.shape.Shape.{Shape}
 use Rattle.ldm_run.specs.Runs.{Streams}
 use Rattle.ldm_run.specs.Said.{Answer}
 use Rattle.ldm_run.specs.Streaming.{is_compared}
-use Rattle.ldm_run.proofs.Saying.{reads_as}
+use Rattle.ldm_run.proofs.Saying.{says_as, says_at_once}
 use Rattle.ldm_run.proofs.ScrubLaws.{no_scrub, scrub_of_other, scrub_of_places}
-use Rattle.ldm_run.proofs.StreamLaws.{reads_stream}
 use Rattle.ldm_run.proofs.scrub.scrub_found.Goals as goal
 
 pub returns-in_default : goal.returns-in_default
 returns-in_default g c =
     let images = (g.H.Host.seen c.args.host.now).content in
     let is = no_scrub c.args.name.now images c.args.found.now (sym c.in_default.ensures.is) in
-    reads_stream (reads_as (c.say_made.ensures.says (text_of_refusal (codes "no volume")) c.refusal_text.ensures) g.met.H.Host.tells_both (λ tells answer e. e ∙ is))
+    says_at_once tt (says_as (c.say_made.ensures.says (text_of_refusal (codes "no volume")) c.refusal_text.ensures) g.met.H.Host.tells_both (λ tells answer e. e ∙ is))
 
 pub returns-then-not-is_compared : goal.returns-then-not-is_compared
 returns-then-not-is_compared g c =
     let images = (g.H.Host.seen c.args.host.now).content in
     let other : is_compared c.in-Ok.plan.shape ≡ false = ap (λ (s : Shape). is_compared s) (sym c.shape.ensures) ∙ (sym c.is_compared.ensures ∙ c.if-not-is_compared.true) in
     let is = scrub_of_other c.args.name.now images c.args.found.now c.in-Some.volume.now c.in-Ok.plan (sym c.in-Some.ensures.is) c.in-Ok.ensures.is other in
-    reads_stream (reads_as (c.say_made-then-not-is_compared.ensures.says (text_of_refusal (codes "nothing to compare")) c.refusal_text-line.ensures) g.met.H.Host.tells_both (λ tells answer e. e ∙ is))
+    says_at_once tt (says_as (c.say_made-then-not-is_compared.ensures.says (text_of_refusal (codes "nothing to compare")) c.refusal_text-line.ensures) g.met.H.Host.tells_both (λ tells answer e. e ∙ is))
 
 pub returns-in-Some-missing_disk : goal.returns-in-Some-missing_disk
 returns-in-Some-missing_disk g c =
@@ -28,7 +27,7 @@ returns-in-Some-missing_disk g c =
     let disk = c.in-Some-missing_disk.disk in
     let compared : is_compared c.in-Ok.plan.shape ≡ true = ap (λ (s : Shape). is_compared s) (sym c.shape.ensures) ∙ (sym c.is_compared.ensures ∙ c.if-not-is_compared.false) in
     let is = scrub_of_places c.args.name.now images c.args.found.now c.in-Some.volume.now c.in-Ok.plan (Some disk) (sym c.in-Some.ensures.is) c.in-Ok.ensures.is compared c.in-Some-missing_disk.ensures in
-    reads_stream (reads_as (c.say_made-in-Some-missing_disk.ensures.says (text_of_refusal ((codes "disk " ++ decimal disk) ++ codes " is missing")) c.missing_refusal.ensures) g.met.H.Host.tells_both
+    says_at_once tt (says_as (c.say_made-in-Some-missing_disk.ensures.says (text_of_refusal ((codes "disk " ++ decimal disk) ++ codes " is missing")) c.missing_refusal.ensures) g.met.H.Host.tells_both
     (λ tells answer e. e ∙ is))
 
 pub returns : goal.returns
