@@ -23,27 +23,14 @@ use crate::reply::Refusal;
 use ldm_bytes::NoMemory;
 use ldm_group::Db;
 use ldm_label::Labels;
-use ldm_layout::{LayoutError, Plan, Shape, plan};
+use ldm_layout::Shape;
 use ldm_made::{resized, with_children};
 use ldm_records::{Component, Record, Volume};
+use ldm_rules::sound_plan;
 use ldm_space::{Taken, place_all};
 use ldm_volumes::{sectors_with, with_tiles};
 use ldm_words::Piece;
 use std::alloc::Global;
-
-// The layout of a volume of the group, which is there since the group is sound.
-fn plan_of(alloc: Global, db: &Db, labels: &Labels, volume: &Volume) -> Result<Plan, NoMemory>
-    requires sound { IsSoundOn db.now labels.now }
-    requires there { Contains db.now.records (kinds.Volume volume.now) }
-    requires again { volume_with volume.now.head.id db.now.records ≡ Some volume.now }
-    ensures { IfOk result (λ plan. layout_of db.now.records volume.now ≡ Ok plan) }
-{
-    match plan(alloc, db, volume.head.id) {
-        Ok(plan) => Ok(plan),
-        Err(LayoutError::NoMemory) => Err(NoMemory),
-        Err(LayoutError::Fault(_)) => unreachable!(),
-    }
-}
 
 // The first component of the volume of this id.
 fn component_of(db: &Db, volume: u64) -> Option<&Component>
@@ -99,7 +86,7 @@ pub fn extend(
     let Some(volume) = db.volume_named(name) else {
         return Err(StepError::Refused(Refusal::NoVolume));
     };
-    let plan = plan_of(alloc, db, labels, volume)?;
+    let plan = sound_plan(alloc, db, labels, volume)?;
     let shape = plan.shape();
     if let Shape::Mirror = shape {
         return extend_mirror(alloc, db, labels, volume, plan.capacity(), pieces);

@@ -14,3 +14,4 @@ pub mod MeetLaws
 pub mod CarryLaws
 pub mod DisksAlone
 pub mod NewLaws
+pub mod PlanLaws

@@ -1,7 +1,7 @@
 pub mod Saying
 pub mod MakingLaws
 pub mod OneAnswer
-pub mod PlanLaws
+pub mod MappingLaws
 pub mod HeardLaws
 pub mod TurnLaws
 pub mod ReplyLaws

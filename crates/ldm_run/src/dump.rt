@@ -9,13 +9,13 @@ ghost use Rattle.ldm_words.specs.declared.job.Job.TheVariants as jobs;
 ghost use Rattle.ldm_run.specs.Runs.{DoesJob, Streams};
 ghost use Rattle.ldm_run.specs.Streaming.{dump_answer};
 
-use crate::mapping::plan_of;
 use crate::running::{Status, open_group, say_made};
 use ldm_bytes::{Bytes, NoMemory};
 use ldm_dump::{DumpError, dump_volume, lost, volumes_lie_on_images};
 use ldm_found::Found;
 use ldm_host::Host;
 use ldm_layout::Plan;
+use ldm_rules::sound_plan;
 use ldm_text::{Text, push_number, refusal_text};
 use std::alloc::Global;
 
@@ -62,7 +62,7 @@ fn dump_found<H: Host>(alloc: Global, host: &mut H, found: &Found, name: &[u8]) 
     let Some(volume) = found.db.volume_named(name) else {
         return say_made(host, refusal_text(alloc, b"no volume"), Status::Refused);
     };
-    let Ok(plan) = plan_of(alloc, found, volume) else {
+    let Ok(plan) = sound_plan(alloc, &found.db, &found.labels, volume) else {
         return Status::NoMemory;
     };
     volumes_lie_on_images();

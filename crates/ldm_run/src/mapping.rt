@@ -1,7 +1,5 @@
 //! What is said of the sectors of a volume.
-ghost use Rattle.std.specs.Prelude.{◌≡◌, IfOk, Contains, Some, Ok};
-ghost use Rattle.ldm_records.specs.declared.types.Record.TheVariants as kinds;
-ghost use Rattle.ldm_layout.specs.Volumes.{layout_of, volume_with};
+ghost use Rattle.std.specs.Prelude.{◌≡◌, IfOk};
 ghost use Rattle.ldm_found.specs.Facts.{IsSoundGroup};
 ghost use Rattle.ldm_run.specs.Said.{HasAnswer};
 ghost use Rattle.ldm_run.specs.Mapping.{is_bad_range, map_answer};
@@ -10,8 +8,7 @@ use crate::running::Status;
 use ldm_bytes::{Bytes, NoMemory};
 use ldm_found::Found;
 use ldm_group_text::map_text;
-use ldm_layout::{LayoutError, Plan, plan};
-use ldm_records::Volume;
+use ldm_rules::sound_plan;
 use ldm_text::refusal_text;
 use std::alloc::Global;
 
@@ -19,21 +16,6 @@ fn is_bad_range(size: u64, first: u64, count: u64) -> bool
     ensures { result ≡ is_bad_range size first count }
 {
     count == 0 || count > 4096 || size < first || size - first < count
-}
-
-/// The layout of a volume of the group, which is there since the group is sound.
-pub(crate) fn plan_of(alloc: Global, found: &Found, volume: &Volume) -> Result<Plan, NoMemory>
-    requires sound { IsSoundGroup found.now }
-    requires there { Contains found.now.db.records (kinds.Volume volume.now) }
-    requires again { volume_with volume.now.head.id found.now.db.records ≡ Some volume.now }
-    ensures is { IfOk result (λ plan. layout_of found.now.db.records volume.now ≡ Ok plan) }
-    ensures size { IfOk result (λ plan. plan.size ≡ volume.now.size) }
-{
-    match plan(alloc, &found.db, volume.head.id) {
-        Ok(plan) => Ok(plan),
-        Err(LayoutError::NoMemory) => Err(NoMemory),
-        Err(LayoutError::Fault(_)) => unreachable!(),
-    }
 }
 
 /// What `map` answers on a group: the lines of so many sectors of the volume of this name, or the line of
@@ -55,6 +37,6 @@ pub(crate) fn mapped(
     if is_bad_range(volume.size, first, count) {
         return Ok((refusal_text(alloc, b"bad range")?, Status::Refused));
     }
-    let plan = plan_of(alloc, found, volume)?;
+    let plan = sound_plan(alloc, &found.db, &found.labels, volume)?;
     Ok((map_text(alloc, found, &plan, first, count)?, Status::Done))
 }

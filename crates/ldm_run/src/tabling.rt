@@ -8,12 +8,12 @@ ghost use Rattle.ldm_run.specs.Said.{HasAnswer};
 ghost use Rattle.ldm_run.specs.Runs.{DoesJob};
 ghost use Rattle.ldm_run.specs.Tabling.{table_answer};
 
-use crate::mapping::plan_of;
 use crate::running::{Status, open_group, say_made};
 use ldm_bytes::{Bytes, NoMemory};
 use ldm_dump::volumes_lie_on_images;
 use ldm_found::Found;
 use ldm_host::Host;
+use ldm_rules::sound_plan;
 use ldm_table::{TableFault, fault_text, table_text};
 use ldm_text::refusal_text;
 use ldm_words::Names;
@@ -43,7 +43,7 @@ fn tabled<H: Host>(
     let Some(volume) = found.db.volume_named(name) else {
         return Ok((refusal_text(alloc, b"no volume")?, Status::Refused));
     };
-    let plan = plan_of(alloc, found, volume)?;
+    let plan = sound_plan(alloc, &found.db, &found.labels, volume)?;
     volumes_lie_on_images();
     match table_text(alloc, host, found, volume, &plan, words)? {
         Ok(text) => Ok((text, Status::Done)),

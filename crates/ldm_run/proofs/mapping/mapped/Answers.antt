@@ -2,11 +2,11 @@ use Rattle.std.proofs.Common.{◌≡◌, ◌+◌, ◌≤◌, ℕ, Option, Some, 
 use Rattle.ldm_records.specs.declared.types.Record.{Record}
 use Rattle.ldm_records.specs.declared.types.Record.TheVariants as kinds
 use Rattle.ldm_group.specs.Looks.{by_id, volume_in}
-use Rattle.ldm_run.proofs.PlanLaws.{range_fits}
+use Rattle.ldm_run.proofs.MappingLaws.{range_fits}
 use Rattle.ldm_run.proofs.mapping.mapped.Goals as goal
 
-pub plan_of-requires-clause-again : goal.plan_of-requires-clause-again
-plan_of-requires-clause-again c =
+pub sound_plan-requires-clause-again : goal.sound_plan-requires-clause-again
+sound_plan-requires-clause-again c =
     let volume = c.in-Some.volume.now in
     let again : by_id 3 volume.head.id c.args.found.now.db.records ≡ Some (kinds.Volume volume) = search rules in
     ap (λ (o : Option Record). volume_in o) again

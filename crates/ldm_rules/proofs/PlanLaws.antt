@@ -1,6 +1,5 @@
 -- The plan of a volume of a sound group.
-use Rattle.std.proofs.Common.{◌≡◌, ℕ, ◌+◌, ◌≤◌, ◌==◌, ◌||◌, nat_lt, Bool, true, false, List, refl, ap, sym, ◌∙◌, subst, Option, Some, Result, Ok, Err, IfOk, IfSome, Contains}
-use Rattle.std.proofs.lemmas.Bool.{ltb-false}
+use Rattle.std.proofs.Common.{◌≡◌, List, ap, sym, ◌∙◌, subst, Option, Some, Result, Ok, Err, IfOk, IfSome, Contains}
 use Rattle.ldm_records.specs.declared.types.Record.{Record}
 use Rattle.ldm_records.specs.declared.types.Record.TheVariants as kinds
 use Rattle.ldm_records.specs.declared.types.Volume.{Volume}
@@ -11,9 +10,6 @@ use Rattle.ldm_layout.specs.declared.shape.LayoutError.{LayoutError}
 use Rattle.ldm_layout.specs.declared.shape.LayoutError.TheVariants.{Fault}
 use Rattle.ldm_layout.specs.declared.shape.LayoutFault.{LayoutFault}
 use Rattle.ldm_rules.specs.Disjoint.{AllLaidOut}
-use Rattle.ldm_found.specs.declared.found.Found.{Found}
-use Rattle.ldm_run.specs.Said.{Answer}
-use Rattle.ldm_run.specs.Mapping.{is_bad_range, map_answer}
 
 -- what is answered of the volume with its id is answered of the volume
 pub of_volume : (P : Volume → Type 0) (records : List Record) (v : Volume) → volume_with v.head.id records ≡ Some v → IfSome (volume_with v.head.id records) P → P v
@@ -35,17 +31,3 @@ pub planned_size : (records : List Record) (v : Volume) (result : Result Layout 
     → IfOk result (λ l. IfSome (volume_with v.head.id records) (λ w. l.size ≡ w.size)) → result ≡ Ok plan → plan.size ≡ v.size
 planned_size records v result plan again sizes is =
     of_volume (λ w. plan.size ≡ w.size) records v again (subst (λ (r : Result Layout LayoutError). IfOk r (λ l. IfSome (volume_with v.head.id records) (λ w. l.size ≡ w.size))) is sizes)
-
--- the answer of a name is that of the same name
-pub same_name : (name other : List ℕ) (first count : ℕ) (found : Found) (answer : Answer) → name ≡ other → answer ≡ map_answer name first count found → answer ≡ map_answer other first count found
-same_name name other first count found answer same is = subst (λ (n : List ℕ). answer ≡ map_answer n first count found) same is
-
--- a range that is not bad lies in the volume
-pub range_fits : (size first count : ℕ) → is_bad_range size first count ≡ false → first + count ≤ size
-range_fits size first count h = go (count == 0) (nat_lt 4096 count) (nat_lt size (first + count)) refl h
-  where
-    go : (a b c : Bool) → nat_lt size (first + count) ≡ c → (a || (b || c)) ≡ false → first + count ≤ size
-    go true b c e f = absurd cc
-    go false true c e f = absurd cc
-    go false false true e f = absurd cc
-    go false false false e f = ltb-false size (first + count) e
