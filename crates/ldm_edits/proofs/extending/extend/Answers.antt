@@ -20,11 +20,11 @@ not_mirror db labels pieces v Raid5 other = refl
 
 pub extend_mirror-requires-clause-shape : goal.extend_mirror-requires-clause-shape
 extend_mirror-requires-clause-shape c =
-    (laid_out_volume c.args.db.now.records c.in-Some.volume.now c.in_ok-plan.plan c.in_ok-plan.ensures).parts.shape ∙ ap (λ (s : Shape). Some s) (sym c.shape-shape.ensures ∙ c.in-Mirror.is)
+    (laid_out_volume c.args.db.now.records c.in-Some.volume.now c.in_ok-plan.plan c.in_ok-plan.ensures.is).parts.shape ∙ ap (λ (s : Shape). Some s) (sym c.shape-shape.ensures ∙ c.in-Mirror.is)
 
 pub returns-in-Mirror : goal.returns-in-Mirror
 returns-in-Mirror c =
-    let shape = (laid_out_volume c.args.db.now.records c.in-Some.volume.now c.in_ok-plan.plan c.in_ok-plan.ensures).parts.shape ∙ ap (λ (s : Shape). Some s) (sym c.shape-shape.ensures ∙ c.in-Mirror.is) in
+    let shape = (laid_out_volume c.args.db.now.records c.in-Some.volume.now c.in_ok-plan.plan c.in_ok-plan.ensures.is).parts.shape ∙ ap (λ (s : Shape). Some s) (sym c.shape-shape.ensures ∙ c.in-Mirror.is) in
     subst (λ (r : Result Database Refusal). StepsTo c.extend_mirror.result r)
     (sym (ap (λ (o : Option Shape). extended_as o c.args.db.now c.args.labels.now c.args.pieces.now c.in-Some.volume.now) shape)
     ∙ ap (extended c.args.db.now c.args.labels.now c.args.pieces.now) c.in-Some.ensures.is) c.extend_mirror.ensures
@@ -35,13 +35,13 @@ extend_span-requires c = record {
   areas = c.requires.areas;
   there = c.in-Some.ensures.there;
   limits = c.requires.limits;
-  shape = (laid_out_volume c.args.db.now.records c.in-Some.volume.now c.in_ok-plan.plan c.in_ok-plan.ensures).parts.shape ∙ ap (λ (s : Shape). Some s) (sym c.shape-shape.ensures);
-  held = c.capacity-2.ensures ∙ ap held (sym c.in_ok-plan.ensures);
+  shape = (laid_out_volume c.args.db.now.records c.in-Some.volume.now c.in_ok-plan.plan c.in_ok-plan.ensures.is).parts.shape ∙ ap (λ (s : Shape). Some s) (sym c.shape-shape.ensures);
+  held = c.capacity-2.ensures ∙ ap held (sym c.in_ok-plan.ensures.is);
 }
 
 pub returns : goal.returns
 returns c =
-    let shape = (laid_out_volume c.args.db.now.records c.in-Some.volume.now c.in_ok-plan.plan c.in_ok-plan.ensures).parts.shape ∙ ap (λ (s : Shape). Some s) (sym c.shape-shape.ensures) in
+    let shape = (laid_out_volume c.args.db.now.records c.in-Some.volume.now c.in_ok-plan.plan c.in_ok-plan.ensures.is).parts.shape ∙ ap (λ (s : Shape). Some s) (sym c.shape-shape.ensures) in
     subst (λ (r : Result Database Refusal). StepsTo c.extend_span.result r)
     (sym (ap (λ (o : Option Shape). extended_as o c.args.db.now c.args.labels.now c.args.pieces.now c.in-Some.volume.now) shape
     ∙ not_mirror c.args.db.now c.args.labels.now c.args.pieces.now c.in-Some.volume.now c.shape-shape.result c.in_default-shape.not-Mirror)
