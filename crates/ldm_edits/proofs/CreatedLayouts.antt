@@ -8,7 +8,6 @@ use Rattle.std.proofs.lemmas.List.Sums.{sum_by-cons}
 use Rattle.std.proofs.lemmas.List.Elements.{All-tail, All-cons, All-nil}
 use Rattle.std.proofs.lemmas.Bool.{and_from, eq-eqb, ne_eqb, le-leb, le-ltb}
 use Rattle.std.specs.Option.{option_map}
-use Rattle.ldm_bytes.specs.Tables.{first_fault, unless}
 use Rattle.ldm_records.specs.declared.pieces.Striping.{Striping}
 use Rattle.ldm_records.specs.declared.types.Record.{Record}
 use Rattle.ldm_records.specs.declared.types.Volume.{Volume}
@@ -16,13 +15,13 @@ use Rattle.ldm_layout.specs.declared.parts.Plex.{Plex}
 use Rattle.ldm_layout.specs.declared.parts.Extent.{Extent}
 use Rattle.ldm_layout.specs.declared.shape.Shape.{Shape}
 use Rattle.ldm_layout.specs.declared.shape.Shape.TheVariants.{Span, Stripe, Mirror, Raid5}
-use Rattle.ldm_layout.specs.declared.shape.LayoutFault.TheVariants.{Gap, Chunk, Columns, Short}
 use Rattle.ldm_layout.specs.Places.{stripe_capacity, raid5_capacity}
 use Rattle.ldm_layout.specs.Parts.{plexes_of, extents_of, in_rising, by_offset, by_index, tile_key, tiles, rises_from, least}
-use Rattle.ldm_layout.specs.Layouts.{Layout, has_gap, lacks_chunk, lacks_columns, is_short}
+use Rattle.ldm_layout.specs.Layouts.{Layout, lacks_columns}
 use Rattle.ldm_layout.specs.Volumes.{layout_of, draft_of, shape_of, is_basic, striping_of, laid_out, checked}
 use Rattle.ldm_layout.proofs.SortLaws.{AtLeast, Climbs, climbs_rises, stable_is}
 use Rattle.ldm_space.specs.declared.taken.Taken.{Taken}
+use Rattle.ldm_edits.proofs.TiledLayouts.{faultless}
 use Rattle.ldm_edits.proofs.TakenExtents.{tile_extents, column_extents, tiles_whole, tiles_sum, columns_rise, columns_count}
 
 -- the components of a mirror, from an id on: each is followed by its partition
@@ -91,9 +90,6 @@ columns_least : (c i len : ℕ) (ts : List Taken) → 1 ≤ length ts → AllSiz
 columns_least c i len ts some same = least_one _ len (omega (arith, columns_many c i ts)) (columns_sizes c i len ts same)
 
 -- ---- layouts without a fault
-
-faultless : (l : Layout) → has_gap l ≡ false → lacks_chunk l ≡ false → lacks_columns l ≡ false → is_short l ≡ false → checked (Some l) ≡ Ok l
-faultless l gap chunk columns short = λ i. unless (first_fault ((Gap, gap i) ∷ (Chunk, chunk i) ∷ (Columns, columns i) ∷ (Short, short i) ∷ [])) l
 
 -- a span of pieces one after the other
 pub span_layout : (records : List Record) (v : Volume) (c : ℕ) (ts : List Taken)

@@ -19,7 +19,7 @@ use Rattle.ldm_layout.specs.Parts.{extent_of, extents_of, plex_of, plexes_of}
 use Rattle.ldm_layout.specs.declared.parts.Extent.{Extent}
 use Rattle.ldm_layout.specs.declared.parts.Plex.{Plex}
 use Rattle.ldm_rules.specs.Rules.{first_broken, lacks_volume, lacks_component}
-use Rattle.ldm_rules.proofs.CarryLaws.{KeepsVolume, KeepsComponent, KeepsPartition, KeepsRules}
+use Rattle.ldm_rules.proofs.CarryLaws.{disk_there, KeepsVolume, KeepsComponent, KeepsPartition, KeepsRules}
 use Rattle.ldm_space.specs.declared.taken.Taken.{Taken}
 use Rattle.ldm_space.specs.Free.{taken_of}
 use Rattle.ldm_volumes.specs.Volumes.{there, span_parts, column_parts, span_made, stripe_made, raid5_made}
@@ -72,7 +72,7 @@ pub keeps_component : (next : List Record) (v : Volume) (c : Component) → Cont
 keeps_component next v c there parent children = record { parent = (v, there, sym parent); counted = children }
 
 pub keeps_partition : (next : List Record) (c : Component) (p : Partition) → Contains next (kinds.Component c) → p.parent ≡ c.head.id → IsSomeOn next (taken_of p) → KeepsPartition next p
-keeps_partition next c p there parent on = record { parent = (c, there, sym parent); disk = on.1; some = ne_eqb p.size 0 on.0 }
+keeps_partition next c p there parent on = record { parent = (c, there, sym parent); disk = disk_there next (kinds.Partition p) p.disk on.1; some = ne_eqb p.size 0 on.0 }
 
 -- a new component, as a layout reads it
 pub plex_is : {id parent layout children : ℕ} {striping : Option Striping} (made : MakesComponent id parent layout children striping)

@@ -1,58 +1,43 @@
 -- Create: the next group is sound where the old one is.
-use Rattle.std.proofs.Common.{◌≡◌, inl, inr, ◌∙◌, ap, sym, refl, subst, ℕ, ◌≤◌, ◌||◌, arith, List, Bool, false, Some, bytes_eq}
-use Rattle.std.specs.Prelude.{filter}
+use Rattle.std.proofs.Common.{◌≡◌, inl, inr, ◌∙◌, ap, sym, refl, subst, ℕ, ◌≤◌, ◌<◌, arith, List, false, Some, bytes_eq}
 use Rattle.std.specs.List.{Contains}
-use Rattle.std.proofs.lemmas.Bool.{false≢true, ne_eqb}
 use Rattle.ldm_records.specs.declared.types.Volume.{Volume}
 use Rattle.ldm_records.specs.declared.types.Record.{Record}
 use Rattle.ldm_records.specs.declared.types.Record.TheVariants as kinds
 use Rattle.ldm_records.specs.declared.pieces.Head.{Head}
 use Rattle.ldm_group.specs.Order.{Rising}
-use Rattle.ldm_group.specs.Looks.{is_child, is_volume_named, max_id}
+use Rattle.ldm_group.specs.Looks.{is_volume_named, max_id}
 use Rattle.ldm_group.proofs.InOrder.{max_above}
-use Rattle.ldm_group.proofs.KinLaws.{kin_same}
 use Rattle.ldm_label.specs.declared.Label.{Label}
 use Rattle.ldm_rules.specs.Ends.{data_size}
-use Rattle.ldm_rules.proofs.CarryLaws.{HasSameKin, Carries, heads}
+use Rattle.ldm_rules.proofs.CarryLaws.{SameComponents, SamePartitions, HasSameKin, Carries, heads}
 use Rattle.ldm_rules.proofs.HeadLaws.{SameHeads, AreNamed, names_next}
 use Rattle.ldm_rules.proofs.SoundLaws.{EachRule}
 use Rattle.ldm_space.specs.declared.taken.Taken.{Taken}
 use Rattle.ldm_space.specs.Free.{taken_in}
 use Rattle.ldm_space.specs.Placed.{AreApart, AllEndWithin}
 use Rattle.ldm_edits.proofs.PlacedRules.{placed_carried}
-use Rattle.ldm_edits.proofs.CreatedRules.{IsFresh, IsCreated}
-
--- no fresh record names an old parent
-fresh_component : (top q : ℕ) (r : Record) → q ≤ top → IsFresh top r → is_child 3 q r ≡ false
-fresh_component top q (kinds.Component c) old fresh = ne_eqb c.parent q (λ e. omega arith)
-fresh_component top q (kinds.Partition p) old fresh = refl
-fresh_component top q (kinds.Volume v) old fresh = refl
-fresh_component top q (kinds.Disk d) old fresh = refl
-fresh_component top q (kinds.Group g) old fresh = refl
-
-fresh_partition : (top q : ℕ) (r : Record) → q ≤ top → IsFresh top r → is_child 4 q r ≡ false
-fresh_partition top q (kinds.Partition p) old fresh = ap (λ (b : Bool). b || false) (ne_eqb p.parent q (λ e. omega arith))
-fresh_partition top q (kinds.Component c) old fresh = refl
-fresh_partition top q (kinds.Volume v) old fresh = refl
-fresh_partition top q (kinds.Disk d) old fresh = refl
-fresh_partition top q (kinds.Group g) old fresh = refl
+use Rattle.ldm_edits.proofs.CreatedRules.{IsCreated}
 
 module _ (old next made : List Record) (name : List ℕ) (ts : List Taken) (up : Rising old) (created : IsCreated old next made name ts) where
-  -- ---- what the old records have in the next group
+  -- a new component, or partition, names no old parent
+  components_kept : (q : ℕ) → q ≤ max_id old → SameComponents old next q
+  components_kept q low = record {
+    stay = λ c parent at. created.adds.kept (kinds.Component c) at;
+    back = λ c parent at. elim (created.adds.from (kinds.Component c) at) [ inl o ↦ o | inr m ↦ absurd (let fresh : max_id old < c.parent = created.fresh (kinds.Component c) m in omega arith) ];
+  }
 
-  kin_old : (t : Record → Bool) → ((r : Record) → IsFresh (max_id old) r → t r ≡ false) → filter t old ≡ filter t next
-  kin_old t none =
-      kin_same t old next up created.adds.rising (λ r h at. created.adds.kept r at)
-      (λ r h at. elim (created.adds.from r at) [ inl o ↦ o | inr m ↦ absurd (false≢true (sym (none r (created.fresh r m)) ∙ h)) ])
-
-  partitions_kept : (q : ℕ) → q ≤ max_id old → filter (is_child 4 q) old ≡ filter (is_child 4 q) next
-  partitions_kept q low = kin_old (is_child 4 q) (λ s fresh. fresh_partition (max_id old) q s low fresh)
+  partitions_kept : (q : ℕ) → q ≤ max_id old → SamePartitions old next q
+  partitions_kept q low = record {
+    stay = λ p parent at. created.adds.kept (kinds.Partition p) at;
+    back = λ p parent at. elim (created.adds.from (kinds.Partition p) at) [ inl o ↦ o | inr m ↦ absurd (let fresh : max_id old < p.parent = created.fresh (kinds.Partition p) m in omega arith) ];
+  }
 
   kin : (r : Record) → Contains old r → HasSameKin old next r
   kin (kinds.Group g) at = tt
   kin (kinds.Disk d) at = tt
   kin (kinds.Volume v) at = record {
-    components = kin_old (is_child 3 v.head.id) (λ s fresh. fresh_component (max_id old) v.head.id s (max_above old (kinds.Volume v) at) fresh);
+    components = components_kept v.head.id (max_above old (kinds.Volume v) at);
     partitions = λ c there parent. partitions_kept c.head.id (max_above old (kinds.Component c) there);
   }
   kin (kinds.Component c) at = record {

@@ -14,14 +14,12 @@ use Rattle.ldm_group.specs.Order.{Rising, place_of, in_order}
 use Rattle.ldm_group.specs.Database.{Database}
 use Rattle.ldm_group.specs.Partitions.{EndsInRange}
 use Rattle.ldm_group.specs.Room.{IsFitting}
-use Rattle.ldm_group.specs.Looks.{is_child}
 use Rattle.ldm_group.proofs.InOrder.{next_rises, member_next, stays_next}
-use Rattle.ldm_group.proofs.KinLaws.{filter_has, filter_keeps, kin_same}
-use Rattle.ldm_group.proofs.KindLaws.{child_component, child_partition}
+use Rattle.ldm_group.proofs.KinLaws.{filter_has, filter_keeps}
 use Rattle.ldm_group.proofs.Rise.{tested}
 use Rattle.ldm_label.specs.declared.Label.{Label}
 use Rattle.ldm_layout.proofs.VolumeLaws.{one_component}
-use Rattle.ldm_rules.proofs.CarryLaws.{HasSameKin, Carries, heads}
+use Rattle.ldm_rules.proofs.CarryLaws.{SameComponents, SamePartitions, HasSameKin, Carries, heads}
 use Rattle.ldm_rules.proofs.HeadLaws.{names_kept}
 use Rattle.ldm_rules.proofs.SoundLaws.{EachRule, sound_from, sound_parts}
 use Rattle.ldm_rules.specs.Ends.{data_size}
@@ -60,17 +58,11 @@ module _ (v : Volume) (old next : List Record) (is : IsWithout v old next) where
   ]
 
   -- so each has the same children
-  components_stay : (w : Volume) → Contains next (kinds.Volume w) → filter (is_child 3 w.head.id) old ≡ filter (is_child 3 w.head.id) next
-  components_stay w there = kin_same (is_child 3 w.head.id) old next is.up is.vp (λ r h at. stays r at (child_component w.head.id r h)) (λ r h at. (is.back r at).0)
-    where
-      stays : (r : Record) → Contains old r → (c : Component) × (r ≡ kinds.Component c) × (c.parent ≡ w.head.id) → Contains next r
-      stays r at (c, e, parent) = subst (λ (x : Record). Contains next x) (sym e) (component_stays w there c (subst (λ (x : Record). Contains old x) e at) parent)
+  components_stay : (w : Volume) → Contains next (kinds.Volume w) → SameComponents old next w.head.id
+  components_stay w there = record { stay = λ c parent at. component_stays w there c at parent; back = λ c parent at. (is.back (kinds.Component c) at).0 }
 
-  partitions_stay : (c : Component) → Contains next (kinds.Component c) → filter (is_child 4 c.head.id) old ≡ filter (is_child 4 c.head.id) next
-  partitions_stay c there = kin_same (is_child 4 c.head.id) old next is.up is.vp (λ r h at. is.there r at (stays r (child_partition c.head.id r h))) (λ r h at. (is.back r at).0)
-    where
-      stays : (r : Record) → (p : Partition) × (r ≡ kinds.Partition p) × (p.parent ≡ c.head.id) → goes v.head.id old r ≡ false
-      stays r (p, e, parent) = ap (goes v.head.id old) e ∙ partition_stays c there p parent
+  partitions_stay : (c : Component) → Contains next (kinds.Component c) → SamePartitions old next c.head.id
+  partitions_stay c there = record { stay = λ p parent at. is.there (kinds.Partition p) at (partition_stays c there p parent); back = λ p parent at. (is.back (kinds.Partition p) at).0 }
 
   -- a component that goes takes its partitions along
   whose_stays : (p : Partition) → Contains next (kinds.Partition p) → (c : Component) → Contains old (kinds.Component c) → c.head.id ≡ p.parent → goes v.head.id old (kinds.Component c) ≡ false

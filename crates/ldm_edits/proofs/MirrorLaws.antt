@@ -18,7 +18,7 @@ use Rattle.ldm_group.specs.Looks.{is_volume_named, volume_named}
 use Rattle.ldm_group.proofs.LookLaws.{find_there}
 use Rattle.ldm_edits.specs.Extending.{extended_span}
 use Rattle.ldm_edits.specs.Extended.{extended_as, extended}
-use Rattle.ldm_edits.proofs.ExtendLaws.{extended_from, volume_is}
+use Rattle.ldm_edits.proofs.ExtendLaws.{not_refused, extended_from, volume_is}
 use Rattle.ldm_layout.specs.Parts.{plexes_of}
 use Rattle.ldm_layout.specs.Volumes.{layout_of, shape_of}
 use Rattle.ldm_rules.specs.Ends.{data_size}
@@ -32,7 +32,7 @@ use Rattle.ldm_edits.specs.declared.reply.Refusal.{Refusal}
 use Rattle.ldm_edits.specs.declared.reply.Refusal.TheVariants as refusals
 use Rattle.ldm_edits.specs.Asked.{asked_for, has_twins, is_much}
 use Rattle.ldm_edits.specs.Changes.{Change, when, limits, changed}
-use Rattle.ldm_edits.specs.Extending.{held, refused_or}
+use Rattle.ldm_edits.specs.Extending.{held}
 use Rattle.ldm_edits.specs.Steps.{Keeps}
 use Rattle.ldm_edits.proofs.LimitLaws.{first_parts, within_limits, not_when, when_ok}
 use Rattle.ldm_edits.proofs.SizeLists.{sizes_many}
@@ -40,10 +40,6 @@ use Rattle.ldm_edits.proofs.WalkAnswers.{asked_sizes}
 use Rattle.ldm_edits.specs.Mirroring.{components_of, grown, MayGrow}
 use Rattle.ldm_edits.specs.Extended.{on_others, len_of, is_uneven, is_bad_growth, mirror_placed, mirror_wanted, extended_mirror}
 use Rattle.ldm_edits.proofs.GrowLaws.{grown_keeps}
-
-not_refused : (o : Option Refusal) (made : Result Database Refusal) (next : Database) → refused_or o made ≡ Ok next → (o ≡ None) × (made ≡ Ok next)
-not_refused None made next h = (refl, h)
-not_refused (Some r) made next h = absurd cc
 
 -- neither of two reasons
 two_parts : (a b : Option Refusal) → first_of (a ∷ (b ∷ [])) ≡ None → (a ≡ None) × (b ≡ None)
