@@ -1,7 +1,7 @@
 -- The moments of filling a copy by several writes.
 use Rattle.std.proofs.Common.{◌≢◌, inl, inr, ℕ, ◌+◌, ◌*◌, ◌<◌, ◌≤◌, List, length, slice_index, sym, subst, arith}
 use Rattle.ldm_host.specs.Seen.{Seen, image}
-use Rattle.ldm_host.specs.Moves.{Writes, Changes}
+use Rattle.ldm_host.specs.Moves.{Writes, Changes, AtEachMoment}
 use Rattle.ldm_host.proofs.Relations.{moments_trans}
 use Rattle.ldm_host.proofs.ChangeLaws.{writes_change, changes_trans, changes_wider}
 use Rattle.ldm_label.specs.declared.Label.{Label}
@@ -14,7 +14,7 @@ use Rattle.ldm_copy.proofs.RewriteLaws.{at_unseal}
 module _ (disk : ℕ) (label : Label) (some : 1 ≤ label.area_sectors) where
   -- anything may be pending behind the gate
   pub at_fill : (n : ℕ) (a b : Seen) → disk < length a.sizes → ((x : List ℕ) → a.may_leave disk x → slice_index x (gate_at label) ≢ 0x56) → Changes disk (gate_at label + 1) n a b
-      → (images : List (List ℕ)) (said : List ℕ) → b.left_since a.clock images said → IsShut label (image images disk)
+      → AtEachMoment a b (λ images said. IsShut label (image images disk))
   at_fill n a b in_range shut changes images said left =
       let m = changes.moments images said left in
       while_filling label some n (image m.0 disk) (image images disk) (shut (image m.0 disk) (m.1.each disk in_range)) m.2.here
@@ -22,7 +22,7 @@ module _ (disk : ℕ) (label : Label) (some : 1 ≤ label.area_sectors) where
   pub at_refill : (n : ℕ) (db : Database) (body : List ℕ) (a b c : Seen) → disk < length a.sizes → ((x : List ℕ) → a.may_leave disk x → slice_index x (gate_at label) ≢ 0x56) → IsBodyOn db label body
       → Changes disk (gate_at label + 1) n a b → ((x : List ℕ) → b.may_leave disk x → gate_at label + 512 * label.area_sectors ≤ length x)
       → ((x : List ℕ) → b.may_leave disk x → HasBody label body x) → Writes disk (gate_at label) 1 b c
-      → (images : List (List ℕ)) (said : List ℕ) → c.left_since a.clock images said → IsBetween label db (image a.content disk) (image images disk)
+      → AtEachMoment a c (λ images said. IsBetween label db (image a.content disk) (image images disk))
   at_refill n db body a b c in_range shut is first room filled second =
       moments_trans a b c (λ images said. IsBetween label db (image a.content disk) (image images disk)) first.later second.later
       (λ images said left. inr (inl (at_fill n a b in_range shut first images said left)))

@@ -1,6 +1,6 @@
 //! Writes the changed blocks of a body behind a closed gate.
 ghost use Rattle.std.specs.Prelude.{◌≡◌, ◌≢◌, ℕ, ◌+◌, ◌-◌, ◌*◌, ◌^◌, ◌<◌, ◌≤◌, List, length, slice_index, OnOk, IsErr};
-ghost use Rattle.ldm_host.specs.Moves.{Rose, Settled, Writes, Changes};
+ghost use Rattle.ldm_host.specs.Moves.{Settled, Writes, Changes, DiskFailed};
 ghost use Rattle.ldm_host.specs.Seen.{image};
 ghost use Rattle.ldm_label.specs.LabelOf.{Fits};
 ghost use Rattle.ldm_copy.specs.Copy.{gate_at};
@@ -29,7 +29,7 @@ fn write_part<H: Host>(
     ensures written { H.tells_disks → OnOk result ((k : ℕ) → from ≤ k → k < to
         → slice_index (image (H.seen host.new).content disk) (at + k) ≡ slice_index body.now k) }
     ensures writes { Writes disk (at + from) (to - from) (H.seen host.old) (H.seen host.new) }
-    ensures cause { IsErr result → Rose (H.seen host.old).disk_faults (H.seen host.new).disk_faults }
+    ensures cause { IsErr result → DiskFailed (H.seen host.old) (H.seen host.new) }
 {
     host.write_at(disk, at + from as u64, &body[from..to])
 }
@@ -68,7 +68,7 @@ pub fn fill_changed<H: Host>(
     ensures settled { OnOk result (Settled (H.seen host.new) disk) }
     ensures changes { Changes disk (gate_at label.now + 1) (length change.now.body - 1) (H.seen host.old) (H.seen host.new) }
     ensures wrote { slice_index (H.seen host.new).wrote disk ≤ slice_index (H.seen host.old).wrote disk + (511 + 128 * length change.now.numbers) }
-    ensures cause { IsErr result → Rose (H.seen host.old).disk_faults (H.seen host.new).disk_faults }
+    ensures cause { IsErr result → DiskFailed (H.seen host.old) (H.seen host.new) }
 {
     let at = gate_at(host, disk, label);
     let body = change.body.as_slice();

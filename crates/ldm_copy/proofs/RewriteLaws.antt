@@ -1,7 +1,7 @@
 -- The moments of the three calls on one disk, and of their sequences.
 use Rattle.std.proofs.Common.{◌≡◌, ◌≢◌, ◌⊎◌, inl, inr, ⊎_elim, ℕ, ◌+◌, ◌*◌, ◌<◌, ◌≤◌, List, length, slice_index, sym, ◌∙◌, ap, subst, arith}
 use Rattle.ldm_host.specs.Seen.{Seen, image}
-use Rattle.ldm_host.specs.Moves.{Torn, Settled, Writes, Changes}
+use Rattle.ldm_host.specs.Moves.{Torn, Settled, Writes, Changes, AtEachMoment}
 use Rattle.ldm_host.proofs.Relations.{moments_trans}
 use Rattle.ldm_label.specs.declared.Label.{Label}
 use Rattle.ldm_group.specs.Database.{Database}
@@ -17,8 +17,7 @@ body_size db label body on = (omega (arith, on.is.size, on.low), omega (arith, o
 
 module _ (disk : ℕ) (label : Label) (some : 1 ≤ label.area_sectors) where
   pub at_close : (a b : Seen) → disk < length a.sizes → Settled a disk → IsOpen (config_area label (image a.content disk)) → Writes disk (gate_at label) 1 a b
-      → (images : List (List ℕ)) (said : List ℕ) → b.left_since a.clock images said
-      → (config_area label (image images disk) ≡ config_area label (image a.content disk)) ⊎ IsShut label (image images disk)
+      → AtEachMoment a b (λ images said. (config_area label (image images disk) ≡ config_area label (image a.content disk)) ⊎ IsShut label (image images disk))
   at_close a b in_range settled was writes images said left =
       let m = writes.moments images said left in
       let is = settled (image m.0 disk) (m.1.each disk in_range) in
@@ -26,14 +25,14 @@ module _ (disk : ℕ) (label : Label) (some : 1 ≤ label.area_sectors) where
 
   -- anything may be pending behind the gate
   pub at_fill : (n : ℕ) (a b : Seen) → disk < length a.sizes → ((x : List ℕ) → a.may_leave disk x → slice_index x (gate_at label) ≢ 0x56) → Writes disk (gate_at label + 1) n a b
-      → (images : List (List ℕ)) (said : List ℕ) → b.left_since a.clock images said → IsShut label (image images disk)
+      → AtEachMoment a b (λ images said. IsShut label (image images disk))
   at_fill n a b in_range shut writes images said left =
       let m = writes.moments images said left in
       while_filling label some n (image m.0 disk) (image images disk) (shut (image m.0 disk) (m.1.each disk in_range)) m.2.here
 
   pub at_unseal : (db : Database) (body : List ℕ) (b c : Seen) → disk < length b.sizes → IsBodyOn db label body
       → ((x : List ℕ) → b.may_leave disk x → gate_at label + 512 * label.area_sectors ≤ length x) → ((x : List ℕ) → b.may_leave disk x → HasBody label body x) → Writes disk (gate_at label) 1 b c
-      → (images : List (List ℕ)) (said : List ℕ) → c.left_since b.clock images said → IsShut label (image images disk) ⊎ IsWritten label db (image images disk)
+      → AtEachMoment b c (λ images said. IsShut label (image images disk) ⊎ IsWritten label db (image images disk))
   at_unseal db body b c in_range is room filled writes images said left =
       let m = writes.moments images said left in
       let may = m.1.each disk in_range in
@@ -67,7 +66,7 @@ module _ (disk : ℕ) (label : Label) (some : 1 ≤ label.area_sectors) where
   pub at_refill : (n : ℕ) (db : Database) (body : List ℕ) (a b c : Seen) → disk < length a.sizes → ((x : List ℕ) → a.may_leave disk x → slice_index x (gate_at label) ≢ 0x56) → IsBodyOn db label body
       → Writes disk (gate_at label + 1) n a b → ((x : List ℕ) → b.may_leave disk x → gate_at label + 512 * label.area_sectors ≤ length x)
       → ((x : List ℕ) → b.may_leave disk x → HasBody label body x) → Writes disk (gate_at label) 1 b c
-      → (images : List (List ℕ)) (said : List ℕ) → c.left_since a.clock images said → IsBetween label db (image a.content disk) (image images disk)
+      → AtEachMoment a c (λ images said. IsBetween label db (image a.content disk) (image images disk))
   at_refill n db body a b c in_range shut is first room filled second =
       moments_trans a b c (λ images said. IsBetween label db (image a.content disk) (image images disk)) first.later second.later
       (λ images said left. inr (inl (at_fill n a b in_range shut first images said left)))
@@ -76,8 +75,8 @@ module _ (disk : ℕ) (label : Label) (some : 1 ≤ label.area_sectors) where
   -- all three
   pub at_rewrite : (db : Database) (a b c : Seen) → disk < length a.sizes → Settled a disk → IsOpen (config_area label (image a.content disk))
       → Writes disk (gate_at label) 1 a b → IsShut label (image b.content disk) → (Changes disk (gate_at label) (512 * label.area_sectors) b c)
-      → ((images : List (List ℕ)) (said : List ℕ) → c.left_since b.clock images said → IsBetween label db (image b.content disk) (image images disk))
-      → (images : List (List ℕ)) (said : List ℕ) → c.left_since a.clock images said → IsBetween label db (image a.content disk) (image images disk)
+      → AtEachMoment b c (λ images said. IsBetween label db (image b.content disk) (image images disk))
+      → AtEachMoment a c (λ images said. IsBetween label db (image a.content disk) (image images disk))
   at_rewrite db a b c in_range settled was first shut second between =
       moments_trans a b c (λ images said. IsBetween label db (image a.content disk) (image images disk)) first.later second.later
       (λ images said left. ⊎_elim (λ same. inl same) (λ closed. inr (inl closed)) (at_close a b in_range settled was first images said left))

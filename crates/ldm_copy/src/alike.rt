@@ -1,6 +1,6 @@
 //! Whether the areas of two disks have the same bytes in use.
 ghost use Rattle.std.specs.Prelude.{◌≡◌, ◌↔◌, ◌+◌, ◌*◌, ◌^◌, ◌<◌, ◌≤◌, IsTrue, length, slice_index, slice_range, IfOk, IsErr};
-ghost use Rattle.ldm_host.specs.Moves.{Rose, Still, Quiet};
+ghost use Rattle.ldm_host.specs.Moves.{Looks};
 ghost use Rattle.ldm_host.specs.Seen.{image};
 ghost use Rattle.ldm_label.specs.LabelOf.{Fits};
 ghost use Rattle.ldm_group.specs.Database.{Database};
@@ -44,9 +44,7 @@ fn is_chunk_same<H: Host>(
     requires one_size { length other_bytes.old ≡ length bytes.old }
     ensures is { H.tells_disks → IfOk result (λ same. IsTrue same ↔ (slice_range (image (H.seen host.old).content disk) at (at + length bytes.old)
         ≡ slice_range (image (H.seen host.old).content other) other_at (other_at + length bytes.old))) }
-    ensures still { Still (H.seen host.old) (H.seen host.new) }
-    ensures quiet { Quiet (H.seen host.old) (H.seen host.new) }
-    ensures cause { IsErr result → Rose (H.seen host.old).disk_faults (H.seen host.new).disk_faults }
+    ensures looks { Looks (H.seen host.old) (H.seen host.new) (IsErr result) }
 {
     host.read_at(disk, at, bytes)?;
     host.read_at(other, other_at, other_bytes)?;
@@ -71,9 +69,7 @@ fn are_few_same<H: Host>(
     requires other_small { other_from < 2 ^ 55 }
     ensures is { H.tells_disks → IfOk result (λ same. IsTrue same ↔ (sectors_from from sectors (image (H.seen host.old).content disk)
         ≡ sectors_from other_from sectors (image (H.seen host.old).content other))) }
-    ensures still { Still (H.seen host.old) (H.seen host.new) }
-    ensures quiet { Quiet (H.seen host.old) (H.seen host.new) }
-    ensures cause { IsErr result → Rose (H.seen host.old).disk_faults (H.seen host.new).disk_faults }
+    ensures looks { Looks (H.seen host.old) (H.seen host.new) (IsErr result) }
 {
     let mut bytes = [0u8; 4096];
     let mut other_bytes = [0u8; 4096];
@@ -108,9 +104,7 @@ fn is_same<H: Host>(
     requires other_small { other_from + sectors < 2 ^ 55 }
     ensures is { H.tells_disks → IfOk result (λ same. IsTrue same ↔ (sectors_from from sectors (image (H.seen host.old).content disk)
         ≡ sectors_from other_from sectors (image (H.seen host.old).content other))) }
-    ensures still { Still (H.seen host.old) (H.seen host.new) }
-    ensures quiet { Quiet (H.seen host.old) (H.seen host.new) }
-    ensures cause { IsErr result → Rose (H.seen host.old).disk_faults (H.seen host.new).disk_faults }
+    ensures looks { Looks (H.seen host.old) (H.seen host.new) (IsErr result) }
 {
     for chunk in 0..sectors.div_ceil(CHUNK) {
         let done = CHUNK * chunk;
@@ -144,9 +138,7 @@ pub fn is_alike<H: Host>(
     ensures copy { H.tells_disks → IfOk result (λ alike. IsTrue alike → (db : Database) → db.header.last ≡ last
         → IsWritten other_label.now db (image (H.seen host.old).content other)
         → IsWritten label.now db (image (H.seen host.old).content disk)) }
-    ensures still { Still (H.seen host.old) (H.seen host.new) }
-    ensures quiet { Quiet (H.seen host.old) (H.seen host.new) }
-    ensures cause { IsErr result → Rose (H.seen host.old).disk_faults (H.seen host.new).disk_faults }
+    ensures looks { Looks (H.seen host.old) (H.seen host.new) (IsErr result) }
 {
     let from = area_start(host, disk, label);
     let other_from = area_start(host, other, other_label);

@@ -1,6 +1,6 @@
 //! A body with the blocks of each of its records, made or read from a disk.
 ghost use Rattle.std.specs.Prelude.{◌≡◌, ◌↔◌, ◌+◌, ◌*◌, ◌/◌, ◌<◌, ◌≤◌, IsTrue, false, None, length, slice_index, slice_range, drop, IfOk, IfSome, IsErrOf};
-ghost use Rattle.ldm_host.specs.Moves.{Rose, Still, Quiet};
+ghost use Rattle.ldm_host.specs.Moves.{Looks};
 ghost use Rattle.ldm_host.specs.Seen.{image};
 ghost use Rattle.ldm_label.specs.LabelOf.{Fits};
 ghost use Rattle.ldm_vmdb.specs.declared.header.Header.{Header};
@@ -131,9 +131,7 @@ fn copy_bytes<H: Host>(
     requires within { len ≤ 512 * label.now.area_sectors }
     ensures bytes { H.tells_disks → IfOk result (λ b. b.items ≡ slice_range (image (H.seen host.old).content disk) (gate_at label.now) (gate_at label.now + len)) }
     ensures size { IfOk result (λ b. length b.items ≡ len) }
-    ensures still { Still (H.seen host.old) (H.seen host.new) }
-    ensures quiet { Quiet (H.seen host.old) (H.seen host.new) }
-    ensures cause { IsErrOf result BodyError.Disk → Rose (H.seen host.old).disk_faults (H.seen host.new).disk_faults }
+    ensures looks { Looks (H.seen host.old) (H.seen host.new) (IsErrOf result BodyError.Disk) }
 {
     let at = gate_at(host, disk, label);
     let mut bytes = vec![in alloc; 0u8; len]?;
@@ -159,9 +157,7 @@ pub fn read_body<H: Host>(
     ensures core { IfOk result (λ found. IfSome found (λ body. IsCoreBody db.now body)) }
     // Where there is one, it is found.
     ensures none { H.tells_disks → IfOk result (λ found. found ≡ None → IsNoBody db.now label.now.area_sectors (body_bytes db.now label.now (image (H.seen host.old).content disk))) }
-    ensures still { Still (H.seen host.old) (H.seen host.new) }
-    ensures quiet { Quiet (H.seen host.old) (H.seen host.new) }
-    ensures cause { IsErrOf result BodyError.Disk → Rose (H.seen host.old).disk_faults (H.seen host.new).disk_faults }
+    ensures looks { Looks (H.seen host.old) (H.seen host.new) (IsErrOf result BodyError.Disk) }
 {
     // The area has 2048 sectors at most.
     prove!(label.area_sectors <= 2048);

@@ -1,6 +1,6 @@
 //! The gate of a copy, and what is written behind it.
 ghost use Rattle.std.specs.Prelude.{◌≡◌, ◌≢◌, ◌+◌, ◌-◌, ◌*◌, ◌^◌, ◌<◌, ◌≤◌, List, ℕ, length, slice_index, OnOk, IsErr};
-ghost use Rattle.ldm_host.specs.Moves.{Rose, Settled, Writes};
+ghost use Rattle.ldm_host.specs.Moves.{Settled, Writes, DiskFailed};
 ghost use Rattle.ldm_host.specs.Seen.{image};
 ghost use Rattle.ldm_label.specs.LabelOf.{Fits};
 ghost use Rattle.ldm_group.specs.Database.{Database};
@@ -33,7 +33,7 @@ pub fn close<H: Host>(host: &mut H, disk: usize, label: &Label) -> Result<(), Fa
     ensures closed { H.tells_disks → OnOk result ((c : List ℕ) → (H.seen host.new).may_leave disk c → slice_index c (gate_at label.now) ≡ 0) }
     ensures settled { OnOk result (Settled (H.seen host.new) disk) }
     ensures writes { Writes disk (gate_at label.now) 1 (H.seen host.old) (H.seen host.new) }
-    ensures cause { IsErr result → Rose (H.seen host.old).disk_faults (H.seen host.new).disk_faults }
+    ensures cause { IsErr result → DiskFailed (H.seen host.old) (H.seen host.new) }
 {
     let at = gate_at(host, disk, label);
     host.write_at(disk, at, &[0])?;
@@ -49,7 +49,7 @@ pub fn fill<H: Host>(host: &mut H, disk: usize, label: &Label, body: &Body) -> R
     ensures filled { H.tells_disks → OnOk result ((c : List ℕ) → (H.seen host.new).may_leave disk c → HasBody label.now body.now c) }
     ensures settled { OnOk result (Settled (H.seen host.new) disk) }
     ensures writes { Writes disk (gate_at label.now + 1) (length body.now - 1) (H.seen host.old) (H.seen host.new) }
-    ensures cause { IsErr result → Rose (H.seen host.old).disk_faults (H.seen host.new).disk_faults }
+    ensures cause { IsErr result → DiskFailed (H.seen host.old) (H.seen host.new) }
 {
     let at = gate_at(host, disk, label);
     host.write_at(disk, at + 1, &body.as_slice()[1..])?;
@@ -67,7 +67,7 @@ pub fn unseal<H: Host>(host: &mut H, disk: usize, label: &Label) -> Result<(), F
     ensures opened { H.tells_disks → OnOk result ((c : List ℕ) → (H.seen host.new).may_leave disk c → slice_index c (gate_at label.now) ≡ 0x56) }
     ensures settled { OnOk result (Settled (H.seen host.new) disk) }
     ensures writes { Writes disk (gate_at label.now) 1 (H.seen host.old) (H.seen host.new) }
-    ensures cause { IsErr result → Rose (H.seen host.old).disk_faults (H.seen host.new).disk_faults }
+    ensures cause { IsErr result → DiskFailed (H.seen host.old) (H.seen host.new) }
 {
     let at = gate_at(host, disk, label);
     host.write_at(disk, at, &[0x56])?;

@@ -1,6 +1,6 @@
 //! Reads the copy on a disk.
 ghost use Rattle.std.specs.Prelude.{◌≡◌, ◌+◌, ◌-◌, ◌*◌, ◌/◌, ◌^◌, ◌<◌, ◌≤◌, ◌++◌, ℕ, List, [], Result, Err, length, slice_index, IfOk, IfErr, IfSome, OnOk, IsErrOf};
-ghost use Rattle.ldm_host.specs.Moves.{Rose, Still, Quiet};
+ghost use Rattle.ldm_host.specs.Moves.{Looks};
 ghost use Rattle.ldm_host.specs.Seen.{image};
 ghost use Rattle.ldm_label.specs.LabelOf.{Fits};
 ghost use Rattle.ldm_frags.specs.Blocks.{count};
@@ -41,9 +41,7 @@ fn feed_few<H: Host>(
     ensures fault { H.tells_disks → IfErr result (λ e. (fed rest : List ℕ) → IsFed joiner.old fed
         → JoinsBlocks (fed ++ sectors_from from sectors (image (H.seen host.old).content disk) ++ rest) (Err e)) }
     ensures limit { joiner.new.limit ≡ joiner.old.limit }
-    ensures still { Still (H.seen host.old) (H.seen host.new) }
-    ensures quiet { Quiet (H.seen host.old) (H.seen host.new) }
-    ensures cause { IsErrOf result CopyError.Disk → Rose (H.seen host.old).disk_faults (H.seen host.new).disk_faults }
+    ensures looks { Looks (H.seen host.old) (H.seen host.new) (IsErrOf result CopyError.Disk) }
 {
     let mut bytes = [0u8; 4096];
     let piece = &mut bytes[..512 * sectors as usize];
@@ -67,9 +65,7 @@ fn feed_sectors<H: Host>(
     requires room { 4 * sectors ≤ joiner.old.limit }
     ensures read { OnOk result (IsRead H.tells_disks (image (H.seen host.old).content disk) from sectors (IsFed joiner.new)) }
     ensures fault { H.tells_disks → IfErr result (λ e. JoinsBlocks (sectors_from from sectors (image (H.seen host.old).content disk)) (Err e)) }
-    ensures still { Still (H.seen host.old) (H.seen host.new) }
-    ensures quiet { Quiet (H.seen host.old) (H.seen host.new) }
-    ensures cause { IsErrOf result CopyError.Disk → Rose (H.seen host.old).disk_faults (H.seen host.new).disk_faults }
+    ensures looks { Looks (H.seen host.old) (H.seen host.new) (IsErrOf result CopyError.Disk) }
 {
     for chunk in 0..sectors.div_ceil(CHUNK) {
         let done = CHUNK * chunk;
@@ -93,9 +89,7 @@ fn join_sectors<H: Host>(
     requires small { sectors ≤ 2048 }
     ensures read { IfOk result (λ list. IsRead H.tells_disks (image (H.seen host.old).content disk) from sectors (λ blocks. Joins blocks list.items)) }
     ensures fault { H.tells_disks → IfErr result (λ e. JoinsBlocks (sectors_from from sectors (image (H.seen host.old).content disk)) (Err e)) }
-    ensures still { Still (H.seen host.old) (H.seen host.new) }
-    ensures quiet { Quiet (H.seen host.old) (H.seen host.new) }
-    ensures cause { IsErrOf result CopyError.Disk → Rose (H.seen host.old).disk_faults (H.seen host.new).disk_faults }
+    ensures looks { Looks (H.seen host.old) (H.seen host.new) (IsErrOf result CopyError.Disk) }
 {
     let mut joiner = Joiner::new(alloc, 4 * sectors as u32)?;
     feed_sectors(host, disk, from, sectors, &mut joiner)?;
@@ -115,9 +109,7 @@ fn header_at<H: Host>(
     requires few { start < 2 ^ 55 }
     ensures opens { H.tells_disks → ReadsHeader (sectors_from start 1 (image (H.seen host.old).content disk)) area_sectors result }
     ensures last { IfOk result (λ header. IfSome header (λ h. h.last ≤ 4 * area_sectors)) }
-    ensures still { Still (H.seen host.old) (H.seen host.new) }
-    ensures quiet { Quiet (H.seen host.old) (H.seen host.new) }
-    ensures cause { IsErrOf result CopyError.Disk → Rose (H.seen host.old).disk_faults (H.seen host.new).disk_faults }
+    ensures looks { Looks (H.seen host.old) (H.seen host.new) (IsErrOf result CopyError.Disk) }
 {
     let first = read_sector(host, disk, start)?;
     open_header(alloc, &first, area_sectors)
@@ -137,9 +129,7 @@ fn database_at<H: Host>(
     requires small { header.last ≤ 8192 }
     ensures reads { H.tells_disks → ReadsDatabase header (sectors_from from (header.last / 4 - 1) (image (H.seen host.old).content disk)) result }
     ensures fits { (sectors : ℕ) → header.last ≤ 4 * sectors → IfOk result (λ db. FitsArea db sectors) }
-    ensures still { Still (H.seen host.old) (H.seen host.new) }
-    ensures quiet { Quiet (H.seen host.old) (H.seen host.new) }
-    ensures cause { IsErrOf result CopyError.Disk → Rose (H.seen host.old).disk_faults (H.seen host.new).disk_faults }
+    ensures looks { Looks (H.seen host.old) (H.seen host.new) (IsErrOf result CopyError.Disk) }
 {
     let sectors = (u64::from(header.last) / 4).saturating_sub(1);
     let list = join_sectors(alloc, host, disk, from, sectors)?;
@@ -158,9 +148,7 @@ fn copy_at<H: Host>(
     ensures found { H.tells_disks → IsAnswer
         (config_area label.now (image (H.seen host.old).content disk)) label.now.area_sectors result }
     ensures sound { IfOk result (λ state. IsSoundState label.now.area_sectors state) }
-    ensures still { Still (H.seen host.old) (H.seen host.new) }
-    ensures quiet { Quiet (H.seen host.old) (H.seen host.new) }
-    ensures cause { IsErrOf result CopyError.Disk → Rose (H.seen host.old).disk_faults (H.seen host.new).disk_faults }
+    ensures looks { Looks (H.seen host.old) (H.seen host.new) (IsErrOf result CopyError.Disk) }
 {
     let start = area_start(host, disk, label);
     match header_at(alloc, host, disk, start, label.area_sectors)? {
@@ -201,9 +189,7 @@ pub fn read_copy<H: Host>(
         → a ≡ b }
     // For every host, the database of a valid copy fits the area.
     ensures sound { IfOk result (λ state. IsSoundState label.now.area_sectors state) }
-    ensures still { Still (H.seen host.old) (H.seen host.new) }
-    ensures quiet { Quiet (H.seen host.old) (H.seen host.new) }
-    ensures cause { IsErrOf result CopyError.Disk → Rose (H.seen host.old).disk_faults (H.seen host.new).disk_faults }
+    ensures looks { Looks (H.seen host.old) (H.seen host.new) (IsErrOf result CopyError.Disk) }
 {
     copy_at(alloc, host, disk, label)
 }

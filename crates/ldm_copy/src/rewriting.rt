@@ -1,6 +1,6 @@
 //! Rewrites a copy behind its closed gate.
 ghost use Rattle.std.specs.Prelude.{◌+◌, ◌*◌, ◌<◌, ◌≤◌, List, ℕ, length, slice_index, OnOk, IsErr};
-ghost use Rattle.ldm_host.specs.Moves.{Changes, Rose, Settled};
+ghost use Rattle.ldm_host.specs.Moves.{Changes, Settled, DiskFailed, AtEachMoment};
 ghost use Rattle.ldm_host.specs.Seen.{image};
 ghost use Rattle.ldm_label.specs.LabelOf.{Fits};
 ghost use Rattle.ldm_group.specs.Database.{Database};
@@ -20,15 +20,14 @@ pub fn refill<H: Host>(host: &mut H, disk: usize, label: &Label, body: &Body) ->
     requires settled { Settled (H.seen host.old) disk }
     requires closed { H.tells_disks → IsShut label.now (image (H.seen host.old).content disk) }
     ensures any_moment { H.tells_disks → (db : Database) → IsBodyOn db label.now body.now
-        → (images : List (List ℕ)) (said : List ℕ) → (H.seen host.new).left_since (H.seen host.old).clock images said
-        → IsBetween label.now db (image (H.seen host.old).content disk) (image images disk) }
+        → AtEachMoment (H.seen host.old) (H.seen host.new) (λ images said. IsBetween label.now db (image (H.seen host.old).content disk) (image images disk)) }
     ensures done { H.tells_disks → OnOk result ((db : Database) → IsBodyOn db label.now body.now
         → IsWritten label.now db (image (H.seen host.new).content disk)) }
     ensures has { H.tells_disks → OnOk result (HasBody label.now body.now (image (H.seen host.new).content disk)) }
     ensures settled { OnOk result (Settled (H.seen host.new) disk) }
     ensures changes { Changes disk (gate_at label.now) (512 * label.now.area_sectors) (H.seen host.old) (H.seen host.new) }
     ensures wrote { slice_index (H.seen host.new).wrote disk ≤ slice_index (H.seen host.old).wrote disk + length body.now }
-    ensures cause { IsErr result → Rose (H.seen host.old).disk_faults (H.seen host.new).disk_faults }
+    ensures cause { IsErr result → DiskFailed (H.seen host.old) (H.seen host.new) }
 {
     fill(host, disk, label, body)?;
     unseal(host, disk, label)
@@ -43,15 +42,14 @@ pub fn rewrite<H: Host>(host: &mut H, disk: usize, label: &Label, body: &Body) -
     requires settled { Settled (H.seen host.old) disk }
     requires opened { H.tells_disks → IsOpen (config_area label.now (image (H.seen host.old).content disk)) }
     ensures any_moment { H.tells_disks → (db : Database) → IsBodyOn db label.now body.now
-        → (images : List (List ℕ)) (said : List ℕ) → (H.seen host.new).left_since (H.seen host.old).clock images said
-        → IsBetween label.now db (image (H.seen host.old).content disk) (image images disk) }
+        → AtEachMoment (H.seen host.old) (H.seen host.new) (λ images said. IsBetween label.now db (image (H.seen host.old).content disk) (image images disk)) }
     ensures done { H.tells_disks → OnOk result ((db : Database) → IsBodyOn db label.now body.now
         → IsWritten label.now db (image (H.seen host.new).content disk)) }
     ensures has { H.tells_disks → OnOk result (HasBody label.now body.now (image (H.seen host.new).content disk)) }
     ensures settled { OnOk result (Settled (H.seen host.new) disk) }
     ensures changes { Changes disk (gate_at label.now) (512 * label.now.area_sectors) (H.seen host.old) (H.seen host.new) }
     ensures wrote { slice_index (H.seen host.new).wrote disk ≤ slice_index (H.seen host.old).wrote disk + length body.now + 1 }
-    ensures cause { IsErr result → Rose (H.seen host.old).disk_faults (H.seen host.new).disk_faults }
+    ensures cause { IsErr result → DiskFailed (H.seen host.old) (H.seen host.new) }
 {
     close(host, disk, label)?;
     refill(host, disk, label, body)

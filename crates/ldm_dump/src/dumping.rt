@@ -1,6 +1,6 @@
 //! The bytes of a volume, said.
 ghost use Rattle.std.specs.Prelude.{◌≡◌, ◌+◌, ◌*◌, ◌++◌, ◌<◌, ◌≤◌, ℕ, length, take, false, IfOk, OnOk, IsErr, IsErrOf};
-ghost use Rattle.ldm_host.specs.Moves.{Rose, Still, Quiet, Begins};
+ghost use Rattle.ldm_host.specs.Moves.{Still, Begins, DiskFailed, TalkFailed, Looks};
 ghost use Rattle.ldm_dump.specs.Sources.{is_lost};
 ghost use Rattle.ldm_dump.specs.Bytes.{text_of_sectors, text_of_volume};
 ghost use Rattle.ldm_dump.specs.Runs.{LiesOn};
@@ -40,9 +40,7 @@ fn read_some<H: Host>(
     ensures room { IfOk result (λ n. 512 * n ≤ length out.old) }
     ensures bytes { H.tells_disks → IfOk result (λ n. take (512 * n) out.new
         ≡ text_of_sectors (H.seen host.old).content found.now plan.now sector n) }
-    ensures still { Still (H.seen host.old) (H.seen host.new) }
-    ensures quiet { Quiet (H.seen host.old) (H.seen host.new) }
-    ensures cause { IsErr result → Rose (H.seen host.old).disk_faults (H.seen host.new).disk_faults }
+    ensures looks { Looks (H.seen host.old) (H.seen host.new) (IsErr result) }
 {
     let run = run_at(found, plan, sector);
     let count = run.sectors.min(out.len() as u64 / 512);
@@ -78,9 +76,7 @@ fn read_many<H: Host>(
     ensures room { IfOk result (λ n. 512 * n ≤ length out.old) }
     ensures bytes { H.tells_disks → IfOk result (λ n. take (512 * n) out.new
         ≡ text_of_sectors (H.seen host.old).content found.now plan.now sector n) }
-    ensures still { Still (H.seen host.old) (H.seen host.new) }
-    ensures quiet { Quiet (H.seen host.old) (H.seen host.new) }
-    ensures cause { IsErr result → Rose (H.seen host.old).disk_faults (H.seen host.new).disk_faults }
+    ensures looks { Looks (H.seen host.old) (H.seen host.new) (IsErr result) }
 {
     let most = (plan.size() - sector).min(out.len() as u64 / 512);
     let mut count = 0;
@@ -120,8 +116,8 @@ fn say_many<H: Host>(
         ((H.seen host.old).said ++ text_of_sectors (H.seen host.old).content found.now plan.now sector n) }
     ensures still { Still (H.seen host.old) (H.seen host.new) }
     ensures input { SameInput (H.seen host.old) (H.seen host.new) }
-    ensures disk { IsErrOf result DumpError.Disk → Rose (H.seen host.old).disk_faults (H.seen host.new).disk_faults }
-    ensures talk { IsErrOf result DumpError.Talk → Rose (H.seen host.old).talk_faults (H.seen host.new).talk_faults }
+    ensures disk { IsErrOf result DumpError.Disk → DiskFailed (H.seen host.old) (H.seen host.new) }
+    ensures talk { IsErrOf result DumpError.Talk → TalkFailed (H.seen host.old) (H.seen host.new) }
 {
     let Ok(count) = read_many(host, found, plan, sector, buffer, scratch) else {
         return Err(DumpError::Disk);
@@ -150,8 +146,8 @@ pub fn dump_volume<H: Host>(
         ((H.seen host.old).said ++ text_of_volume (H.seen host.old).content found.now plan.now) }
     ensures still { Still (H.seen host.old) (H.seen host.new) }
     ensures input { SameInput (H.seen host.old) (H.seen host.new) }
-    ensures disk { IsErrOf result DumpError.Disk → Rose (H.seen host.old).disk_faults (H.seen host.new).disk_faults }
-    ensures talk { IsErrOf result DumpError.Talk → Rose (H.seen host.old).talk_faults (H.seen host.new).talk_faults }
+    ensures disk { IsErrOf result DumpError.Disk → DiskFailed (H.seen host.old) (H.seen host.new) }
+    ensures talk { IsErrOf result DumpError.Talk → TalkFailed (H.seen host.old) (H.seen host.new) }
 {
     let mut sector = 0;
     'pieces: while sector < plan.size() {

@@ -1,7 +1,7 @@
 //! Bytes of a volume, read from the images.
 ghost use Rattle.std.specs.Prelude.{◌≡◌, ◌*◌, ◌<◌, ◌≤◌, ℕ, List, length, map, fold, bit_xor, slice_index, false, OnOk, IsErr, Some};
 ghost use Rattle.std.specs.Option.{option_to_list};
-ghost use Rattle.ldm_host.specs.Moves.{Rose, Still, Quiet};
+ghost use Rattle.ldm_host.specs.Moves.{Looks};
 ghost use Rattle.ldm_layout.specs.Columns.{columns_of};
 ghost use Rattle.ldm_layout.specs.declared.shape.Shape.TheVariants.{Raid5};
 ghost use Rattle.ldm_dump.specs.declared.spots.Spot.{Spot as Place};
@@ -19,9 +19,7 @@ use ldm_layout::Plan;
 pub fn read_spot<H: Host>(host: &mut H, spot: Spot, out: &mut [u8]) -> Result<(), Failed>
     requires { HasBytes (H.seen host.old).sizes spot (length out.old) }
     ensures bytes { H.tells_disks → OnOk result ((j : ℕ) → j < length out.old → slice_index out.new j ≡ byte_at (H.seen host.old).content j spot) }
-    ensures still { Still (H.seen host.old) (H.seen host.new) }
-    ensures quiet { Quiet (H.seen host.old) (H.seen host.new) }
-    ensures cause { IsErr result → Rose (H.seen host.old).disk_faults (H.seen host.new).disk_faults }
+    ensures looks { Looks (H.seen host.old) (H.seen host.new) (IsErr result) }
 {
     let sectors = host.sectors(spot.image);
     prove!(spot.sector <= sectors);
@@ -58,9 +56,7 @@ pub fn join_spot<H: Host>(
     requires same { length scratch.old ≡ length out.old }
     ensures bytes { H.tells_disks → OnOk result ((j : ℕ) → j < length out.old
         → slice_index out.new j ≡ bit_xor (slice_index out.old j) (byte_at (H.seen host.old).content j spot)) }
-    ensures still { Still (H.seen host.old) (H.seen host.new) }
-    ensures quiet { Quiet (H.seen host.old) (H.seen host.new) }
-    ensures cause { IsErr result → Rose (H.seen host.old).disk_faults (H.seen host.new).disk_faults }
+    ensures looks { Looks (H.seen host.old) (H.seen host.new) (IsErr result) }
 {
     read_spot(host, spot, scratch)?;
     xor_into(out, scratch);
@@ -106,9 +102,7 @@ fn join_other<H: Host>(
     requires same { length scratch.old ≡ length out.old }
     ensures bytes { H.tells_disks → OnOk result ((j : ℕ) → j < length out.old → slice_index out.new j
         ≡ fold bit_xor (slice_index out.old j) (map (byte_at (H.seen host.old).content j) (option_to_list (other_spot found.now plan.now sector column)))) }
-    ensures still { Still (H.seen host.old) (H.seen host.new) }
-    ensures quiet { Quiet (H.seen host.old) (H.seen host.new) }
-    ensures cause { IsErr result → Rose (H.seen host.old).disk_faults (H.seen host.new).disk_faults }
+    ensures looks { Looks (H.seen host.old) (H.seen host.new) (IsErr result) }
 {
     match other_spot(host, found, plan, sector, column) {
         Some(spot) => join_spot(host, spot, out, scratch),
@@ -132,9 +126,7 @@ fn rebuild<H: Host>(
     requires same { length scratch.old ≡ length out.old }
     ensures bytes { H.tells_disks → OnOk result ((j : ℕ) → j < length out.old
         → slice_index out.new j ≡ joined_byte (H.seen host.old).content (other_spots found.now plan.now sector) j) }
-    ensures still { Still (H.seen host.old) (H.seen host.new) }
-    ensures quiet { Quiet (H.seen host.old) (H.seen host.new) }
-    ensures cause { IsErr result → Rose (H.seen host.old).disk_faults (H.seen host.new).disk_faults }
+    ensures looks { Looks (H.seen host.old) (H.seen host.new) (IsErr result) }
 {
     clear(out);
     'columns: for column in 0..plan.columns() {
@@ -162,9 +154,7 @@ pub(crate) fn read_run<H: Host>(
     requires lies { LiesOn found.now plan.now (H.seen host.old).sizes }
     ensures bytes { H.tells_disks → OnOk result ((spots : List Place) → sources_of found.now plan.now sector ≡ Some spots
         → (j : ℕ) → j < length out.old → slice_index out.new j ≡ joined_byte (H.seen host.old).content spots j) }
-    ensures still { Still (H.seen host.old) (H.seen host.new) }
-    ensures quiet { Quiet (H.seen host.old) (H.seen host.new) }
-    ensures cause { IsErr result → Rose (H.seen host.old).disk_faults (H.seen host.new).disk_faults }
+    ensures looks { Looks (H.seen host.old) (H.seen host.new) (IsErr result) }
 {
     match run.copy {
         Some(copy) => match spot_of(host, found, plan.place(sector, copy)) {
@@ -187,9 +177,7 @@ pub fn read_sector<H: Host>(
     requires kept { is_lost found.now plan.now sector ≡ false }
     requires lies { LiesOn found.now plan.now (H.seen host.old).sizes }
     ensures bytes { H.tells_disks → OnOk result (sector_of (H.seen host.old).content found.now plan.now sector ≡ Some out.new) }
-    ensures still { Still (H.seen host.old) (H.seen host.new) }
-    ensures quiet { Quiet (H.seen host.old) (H.seen host.new) }
-    ensures cause { IsErr result → Rose (H.seen host.old).disk_faults (H.seen host.new).disk_faults }
+    ensures looks { Looks (H.seen host.old) (H.seen host.new) (IsErr result) }
 {
     let mut scratch = [0u8; 512];
     let run = run_at(found, plan, sector);

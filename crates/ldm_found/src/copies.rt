@@ -1,7 +1,7 @@
 //! The copies of several images: the newest, and whether another differs from it.
 ghost use Rattle.std.specs.Prelude.{◌≡◌, ◌+◌, ◌<◌, [], ◌∷◌, ◌++◌, List, length, take, zip, slice_index, Ok, IfOk, IfErr, IfSome, IsErrOf};
 ghost use Rattle.ldm_host.specs.Seen.{image};
-ghost use Rattle.ldm_host.specs.Moves.{Rose, Still, Quiet};
+ghost use Rattle.ldm_host.specs.Moves.{Looks};
 ghost use Rattle.ldm_label.specs.LabelOf.{Fits};
 ghost use Rattle.ldm_copy.specs.declared.answer.CopyState.{CopyState};
 ghost use Rattle.ldm_copy.specs.Answers.{FitsHeader};
@@ -45,9 +45,7 @@ fn copy_at<H: Host>(
     requires fits { Fits label.now (slice_index (H.seen host.old).sizes disk) }
     ensures is { H.tells_disks → ReadsCopy disk (label.now, image (H.seen host.old).content disk) result }
     ensures room { IfOk result (λ copy. IsRoomy copy) }
-    ensures still { Still (H.seen host.old) (H.seen host.new) }
-    ensures quiet { Quiet (H.seen host.old) (H.seen host.new) }
-    ensures cause { IsErrOf result OpenError.Disk → Rose (H.seen host.old).disk_faults (H.seen host.new).disk_faults }
+    ensures looks { Looks (H.seen host.old) (H.seen host.new) (IsErrOf result OpenError.Disk) }
 {
     match read_copy(alloc, host, disk, label) {
         Ok(copy) => Ok(copy),
@@ -114,9 +112,7 @@ fn note_alike<H: Host>(
         → Gathers IsCopyIn (take disk (zip labels.now (H.seen host.old).content)) (Ok copies) → IsNewestOf copies newest.now
         → Adds (label.now, image (H.seen host.old).content disk) copies newest.now note)) }
     ensures error { IfErr result (λ error. error ≡ OpenError.Disk) }
-    ensures still { Still (H.seen host.old) (H.seen host.new) }
-    ensures quiet { Quiet (H.seen host.old) (H.seen host.new) }
-    ensures cause { IsErrOf result OpenError.Disk → Rose (H.seen host.old).disk_faults (H.seen host.new).disk_faults }
+    ensures looks { Looks (H.seen host.old) (H.seen host.new) (IsErrOf result OpenError.Disk) }
 {
     let Some(newest) = newest else {
         return Ok(None);
@@ -147,9 +143,7 @@ fn with_image<H: Host>(
         → Gathers IsCopyIn (take disk (zip labels.now (H.seen host.old).content)) (Ok copies) → IsNewestOf copies newest
         → ReadsNext disk (label.now, image (H.seen host.old).content disk) copies result }
     ensures room { IfOk result (λ next. IfSome next.0 (λ n. IsAmong (disk + 1) n)) }
-    ensures still { Still (H.seen host.old) (H.seen host.new) }
-    ensures quiet { Quiet (H.seen host.old) (H.seen host.new) }
-    ensures cause { IsErrOf result OpenError.Disk → Rose (H.seen host.old).disk_faults (H.seen host.new).disk_faults }
+    ensures looks { Looks (H.seen host.old) (H.seen host.new) (IsErrOf result OpenError.Disk) }
 {
     if let Some(note) = note_alike(host, disk, label, labels, &newest)? {
         return Ok((newest, note));
@@ -171,9 +165,7 @@ pub fn read_copies<H: Host>(
     ensures is { H.tells_disks → ReadsCopies labels.now (H.seen host.old).content result }
     ensures one_note { IfOk result (λ copies. length copies.notes ≡ length labels.now) }
     ensures room { IfOk result (λ copies. IfSome copies.newest (λ n. FitsHeader n.db)) }
-    ensures still { Still (H.seen host.old) (H.seen host.new) }
-    ensures quiet { Quiet (H.seen host.old) (H.seen host.new) }
-    ensures cause { IsErrOf result OpenError.Disk → Rose (H.seen host.old).disk_faults (H.seen host.new).disk_faults }
+    ensures looks { Looks (H.seen host.old) (H.seen host.new) (IsErrOf result OpenError.Disk) }
 {
     let mut newest = None;
     let mut notes = Vec::new(alloc);

@@ -1,7 +1,7 @@
 //! The labels of several images, no two of which may be of one disk.
 ghost use Rattle.std.specs.Prelude.{◌<◌, length, slice_index, IfOk, IsErrOf, Some};
 ghost use Rattle.ldm_host.specs.Seen.{image};
-ghost use Rattle.ldm_host.specs.Moves.{Rose, Still, Quiet};
+ghost use Rattle.ldm_host.specs.Moves.{Looks};
 ghost use Rattle.ldm_label.specs.LabelOf.{Fits};
 ghost use Rattle.ldm_found.specs.Labels.{AreApart, AreTwins};
 ghost use Rattle.ldm_found.specs.Facts.{LieOn};
@@ -18,9 +18,7 @@ fn label_at<H: Host>(host: &mut H, disk: usize) -> Result<Label, OpenError>
     requires { disk < length (H.seen host.old).sizes }
     ensures is { H.tells_disks → ReadsLabel disk (image (H.seen host.old).content disk) result }
     ensures fits { IfOk result (λ label. Fits label (slice_index (H.seen host.old).sizes disk)) }
-    ensures still { Still (H.seen host.old) (H.seen host.new) }
-    ensures quiet { Quiet (H.seen host.old) (H.seen host.new) }
-    ensures cause { IsErrOf result OpenError.Disk → Rose (H.seen host.old).disk_faults (H.seen host.new).disk_faults }
+    ensures looks { Looks (H.seen host.old) (H.seen host.new) (IsErrOf result OpenError.Disk) }
 {
     match read_label(host, disk) {
         Ok(label) => Ok(label),
@@ -33,9 +31,7 @@ fn label_at<H: Host>(host: &mut H, disk: usize) -> Result<Label, OpenError>
 fn read_labels<H: Host>(alloc: Global, host: &mut H) -> Result<Labels, OpenError>
     ensures is { H.tells_disks → ReadsLabels (H.seen host.old).content result }
     ensures lie { IfOk result (λ labels. LieOn labels (H.seen host.old).sizes) }
-    ensures still { Still (H.seen host.old) (H.seen host.new) }
-    ensures quiet { Quiet (H.seen host.old) (H.seen host.new) }
-    ensures cause { IsErrOf result OpenError.Disk → Rose (H.seen host.old).disk_faults (H.seen host.new).disk_faults }
+    ensures looks { Looks (H.seen host.old) (H.seen host.new) (IsErrOf result OpenError.Disk) }
 {
     let count = host.disks();
     let mut labels = Vec::new(alloc);
@@ -62,9 +58,7 @@ pub fn read_disks<H: Host>(alloc: Global, host: &mut H) -> Result<Labels, OpenEr
     ensures is { H.tells_disks → ReadsDisks (H.seen host.old).content result }
     ensures apart { IfOk result (λ labels. AreApart labels) }
     ensures lie { IfOk result (λ labels. LieOn labels (H.seen host.old).sizes) }
-    ensures still { Still (H.seen host.old) (H.seen host.new) }
-    ensures quiet { Quiet (H.seen host.old) (H.seen host.new) }
-    ensures cause { IsErrOf result OpenError.Disk → Rose (H.seen host.old).disk_faults (H.seen host.new).disk_faults }
+    ensures looks { Looks (H.seen host.old) (H.seen host.new) (IsErrOf result OpenError.Disk) }
 {
     let labels = read_labels(alloc, host)?;
     match twins(labels.as_slice()) {

@@ -1,6 +1,6 @@
 //! The group that the images of a host hold.
 ghost use Rattle.std.specs.Prelude.{◌≡◌, ◌<◌, length, IfOk, IsErrOf, Result};
-ghost use Rattle.ldm_host.specs.Moves.{Rose, Still, Quiet};
+ghost use Rattle.ldm_host.specs.Moves.{Looks};
 ghost use Rattle.ldm_found.specs.declared.fault.OpenFault.{OpenFault};
 ghost use Rattle.ldm_found.specs.declared.found.Found.{Found};
 ghost use Rattle.ldm_found.specs.Opening.{IsGroupIn};
@@ -26,9 +26,7 @@ pub fn find_group<H: Host>(alloc: Global, host: &mut H) -> Result<Found, OpenErr
     // For every host, these facts hold of the group.
     ensures sound { IfOk result (λ found. IsSoundGroup found) }
     ensures lies { IfOk result (λ found. LieOn found.labels (H.seen host.old).sizes) }
-    ensures still { Still (H.seen host.old) (H.seen host.new) }
-    ensures quiet { Quiet (H.seen host.old) (H.seen host.new) }
-    ensures cause { IsErrOf result OpenError.Disk → Rose (H.seen host.old).disk_faults (H.seen host.new).disk_faults }
+    ensures looks { Looks (H.seen host.old) (H.seen host.new) (IsErrOf result OpenError.Disk) }
 {
     let labels = read_disks(alloc, host)?;
     let copies = read_copies(alloc, host, labels.as_slice())?;

@@ -2,7 +2,7 @@
 use Rattle.std.proofs.Common.{◌≡◌, inl, inr, ⊎_elim, ℕ, ◌+◌, ◌<◌, ◌≤◌, List, length, slice_index, sym, ◌∙◌, ap, subst, arith}
 use Rattle.ldm_host.specs.StoryLaws.{begins_both}
 use Rattle.ldm_host.specs.Seen.{Seen, Leaves, image}
-use Rattle.ldm_host.specs.Moves.{Begins, Torn, TornAt, Quiet, Still, Writes, Changes, Syncs}
+use Rattle.ldm_host.specs.Moves.{DiskFailed, Begins, Torn, TornAt, Quiet, Still, Works, Writes, Changes, Syncs}
 use Rattle.ldm_host.proofs.Relations.{later_trans, quiet_trans, moments_trans, iff_trans, torn_itself, torn_at_itself, torn_trans, torn_at_trans, torn_from}
 
 pub torn_wider : (at m begin n : ℕ) (old new : List ℕ) → begin ≤ at → at + m ≤ begin + n → Torn at m old new → Torn begin n old new
@@ -30,6 +30,10 @@ writes_change disk at m begin n a b low high writes = record {
   left_others = writes.left_others;
   moments = λ images said left. let m' = writes.moments images said left in (m'.0, m'.1, torn_at_wider disk at m begin n m'.0 images low high m'.2, m'.3);
 }
+
+-- a change of a disk is work on the disks
+pub changes_works : {disk at n : ℕ} {a b : Seen} {P : Type 0} → Changes disk at n a b → (P → DiskFailed a b) → Works a b P
+changes_works changes cause = record { later = changes.later; quiet = changes.quiet; cause = cause }
 
 -- calls that change no disk and nothing of the talk
 pub still_changes : (disk at n : ℕ) (a b : Seen) → Still a b → Quiet a b → Changes disk at n a b

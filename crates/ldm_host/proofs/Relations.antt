@@ -4,7 +4,7 @@ use Rattle.std.proofs.lemmas.List.{get_or-set_same, get_or-set_other, length-set
 use Rattle.std.proofs.lemmas.Bool.{cases_eq}
 use Rattle.ldm_host.specs.Seen.{Seen, Leaves, image}
 use Rattle.ldm_host.specs.StoryLaws.{begins_itself, begins_both}
-use Rattle.ldm_host.specs.Moves.{Rose, Begins, Torn, TornAt, Later, Quiet, Still, Writes, Syncs, Settled, Settles}
+use Rattle.ldm_host.specs.Moves.{Rose, DiskFailed, Begins, Torn, TornAt, Later, Quiet, Still, Looks, Works, AtEachMoment, Writes, Syncs, Settled, Settles}
 
 pub rose_later : (a b c : ℕ) → Rose a b → b ≤ c → Rose a c
 rose_later a b c (inl less) le = inl (omega arith)
@@ -59,9 +59,7 @@ later_trans a b c first second = record {
 
 -- one call and then another have moments of which P holds
 pub moments_trans : (a b c : Seen) (P : List (List ℕ) → List ℕ → Type 0) → Later a b → Later b c
-    → ((images : List (List ℕ)) (said : List ℕ) → b.left_since a.clock images said → P images said)
-    → ((images : List (List ℕ)) (said : List ℕ) → c.left_since b.clock images said → P images said)
-    → (images : List (List ℕ)) (said : List ℕ) → c.left_since a.clock images said → P images said
+    → AtEachMoment a b P → AtEachMoment b c P → AtEachMoment a c P
 moments_trans a b c P first second before after images said left =
     ⊎_elim (λ sooner. before images said sooner) (λ later. after images said later) (second.nothing_else a.clock images said first.clock left)
 
@@ -82,10 +80,36 @@ still_trans a b c first second = record {
       (λ images said left. let m = second.moments images said left in (leaves_still a b images first m.0, begins_trans a.said b.said said first.later.said m.1, m.2));
 }
 
+-- two calls that look make one, which fails only where the second does
+pub looks_then : {a b c : Seen} {P Q R : Type 0} → Looks a b P → Looks b c Q → (R → Q) → Looks a c R
+looks_then {a} {b} {c} first second fails = record {
+  still = still_trans a b c first.still second.still;
+  quiet = quiet_trans a b c first.quiet second.quiet;
+  cause = λ failed. rose_sooner a.disk_faults b.disk_faults c.disk_faults first.still.later.disk_faults (second.cause (fails failed));
+}
+
+-- what fails only where a call that looks does
+pub looks_as : {a b : Seen} {P Q : Type 0} → Looks a b P → (Q → P) → Looks a b Q
+looks_as looks fails = record { still = looks.still; quiet = looks.quiet; cause = λ failed. looks.cause (fails failed) }
+
+pub works_then : {a b c : Seen} {P Q R : Type 0} → Works a b P → Works b c Q → (R → Q) → Works a c R
+works_then {a} {b} {c} first second fails = record {
+  later = later_trans a b c first.later second.later;
+  quiet = quiet_trans a b c first.quiet second.quiet;
+  cause = λ failed. rose_sooner a.disk_faults b.disk_faults c.disk_faults first.later.disk_faults (second.cause (fails failed));
+}
+
+pub works_as : {a b : Seen} {P Q : Type 0} → Works a b P → (Q → P) → Works a b Q
+works_as works fails = record { later = works.later; quiet = works.quiet; cause = λ failed. works.cause (fails failed) }
+
+-- a call that looks works on the disks
+pub looks_works : {a b : Seen} {P : Type 0} → Looks a b P → Works a b P
+looks_works looks = record { later = looks.still.later; quiet = looks.quiet; cause = looks.cause }
+
 -- a host at one moment, by the two laws on the present
 module _ (a : Seen)
     (counts : (t : ℕ) (images : List (List ℕ)) → t ≤ a.clock → Leaves a images → a.left_since t images a.said)
-    (only : (images : List (List ℕ)) (said : List ℕ) → a.left_since a.clock images said → Leaves a images × (said ≡ a.said)) where
+    (only : AtEachMoment a a (λ images said. Leaves a images × (said ≡ a.said))) where
   pub later_itself : Later a a
   later_itself = record {
     sizes = refl;
@@ -106,6 +130,12 @@ module _ (a : Seen)
     left = λ disk c. (λ l. l, λ l. l);
     moments = λ images said left. let now = only images said left in (now.0, subst (λ (l : List ℕ). Begins a.said l) (sym now.1) (begins_itself a.said), subst (λ (l : List ℕ). Begins l a.said) (sym now.1) (begins_itself a.said));
   }
+
+  pub looks_itself : Looks a a ⊥
+  looks_itself = record { still = still_itself; quiet = record { said = refl; heard = refl; input = refl }; cause = λ failed. absurd failed }
+
+  pub works_itself : Works a a ⊥
+  works_itself = looks_works looks_itself
 
 -- a call that changes no disk and nothing of the talk is a sync that did nothing
 pub still_syncs : (disk : ℕ) (a b : Seen) → Still a b → Quiet a b → Syncs disk a b
@@ -216,3 +246,11 @@ settles_trans a b c first second = record {
 -- a disk that was settled stays so while another is synced
 pub still_settled : (other disk : ℕ) (a b : Seen) → Settled a other → Syncs disk a b → other ≢ disk → Settled b other
 still_settled other disk a b settled sync ne c left = settled c ((sync.left_others other c ne).0 left) ∙ ap (λ (l : List (List ℕ)). image l other) (sym sync.content)
+
+-- a call that looks syncs nothing
+pub looks_settles : {a b : Seen} {P : Type 0} → Looks a b P → Settles a b
+looks_settles {a} {b} looks = syncs_settles 0 a b (still_syncs 0 a b looks.still looks.quiet)
+
+-- syncs are work on the disks
+pub settles_works : {a b : Seen} {P : Type 0} → Settles a b → (P → DiskFailed a b) → Works a b P
+settles_works settles cause = record { later = settles.later; quiet = settles.quiet; cause = cause }

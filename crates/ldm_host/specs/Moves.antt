@@ -6,6 +6,18 @@ use Rattle.ldm_host.specs.Seen.{Seen, Leaves, image}
 abbrev pub Rose : ℕ → ℕ → Type 0
 Rose before after = (before < after) ⊎ (2 ^ 64 - 1 ≤ after)
 
+-- a disk failed in the call
+abbrev pub DiskFailed : Seen → Seen → Type 0
+DiskFailed old new = Rose old.disk_faults new.disk_faults
+
+-- the talk failed in it
+abbrev pub TalkFailed : Seen → Seen → Type 0
+TalkFailed old new = Rose old.talk_faults new.talk_faults
+
+-- This holds of the images that a stop leaves and of what was said by then, at each moment since the first of two states.
+abbrev pub AtEachMoment : Seen → Seen → (List (List ℕ) → List ℕ → Type 0) → Type 0
+AtEachMoment start host P = (images : List (List ℕ)) (said : List ℕ) → host.left_since start.clock images said → P images said
+
 -- the second text begins with the first
 abbrev pub Begins : List ℕ → List ℕ → Type 0
 Begins front whole = (rest : List ℕ) × (whole ≡ front ++ rest)
@@ -50,7 +62,19 @@ pub record Still (old new : Seen) : Type 0 where
   pub content : new.content ≡ old.content
   pub wrote : new.wrote ≡ old.wrote
   pub left : SameLeft old new
-  pub moments : (images : List (List ℕ)) (said : List ℕ) → new.left_since old.clock images said → Leaves old images × Begins old.said said × Begins said new.said
+  pub moments : AtEachMoment old new (λ images said. Leaves old images × Begins old.said said × Begins said new.said)
+
+-- A call that only looks at the disks: neither they nor the talk have changed. Where it failed by a disk, a disk failed in it.
+pub record Looks (old new : Seen) (failed : Type 0) : Type 0 where
+  pub still : Still old new
+  pub quiet : Quiet old new
+  pub cause : failed → DiskFailed old new
+
+-- A call that works on the disks: the talk hasn't changed. Where it failed by a disk, a disk failed in it.
+pub record Works (old new : Seen) (failed : Type 0) : Type 0 where
+  pub later : Later old new
+  pub quiet : Quiet old new
+  pub cause : failed → DiskFailed old new
 
 -- A range of one disk is written. At each moment since the old state, and in the content, all other bytes are as they
 -- were, and so is the talk.
@@ -62,7 +86,7 @@ pub record Writes (disk at n : ℕ) (old new : Seen) : Type 0 where
   pub wrote_others : (other : ℕ) → other ≢ disk → slice_index new.wrote other ≡ slice_index old.wrote other
   pub left : (c : List ℕ) → new.may_leave disk c → (b : List ℕ) × old.may_leave disk b × Torn at n b c
   pub left_others : (other : ℕ) (c : List ℕ) → other ≢ disk → new.may_leave other c ↔ old.may_leave other c
-  pub moments : (images : List (List ℕ)) (said : List ℕ) → new.left_since old.clock images said → (before : List (List ℕ)) × Leaves old before × TornAt disk at n before images × (said ≡ old.said)
+  pub moments : AtEachMoment old new (λ images said. (before : List (List ℕ)) × Leaves old before × TornAt disk at n before images × (said ≡ old.said))
 
 -- A range of one disk may have changed, by any number of writes and syncs: what Writes says, but for how many bytes were
 -- handed.
@@ -73,7 +97,7 @@ pub record Changes (disk at n : ℕ) (old new : Seen) : Type 0 where
   pub wrote_others : (other : ℕ) → other ≢ disk → slice_index new.wrote other ≡ slice_index old.wrote other
   pub left : (c : List ℕ) → new.may_leave disk c → (b : List ℕ) × old.may_leave disk b × Torn at n b c
   pub left_others : (other : ℕ) (c : List ℕ) → other ≢ disk → new.may_leave other c ↔ old.may_leave other c
-  pub moments : (images : List (List ℕ)) (said : List ℕ) → new.left_since old.clock images said → (before : List (List ℕ)) × Leaves old before × TornAt disk at n before images × (said ≡ old.said)
+  pub moments : AtEachMoment old new (λ images said. (before : List (List ℕ)) × Leaves old before × TornAt disk at n before images × (said ≡ old.said))
 
 -- One disk is synced. At each moment since the old state a stop leaves what it could leave then.
 pub record Syncs (disk : ℕ) (old new : Seen) : Type 0 where
@@ -83,7 +107,7 @@ pub record Syncs (disk : ℕ) (old new : Seen) : Type 0 where
   pub wrote : new.wrote ≡ old.wrote
   pub left : (c : List ℕ) → new.may_leave disk c → old.may_leave disk c
   pub left_others : (other : ℕ) (c : List ℕ) → other ≢ disk → new.may_leave other c ↔ old.may_leave other c
-  pub moments : (images : List (List ℕ)) (said : List ℕ) → new.left_since old.clock images said → Leaves old images × (said ≡ old.said)
+  pub moments : AtEachMoment old new (λ images said. Leaves old images × (said ≡ old.said))
 
 -- Nothing is pending on a disk: a stop leaves what a read gives.
 abbrev pub Settled : Seen → ℕ → Type 0
@@ -100,4 +124,4 @@ pub record Settles (old new : Seen) : Type 0 where
   pub content : new.content ≡ old.content
   pub wrote : new.wrote ≡ old.wrote
   pub left : (disk : ℕ) (c : List ℕ) → new.may_leave disk c → old.may_leave disk c
-  pub moments : (images : List (List ℕ)) (said : List ℕ) → new.left_since old.clock images said → Leaves old images × (said ≡ old.said)
+  pub moments : AtEachMoment old new (λ images said. Leaves old images × (said ≡ old.said))

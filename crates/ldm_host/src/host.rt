@@ -3,7 +3,7 @@ ghost use Rattle.std.specs.Prelude.{◌≡◌, ◌^◌, ◌+◌, ◌-◌, ◌*�
 ghost use Rattle.ldm_bytes.specs.Numbers.{IsBytes};
 ghost use Rattle.ldm_bytes.specs.Places.{put};
 ghost use Rattle.ldm_host.specs.Seen.{Seen, Leaves, image};
-ghost use Rattle.ldm_host.specs.Moves.{Rose, Still, Quiet, Writes, Syncs, Settled, SameLeft, Ticks};
+ghost use Rattle.ldm_host.specs.Moves.{Still, Quiet, Writes, Syncs, Settled, SameLeft, Ticks, DiskFailed, TalkFailed, Looks};
 ghost use Rattle.ldm_host.specs.Acts.{Act};
 
 /// A call of a host failed.
@@ -42,9 +42,7 @@ pub trait Host {
         requires disk { disk < length (seen self.old).sizes }
         requires range { at + length buf.old ≤ 512 * slice_index (seen self.old).sizes disk }
         ensures filled { tells_disks → OnOk result (buf.new ≡ slice_range (image (seen self.old).content disk) at (at + length buf.old)) }
-        ensures still { Still (seen self.old) (seen self.new) }
-        ensures quiet { Quiet (seen self.old) (seen self.new) }
-        ensures cause { IsErr result → Rose (seen self.old).disk_faults (seen self.new).disk_faults }
+        ensures looks { Looks (seen self.old) (seen self.new) (IsErr result) }
         ensures ending { ending Act.Read self.old self.new (is_ok result) };
 
     /// Writes the bytes to a disk from a place on. Until a later sync of that disk succeeds, a stop may
@@ -56,7 +54,7 @@ pub trait Host {
         ensures writes { Writes disk at (length bytes.now) (seen self.old) (seen self.new) }
         ensures wrote { (seen self.new).wrote ≡ set (seen self.old).wrote disk (min (slice_index (seen self.old).wrote disk + length bytes.now) (2 ^ 64 - 1)) }
         ensures ticks { Ticks (seen self.old) (seen self.new) }
-        ensures cause { IsErr result → Rose (seen self.old).disk_faults (seen self.new).disk_faults }
+        ensures cause { IsErr result → DiskFailed (seen self.old) (seen self.new) }
         ensures ending { ending (Act.Write disk at bytes.now) self.old self.new (is_ok result) };
 
     /// After Ok nothing is pending on that disk: a stop leaves what a read gives. After `Failed` what
@@ -67,7 +65,7 @@ pub trait Host {
         ensures syncs { Syncs disk (seen self.old) (seen self.new) }
         ensures pending { OnErr result (SameLeft (seen self.old) (seen self.new)) }
         ensures ticks { Ticks (seen self.old) (seen self.new) }
-        ensures cause { IsErr result → Rose (seen self.old).disk_faults (seen self.new).disk_faults }
+        ensures cause { IsErr result → DiskFailed (seen self.old) (seen self.new) }
         ensures ending { ending (Act.Sync disk) self.old self.new (is_ok result) };
 
     /// Moves the next bytes of the input to the front of the buffer, and answers how many. It answers 0
@@ -82,7 +80,7 @@ pub trait Host {
         ensures silent { (seen self.new).said ≡ (seen self.old).said }
         ensures still { Still (seen self.old) (seen self.new) }
         ensures ticks { Ticks (seen self.old) (seen self.new) }
-        ensures cause { IsErr result → Rose (seen self.old).talk_faults (seen self.new).talk_faults }
+        ensures cause { IsErr result → TalkFailed (seen self.old) (seen self.new) }
         ensures ending { ending Act.Hear self.old self.new (is_ok result) };
 
     /// Appends the bytes to what was said, or after `Failed` some of those at their front.
@@ -93,7 +91,7 @@ pub trait Host {
         ensures input { (seen self.new).input ≡ (seen self.old).input }
         ensures still { Still (seen self.old) (seen self.new) }
         ensures ticks { Ticks (seen self.old) (seen self.new) }
-        ensures cause { IsErr result → Rose (seen self.old).talk_faults (seen self.new).talk_faults }
+        ensures cause { IsErr result → TalkFailed (seen self.old) (seen self.new) }
         ensures ending { ending (Act.Say bytes.now) self.old self.new (is_ok result) };
 
     /// A host that tells its disks tells the talk.

@@ -2,6 +2,7 @@
 use Rattle.std.proofs.Common.{◌≡◌, ◌≢◌, ⊎_elim, ℕ, ◌<◌, List, length, slice_index, sym, ap, subst, ◌∙◌}
 use Rattle.std.proofs.lemmas.Bool.{cases_eq}
 use Rattle.ldm_host.specs.Seen.{Seen, Leaves, image}
+use Rattle.ldm_host.specs.Moves.{AtEachMoment}
 use Rattle.ldm_init.specs.Moments.{Before, IsUnderway}
 use Rattle.ldm_init.specs.Beside.{SameAt, SameAtOn, ChangesBeside, IsUntouched, AreUntouched}
 use Rattle.ldm_init.proofs.BesideLaws.{same_at_trans}
@@ -22,7 +23,7 @@ module _ (kept : ℕ → Type 0) (start : Before) (n : ℕ) (beside : (k : ℕ) 
   one_more x y first second = same_at_trans (IsUntouched (slice_index start.sizes n)) (image start.content n) x y first (here x y second)
 
   -- in those at each moment while a disk is written
-  pub untouched_then : (images : List (List ℕ)) (said : List ℕ) → new.left_since old.clock images said → AreUntouched start.sizes start.content images × (said ≡ start.said)
+  pub untouched_then : AtEachMoment old new (λ images said. AreUntouched start.sizes start.content images × (said ≡ start.said))
   untouched_then images said left = (
     record {
       count = m.2.count ∙ before.count;

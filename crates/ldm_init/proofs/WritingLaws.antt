@@ -3,7 +3,7 @@ use Rattle.std.proofs.Common.{◌≡◌, ◌≢◌, inl, ⊎_elim, ℕ, ◌+◌,
 use Rattle.std.proofs.lemmas.Bool.{cases_eq}
 use Rattle.std.proofs.lemmas.Option.{slice_get_within}
 use Rattle.ldm_host.specs.Seen.{Seen, Leaves, image}
-use Rattle.ldm_host.specs.Moves.{Settled}
+use Rattle.ldm_host.specs.Moves.{Settled, AtEachMoment}
 use Rattle.ldm_group.specs.Database.{Database}
 use Rattle.ldm_label.specs.declared.Label.{Label}
 use Rattle.ldm_init.specs.Moments.{Before, IsUnsigned, CanTake, IsReady, AreMade, IsMaking, IsSigning, IsWriting}
@@ -16,7 +16,7 @@ use Rattle.ldm_init.proofs.UnderwayLaws.{untouched_now, untouched_then, underway
 module _ (kept : ℕ → Type 0) (signature : kept 0x1FF) (db : Database) (labels : List Label) (start : Before) (n : ℕ) (beside : (k : ℕ) → IsUntouched (slice_index start.sizes n) k → kept k)
     (old new : Seen) (so : IsWriting db labels start n old) (changes : ChangesBeside kept n old new) where
   -- the images at each moment while a disk is written
-  pub writing_moments : (images : List (List ℕ)) (said : List ℕ) → new.left_since old.clock images said → IsMaking db labels start images said
+  pub writing_moments : AtEachMoment old new (IsMaking db labels start)
   writing_moments images said left = record { made = made; untouched = rest.0; said = rest.1 }
     where
       m : (before : List (List ℕ)) × Leaves old before × SameAtOn kept n before images × (said ≡ old.said)

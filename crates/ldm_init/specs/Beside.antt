@@ -1,7 +1,7 @@
 -- One disk is written but for some bytes that are kept.
 use Rattle.std.specs.Prelude.{◌≡◌, ◌≢◌, ◌⊎◌, ◌↔◌, ℕ, ◌+◌, ◌-◌, ◌*◌, ◌<◌, ◌≤◌, List, length, slice_index}
 use Rattle.ldm_host.specs.Seen.{Seen, Leaves, image}
-use Rattle.ldm_host.specs.Moves.{Later, Quiet}
+use Rattle.ldm_host.specs.Moves.{Later, Quiet, AtEachMoment}
 
 -- the same image, but for any bytes at the places that aren't kept
 pub record SameAt (kept : ℕ → Type 0) (old new : List ℕ) : Type 0 where
@@ -22,7 +22,7 @@ pub record ChangesBeside (kept : ℕ → Type 0) (disk : ℕ) (old new : Seen) :
   pub content : SameAtOn kept disk old.content new.content
   pub left : (c : List ℕ) → new.may_leave disk c → (b : List ℕ) × old.may_leave disk b × SameAt kept b c
   pub left_others : (other : ℕ) (c : List ℕ) → other ≢ disk → new.may_leave other c ↔ old.may_leave other c
-  pub moments : (images : List (List ℕ)) (said : List ℕ) → new.left_since old.clock images said → (before : List (List ℕ)) × Leaves old before × SameAtOn kept disk before images × (said ≡ old.said)
+  pub moments : AtEachMoment old new (λ images said. (before : List (List ℕ)) × Leaves old before × SameAtOn kept disk before images × (said ≡ old.said))
 
 -- what is kept while all is written but the last byte of the signature: so many bytes are written from a place on, and those of the
 -- sectors 0 and 6

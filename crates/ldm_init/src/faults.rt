@@ -1,6 +1,6 @@
 //! Why disks are not made a group.
 ghost use Rattle.std.specs.Prelude.{◌≡◌, ◌≢◌, ◌+◌, ◌*◌, ◌<◌, ◌≤◌, ℕ, length, slice_index, slice_range, take, None, Some, OnOk, IfOk, IsErr, IsErrOf};
-ghost use Rattle.ldm_host.specs.Moves.{Rose, Still, Quiet};
+ghost use Rattle.ldm_host.specs.Moves.{Looks};
 ghost use Rattle.ldm_host.specs.Seen.{image};
 ghost use Rattle.ldm_found.specs.Gathers.{IsFirst};
 ghost use Rattle.ldm_init.specs.declared.faults.InitError.TheVariants as errors;
@@ -81,9 +81,7 @@ fn is_zero<H: Host>(
     requires few { count ≤ length buffer.old }
     ensures size { length buffer.new ≡ length buffer.old }
     ensures is { H.tells_disks → IfOk result (λ zero. zero ≡ are_zero (take count (slice_range (image (H.seen host.old).content disk) at (at + length buffer.old)))) }
-    ensures still { Still (H.seen host.old) (H.seen host.new) }
-    ensures quiet { Quiet (H.seen host.old) (H.seen host.new) }
-    ensures cause { IsErr result → Rose (H.seen host.old).disk_faults (H.seen host.new).disk_faults }
+    ensures looks { Looks (H.seen host.old) (H.seen host.new) (IsErr result) }
 {
     host.read_at(disk, at, buffer)?;
     Ok(are_zero(&buffer[..count]))
@@ -95,9 +93,7 @@ fn is_empty<H: Host>(host: &mut H, disk: usize, buffer: &mut [u8]) -> Result<boo
     requires large { 2112 ≤ slice_index (H.seen host.old).sizes disk }
     requires room { length buffer.old ≡ 512 * 2048 }
     ensures is { H.tells_disks → IfOk result (λ empty. empty ≡ is_empty (image (H.seen host.old).content disk)) }
-    ensures still { Still (H.seen host.old) (H.seen host.new) }
-    ensures quiet { Quiet (H.seen host.old) (H.seen host.new) }
-    ensures cause { IsErr result → Rose (H.seen host.old).disk_faults (H.seen host.new).disk_faults }
+    ensures looks { Looks (H.seen host.old) (H.seen host.new) (IsErr result) }
 {
     let last = 512 * (host.sectors(disk) - 2048);
     let first_is_zero = is_zero(host, disk, 0, 512 * 63, buffer)?;
@@ -110,9 +106,7 @@ fn first_full<H: Host>(host: &mut H, buffer: &mut [u8]) -> Result<Option<usize>,
     requires large { (disk : ℕ) → disk < length (H.seen host.old).sizes → 2112 ≤ slice_index (H.seen host.old).sizes disk }
     requires room { length buffer.old ≡ 512 * 2048 }
     ensures is { H.tells_disks → IfOk result (IsFirst IsFull (H.seen host.old).content) }
-    ensures still { Still (H.seen host.old) (H.seen host.new) }
-    ensures quiet { Quiet (H.seen host.old) (H.seen host.new) }
-    ensures cause { IsErr result → Rose (H.seen host.old).disk_faults (H.seen host.new).disk_faults }
+    ensures looks { Looks (H.seen host.old) (H.seen host.new) (IsErr result) }
 {
     for disk in 0..host.disks() {
         if !is_empty(host, disk, buffer)? {
@@ -132,9 +126,7 @@ pub fn check_disks<H: Host>(
     ensures fault { H.tells_disks → (guids : _) → labels.now ≡ new_labels (H.seen host.old).sizes guids
         → ChecksAs guids (H.seen host.old).sizes (H.seen host.old).content result }
     ensures large { OnOk result ((disk : ℕ) → disk < length (H.seen host.old).sizes → 2112 ≤ slice_index (H.seen host.old).sizes disk) }
-    ensures still { Still (H.seen host.old) (H.seen host.new) }
-    ensures quiet { Quiet (H.seen host.old) (H.seen host.new) }
-    ensures cause { IsErrOf result InitError.Disk → Rose (H.seen host.old).disk_faults (H.seen host.new).disk_faults }
+    ensures looks { Looks (H.seen host.old) (H.seen host.new) (IsErrOf result InitError.Disk) }
 {
     if let Some((place, other)) = twins(labels) {
         return Err(InitError::Fault(InitFault::SameGuid(place, other)));

@@ -1,6 +1,6 @@
 //! A new group, made on disks that are empty.
 ghost use Rattle.std.specs.Prelude.{◌≡◌, ◌*◌, ◌<◌, ◌≤◌, ◌≢◌, ◌⊎◌, List, ℕ, length, slice_index, All, Some, None, Err, OnOk, IfOk, IfErr, IsErr, IsErrOf};
-ghost use Rattle.ldm_host.specs.Moves.{Later, Quiet, Rose, Still};
+ghost use Rattle.ldm_host.specs.Moves.{Still, DiskFailed, Looks, Works, AtEachMoment};
 ghost use Rattle.ldm_label.specs.Written.{IsWritable};
 ghost use Rattle.ldm_words.specs.NewGroup as words;
 ghost use Rattle.ldm_init.specs.declared.faults.InitFault.{InitFault};
@@ -65,9 +65,7 @@ fn prepare<H: Host>(
     ensures large { OnOk result ((disk : ℕ) → disk < length (H.seen host.old).sizes → 2112 ≤ slice_index (H.seen host.old).sizes disk) }
     ensures empty { H.tells_disks → OnOk result (IsInitFault guids.now (H.seen host.old).content None) }
     ensures fault { H.tells_disks → IfErr result (λ error. InitAnswers guids.now (H.seen host.old).content (Err error)) }
-    ensures still { Still (H.seen host.old) (H.seen host.new) }
-    ensures quiet { Quiet (H.seen host.old) (H.seen host.new) }
-    ensures cause { IsErrOf result InitError.Disk → Rose (H.seen host.old).disk_faults (H.seen host.new).disk_faults }
+    ensures looks { Looks (H.seen host.old) (H.seen host.new) (IsErrOf result InitError.Disk) }
 {
     let labels = new_labels(alloc, host, guids)?;
     let body = new_body(alloc, name, guid, guids)?;
@@ -88,7 +86,7 @@ fn write_plan<H: Host>(host: &mut H, plan: Plan) -> Result<(), InitError>
     requires takes { AllTake plan.labels.items plan.body (H.seen host.old).sizes }
     requires buffer { length plan.buffer.items ≡ 512 * 2048 }
     ensures writes { WritesGroup H.tells_disks plan.labels.items plan.body (H.seen host.old) (H.seen host.new) result }
-    ensures cause { IsErr result → Rose (H.seen host.old).disk_faults (H.seen host.new).disk_faults }
+    ensures cause { IsErr result → DiskFailed (H.seen host.old) (H.seen host.new) }
 {
     let Plan {
         labels,
@@ -119,15 +117,12 @@ pub fn init<H: Host>(
     ensures faulty { H.tells_disks → (fault : InitFault) → IsInitFault disks.now (H.seen host.old).content (Some fault) → Still (H.seen host.old) (H.seen host.new) }
     // Whatever a stop leaves is refused as without signature, or is the new group.
     ensures any_moment { H.tells_disks → NothingPending (H.seen host.old) → IsInitFault disks.now (H.seen host.old).content None
-        → (images : List (List ℕ)) (said : List ℕ) → (H.seen host.new).left_since (H.seen host.old).clock images said
-        → IsInitMoment name.now guid disks.now (H.seen host.old) images said }
+        → AtEachMoment (H.seen host.old) (H.seen host.new) (IsInitMoment name.now guid disks.now (H.seen host.old)) }
     // After Ok the disks hold its images, which are found as the new group, and nothing is pending.
     ensures images { H.tells_disks → OnOk result (AreNewImages name.now guid disks.now (H.seen host.old).sizes (H.seen host.old).content (H.seen host.new).content) }
     ensures holds { H.tells_disks → NothingPending (H.seen host.old) → OnOk result (HoldNewGroup name.now guid disks.now (H.seen host.old).sizes (H.seen host.new).content) }
     ensures settled { OnOk result (NothingPending (H.seen host.new)) }
-    ensures later { Later (H.seen host.old) (H.seen host.new) }
-    ensures quiet { Quiet (H.seen host.old) (H.seen host.new) }
-    ensures cause { IsErrOf result InitError.Disk → Rose (H.seen host.old).disk_faults (H.seen host.new).disk_faults }
+    ensures works { Works (H.seen host.old) (H.seen host.new) (IsErrOf result InitError.Disk) }
 {
     new_groups_open();
     let plan = prepare(alloc, host, name.as_slice(), guid, disks.as_slice())?;

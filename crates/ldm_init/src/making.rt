@@ -1,7 +1,7 @@
 //! The whole writing of a new group.
 ghost use Rattle.std.specs.Prelude.{◌≡◌, ◌*◌, List, ℕ, length, set, slice_get, Some, OnOk, IsErr};
 ghost use Rattle.ldm_host.specs.Seen.{image};
-ghost use Rattle.ldm_host.specs.Moves.{Later, Quiet, Rose};
+ghost use Rattle.ldm_host.specs.Moves.{Works, AtEachMoment};
 ghost use Rattle.ldm_group.specs.Database.{Database};
 ghost use Rattle.ldm_label.specs.declared.Label.{Label as LabelModel};
 ghost use Rattle.ldm_init.specs.Bytes.{IsUnsignedImage};
@@ -25,15 +25,12 @@ pub fn write_all<H: Host>(
     requires size { length buffer.old ≡ 512 * 2048 }
     ensures any_moment { H.tells_disks → (db : Database) (start : Before) → AllOn db labels.now body.now
         → IsWriting db labels.now start 0 (H.seen host.old)
-        → (images : List (List ℕ)) (said : List ℕ) → (H.seen host.new).left_since (H.seen host.old).clock images said
-        → IsMaking db labels.now start images said }
+        → AtEachMoment (H.seen host.old) (H.seen host.new) (IsMaking db labels.now start) }
     ensures done { H.tells_disks → OnOk result ((db : Database) (start : Before) → AllOn db labels.now body.now
         → IsWriting db labels.now start 0 (H.seen host.old) → IsWriting db labels.now start (length labels.now) (H.seen host.new)) }
     ensures written { H.tells_disks → OnOk result ((disk : ℕ) (label : LabelModel) → slice_get labels.now disk ≡ Some label
         → IsUnsignedImage label body.now (image (H.seen host.old).content disk) (image (H.seen host.new).content disk)) }
-    ensures later { Later (H.seen host.old) (H.seen host.new) }
-    ensures quiet { Quiet (H.seen host.old) (H.seen host.new) }
-    ensures cause { IsErr result → Rose (H.seen host.old).disk_faults (H.seen host.new).disk_faults }
+    ensures works { Works (H.seen host.old) (H.seen host.new) (IsErr result) }
 {
     'disks: for disk in 0..labels.len() {
         write_disk(host, disk, &labels[disk], body, buffer)?;
@@ -54,16 +51,13 @@ pub fn write_group<H: Host>(
     requires size { length buffer.old ≡ 512 * 2048 }
     ensures any_moment { H.tells_disks → (db : Database) (start : Before) → AllOn db labels.now body.now
         → IsWriting db labels.now start 0 (H.seen host.old)
-        → (images : List (List ℕ)) (said : List ℕ) → (H.seen host.new).left_since (H.seen host.old).clock images said
-        → IsMaking db labels.now start images said }
+        → AtEachMoment (H.seen host.old) (H.seen host.new) (IsMaking db labels.now start) }
     ensures done { H.tells_disks → OnOk result ((db : Database) (start : Before) → AllOn db labels.now body.now
         → IsWriting db labels.now start 0 (H.seen host.old) → IsSigning db labels.now start (length labels.now) (H.seen host.new)) }
     ensures written { H.tells_disks → OnOk result ((disk : ℕ) (label : LabelModel) → slice_get labels.now disk ≡ Some label
         → (front : List ℕ) × IsUnsignedImage label body.now (image (H.seen host.old).content disk) front × (image (H.seen host.new).content disk ≡ set front 0x1FF 0xAA)) }
     ensures settled { OnOk result (NothingPending (H.seen host.new)) }
-    ensures later { Later (H.seen host.old) (H.seen host.new) }
-    ensures quiet { Quiet (H.seen host.old) (H.seen host.new) }
-    ensures cause { IsErr result → Rose (H.seen host.old).disk_faults (H.seen host.new).disk_faults }
+    ensures works { Works (H.seen host.old) (H.seen host.new) (IsErr result) }
 {
     write_all(host, labels, body, buffer)?;
     sign_all(host)

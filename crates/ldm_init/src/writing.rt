@@ -1,6 +1,6 @@
 //! What is written to a disk before its signature.
 ghost use Rattle.std.specs.Prelude.{◌≡◌, ◌+◌, ◌*◌, ◌<◌, ◌≤◌, List, ℕ, length, replicate, slice_index, OnOk, IsErr};
-ghost use Rattle.ldm_host.specs.Moves.{Rose, Settled};
+ghost use Rattle.ldm_host.specs.Moves.{Settled, DiskFailed};
 ghost use Rattle.ldm_host.specs.Seen.{image};
 ghost use Rattle.ldm_bytes.specs.Places.{put};
 ghost use Rattle.ldm_label.specs.Laws.{IsClearOfLabel};
@@ -33,7 +33,7 @@ pub(crate) fn write_unsigned<H: Host>(
         ≡ put (put (put (image (H.seen host.old).content disk) 0 front.now) 0xC00 copy.now) begin last.now) }
     ensures settled { OnOk result (Settled (H.seen host.new) disk) }
     ensures changes { ChangesBeside (IsBeside begin (length last.now)) disk (H.seen host.old) (H.seen host.new) }
-    ensures cause { IsErr result → Rose (H.seen host.old).disk_faults (H.seen host.new).disk_faults }
+    ensures cause { IsErr result → DiskFailed (H.seen host.old) (H.seen host.new) }
 {
     host.write_at(disk, 0, front)?;
     host.write_at(disk, 0xC00, copy)?;
@@ -82,7 +82,7 @@ pub fn write_disk<H: Host>(
     ensures settled { OnOk result (Settled (H.seen host.new) disk) }
     ensures changes { ChangesBeside (IsBeside (512 * label.now.config_start) (512 * 2048)) disk (H.seen host.old) (H.seen host.new) }
     ensures size { length buffer.new ≡ 512 * 2048 }
-    ensures cause { IsErr result → Rose (H.seen host.old).disk_faults (H.seen host.new).disk_faults }
+    ensures cause { IsErr result → DiskFailed (H.seen host.old) (H.seen host.new) }
 {
     let count = host.sectors(disk);
     prove!(label.config_start + 2048 <= count);

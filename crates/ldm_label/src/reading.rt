@@ -1,6 +1,6 @@
 //! Reads the label of a disk, or its first fault.
 ghost use Rattle.std.specs.Prelude.{◌≡◌, ◌+◌, ◌^◌, ◌<◌, ◌≤◌, [], ◌∷◌, ◌++◌, length, slice_index, slice_get, IfOk, IsErrOf};
-ghost use Rattle.ldm_host.specs.Moves.{Rose, Still, Quiet};
+ghost use Rattle.ldm_host.specs.Moves.{Looks};
 ghost use Rattle.ldm_host.specs.Seen.{image};
 ghost use Rattle.ldm_label.specs.Answer.{answer, Gives};
 ghost use Rattle.ldm_label.specs.Fields.{sector, header_of};
@@ -26,9 +26,7 @@ fn read_header<H: Host>(
     ensures is { H.tells_disks → (let disk = image (H.seen host.old).content disk in
         Gives result (answer (mbr_faults (sector disk 0) ++ header_faults (sector disk 6) sectors) (header_of (sector disk 6)))) }
     ensures fits { IfOk result (λ header. HeaderFits header sectors) }
-    ensures still { Still (H.seen host.old) (H.seen host.new) }
-    ensures quiet { Quiet (H.seen host.old) (H.seen host.new) }
-    ensures cause { IsErrOf result LabelError.Disk → Rose (H.seen host.old).disk_faults (H.seen host.new).disk_faults }
+    ensures looks { Looks (H.seen host.old) (H.seen host.new) (IsErrOf result LabelError.Disk) }
 {
     let mbr = read_sector(host, disk, 0)?;
     check_mbr(&mbr)?;
@@ -45,9 +43,7 @@ fn check_copies<H: Host>(
     requires disk { disk < length (H.seen host.old).sizes }
     requires inside { header.now.config_start + 2048 ≤ slice_index (H.seen host.old).sizes disk }
     ensures is { H.tells_disks → Gives result (answer (copy_faults header.now (image (H.seen host.old).content disk)) tt) }
-    ensures still { Still (H.seen host.old) (H.seen host.new) }
-    ensures quiet { Quiet (H.seen host.old) (H.seen host.new) }
-    ensures cause { IsErrOf result LabelError.Disk → Rose (H.seen host.old).disk_faults (H.seen host.new).disk_faults }
+    ensures looks { Looks (H.seen host.old) (H.seen host.new) (IsErrOf result LabelError.Disk) }
 {
     let sectors = host.sectors(disk);
     let second = read_sector(host, disk, header.config_start + 1856)?;
@@ -68,9 +64,7 @@ fn read_common<H: Host>(host: &mut H, disk: usize, start: u64) -> Result<Option<
     requires few { start + 2048 < 2 ^ 55 }
     ensures is { H.tells_disks → (let tocs = tocs_in start (image (H.seen host.old).content disk) in
         Gives result (answer ((LabelFault.TocsDiffer, some_differ tocs) ∷ []) (slice_get tocs 0))) }
-    ensures still { Still (H.seen host.old) (H.seen host.new) }
-    ensures quiet { Quiet (H.seen host.old) (H.seen host.new) }
-    ensures cause { IsErrOf result LabelError.Disk → Rose (H.seen host.old).disk_faults (H.seen host.new).disk_faults }
+    ensures looks { Looks (H.seen host.old) (H.seen host.new) (IsErrOf result LabelError.Disk) }
 {
     let mut common = None;
     for at in [1, 2, 2045, 2046] {
@@ -88,9 +82,7 @@ fn read_toc<H: Host>(host: &mut H, disk: usize, start: u64) -> Result<Toc, Label
     ensures is { H.tells_disks → (let tocs = tocs_in start (image (H.seen host.old).content disk) in
         Gives result (answer (toc_faults tocs) (first_toc tocs))) }
     ensures fits { IfOk result (λ toc. TocFits toc) }
-    ensures still { Still (H.seen host.old) (H.seen host.new) }
-    ensures quiet { Quiet (H.seen host.old) (H.seen host.new) }
-    ensures cause { IsErrOf result LabelError.Disk → Rose (H.seen host.old).disk_faults (H.seen host.new).disk_faults }
+    ensures looks { Looks (H.seen host.old) (H.seen host.new) (IsErrOf result LabelError.Disk) }
 {
     let common = read_common(host, disk, start)?;
     Ok(Toc::checked(common)?)
@@ -102,9 +94,7 @@ pub fn read_label<H: Host>(host: &mut H, disk: usize) -> Result<Label, LabelErro
     requires { disk < length (H.seen host.old).sizes }
     ensures is { H.tells_disks → Gives result (label_of (image (H.seen host.old).content disk)) }
     ensures fits { IfOk result (λ label. Fits label (slice_index (H.seen host.old).sizes disk)) }
-    ensures still { Still (H.seen host.old) (H.seen host.new) }
-    ensures quiet { Quiet (H.seen host.old) (H.seen host.new) }
-    ensures cause { IsErrOf result LabelError.Disk → Rose (H.seen host.old).disk_faults (H.seen host.new).disk_faults }
+    ensures looks { Looks (H.seen host.old) (H.seen host.new) (IsErrOf result LabelError.Disk) }
 {
     let sectors = host.sectors(disk);
     if sectors < 7 {

@@ -1,7 +1,7 @@
 //! Sectors of a disk, as they are read.
 ghost use Rattle.std.specs.Prelude.{◌≡◌, ◌+◌, ◌*◌, ◌^◌, ◌<◌, ◌≤◌, length, slice_index, slice_range, IfOk, IsErr};
 ghost use Rattle.std.specs.Str.{bytes_eq};
-ghost use Rattle.ldm_host.specs.Moves.{Rose, Still, Quiet};
+ghost use Rattle.ldm_host.specs.Moves.{Looks};
 ghost use Rattle.ldm_host.specs.Seen.{image};
 ghost use Rattle.ldm_label.specs.Fields.{sector};
 
@@ -21,9 +21,7 @@ pub fn read_sector<H: Host>(host: &mut H, disk: usize, at: u64) -> Result<[u8; 5
     requires inside { at < slice_index (H.seen host.old).sizes disk }
     requires few { at < 2 ^ 55 }
     ensures bytes { H.tells_disks → IfOk result (λ bytes. bytes ≡ sector (image (H.seen host.old).content disk) at) }
-    ensures still { Still (H.seen host.old) (H.seen host.new) }
-    ensures quiet { Quiet (H.seen host.old) (H.seen host.new) }
-    ensures cause { IsErr result → Rose (H.seen host.old).disk_faults (H.seen host.new).disk_faults }
+    ensures looks { Looks (H.seen host.old) (H.seen host.new) (IsErr result) }
 {
     let mut bytes = [0u8; 512];
     host.read_at(disk, 512 * at, &mut bytes)?;

@@ -6,14 +6,13 @@ use Rattle.ldm_host.specs.Moves.{Still}
 use Rattle.ldm_words.specs.declared.command.Command.{Command}
 use Rattle.ldm_words.specs.declared.job.Job.{Job}
 use Rattle.ldm_words.specs.declared.job.Job.TheVariants.{Edit, One, Init}
-use Rattle.ldm_words.specs.Jobs.{job_of, HasCount, KeepsLimits}
-use Rattle.ldm_words.proofs.JobLaws.{reading_of}
+use Rattle.ldm_words.specs.Jobs.{job_of, HasCount}
+use Rattle.ldm_words.proofs.JobLaws.{reading_counts}
 use Rattle.ldm_init.proofs.StartLaws.{still_moment}
 use Rattle.ldm_run.specs.declared.running.Status.{Status}
 use Rattle.ldm_run.specs.declared.running.Status.TheVariants.{DiskFault, NoMemory}
 use Rattle.ldm_run.specs.Answer.{IsJobAnswer}
-use Rattle.ldm_run.specs.Kinds.{Kind, Reads, Streams, Hears, Edits, Does, Makes, kind_of, JobInput, JobSays, JobTalk}
-use Rattle.ldm_run.specs.Writing.{writes}
+use Rattle.ldm_run.specs.Kinds.{Kind, Reads, Streams, Hears, Edits, Does, Makes, kind_of, writes, JobInput, JobSays, JobTalk}
 use Rattle.ldm_run.specs.Stops.{JobStops, JobSinceSyncs}
 use Rattle.ldm_run.specs.Written.{JobDisks}
 use Rattle.ldm_run.specs.Editing.{DoesGroup}
@@ -113,9 +112,9 @@ pub each_job : (reading : Option (Job × ℕ)) (Unread Other : Type 0) (Done Lef
 each_job None Unread Other Done Left unread job is = unread is
 each_job (Some reading) Unread Other Done Left unread job is = job reading.0 is
 
-has_some : (job : Job) (images : ℕ) → HasCount job images → KeepsLimits job → HasSome job images
-has_some (Init name guid disks) images count limits = let some = limits.some in omega (arith, some, count)
-has_some job images count limits = tt
+has_some : (job : Job) (images : ℕ) → HasCount job images → HasSome job images
+has_some (Init name guid disks) images count = let some = count.0 in omega (arith, some)
+has_some job images count = tt
 
 unheard_input : (talks : Type 0) (host : Seen) (kind : Kind) → JobInput talks kind host host NoMemory
 unheard_input talks host Reads = record { input = refl; heard = refl }
@@ -131,5 +130,4 @@ pub nothing_read : (tells talks : Type 0) {host : Seen} {Unread : Type 0} (words
     → OfJob reading Unread (λ job. DoesJob tells talks job host host NoMemory)
 nothing_read tells talks words None is images still one_each lengths unread = unread
 nothing_read tells talks {host} words (Some reading) is images still one_each lengths unread =
-    let kept = reading_of words reading is in
-    undone (failing host host NoMemory tt) refl still one_each lengths reading.0 (subst (λ (n : ℕ). HasSome reading.0 n) (sym images) (has_some reading.0 reading.1 kept.count kept.limits)) (unheard_input talks host (kind_of reading.0))
+    undone (failing host host NoMemory tt) refl still one_each lengths reading.0 (subst (λ (n : ℕ). HasSome reading.0 n) (sym images) (has_some reading.0 reading.1 (reading_counts words reading is))) (unheard_input talks host (kind_of reading.0))

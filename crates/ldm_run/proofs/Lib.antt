@@ -19,5 +19,4 @@ pub mod RunLaws
 pub mod HearsEdits
 pub mod SampleLaws
 pub mod SampleLines
-pub mod KindLaws
 pub mod DumpLaws

@@ -70,21 +70,48 @@ abbrev pub IsAnswerToScript : Bool → List ℕ → List (List ℕ) → Answer �
 IsAnswerToScript true script images answer = answer ≡ refused (codes "script too long")
 IsAnswerToScript false script images answer = IsGroupAnswer (try_answer (commands_in script)) images answer
 
--- what a job answers, with this content of the disks and this input
+-- what an answer goes by
+pub data Basis : Type 0 where
+  -- the label of the only image
+  OfLabel : Basis
+  -- the copy of the database in it
+  OfCopy : Basis
+  -- the group that the images hold, and their content
+  OfGroup : (List (List ℕ) → Found → Answer) → Basis
+  -- a script, and then the group
+  OfScript : Basis
+  -- whether the images can be the disks of a new group, with these GUIDs
+  OfEmpty : List ℕ → Basis
+  -- no image, but a seed
+  OfSeed : ℕ → Basis
+
+abbrev pub basis_of : Job → Basis
+basis_of Disk = OfLabel
+basis_of Records = OfCopy
+basis_of Show = OfGroup (λ images. show_answer)
+basis_of Check = OfGroup (λ images. check_answer)
+basis_of (Map name first count) = OfGroup (λ images. map_answer name first count)
+basis_of (Dump name) = OfGroup (dump_answer name)
+basis_of (Scrub name) = OfGroup (scrub_answer name)
+basis_of (Table name words) = OfGroup (λ images. table_answer name words)
+basis_of Try = OfScript
+basis_of Edit = OfScript
+basis_of (One command) = OfGroup (λ images. try_answer (Some command ∷ []))
+basis_of (Init name guid disks) = OfEmpty disks
+basis_of (Sample seed) = OfSeed seed
+
+-- the answer by that, with this content of the disks and this input
+abbrev pub IsAnswerBy : Basis → List (List ℕ) → List ℕ → Answer → Type 0
+IsAnswerBy OfLabel images input answer = answer ≡ disk_answer (label_of (image images 0))
+IsAnswerBy OfCopy images input answer = IsRecordsAnswer (label_of (image images 0)) (image images 0) answer
+IsAnswerBy (OfGroup answer_of) images input answer = IsGroupAnswer (answer_of images) images answer
+IsAnswerBy OfScript images input answer = IsAnswerToScript (is_long input) input images answer
+IsAnswerBy (OfEmpty guids) images input answer = IsInitAnswer guids images answer
+IsAnswerBy (OfSeed seed) images input answer = IsSampleAnswer seed answer
+
+-- what a job answers
 abbrev pub IsJobAnswer : Job → List (List ℕ) → List ℕ → Answer → Type 0
-IsJobAnswer Disk images input answer = answer ≡ disk_answer (label_of (image images 0))
-IsJobAnswer Records images input answer = IsRecordsAnswer (label_of (image images 0)) (image images 0) answer
-IsJobAnswer Show images input answer = IsGroupAnswer show_answer images answer
-IsJobAnswer Check images input answer = IsGroupAnswer check_answer images answer
-IsJobAnswer (Map name first count) images input answer = IsGroupAnswer (map_answer name first count) images answer
-IsJobAnswer (Dump name) images input answer = IsGroupAnswer (dump_answer name images) images answer
-IsJobAnswer (Scrub name) images input answer = IsGroupAnswer (scrub_answer name images) images answer
-IsJobAnswer (Table name words) images input answer = IsGroupAnswer (table_answer name words) images answer
-IsJobAnswer Try images input answer = IsAnswerToScript (is_long input) input images answer
-IsJobAnswer Edit images input answer = IsAnswerToScript (is_long input) input images answer
-IsJobAnswer (One command) images input answer = IsGroupAnswer (try_answer (Some command ∷ [])) images answer
-IsJobAnswer (Init name guid disks) images input answer = IsInitAnswer disks images answer
-IsJobAnswer (Sample seed) images input answer = IsSampleAnswer seed answer
+IsJobAnswer job images input answer = IsAnswerBy (basis_of job) images input answer
 
 abbrev pub IsReadingAnswer : Option (Job × ℕ) → List (List ℕ) → List ℕ → Answer → Type 0
 IsReadingAnswer None images input answer = answer ≡ ([], Usage)

@@ -3,42 +3,11 @@ use Rattle.std.specs.Prelude.{◌≡◌, ◌⊎◌, ℕ, List, [], ◌∷◌, �
 use Rattle.ldm_host.specs.Seen.{Seen}
 pub use Rattle.ldm_init.specs.Images.{NothingPending}
 pub use Rattle.ldm_dump.specs.Saying.{SameInput}
-use Rattle.ldm_words.specs.declared.job.Job.{Job}
-use Rattle.ldm_words.specs.declared.job.Job.TheVariants.{Disk, Records, Show, Check, Map, Dump, Scrub, Table, Try, Edit, One, Init, Sample}
+pub use Rattle.ldm_words.specs.Jobs.{Kind, Reads, Streams, Hears, Edits, Does, Makes, kind_of, writes}
 use Rattle.ldm_run.specs.declared.running.Status.{Status}
 use Rattle.ldm_run.specs.declared.running.Status.TheVariants.{DiskFault, NoMemory}
 use Rattle.ldm_run.specs.Said.{SaysNothing}
 use Rattle.ldm_run.specs.Heard.{HearsScript}
-
--- the kinds of jobs, by what they do with the disks and the talk
-pub data Kind : Type 0 where
-  -- it reads the disks, if it needs any, and then says its answer
-  Reads : Kind
-  -- it reads the disks, and says its answer while it reads on
-  Streams : Kind
-  -- it hears a script, reads the disks, and then says a reply to each line
-  Hears : Kind
-  -- it hears a script, and does each line to the disks and then says the reply
-  Edits : Kind
-  -- it does one command to the disks, and then says the reply
-  Does : Kind
-  -- it makes the disks a new group, and then says so
-  Makes : Kind
-
-abbrev pub kind_of : Job → Kind
-kind_of Disk = Reads
-kind_of Records = Reads
-kind_of Show = Reads
-kind_of Check = Reads
-kind_of (Map name first count) = Reads
-kind_of (Dump name) = Streams
-kind_of (Scrub name) = Streams
-kind_of (Table name words) = Reads
-kind_of Try = Hears
-kind_of Edit = Edits
-kind_of (One command) = Does
-kind_of (Init name guid disks) = Makes
-kind_of (Sample seed) = Reads
 
 -- What is left of the input, also where the host tells it: all of it, by a job that hears no script. One that hears a
 -- script says it of a host that tells the talk.

@@ -7,7 +7,6 @@ pub mod Heard
 pub mod Making
 pub mod Answer
 pub mod Kinds
-pub mod Writing
 pub mod Stops
 pub mod Written
 pub mod Sample

@@ -5,7 +5,6 @@
 
 mod dump;
 mod editing;
-mod kinds;
 mod making;
 mod mapping;
 mod replying;
@@ -15,6 +14,5 @@ mod script;
 mod scrub;
 mod tabling;
 
-pub use kinds::kinds_say_which_jobs_write;
 pub use running::{Status, run};
 pub use sample::sample_host;

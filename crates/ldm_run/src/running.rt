@@ -277,6 +277,7 @@ pub(crate) fn edit<H: Host>(alloc: Global, host: &mut H) -> Status
 }
 
 // Does a job.
+#[tactic(auto, using(crate::proofs::JobLaws::of_job))]
 fn do_job<H: Host>(alloc: Global, job: Job, host: &mut H) -> Status
     requires count { HasCount job (length (H.seen host.old).sizes) }
     requires limits { KeepsLimits job }

@@ -3,7 +3,7 @@ ghost use Rattle.std.specs.Prelude.{◌≡◌, ◌+◌, ◌-◌, ◌*◌, ◌/�
 ghost use Rattle.std.specs.List.{list_any, range_with_len};
 ghost use Rattle.std.specs.Option.{option_to_list};
 ghost use Rattle.std.specs.Str.{bytes_eq};
-ghost use Rattle.ldm_host.specs.Moves.{Rose, Still, Quiet};
+ghost use Rattle.ldm_host.specs.Moves.{Looks};
 ghost use Rattle.ldm_layout.specs.Layouts.{copies_of};
 ghost use Rattle.ldm_layout.specs.Columns.{columns_of, column_in, IsColumned};
 ghost use Rattle.ldm_layout.specs.declared.shape.Shape.TheVariants.{Raid5};
@@ -62,9 +62,7 @@ fn read_copy_run<H: Host>(
     requires lies { LiesOn found.now plan.now (H.seen host.old).sizes }
     ensures bytes { H.tells_disks → OnOk result ((j : ℕ) → j < length out.old → slice_index out.new j
         ≡ joined_byte (H.seen host.old).content (option_to_list (copy_spot found.now plan.now sector copy)) j) }
-    ensures still { Still (H.seen host.old) (H.seen host.new) }
-    ensures quiet { Quiet (H.seen host.old) (H.seen host.new) }
-    ensures cause { IsErr result → Rose (H.seen host.old).disk_faults (H.seen host.new).disk_faults }
+    ensures looks { Looks (H.seen host.old) (H.seen host.new) (IsErr result) }
 {
     match spot_of(host, found, plan.place(sector, copy)) {
         Some(spot) => read_spot(host, spot, out),
@@ -91,9 +89,7 @@ fn read_column<H: Host>(
     requires lies { RowsLieOn found.now plan.now (H.seen host.old).sizes }
     ensures bytes { H.tells_disks → OnOk result ((j : ℕ) → j < length out.old → slice_index out.new j
         ≡ joined_byte (H.seen host.old).content (option_to_list (spot_at found.now (column_in plan.now sector column))) j) }
-    ensures still { Still (H.seen host.old) (H.seen host.new) }
-    ensures quiet { Quiet (H.seen host.old) (H.seen host.new) }
-    ensures cause { IsErr result → Rose (H.seen host.old).disk_faults (H.seen host.new).disk_faults }
+    ensures looks { Looks (H.seen host.old) (H.seen host.new) (IsErr result) }
 {
     match spot_of(host, found, plan.column(sector, column)) {
         Some(spot) => read_spot(host, spot, out),
@@ -122,9 +118,7 @@ fn join_column<H: Host>(
     requires same { length scratch.old ≡ length out.old }
     ensures bytes { H.tells_disks → OnOk result ((j : ℕ) → j < length out.old → slice_index out.new j
         ≡ fold bit_xor (slice_index out.old j) (map (byte_at (H.seen host.old).content j) (option_to_list (spot_at found.now (column_in plan.now sector column))))) }
-    ensures still { Still (H.seen host.old) (H.seen host.new) }
-    ensures quiet { Quiet (H.seen host.old) (H.seen host.new) }
-    ensures cause { IsErr result → Rose (H.seen host.old).disk_faults (H.seen host.new).disk_faults }
+    ensures looks { Looks (H.seen host.old) (H.seen host.new) (IsErr result) }
 {
     match spot_of(host, found, plan.column(sector, column)) {
         Some(spot) => join_spot(host, spot, out, scratch),
@@ -149,9 +143,7 @@ fn join_row<H: Host>(
     requires same { length scratch.old ≡ length out.old }
     ensures bytes { H.tells_disks → OnOk result ((j : ℕ) → j < length out.old
         → slice_index out.new j ≡ joined_byte (H.seen host.old).content (row_spots found.now plan.now sector) j) }
-    ensures still { Still (H.seen host.old) (H.seen host.new) }
-    ensures quiet { Quiet (H.seen host.old) (H.seen host.new) }
-    ensures cause { IsErr result → Rose (H.seen host.old).disk_faults (H.seen host.new).disk_faults }
+    ensures looks { Looks (H.seen host.old) (H.seen host.new) (IsErr result) }
 {
     read_column(host, found, plan, sector, 0, out)?;
     'columns: for column in 1..plan.columns() {
@@ -180,9 +172,7 @@ pub fn mark_copies<H: Host>(
     requires lies { LiesOn found.now plan.now (H.seen host.old).sizes }
     ensures marks { H.tells_disks → OnOk result ((i : ℕ) → i < length marks.old → slice_index marks.new i
         ≡ mark (is_bad (H.seen host.old).content found.now plan.now (sector + i))) }
-    ensures still { Still (H.seen host.old) (H.seen host.new) }
-    ensures quiet { Quiet (H.seen host.old) (H.seen host.new) }
-    ensures cause { IsErr result → Rose (H.seen host.old).disk_faults (H.seen host.new).disk_faults }
+    ensures looks { Looks (H.seen host.old) (H.seen host.new) (IsErr result) }
 {
     let count = plan.copies();
     clear(marks);
@@ -213,9 +203,7 @@ pub fn mark_rows<H: Host>(
     requires lies { RowsLieOn found.now plan.now (H.seen host.old).sizes }
     ensures marks { H.tells_disks → OnOk result ((i : ℕ) → i < length marks.old → slice_index marks.new i
         ≡ mark (is_bad_at (H.seen host.old).content found.now plan.now (place + i))) }
-    ensures still { Still (H.seen host.old) (H.seen host.new) }
-    ensures quiet { Quiet (H.seen host.old) (H.seen host.new) }
-    ensures cause { IsErr result → Rose (H.seen host.old).disk_faults (H.seen host.new).disk_faults }
+    ensures looks { Looks (H.seen host.old) (H.seen host.new) (IsErr result) }
 {
     let sector = row_sector(plan, place);
     join_row(host, found, plan, sector, out, scratch)?;
@@ -242,9 +230,7 @@ fn mark_one<H: Host>(
     requires lies { LiesOn found.now plan.now (H.seen host.old).sizes }
     requires rows { RowsLieOn found.now plan.now (H.seen host.old).sizes }
     ensures marks { H.tells_disks → OnOk result (slice_index marks.new 0 ≡ mark (is_bad (H.seen host.old).content found.now plan.now sector)) }
-    ensures still { Still (H.seen host.old) (H.seen host.new) }
-    ensures quiet { Quiet (H.seen host.old) (H.seen host.new) }
-    ensures cause { IsErr result → Rose (H.seen host.old).disk_faults (H.seen host.new).disk_faults }
+    ensures looks { Looks (H.seen host.old) (H.seen host.new) (IsErr result) }
 {
     match plan.shape() {
         Shape::Raid5 => {
@@ -271,9 +257,7 @@ pub fn place_bad<H: Host>(
     requires lies { LiesOn found.now plan.now (H.seen host.old).sizes }
     requires rows { RowsLieOn found.now plan.now (H.seen host.old).sizes }
     ensures is { H.tells_disks → IfOk result (λ bad. bad ≡ is_bad (H.seen host.old).content found.now plan.now sector) }
-    ensures still { Still (H.seen host.old) (H.seen host.new) }
-    ensures quiet { Quiet (H.seen host.old) (H.seen host.new) }
-    ensures cause { IsErr result → Rose (H.seen host.old).disk_faults (H.seen host.new).disk_faults }
+    ensures looks { Looks (H.seen host.old) (H.seen host.new) (IsErr result) }
 {
     let mut out = [0u8; 512];
     let mut scratch = [0u8; 512];

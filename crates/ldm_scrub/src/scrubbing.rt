@@ -1,7 +1,7 @@
 //! The places of a volume, compared, and what is said of them.
 ghost use Rattle.std.specs.Prelude.{◌≡◌, ◌++◌, ◌+◌, ◌*◌, ◌<◌, ◌≤◌, ◌^◌, ℕ, List, length, slice_index, false, IfOk, OnOk, IsErr, IsErrOf};
 ghost use Rattle.std.specs.List.{range_with_len};
-ghost use Rattle.ldm_host.specs.Moves.{Rose, Still, Quiet, Begins};
+ghost use Rattle.ldm_host.specs.Moves.{Still, Begins, DiskFailed, TalkFailed, Looks};
 ghost use Rattle.ldm_layout.specs.declared.shape.Shape.TheVariants.{Raid5};
 ghost use Rattle.ldm_dump.specs.Sources.{is_raid5};
 ghost use Rattle.ldm_dump.specs.Runs.{LiesOn, RowsLieOn};
@@ -48,9 +48,7 @@ fn mark_some_copies<H: Host>(
     ensures few { IfOk result (λ n. n ≤ length marks.old) }
     ensures marks { H.tells_disks → IfOk result (λ n. (i : ℕ) → i < n → slice_index marks.new i
         ≡ mark (is_bad_at (H.seen host.old).content found.now plan.now (place + i))) }
-    ensures still { Still (H.seen host.old) (H.seen host.new) }
-    ensures quiet { Quiet (H.seen host.old) (H.seen host.new) }
-    ensures cause { IsErr result → Rose (H.seen host.old).disk_faults (H.seen host.new).disk_faults }
+    ensures looks { Looks (H.seen host.old) (H.seen host.new) (IsErr result) }
 {
     let run = common_run(plan, place);
     let count = run.min(marks.len() as u64);
@@ -91,9 +89,7 @@ fn mark_some_rows<H: Host>(
     ensures few { IfOk result (λ n. n ≤ length marks.old) }
     ensures marks { H.tells_disks → IfOk result (λ n. (i : ℕ) → i < n → slice_index marks.new i
         ≡ mark (is_bad_at (H.seen host.old).content found.now plan.now (place + i))) }
-    ensures still { Still (H.seen host.old) (H.seen host.new) }
-    ensures quiet { Quiet (H.seen host.old) (H.seen host.new) }
-    ensures cause { IsErr result → Rose (H.seen host.old).disk_faults (H.seen host.new).disk_faults }
+    ensures looks { Looks (H.seen host.old) (H.seen host.new) (IsErr result) }
 {
     let count = (all - place).min(marks.len() as u64);
     let size = 512 * count as usize;
@@ -132,9 +128,7 @@ fn mark_some<H: Host>(
     ensures few { IfOk result (λ n. n ≤ length marks.old) }
     ensures marks { H.tells_disks → IfOk result (λ n. (i : ℕ) → i < n → slice_index marks.new i
         ≡ mark (is_bad_at (H.seen host.old).content found.now plan.now (place + i))) }
-    ensures still { Still (H.seen host.old) (H.seen host.new) }
-    ensures quiet { Quiet (H.seen host.old) (H.seen host.new) }
-    ensures cause { IsErr result → Rose (H.seen host.old).disk_faults (H.seen host.new).disk_faults }
+    ensures looks { Looks (H.seen host.old) (H.seen host.new) (IsErr result) }
 {
     match plan.shape() {
         Shape::Raid5 => mark_some_rows(host, found, plan, place, all, out, scratch, marks),
@@ -164,7 +158,7 @@ fn say_marked<H: Host>(
         → Begins (H.seen host.new).said ((H.seen host.old).said ++ lines_of images found plan.now (range_with_len place (length marks.now))) }
     ensures still { Still (H.seen host.old) (H.seen host.new) }
     ensures input { SameInput (H.seen host.old) (H.seen host.new) }
-    ensures cause { IsErr result → Rose (H.seen host.old).talk_faults (H.seen host.new).talk_faults }
+    ensures cause { IsErr result → TalkFailed (H.seen host.old) (H.seen host.new) }
 {
     let bad = count_marks(marks);
     if bad == 0 {
@@ -206,8 +200,8 @@ fn scrub_some<H: Host>(
         ((H.seen host.old).said ++ lines_of (H.seen host.old).content found.now plan.now (range_with_len place n)) }
     ensures still { Still (H.seen host.old) (H.seen host.new) }
     ensures input { SameInput (H.seen host.old) (H.seen host.new) }
-    ensures disk { IsErrOf result ScrubError.Disk → Rose (H.seen host.old).disk_faults (H.seen host.new).disk_faults }
-    ensures talk { IsErrOf result ScrubError.Talk → Rose (H.seen host.old).talk_faults (H.seen host.new).talk_faults }
+    ensures disk { IsErrOf result ScrubError.Disk → DiskFailed (H.seen host.old) (H.seen host.new) }
+    ensures talk { IsErrOf result ScrubError.Talk → TalkFailed (H.seen host.old) (H.seen host.new) }
 {
     let Ok(count) = mark_some(host, found, plan, place, all, out, scratch, marks) else {
         return Err(ScrubError::Disk);
@@ -243,8 +237,8 @@ fn scrub_places<H: Host>(
         ((H.seen host.old).said ++ lines_of (H.seen host.old).content found.now plan.now (places_of plan.now)) }
     ensures still { Still (H.seen host.old) (H.seen host.new) }
     ensures input { SameInput (H.seen host.old) (H.seen host.new) }
-    ensures disk { IsErrOf result ScrubError.Disk → Rose (H.seen host.old).disk_faults (H.seen host.new).disk_faults }
-    ensures talk { IsErrOf result ScrubError.Talk → Rose (H.seen host.old).talk_faults (H.seen host.new).talk_faults }
+    ensures disk { IsErrOf result ScrubError.Disk → DiskFailed (H.seen host.old) (H.seen host.new) }
+    ensures talk { IsErrOf result ScrubError.Talk → TalkFailed (H.seen host.old) (H.seen host.new) }
 {
     let mut place = 0;
     let mut bad = 0;
@@ -282,8 +276,8 @@ pub fn scrub_volume<H: Host>(
         ((H.seen host.old).said ++ text_of_scrub front.now (H.seen host.old).content found.now plan.now) }
     ensures still { Still (H.seen host.old) (H.seen host.new) }
     ensures input { SameInput (H.seen host.old) (H.seen host.new) }
-    ensures disk { IsErrOf result ScrubError.Disk → Rose (H.seen host.old).disk_faults (H.seen host.new).disk_faults }
-    ensures talk { IsErrOf result ScrubError.Talk → Rose (H.seen host.old).talk_faults (H.seen host.new).talk_faults }
+    ensures disk { IsErrOf result ScrubError.Disk → DiskFailed (H.seen host.old) (H.seen host.new) }
+    ensures talk { IsErrOf result ScrubError.Talk → TalkFailed (H.seen host.old) (H.seen host.new) }
 {
     let all = place_count(plan);
     let bad = scrub_places(host, found, plan, all, out, scratch, marks, page)?;

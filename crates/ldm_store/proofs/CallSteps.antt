@@ -3,7 +3,7 @@ use Rattle.std.proofs.Common.{◌≡◌, ◌≢◌, inl, inr, ⊎_elim, ℕ, ◌
 use Rattle.std.proofs.lemmas.Bool.{cases_eq}
 use Rattle.std.proofs.lemmas.Option.{slice_get_within}
 use Rattle.ldm_host.specs.Seen.{Seen, Leaves, image}
-use Rattle.ldm_host.specs.Moves.{Settled, Writes, Changes}
+use Rattle.ldm_host.specs.Moves.{Settled, Writes, Changes, AtEachMoment}
 use Rattle.ldm_label.specs.declared.Label.{Label}
 use Rattle.ldm_group.specs.Database.{Database}
 use Rattle.ldm_copy.specs.declared.answer.CopyState.TheVariants.{Closed, Valid}
@@ -31,7 +31,7 @@ HasOther labels o n host disk = (k : ℕ) × (k < length labels) × (k ≢ disk)
 
 -- at each moment of a call, of two states of a host
 abbrev pub KeptThrough : List Label → Database → Database → Seen → Seen → Seen → Type 0
-KeptThrough labels o n start before after = (images : List (List ℕ)) (said : List ℕ) → after.left_since before.clock images said → IsKept labels o n start images said
+KeptThrough labels o n start before after = AtEachMoment before after (IsKept labels o n start)
 
 -- what a stop leaves after a call is what it leaves at one of its moments
 pub kept_after : (labels : List Label) (o n : Database) (a b c : Seen) → b.clock ≤ c.clock
@@ -45,7 +45,7 @@ module _ (labels : List Label) (o n : Database) (a b c : Seen) (resting : IsRest
   in_range = let lt = slice_get_within labels disk label at in omega (arith, lt, resting.one_each)
 
   kept_call : Changes disk (gate_at label) (512 * label.area_sectors) b c
-      → ((images : List (List ℕ)) (said : List ℕ) → c.left_since b.clock images said → IsBetween label n (image b.content disk) (image images disk)) → KeptThrough labels o n a b c
+      → AtEachMoment b c (λ images said. IsBetween label n (image b.content disk) (image images disk)) → KeptThrough labels o n a b c
   kept_call changes between =
       kept_step labels o n a b resting.one_each resting.settled resting.known resting.outside resting.said_is c disk label at (other.0, other.1, inl other.2, other.3) changes between
 

@@ -5,7 +5,7 @@ use Rattle.std.proofs.lemmas.Bool.{cases_eq, cases_lt}
 use Rattle.std.proofs.lemmas.Bool.Decides.{nat_tests}
 use Rattle.std.proofs.lemmas.Option.{slice_get_within}
 use Rattle.ldm_host.specs.Seen.{Seen, Leaves, image}
-use Rattle.ldm_host.specs.Moves.{Later, Changes}
+use Rattle.ldm_host.specs.Moves.{Later, Changes, AtEachMoment}
 use Rattle.ldm_host.proofs.Relations.{moments_trans}
 use Rattle.ldm_label.specs.declared.Label.{Label}
 use Rattle.ldm_group.specs.Database.{Database, Core, IsSameCore}
@@ -81,7 +81,7 @@ module _ (found : Found) (a : Seen) (held : HoldsGroup a.content found) where
       (top.0, top.1, has_more found.labels a.content top.0 (λ c. c ≡ Valid found.db) (IsEither found.db found.db) (λ c is. inl (valid_current found.db c is)) top.2) images said left is
 
   pub healed_none : length a.sizes ≡ length found.labels → AllSettled found.labels a
-      → ((images : List (List ℕ)) (said : List ℕ) → a.left_since a.clock images said → Leaves a images × (said ≡ a.said)) → IsHealed found.labels found.db a a 0
+      → AtEachMoment a a (λ images said. Leaves a images × (said ≡ a.said)) → IsHealed found.labels found.db a a 0
   healed_none one_each settled only = record {
     below = λ k lt. absurd (omega arith);
     above = λ k ge lt. refl;
@@ -153,7 +153,7 @@ module _ (found : Found) (a : Seen) (held : HoldsGroup a.content found) where
 
     module _ (c : Seen) (label : Label) (note : Note) (at : slice_get found.labels done ≡ Some label) (noted : slice_get found.notes done ≡ Some note) (behind : is_behind found.db.header.seq note ≡ true)
         (later : Later a b) (changes : Changes done (gate_at label) (512 * label.area_sectors) b c)
-        (between : (images : List (List ℕ)) (said : List ℕ) → c.left_since b.clock images said → IsBetween label found.db (image b.content done) (image images done)) where
+        (between : AtEachMoment b c (λ images said. IsBetween label found.db (image b.content done) (image images done))) where
       pub healing_always : AlwaysKept found.labels found.db found.db a c
       healing_always =
           let holds = other note noted behind in
@@ -186,7 +186,7 @@ other_disk seq marks disk note k mark noted behind marked fails is =
     let bad : false ≡ true = sym fails ∙ ap (is_behind seq) same ∙ behind in cc
 
 pub spared_step : (seq : ℕ) (marks : List Note) (a b c : Seen) (disk at n : ℕ) (note : Note) → slice_get marks disk ≡ Some note → is_behind seq note ≡ true → Changes disk at n b c
-    → AreSpared seq marks a b → AreSpared seq marks a c
+    → AreSpared seq marks a.wrote b.wrote → AreSpared seq marks a.wrote c.wrote
 spared_step seq marks a b c disk at n note noted behind changes spared k mark marked fails =
     changes.wrote_others k (other_disk seq marks disk note k mark noted behind marked fails) ∙ spared k mark marked fails
 

@@ -1,27 +1,32 @@
 -- The syncs and the look for a group, and what follows them.
-use Rattle.std.proofs.Common.{◌⊎◌, ◌≡◌, ◌≢◌, inl, inr, ⊎_elim, ℕ, Bool, true, false, if◌then◌else◌, List, length, slice_get, Option, Some, None, Ok, Err, refl, sym, ◌∙◌, ap, subst}
+use Rattle.std.proofs.Common.{◌⊎◌, ◌≡◌, ◌≢◌, ◌≤◌, ◌+◌, ◌*◌, ◌/◌, inl, inr, ⊎_elim, ℕ, Bool, true, false, if◌then◌else◌, List, length, slice_index, slice_get, Option, Some, None, Result, Ok, Err, refl, sym, ◌∙◌, ap, subst, arith}
 use Rattle.std.specs.Prelude.{◌↔◌}
 use Rattle.std.proofs.lemmas.Option.{slice_get_within}
 use Rattle.ldm_host.specs.Seen.{Seen, Leaves, image}
-use Rattle.ldm_host.specs.Moves.{Later, Settles, Still, Quiet}
-use Rattle.ldm_host.proofs.Relations.{settles_trans, syncs_settles, still_syncs}
+use Rattle.ldm_host.specs.Moves.{Later, Settles, Looks, AtEachMoment}
+use Rattle.ldm_host.specs.declared.host.Failed.{Failed}
+use Rattle.ldm_host.proofs.Relations.{settles_trans, looks_settles}
 use Rattle.ldm_label.specs.declared.Label.{Label}
 use Rattle.ldm_label.specs.LabelOf.{SameOutsideArea}
-use Rattle.ldm_copy.specs.Body.{HasBody}
+use Rattle.ldm_group.specs.Database.{Database}
+use Rattle.ldm_copy.specs.Body.{HasBody, IsBodyOf}
 use Rattle.ldm_copy.specs.Table.{IsCoreBody}
 use Rattle.ldm_found.specs.declared.notes.Note.{Note}
 use Rattle.ldm_found.specs.Copies.{note_of, HasCopy, IsKnown}
 use Rattle.ldm_found.specs.declared.found.Found.{Found}
+use Rattle.ldm_found.specs.Facts.{LieOn}
 use Rattle.ldm_found.specs.Opening.{IsGroupIn}
 use Rattle.ldm_store.specs.Kept.{AlwaysKept, IsKept, IsCurrent, HoldsNone, HoldsEditable}
-use Rattle.ldm_store.specs.Turning.{IsBodyOnEach, AllSettled, AllHave}
-use Rattle.ldm_store.specs.Sessions.{Opened, HoldsGroup}
+use Rattle.ldm_store.specs.Turning.{IsBodyOnEach, AllSettled, AllHave, AreRewritten}
+use Rattle.ldm_store.specs.Sessions.{Opened, Edited, HoldsGroup, RestsOn}
+use Rattle.ldm_store.specs.Settling.{IsHandedFew, IsSettled, IsReady, HealsAll}
 use Rattle.ldm_store.specs.Healing.{is_behind, OnlyStill, OneGroup}
 use Rattle.ldm_store.specs.Bodies.{BeginsWith, AllBegin, IsBegunBut, IsTidyBut, HoldsBody}
 use Rattle.ldm_found.specs.Labels.{AreSameOutside}
 use Rattle.ldm_found.proofs.ClearLaws.{clear_of, labels_stay}
 use Rattle.ldm_found.proofs.FoundLaws.{holds_group, one_image, copy_known}
 use Rattle.ldm_found.proofs.GroupLaws.{one_group}
+use Rattle.ldm_store.proofs.EditLaws.{bodies_for}
 use Rattle.ldm_store.proofs.HasLaws.{current_open}
 use Rattle.ldm_store.proofs.HealLaws.{still_kept}
 use Rattle.ldm_store.proofs.TidyLaws.{begins_open, tidy_before}
@@ -52,10 +57,6 @@ one_group_since found a m c content said first only is editable second always = 
           recoverable = kept.recoverable;
         }
 
--- a call that changes nothing
-pub settles_quiet : (a b : Seen) → Still a b → Quiet a b → Settles a b
-settles_quiet a b still quiet = syncs_settles 0 a b (still_syncs 0 a b still quiet)
-
 -- images hold one group
 pub same_found : (images : List (List ℕ)) (x y : Found) → IsGroupIn images (Ok x) → IsGroupIn images (Ok y) → x ≡ y
 same_found images x y is_x is_y = let e : Ok x ≡ Ok y = one_group images (Ok x) (Ok y) is_x is_y in cc
@@ -73,7 +74,7 @@ not_none images found is editable (inr other) =
 
 -- a moment is one of the start, or keeps the group
 pub kept_or_start : (start host : Seen) (found : Found) → IsGroupIn start.content (Ok found) → OnlyStill start host ⊎ OneGroup start host
-    → (images : List (List ℕ)) (said : List ℕ) → host.left_since start.clock images said → (Leaves start images × (said ≡ start.said)) ⊎ IsKept found.labels found.db found.db start images said
+    → AtEachMoment start host (λ images said. (Leaves start images × (said ≡ start.said)) ⊎ IsKept found.labels found.db found.db start images said)
 kept_or_start start host found is (inl only) images said left = inl (only images said left)
 kept_or_start start host found is (inr one) images said left = ⊎_elim
     (λ before. inl before)
@@ -132,6 +133,65 @@ pub tidy_kept : (found : Found) (old : List (List ℕ)) (body : List ℕ) → Is
     → (kept_if shared body ≢ None) ↔ IsTidyBut found old
 tidy_kept found old body core true begun alone = (λ ne. (body, (core.0, core.2), begun refl), λ tidy e. absurd (let bad : Some body ≡ None = e in cc))
 tidy_kept found old body core false begun alone = (λ ne. absurd (ne refl), λ tidy. absurd (alone refl tidy))
+
+-- ---- the healing of a group that was found
+
+-- disks that were handed nothing were handed few bytes
+pub hands_none : (found : Found) (before after : List ℕ) → after ≡ before → IsHandedFew found before after
+hands_none found before after is =
+    subst (λ (l : List ℕ). IsHandedFew found before l) (sym is) (record { spared = λ disk note noted fails. refl; most = λ disk. omega arith })
+
+-- a body is as long as its database says, so that many bytes and one are handed over
+bound : (db : Database) (body : List ℕ) (old new : ℕ) → IsBodyOf db body → new ≤ old + (length body + 1) → new ≤ old + (512 * (db.header.last / 4) + 1)
+bound db body old new is le = let size = is.is.size in omega (arith, size, le)
+
+module _ (tells P : Type 0) (a m d : Seen) (found : Found) (body : List ℕ) (shared : Bool) (looks : Looks a m P) (ready : IsReady tells a found body shared) where
+  -- it is one group from the end of the syncs on
+  pub healing_group : (result : Result (Unit {0}) Failed) → HealsAll tells result found body m d → tells → OneGroup a d
+  healing_group result heals told = one_group_since found a m d looks.still.content looks.quiet.said looks.still.later (looks_settles looks).moments
+      (ready.is told) ready.editable heals.works.later (heals.any_moment told)
+
+  pub healing_hands : (result : Result (Unit {0}) Failed) → HealsAll tells result found body m d → tells → (other : Found) → IsGroupIn a.content (Ok other) → IsHandedFew other a.wrote d.wrote
+  healing_hands result heals told other is = subst (λ (f : Found). IsHandedFew f a.wrote d.wrote) (same_found a.content found other (ready.is told) is) (record {
+    spared = λ disk note noted fails. heals.spared disk note noted fails ∙ ap (λ (l : List ℕ). slice_index l disk) looks.still.wrote;
+    most = λ disk. bound found.db body (slice_index a.wrote disk) (slice_index d.wrote disk) (ready.exact told)
+        (subst (λ (l : List ℕ). slice_index d.wrote disk ≤ slice_index l disk + (length body + 1)) looks.still.wrote (heals.wrote disk));
+  })
+
+  -- the session of the group that was healed
+  pub healed_session : HealsAll tells (Ok tt) found body m d → (tells → length d.content ≡ length a.content) → (session : Edited) → session.group.db ≡ found.db → session.group.labels ≡ found.labels
+      → session.group.draft ≡ None → session.body ≡ kept_if shared body → IsSettled tells a.content session d
+  healed_session heals one_each session db labels draft kept = record {
+    opened = λ told. record { found = found; is = ready.is told; editable = ready.editable; db = db; labels = labels; draft = draft };
+    holds = λ told. record { holds = subst (λ (s : Opened). HoldsGroup s d.content) same (holds told); body = body_there told };
+    rests = subst (λ (s : Opened). RestsOn s d) same (record {
+      lie = subst (λ (l : List ℕ). LieOn found.labels l) (sym (heals.works.later.sizes ∙ looks.still.later.sizes)) ready.lies;
+      settled = heals.settled;
+    });
+    fresh = draft;
+    tidy = λ told other is.
+        subst (λ (f : Found). (session.body ≢ None) ↔ IsTidyBut f a.content) (same_found a.content found other (ready.is told) is)
+        (subst (λ (b : Option (List ℕ)). (b ≢ None) ↔ IsTidyBut found a.content) (sym kept) (tidy_kept found a.content body ready.core shared (ready.begun told) (ready.alone told)));
+    each = λ told. subst (λ (s : Opened). AreRewritten s.labels s.db a.content d.content) same
+        (λ disk lt. ⊎_elim (λ has. inl has) (λ is. inr (is ∙ ap (λ (l : List (List ℕ)). image l disk) looks.still.content)) (heals.each told disk lt));
+  }
+    where
+      same : record { db = found.db; labels = found.labels; draft = None } ≡ session.group
+      same = session_is found session.group db labels draft
+
+      holds : tells → HoldsGroup (record { db = found.db; labels = found.labels; draft = None }) d.content
+      holds told = holds_after found a.content d.content (ready.is told) ready.editable (one_each told)
+          (subst (λ (l : List (List ℕ)). AreSameOutside found.labels l d.content) looks.still.content (heals.outside told)) (heals.current told)
+
+      stays : (disk : ℕ) (note : Note) → slice_get found.notes disk ≡ Some note → is_behind found.db.header.seq note ≡ false → image d.content disk ≡ image a.content disk
+      stays disk note noted late = heals.stays disk note noted late ∙ ap (λ (l : List (List ℕ)). image l disk) looks.still.content
+
+      body_there : tells → HoldsBody session.body session.group.labels d.content
+      body_there told =
+          let on = bodies_for found.db found.labels a.sizes body ready.lies (sym ready.sound.blocked_is ∙ ready.editable) (ready.exact told) in
+          subst (λ (l : List Label). HoldsBody session.body l d.content) (sym labels)
+          (subst (λ (b : Option (List ℕ)). HoldsBody b found.labels d.content) (sym kept)
+          (body_after found a.content d.content (ready.is told) body ready.core on stays (heals.has told) (heals.current told) shared (ready.begun told) (ready.alone told)))
 
 -- ---- what follows the syncs
 

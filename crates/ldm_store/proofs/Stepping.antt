@@ -3,7 +3,7 @@ use Rattle.std.proofs.Common.{◌≡◌, ◌≢◌, ◌⊎◌, ⊎_elim, ℕ, �
 use Rattle.std.proofs.lemmas.Bool.{cases_eq}
 use Rattle.std.proofs.lemmas.Option.{slice_get_within}
 use Rattle.ldm_host.specs.Seen.{Seen, Leaves, image}
-use Rattle.ldm_host.specs.Moves.{Torn, TornAt, Settled, Changes}
+use Rattle.ldm_host.specs.Moves.{Torn, TornAt, Settled, Changes, AtEachMoment}
 use Rattle.ldm_label.specs.declared.Label.{Label}
 use Rattle.ldm_label.specs.LabelOf.{SameOutsideArea}
 use Rattle.ldm_group.specs.Database.{Database}
@@ -41,11 +41,11 @@ module _ (labels : List Label) (o n : Database) (a b : Seen) (one_each : length 
 
   -- while one disk is written, and another, or that one with its area staying, is open with one of the two
   pub kept_step : (c : Seen) (disk : ℕ) (label : Label) → slice_get labels disk ≡ Some label
-      → (other : (k : ℕ) × (k < length labels) × ((k ≢ disk) ⊎ ((images : List (List ℕ)) (said : List ℕ) → c.left_since b.clock images said → config_area label (image images disk) ≡ config_area label (image b.content disk)))
+      → (other : (k : ℕ) × (k < length labels) × ((k ≢ disk) ⊎ (AtEachMoment b c (λ images said. config_area label (image images disk) ≡ config_area label (image b.content disk))))
       × HasCopy labels b.content k (IsEither o n))
       → Changes disk (gate_at label) (512 * label.area_sectors) b c
-      → ((images : List (List ℕ)) (said : List ℕ) → c.left_since b.clock images said → IsBetween label n (image b.content disk) (image images disk))
-      → (images : List (List ℕ)) (said : List ℕ) → c.left_since b.clock images said → IsKept labels o n a images said
+      → AtEachMoment b c (λ images said. IsBetween label n (image b.content disk) (image images disk))
+      → AtEachMoment b c (IsKept labels o n a)
   kept_step c disk label at other changes between images said left = record {
     said_is = m.3 ∙ quiet;
     one_each = m.2.count ∙ m.1.one_each ∙ one_each;

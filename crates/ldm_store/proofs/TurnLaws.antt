@@ -2,7 +2,7 @@
 use Rattle.std.proofs.Common.{◌≡◌, ◌≢◌, inl, inr, ⊎_elim, ℕ, ◌+◌, ◌*◌, ◌<◌, ◌≤◌, List, length, slice_index, slice_get, Some, refl, sym, ◌∙◌, subst, arith, [], ◌∷◌}
 use Rattle.std.proofs.lemmas.Bool.{cases_eq, cases_lt}
 use Rattle.ldm_host.specs.Seen.{Seen, Leaves, image}
-use Rattle.ldm_host.specs.Moves.{Later, Changes}
+use Rattle.ldm_host.specs.Moves.{Later, Changes, AtEachMoment}
 use Rattle.ldm_host.proofs.Relations.{moments_trans}
 use Rattle.ldm_label.specs.declared.Label.{Label}
 use Rattle.ldm_group.specs.Database.{Database}
@@ -17,7 +17,7 @@ use Rattle.ldm_store.proofs.Stepping.{IsEither, kept_now, kept_step, has_step, o
 
 -- at the start
 pub turned_none : (labels : List Label) (o n : Database) (a : Seen) → 2 ≤ length labels → length a.sizes ≡ length labels → AllSettled labels a → AllHave labels a.content (IsCurrent o)
-    → ((images : List (List ℕ)) (said : List ℕ) → a.left_since a.clock images said → Leaves a images × (said ≡ a.said)) → IsTurned labels o n a a 0
+    → AtEachMoment a a (λ images said. Leaves a images × (said ≡ a.said)) → IsTurned labels o n a a 0
 turned_none labels o n a several one_each settled current only = record {
   below = λ k lt. absurd (omega arith);
   above = λ k ge lt. current k lt;
@@ -45,7 +45,7 @@ module _ (labels : List Label) (o n : Database) (a b : Seen) (done : ℕ) (sever
       (cases_eq done 0)
 
   module _ (c : Seen) (label : Label) (at : slice_get labels done ≡ Some label) (later : Later a b) (changes : Changes done (gate_at label) (512 * label.area_sectors) b c)
-      (between : (images : List (List ℕ)) (said : List ℕ) → c.left_since b.clock images said → IsBetween label n (image b.content done) (image images done)) where
+      (between : AtEachMoment b c (λ images said. IsBetween label n (image b.content done) (image images done))) where
     -- while the next disk is rewritten, whether it succeeds or not
     pub turning_always : AlwaysKept labels o n a c
     turning_always = moments_trans a b c (IsKept labels o n a) later changes.later turned.always

@@ -1,6 +1,7 @@
 -- What every stop of settling a group leaves.
 use Rattle.std.specs.Prelude.{◌≡◌, ◌⊎◌, ℕ, ◌<◌, ◌≤◌, nat_lt, Bool, true, false, List, length, slice_index, slice_get, Some, None, Ok}
 use Rattle.ldm_host.specs.Seen.{Seen, Leaves, image}
+use Rattle.ldm_host.specs.Moves.{AtEachMoment}
 use Rattle.ldm_label.specs.declared.Label.{Label}
 use Rattle.ldm_group.specs.Database.{Database}
 use Rattle.ldm_copy.specs.declared.answer.CopyState.{CopyState}
@@ -31,12 +32,12 @@ pub record IsHealed (labels : List Label) (group : Database) (start host : Seen)
   pub always : AlwaysKept labels group group start host
 
 -- a disk whose copy isn't behind is handed no byte
-abbrev pub AreSpared : ℕ → List Note → Seen → Seen → Type 0
-AreSpared seq notes start host = (disk : ℕ) (note : Note) → slice_get notes disk ≡ Some note → is_behind seq note ≡ false → slice_index host.wrote disk ≡ slice_index start.wrote disk
+abbrev pub AreSpared : ℕ → List Note → List ℕ → List ℕ → Type 0
+AreSpared seq notes before after = (disk : ℕ) (note : Note) → slice_get notes disk ≡ Some note → is_behind seq note ≡ false → slice_index after disk ≡ slice_index before disk
 
 -- During the syncs, and while the group is looked for, a stop leaves what it could leave at the start.
 abbrev pub OnlyStill : Seen → Seen → Type 0
-OnlyStill start host = (images : List (List ℕ)) (said : List ℕ) → host.left_since start.clock images said → Leaves start images × (said ≡ start.said)
+OnlyStill start host = AtEachMoment start host (λ images said. Leaves start images × (said ≡ start.said))
 
 -- From some time on, the end of the syncs, there is one group, that of the content at the start, which may be edited. Until
 -- then a stop leaves what it could leave at the start. From then on it leaves images that hold the group, which open as it and
@@ -48,6 +49,6 @@ pub record OneGroup (start host : Seen) : Type 0 where
   pub not_after : time ≤ host.clock
   pub is : IsGroupIn start.content (Ok found)
   pub editable : found.blocked ≡ None
-  pub until : (images : List (List ℕ)) (said : List ℕ) → host.left_since start.clock images said → (Leaves start images × (said ≡ start.said)) ⊎ host.left_since time images said
+  pub until : AtEachMoment start host (λ images said. (Leaves start images × (said ≡ start.said)) ⊎ host.left_since time images said)
   pub since : (images : List (List ℕ)) (said : List ℕ) → host.left_since time images said → IsKept found.labels found.db found.db start images said
   pub opens : (images : List (List ℕ)) (said : List ℕ) → host.left_since time images said → Opens images found.db

@@ -3,6 +3,7 @@
 use Rattle.std.specs.Prelude.{◌≡◌, ◌⊎◌, ℕ, ◌+◌, ◌<◌, List, length, Some, None, Ok, Err}
 use Rattle.ldm_bytes.specs.Tables.{first_of}
 use Rattle.ldm_host.specs.Seen.{Seen}
+use Rattle.ldm_host.specs.Moves.{AtEachMoment}
 use Rattle.ldm_label.specs.declared.Label.{Label}
 use Rattle.ldm_group.specs.Database.{Database, IsSameCore}
 use Rattle.ldm_copy.specs.declared.answer.CopyState.{CopyState}
@@ -37,7 +38,7 @@ pub record IsKept (labels : List Label) (older newer : Database) (start : Seen) 
 
 -- at each moment since the start
 abbrev pub AlwaysKept : List Label → Database → Database → Seen → Seen → Type 0
-AlwaysKept labels older newer start host = (images : List (List ℕ)) (said : List ℕ) → host.left_since start.clock images said → IsKept labels older newer start images said
+AlwaysKept labels older newer start host = AtEachMoment start host (IsKept labels older newer start)
 
 -- nothing is at fault with the group on disks with these labels, and it may be edited
 pub record MayEdit (db : Database) (labels : List Label) : Type 0 where
@@ -56,6 +57,11 @@ abbrev pub HoldsNone : List (List ℕ) → Type 0
 HoldsNone images =
     ((fault : OpenFault) × IsGroupIn images (Err fault))
     ⊎ ((found : Found) × (fault : OpenFault) × IsGroupIn images (Ok found) × (found.blocked ≡ Some fault))
+
+-- for this reason
+abbrev pub HoldsNoneFor : OpenFault → List (List ℕ) → Type 0
+HoldsNoneFor fault images =
+    IsGroupIn images (Err fault) ⊎ ((found : Found) × IsGroupIn images (Ok found) × (found.blocked ≡ Some fault))
 
 -- the images hold a group that may be edited
 abbrev pub HoldsEditable : List (List ℕ) → Type 0

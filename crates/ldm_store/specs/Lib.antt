@@ -3,3 +3,4 @@ pub mod Turning
 pub mod Healing
 pub mod Bodies
 pub mod Sessions
+pub mod Settling

@@ -1,6 +1,6 @@
 //! Rewrites the copies on all disks, one after another.
 ghost use Rattle.std.specs.Prelude.{◌≡◌, ◌+◌, ◌≤◌, ℕ, List, Some, length, slice_index, slice_get, OnOk, IsErr};
-ghost use Rattle.ldm_host.specs.Moves.{Later, Quiet, Rose};
+ghost use Rattle.ldm_host.specs.Moves.{Works};
 ghost use Rattle.ldm_host.specs.Seen.{image};
 ghost use Rattle.ldm_label.specs.declared.Label.{Label};
 ghost use Rattle.ldm_group.specs.Database.{Database};
@@ -36,10 +36,8 @@ pub fn rewrite_all<H: Host>(host: &mut H, labels: &[Label], next: &Next) -> Resu
         → HasBody label (bytes_in next.now) (image (H.seen host.new).content disk)) }
     ensures outside { H.tells_disks → AreSameOutside labels.now (H.seen host.old).content (H.seen host.new).content }
     ensures settled { OnOk result (AllSettled labels.now (H.seen host.new)) }
-    ensures later { Later (H.seen host.old) (H.seen host.new) }
-    ensures quiet { Quiet (H.seen host.old) (H.seen host.new) }
     ensures wrote { (disk : ℕ) → slice_index (H.seen host.new).wrote disk ≤ slice_index (H.seen host.old).wrote disk + most_in next.now }
-    ensures cause { IsErr result → Rose (H.seen host.old).disk_faults (H.seen host.new).disk_faults }
+    ensures works { Works (H.seen host.old) (H.seen host.new) (IsErr result) }
 {
     for disk in 0..labels.len() {
         rewrite_next(host, disk, &labels[disk], next)?;

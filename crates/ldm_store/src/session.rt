@@ -68,20 +68,16 @@ fn next_of(alloc: Global, body: &Option<Body>, older: &Db, newer: &Db) -> Result
 }
 
 impl Session {
-    ghost use Rattle.std.specs.Prelude.{◌≡◌, ◌+◌, ◌*◌, ◌/◌, ◌<◌, ◌≤◌, ℕ, List, slice_index, Option, IfOk, IfSome, IsErrOf, Some, None, false, option_copied};
+    ghost use Rattle.std.specs.Prelude.{◌≡◌, ◌+◌, ◌*◌, ◌/◌, ◌<◌, ◌≤◌, ℕ, List, slice_index, Option, IfOk, IfSome, IsErrOf, Some, None, option_copied};
     ghost use Rattle.std.specs.Option.{ForSome};
-    ghost use Rattle.ldm_host.specs.Moves.{Later, Quiet, Rose, Still};
-    ghost use Rattle.ldm_copy.specs.declared.answer.CopyState.{CopyState};
+    ghost use Rattle.ldm_host.specs.Moves.{Still, Works};
     ghost use Rattle.ldm_copy.specs.Table.{IsCoreBody};
-    ghost use Rattle.ldm_edits.specs.declared.reply.Reply.{Reply};
-    ghost use Rattle.ldm_edits.specs.Counting.{is_done};
     ghost use Rattle.ldm_edits.specs.Steps.{IsDraftOf};
     ghost use Rattle.ldm_words.specs.Limits.{IsCommand};
     ghost use Rattle.ldm_found.specs.Facts.{IsSoundGroup};
     ghost use Rattle.ldm_store.specs.Bodies.{changed_blocks};
     ghost use Rattle.ldm_store.specs.Kept.{AlwaysKept};
-    ghost use Rattle.ldm_store.specs.Turning.{AllHave};
-    ghost use Rattle.ldm_store.specs.Sessions.{IsEditable, IsNextFor, RestsOn, HoldsSession, IsTurnOf, turn_in};
+    ghost use Rattle.ldm_store.specs.Sessions.{IsEditable, IsNextFor, RestsOn, HoldsSession, IsApplied, turn_in};
 
     // The session of a group that was found and that nothing blocks, with the body that its copies begin with.
     pub fn of(found: Found, body: Option<Body>) -> Session
@@ -171,19 +167,12 @@ impl Session {
         requires command { IsCommand command.now }
         // At each moment the group before the command or the one after it is found, whatever the outcome.
         ensures any_moment { H.tells_disks → AlwaysKept self.group.labels self.group.db (turn_in self.group command.now).state.db (H.seen host.old) (H.seen host.new) }
-        // Both may be edited, but where memory ran out.
-        ensures next { IfOk result (λ answer. IsNextFor self.group (turn_in self.group command.now).state.db) }
+        // What comes back is the session after the command, which the disks hold, and its reply.
+        ensures applied { IfOk result (λ answer. IsApplied H.tells_disks self command.now answer.0 answer.1 (H.seen host.old) (H.seen host.new)) }
+        // Where a disk failed the group after the command may be edited too.
         ensures torn { IsErrOf result ApplyError.Disk → IsNextFor self.group (turn_in self.group command.now).state.db }
-        ensures turn { IfOk result (λ answer. IsTurnOf (turn_in self.group command.now) self.group.labels answer.0.group answer.1) }
-        ensures unwritten { IfOk result (λ answer. is_done answer.1 ≡ false → Still (H.seen host.old) (H.seen host.new)) }
-        ensures done { H.tells_disks → IfOk result (λ answer. (seq : ℕ) → answer.1 ≡ Reply.Done seq
-            → AllHave self.group.labels (H.seen host.new).content (λ copy. copy ≡ CopyState.Valid answer.0.group.db)) }
-        ensures rests { IfOk result (λ answer. RestsOn answer.0.group (H.seen host.new)) }
-        ensures holds { H.tells_disks → IfOk result (λ answer. HoldsSession answer.0 (H.seen host.new).content) }
-        // After a command that was done the copies are tidy.
-        ensures tidy { IfOk result (λ answer. (seq : ℕ) → answer.1 ≡ Reply.Done seq → (body : List ℕ) × (answer.0.body ≡ Some body)) }
-        ensures no_memory { (session : _) → IsErrOf result (ApplyError.NoMemory session) → session ≡ self }
-        ensures nothing { (session : _) → IsErrOf result (ApplyError.NoMemory session) → Still (H.seen host.old) (H.seen host.new) }
+        // Where memory ran out the session comes back as it was.
+        ensures no_memory { (session : _) → IsErrOf result (ApplyError.NoMemory session) → (session ≡ self) × Still (H.seen host.old) (H.seen host.new) }
         // Each disk is handed the bytes of the body of the next group at most, and one more.
         ensures wrote { (disk : ℕ) → slice_index (H.seen host.new).wrote disk
             ≤ slice_index (H.seen host.old).wrote disk + (512 * ((turn_in self.group command.now).state.db.header.last / 4) + 1) }
@@ -191,9 +180,7 @@ impl Session {
         // the blocks that the next group has more.
         ensures touched { (body : List ℕ) (disk : ℕ) → self.body ≡ Some body → slice_index (H.seen host.new).wrote disk
             ≤ slice_index (H.seen host.old).wrote disk + (128 * changed_blocks self.group.db (turn_in self.group command.now).state.db + 513) }
-        ensures later { Later (H.seen host.old) (H.seen host.new) }
-        ensures quiet { Quiet (H.seen host.old) (H.seen host.new) }
-        ensures cause { IsErrOf result ApplyError.Disk → Rose (H.seen host.old).disk_faults (H.seen host.new).disk_faults }
+        ensures works { Works (H.seen host.old) (H.seen host.new) (IsErrOf result ApplyError.Disk) }
     {
         let Ok(turned) = turn(alloc, &self.db, self.draft.as_ref(), &self.labels, command) else {
             return Err(ApplyError::NoMemory(self));

@@ -1,23 +1,19 @@
 //! Makes the group of the disks ready to be edited.
 ghost use Rattle.std.specs.Prelude.{if◌then◌else◌, ◌≡◌, ◌≢◌, ◌⊎◌, ◌↔◌, ◌+◌, ◌*◌, ◌/◌, ◌<◌, ◌≤◌, List, ℕ, true, false, length, slice_index, slice_get, Result, IfOk, IfErr, OnOk, IsErr, IsErrOf, Some, None};
-ghost use Rattle.ldm_host.specs.Moves.{Later, Quiet, Rose, Settled, Settles, Changes};
+ghost use Rattle.ldm_host.specs.Moves.{Settled, Settles, Changes, DiskFailed, Looks, Works, AtEachMoment};
 ghost use Rattle.ldm_host.specs.Seen.{image};
-ghost use Rattle.ldm_label.specs.declared.Label.{Label};
 ghost use Rattle.ldm_label.specs.LabelOf.{Fits};
 ghost use Rattle.ldm_group.specs.Database.{Database};
 ghost use Rattle.ldm_copy.specs.Copy.{gate_at};
 ghost use Rattle.ldm_copy.specs.Body.{HasBody, IsBodyOn, IsWritten, IsBetween};
 ghost use Rattle.ldm_found.specs.declared.fault.OpenFault.{OpenFault};
 ghost use Rattle.ldm_found.specs.declared.found.Found.{Found};
-ghost use Rattle.ldm_found.specs.declared.notes.Note.{Note};
 ghost use Rattle.ldm_found.specs.Facts.{LieOn};
-ghost use Rattle.ldm_found.specs.Labels.{AreSameOutside};
 ghost use Rattle.ldm_found.specs.Opening.{IsGroupIn};
-ghost use Rattle.ldm_store.specs.Kept.{IsCurrent, AlwaysKept, HoldsNone, HoldsEditable};
-ghost use Rattle.ldm_store.specs.Turning.{IsBodyOnEach, AllSettled, AllHave, AreRewritten};
-ghost use Rattle.ldm_store.specs.Healing.{is_behind, HasNote, AreSpared, OnlyStill, OneGroup};
-ghost use Rattle.ldm_store.specs.Bodies.{IsTidyBut};
-ghost use Rattle.ldm_store.specs.Sessions.{IsOpenedFrom, RestsOn, HoldsSession};
+ghost use Rattle.ldm_store.specs.Kept.{AlwaysKept, HoldsNone, HoldsNoneFor, HoldsEditable};
+ghost use Rattle.ldm_store.specs.Turning.{IsBodyOnEach, AllSettled};
+ghost use Rattle.ldm_store.specs.Healing.{HasNote};
+ghost use Rattle.ldm_store.specs.Settling.{KeepsOneGroup, IsHandedFew, IsSettled, IsReady, HealsAll};
 
 use crate::session::Session;
 use crate::sharing::{healing_body, is_behind};
@@ -31,7 +27,7 @@ use std::alloc::Global;
 fn sync_all<H: Host>(host: &mut H) -> Result<(), Failed>
     ensures settled { OnOk result ((disk : ℕ) → disk < length (H.seen host.old).sizes → Settled (H.seen host.new) disk) }
     ensures settles { Settles (H.seen host.old) (H.seen host.new) }
-    ensures cause { IsErr result → Rose (H.seen host.old).disk_faults (H.seen host.new).disk_faults }
+    ensures cause { IsErr result → DiskFailed (H.seen host.old) (H.seen host.new) }
 {
     for disk in 0..host.disks() {
         host.sync(disk)?;
@@ -53,15 +49,14 @@ fn heal<H: Host>(
     requires settled { Settled (H.seen host.old) disk }
     requires noted { H.tells_disks → HasNote label.now (image (H.seen host.old).content disk) note }
     ensures any_moment { H.tells_disks → (db : Database) → IsBodyOn db label.now body.now
-        → (images : List (List ℕ)) (said : List ℕ) → (H.seen host.new).left_since (H.seen host.old).clock images said
-        → IsBetween label.now db (image (H.seen host.old).content disk) (image images disk) }
+        → AtEachMoment (H.seen host.old) (H.seen host.new) (λ images said. IsBetween label.now db (image (H.seen host.old).content disk) (image images disk)) }
     ensures done { H.tells_disks → OnOk result ((db : Database) → IsBodyOn db label.now body.now
         → IsWritten label.now db (image (H.seen host.new).content disk)) }
     ensures has { H.tells_disks → OnOk result (HasBody label.now body.now (image (H.seen host.new).content disk)) }
     ensures settled { OnOk result (Settled (H.seen host.new) disk) }
     ensures changes { Changes disk (gate_at label.now) (512 * label.now.area_sectors) (H.seen host.old) (H.seen host.new) }
     ensures wrote { slice_index (H.seen host.new).wrote disk ≤ slice_index (H.seen host.old).wrote disk + length body.now + 1 }
-    ensures cause { IsErr result → Rose (H.seen host.old).disk_faults (H.seen host.new).disk_faults }
+    ensures cause { IsErr result → DiskFailed (H.seen host.old) (H.seen host.new) }
 {
     match note {
         Note::Closed => refill(host, disk, label, body),
@@ -77,21 +72,7 @@ fn heal_all<H: Host>(host: &mut H, found: &Found, body: &Body) -> Result<(), Fai
     requires exact { H.tells_disks → IsBodyOnEach found.now.db found.now.labels body.now }
     requires settled { AllSettled found.now.labels (H.seen host.old) }
     requires is { H.tells_disks → IsGroupIn (H.seen host.old).content (Result.Ok found.now) }
-    ensures any_moment { H.tells_disks → AlwaysKept found.now.labels found.now.db found.now.db (H.seen host.old) (H.seen host.new) }
-    ensures current { H.tells_disks → OnOk result (AllHave found.now.labels (H.seen host.new).content (IsCurrent found.now.db)) }
-    ensures each { H.tells_disks → OnOk result (AreRewritten found.now.labels found.now.db (H.seen host.old).content (H.seen host.new).content) }
-    ensures has { H.tells_disks → OnOk result ((disk : ℕ) (label : Label) (note : Note) → slice_get found.now.labels disk ≡ Some label
-        → slice_get found.now.notes disk ≡ Some note → is_behind found.now.db.header.seq note ≡ true → HasBody label body.now (image (H.seen host.new).content disk)) }
-    // The other disks stay.
-    ensures stays { (disk : ℕ) (note : Note) → slice_get found.now.notes disk ≡ Some note → is_behind found.now.db.header.seq note ≡ false
-        → image (H.seen host.new).content disk ≡ image (H.seen host.old).content disk }
-    ensures outside { H.tells_disks → AreSameOutside found.now.labels (H.seen host.old).content (H.seen host.new).content }
-    ensures settled { OnOk result (AllSettled found.now.labels (H.seen host.new)) }
-    ensures later { Later (H.seen host.old) (H.seen host.new) }
-    ensures quiet { Quiet (H.seen host.old) (H.seen host.new) }
-    ensures spared { AreSpared found.now.db.header.seq found.now.notes (H.seen host.old) (H.seen host.new) }
-    ensures wrote { (disk : ℕ) → slice_index (H.seen host.new).wrote disk ≤ slice_index (H.seen host.old).wrote disk + (length body.now + 1) }
-    ensures cause { IsErr result → Rose (H.seen host.old).disk_faults (H.seen host.new).disk_faults }
+    ensures { HealsAll H.tells_disks result found.now body.now (H.seen host.old) (H.seen host.new) }
 {
     let labels = found.labels.as_slice();
     let notes = found.notes.as_slice();
@@ -112,6 +93,21 @@ fn kept(body: Body, is_kept: bool) -> Option<Body>
     if is_kept { Some(body) } else { None }
 }
 
+// The group of the disks, which may be edited, with the body to heal its copies with; and whether all others share it.
+fn ready<H: Host>(alloc: Global, host: &mut H) -> Result<(Found, Body, bool), OpenError>
+    requires { 0 < length (H.seen host.old).sizes }
+    ensures ready { IfOk result (λ it. IsReady H.tells_disks (H.seen host.old) it.0 it.1 it.2) }
+    ensures fault { H.tells_disks → (fault : OpenFault) → IsErrOf result (OpenError.Fault fault) → HoldsNoneFor fault (H.seen host.old).content }
+    ensures looks { Looks (H.seen host.old) (H.seen host.new) (IsErrOf result OpenError.Disk) }
+{
+    let found = find_group(alloc, host)?;
+    if let Some(fault) = found.blocked {
+        return Err(OpenError::Fault(fault));
+    }
+    let (body, shared) = healing_body(alloc, host, &found)?;
+    Ok((found, body, shared))
+}
+
 // Finds the group of disks on which nothing is pending, and rewrites each copy that is closed or of a lower sequence.
 fn settle_synced<H: Host>(alloc: Global, host: &mut H) -> Result<Session, OpenError>
     requires images { 0 < length (H.seen host.old).sizes }
@@ -120,30 +116,14 @@ fn settle_synced<H: Host>(alloc: Global, host: &mut H) -> Result<Session, OpenEr
     ensures kept { H.tells_disks → (found : Found) → IsGroupIn (H.seen host.old).content (Result.Ok found) → found.blocked ≡ None
         → AlwaysKept found.labels found.db found.db (H.seen host.old) (H.seen host.new) }
     ensures written { H.tells_disks → Settles (H.seen host.old) (H.seen host.new) ⊎ HoldsEditable (H.seen host.old).content }
-    ensures opened { H.tells_disks → IfOk result (λ session. IsOpenedFrom (H.seen host.old).content session.group) }
-    ensures fault { H.tells_disks → (fault : OpenFault) → IsErrOf result (OpenError.Fault fault)
-        → IsGroupIn (H.seen host.old).content (Result.Err fault)
-        ⊎ ((found : Found) × IsGroupIn (H.seen host.old).content (Result.Ok found) × (found.blocked ≡ Some fault)) }
+    ensures session { IfOk result (λ session. IsSettled H.tells_disks (H.seen host.old).content session (H.seen host.new)) }
+    ensures fault { H.tells_disks → (fault : OpenFault) → IsErrOf result (OpenError.Fault fault) → HoldsNoneFor fault (H.seen host.old).content }
     ensures unwritten { IfErr result (λ error. error ≢ OpenError.Disk → Settles (H.seen host.old) (H.seen host.new)) }
-    ensures holds { H.tells_disks → IfOk result (λ session. HoldsSession session (H.seen host.new).content) }
-    ensures tidy { H.tells_disks → (found : Found) → IsGroupIn (H.seen host.old).content (Result.Ok found)
-        → IfOk result (λ session. (session.body ≢ None) ↔ IsTidyBut found (H.seen host.old).content) }
-    ensures each { H.tells_disks → IfOk result (λ session. AreRewritten session.group.labels session.group.db (H.seen host.old).content (H.seen host.new).content) }
-    ensures spared { H.tells_disks → (found : Found) → IsGroupIn (H.seen host.old).content (Result.Ok found)
-        → AreSpared found.db.header.seq found.notes (H.seen host.old) (H.seen host.new) }
-    ensures wrote { H.tells_disks → (found : Found) → IsGroupIn (H.seen host.old).content (Result.Ok found) → (disk : ℕ)
-        → slice_index (H.seen host.new).wrote disk ≤ slice_index (H.seen host.old).wrote disk + (512 * (found.db.header.last / 4) + 1) }
-    ensures rests { IfOk result (λ session. RestsOn session.group (H.seen host.new)) }
-    ensures fresh { IfOk result (λ session. session.group.draft ≡ None) }
-    ensures later { Later (H.seen host.old) (H.seen host.new) }
-    ensures quiet { Quiet (H.seen host.old) (H.seen host.new) }
-    ensures cause { IsErrOf result OpenError.Disk → Rose (H.seen host.old).disk_faults (H.seen host.new).disk_faults }
+    ensures handed { H.tells_disks → (found : Found) → IsGroupIn (H.seen host.old).content (Result.Ok found)
+        → IsHandedFew found (H.seen host.old).wrote (H.seen host.new).wrote }
+    ensures works { Works (H.seen host.old) (H.seen host.new) (IsErrOf result OpenError.Disk) }
 {
-    let found = find_group(alloc, host)?;
-    if let Some(fault) = found.blocked {
-        return Err(OpenError::Fault(fault));
-    }
-    let (body, shared) = healing_body(alloc, host, &found)?;
+    let (found, body, shared) = ready(alloc, host)?;
     let Ok(()) = heal_all(host, &found, &body) else {
         return Err(OpenError::Disk);
     };
@@ -160,36 +140,17 @@ fn settle_synced<H: Host>(alloc: Global, host: &mut H) -> Result<Session, OpenEr
 pub fn settle<H: Host>(alloc: Global, host: &mut H) -> Result<Session, OpenError>
     requires { 0 < length (H.seen host.old).sizes }
     // Until the syncs are over a stop leaves what it could leave before; from then on, images that hold one group.
-    ensures any_moment { H.tells_disks → OnlyStill (H.seen host.old) (H.seen host.new) ⊎ OneGroup (H.seen host.old) (H.seen host.new) }
-    // So it is wherever the syncs came to their end, also where the call ends then before it heals.
-    ensures one_group { H.tells_disks → (found : Found) → IsGroupIn (H.seen host.old).content (Result.Ok found) → found.blocked ≡ None
-        → (IsErrOf result OpenError.Disk × OnlyStill (H.seen host.old) (H.seen host.new)) ⊎ OneGroup (H.seen host.old) (H.seen host.new) }
-    ensures opened { H.tells_disks → IfOk result (λ session. IsOpenedFrom (H.seen host.old).content session.group) }
-    ensures fault { H.tells_disks → (fault : OpenFault) → IsErrOf result (OpenError.Fault fault)
-        → IsGroupIn (H.seen host.old).content (Result.Err fault)
-        ⊎ ((found : Found) × IsGroupIn (H.seen host.old).content (Result.Ok found) × (found.blocked ≡ Some fault)) }
+    ensures any_moment { H.tells_disks → KeepsOneGroup (H.seen host.old) (H.seen host.new) (IsErrOf result OpenError.Disk) }
+    // The session is that of the group which the disks held, and they hold it now.
+    ensures session { IfOk result (λ session. IsSettled H.tells_disks (H.seen host.old).content session (H.seen host.new)) }
+    ensures fault { H.tells_disks → (fault : OpenFault) → IsErrOf result (OpenError.Fault fault) → HoldsNoneFor fault (H.seen host.old).content }
     // Where the disks hold no group that may be edited, they are synced and handed no byte, whatever the answer.
     ensures untouched { H.tells_disks → HoldsNone (H.seen host.old).content → Settles (H.seen host.old) (H.seen host.new) }
     ensures unwritten { IfErr result (λ error. error ≢ OpenError.Disk → Settles (H.seen host.old) (H.seen host.new)) }
-    // Where nothing was pending, each list of images that a stop leaves holds the group at every moment.
-    ensures kept { H.tells_disks → (found : Found) → IsGroupIn (H.seen host.old).content (Result.Ok found) → found.blocked ≡ None
-        → AllSettled found.labels (H.seen host.old) → AlwaysKept found.labels found.db found.db (H.seen host.old) (H.seen host.new) }
-    ensures holds { H.tells_disks → IfOk result (λ session. HoldsSession session (H.seen host.new).content) }
-    // The session keeps a body exactly where the copies that weren't rewritten are tidy among themselves, so that all are then.
-    ensures tidy { H.tells_disks → (found : Found) → IsGroupIn (H.seen host.old).content (Result.Ok found)
-        → IfOk result (λ session. (session.body ≢ None) ↔ IsTidyBut found (H.seen host.old).content) }
-    // A copy that was rewritten is just that of the group, the carried bytes of its header among it.
-    ensures each { H.tells_disks → IfOk result (λ session. AreRewritten session.group.labels session.group.db (H.seen host.old).content (H.seen host.new).content) }
-    ensures spared { H.tells_disks → (found : Found) → IsGroupIn (H.seen host.old).content (Result.Ok found)
-        → AreSpared found.db.header.seq found.notes (H.seen host.old) (H.seen host.new) }
-    // Each copy that is rewritten takes the bytes of a body, and one more.
-    ensures wrote { H.tells_disks → (found : Found) → IsGroupIn (H.seen host.old).content (Result.Ok found) → (disk : ℕ)
-        → slice_index (H.seen host.new).wrote disk ≤ slice_index (H.seen host.old).wrote disk + (512 * (found.db.header.last / 4) + 1) }
-    ensures rests { IfOk result (λ session. RestsOn session.group (H.seen host.new)) }
-    ensures fresh { IfOk result (λ session. session.group.draft ≡ None) }
-    ensures later { Later (H.seen host.old) (H.seen host.new) }
-    ensures quiet { Quiet (H.seen host.old) (H.seen host.new) }
-    ensures cause { IsErrOf result OpenError.Disk → Rose (H.seen host.old).disk_faults (H.seen host.new).disk_faults }
+    // A disk is handed bytes only where its copy is behind, and then those of a body, and one more.
+    ensures handed { H.tells_disks → (found : Found) → IsGroupIn (H.seen host.old).content (Result.Ok found)
+        → IsHandedFew found (H.seen host.old).wrote (H.seen host.new).wrote }
+    ensures works { Works (H.seen host.old) (H.seen host.new) (IsErrOf result OpenError.Disk) }
 {
     let Ok(()) = sync_all(host) else {
         return Err(OpenError::Disk);

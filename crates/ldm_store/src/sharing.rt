@@ -1,6 +1,6 @@
 //! The body that the copies share which aren't behind.
 ghost use Rattle.std.specs.Prelude.{◌≡◌, ◌*◌, ◌<◌, ◌≤◌, ℕ, IsTrue, true, false, Result, Option, Some, None, length, slice_index, slice_get, IfOk, IfSome, IsErrOf};
-ghost use Rattle.ldm_host.specs.Moves.{Rose, Still, Quiet};
+ghost use Rattle.ldm_host.specs.Moves.{Looks};
 ghost use Rattle.ldm_host.specs.Seen.{image};
 ghost use Rattle.ldm_label.specs.declared.Label.{Label};
 ghost use Rattle.ldm_label.specs.LabelOf.{Fits};
@@ -45,9 +45,7 @@ fn has_body<H: Host>(
     requires room { db.now.header.last ≤ 4 * label.now.area_sectors }
     ensures yes { H.tells_disks → IfOk result (λ has. IsTrue has → body.now ≡ body_bytes db.now label.now (image (H.seen host.old).content disk)) }
     ensures no { H.tells_disks → IfOk result (λ has. has ≡ false → LacksBody db.now label.now body.now (image (H.seen host.old).content disk)) }
-    ensures still { Still (H.seen host.old) (H.seen host.new) }
-    ensures quiet { Quiet (H.seen host.old) (H.seen host.new) }
-    ensures cause { IsErrOf result BodyError.Disk → Rose (H.seen host.old).disk_faults (H.seen host.new).disk_faults }
+    ensures looks { Looks (H.seen host.old) (H.seen host.new) (IsErrOf result BodyError.Disk) }
 {
     let found = read_body(alloc, host, disk, label, db)?;
     match &found {
@@ -73,9 +71,7 @@ fn keeps_body<H: Host>(
     requires room { db.now.header.last ≤ 4 * label.now.area_sectors }
     ensures yes { H.tells_disks → IfOk result (λ keeps. IsTrue keeps → is_behind seq note ≡ false → body.now ≡ body_bytes db.now label.now (image (H.seen host.old).content disk)) }
     ensures no { H.tells_disks → IfOk result (λ keeps. keeps ≡ false → (is_behind seq note ≡ false) × LacksBody db.now label.now body.now (image (H.seen host.old).content disk)) }
-    ensures still { Still (H.seen host.old) (H.seen host.new) }
-    ensures quiet { Quiet (H.seen host.old) (H.seen host.new) }
-    ensures cause { IsErrOf result BodyError.Disk → Rose (H.seen host.old).disk_faults (H.seen host.new).disk_faults }
+    ensures looks { Looks (H.seen host.old) (H.seen host.new) (IsErrOf result BodyError.Disk) }
 {
     if is_behind(seq, note) {
         return Ok(true);
@@ -100,9 +96,7 @@ fn all_have<H: Host>(
     ensures yes { H.tells_disks → IfOk result (λ all. IsTrue all → (disk : ℕ) → disk < length labels.now
         → KeepsBody seq labels.now notes.now db.now body.now (H.seen host.old).content disk) }
     ensures no { H.tells_disks → IfOk result (λ all. all ≡ false → LosesBody seq labels.now notes.now db.now body.now (H.seen host.old).content) }
-    ensures still { Still (H.seen host.old) (H.seen host.new) }
-    ensures quiet { Quiet (H.seen host.old) (H.seen host.new) }
-    ensures cause { IsErrOf result BodyError.Disk → Rose (H.seen host.old).disk_faults (H.seen host.new).disk_faults }
+    ensures looks { Looks (H.seen host.old) (H.seen host.new) (IsErrOf result BodyError.Disk) }
 {
     for disk in 0..labels.len() {
         if !keeps_body(alloc, host, disk, &labels[disk], notes[disk], seq, db, body)? {
@@ -142,9 +136,7 @@ fn shared_body<H: Host>(
     ensures keep { H.tells_disks → IfOk result (λ body. IfSome body (λ bytes. (disk : ℕ) → disk < length labels.now
         → KeepsBody seq labels.now notes.now db.now bytes (H.seen host.old).content disk)) }
     ensures none { H.tells_disks → IfOk result (λ body. body ≡ None → ShareNone seq labels.now notes.now db.now (H.seen host.old).content) }
-    ensures still { Still (H.seen host.old) (H.seen host.new) }
-    ensures quiet { Quiet (H.seen host.old) (H.seen host.new) }
-    ensures cause { IsErrOf result BodyError.Disk → Rose (H.seen host.old).disk_faults (H.seen host.new).disk_faults }
+    ensures looks { Looks (H.seen host.old) (H.seen host.new) (IsErrOf result BodyError.Disk) }
 {
     let Some(first) = first_ahead(seq, notes) else {
         return Ok(None);
@@ -173,9 +165,7 @@ pub fn healing_body<H: Host>(
     ensures shared { H.tells_disks → IfOk result (λ one. one.1 ≡ true → IsBegunBut found.now (H.seen host.old).content one.0) }
     ensures alone { H.tells_disks → IfOk result (λ one. one.1 ≡ false → IsTidyBut found.now (H.seen host.old).content → ⊥) }
     ensures faultless { (fault : OpenFault) → IsErrOf result (OpenError.Fault fault) → ⊥ }
-    ensures still { Still (H.seen host.old) (H.seen host.new) }
-    ensures quiet { Quiet (H.seen host.old) (H.seen host.new) }
-    ensures cause { IsErrOf result OpenError.Disk → Rose (H.seen host.old).disk_faults (H.seen host.new).disk_faults }
+    ensures looks { Looks (H.seen host.old) (H.seen host.new) (IsErrOf result OpenError.Disk) }
 {
     let seq = found.db.header().seq;
     let labels = found.labels.as_slice();

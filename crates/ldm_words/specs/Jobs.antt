@@ -32,106 +32,115 @@ images_of words = length (image_words words)
 abbrev pub images_behind : List (List ℕ) → Option ℕ
 images_behind words = if is_some (position is_on words) then Some (images_of words) else None
 
--- a job that takes no words of its own, and one image
-abbrev pub on_one : Job → List (List ℕ) → Option ℕ → Option Job
-on_one job [] (Some images) = if images == 1 then Some job else None
-on_one job rest images = None
+-- ---- the words before it
 
--- `on` and as many images as a group may have
-abbrev pub is_group : Option ℕ → Bool
-is_group None = false
-is_group (Some images) = nat_le 1 images && nat_le images 64
+-- a job that takes no words of its own
+abbrev pub plain : Job → List (List ℕ) → Option Job
+plain job [] = Some job
+plain job rest = None
 
--- a job that takes no words of its own, and the images of a group
-abbrev pub on_group : Job → List (List ℕ) → Option ℕ → Option Job
-on_group job [] images = if is_group images then Some job else None
-on_group job rest images = None
+-- NAME
+abbrev pub named_in : List (List ℕ) → Option (List ℕ)
+named_in (name ∷ []) = name_of name
+named_in rest = None
+
+abbrev pub named : (List ℕ → Job) → List (List ℕ) → Option Job
+named make rest = option_map make (named_in rest)
 
 -- the volume, its first sector and how many sectors, where all three can be read
 abbrev pub map_with : Option (List ℕ) → Option ℕ → Option ℕ → Option Job
 map_with (Some name) (Some first) (Some count) = Some (Map name first count)
 map_with name first count = None
 
--- NAME FIRST COUNT, and the images of a group
-abbrev pub map_form : List (List ℕ) → Option ℕ → Option Job
-map_form (name ∷ first ∷ count ∷ []) images = if is_group images then map_with (name_of name) (number_of first) (number_of count) else None
-map_form rest images = None
+-- NAME FIRST COUNT
+abbrev pub map_form : List (List ℕ) → Option Job
+map_form (name ∷ first ∷ count ∷ []) = map_with (name_of name) (number_of first) (number_of count)
+map_form rest = None
 
--- NAME, and the images of a group
-abbrev pub named_in : List (List ℕ) → Option ℕ → Option (List ℕ)
-named_in (name ∷ []) images = if is_group images then name_of name else None
-named_in rest images = None
+-- NAME, the GUID of the group and those of 2 to 64 disks
+abbrev pub init_form : List (List ℕ) → Option Job
+init_form (name ∷ guid ∷ disks) = all_three Init (group_name (name_of name)) (guid_of guid) (many 2 guid_of disks)
+init_form rest = None
 
-abbrev pub dump_form : List (List ℕ) → Option ℕ → Option Job
-dump_form rest images = option_map Dump (named_in rest images)
+-- SEED
+abbrev pub sample_form : List (List ℕ) → Option Job
+sample_form (seed ∷ []) = option_map Sample (number_of seed)
+sample_form rest = None
 
-abbrev pub scrub_form : List (List ℕ) → Option ℕ → Option Job
-scrub_form rest images = option_map Scrub (named_in rest images)
+-- a word, and the form of the words behind it
+abbrev pub Form : Type 0
+Form = List ℕ × (List (List ℕ) → Option Job)
 
--- the same, with the words behind `on`
-abbrev pub table_form : List (List ℕ) → Option ℕ → List (List ℕ) → Option Job
-table_form rest images behind = option_map (λ name. Table name behind) (named_in rest images)
+-- The jobs: the first word of each, and its form. A table takes the words behind `on` too.
+abbrev pub forms : List (List ℕ) → List Form
+forms behind =
+    (codes "disk", plain Disk)
+    ∷ (codes "records", plain Records)
+    ∷ (codes "show", plain Show)
+    ∷ (codes "check", plain Check)
+    ∷ (codes "map", map_form)
+    ∷ (codes "dump", named Dump)
+    ∷ (codes "scrub", named Scrub)
+    ∷ (codes "table", named (λ name. Table name behind))
+    ∷ (codes "try", plain Try)
+    ∷ (codes "edit", plain Edit)
+    ∷ (codes "init", init_form)
+    ∷ (codes "sample", sample_form)
+    ∷ []
 
--- NAME, the GUID of the group and those of 2 to 64 disks, and as many images as disks
-abbrev pub init_form : List (List ℕ) → Option ℕ → Option Job
-init_form (name ∷ guid ∷ disks) (Some images) =
-    if images == length disks then all_three Init (group_name (name_of name)) (guid_of guid) (many 2 guid_of disks) else None
-init_form rest images = None
+-- by the first form of this word; where it has none, the words are a command, each word of which is one token
+abbrev pub form_in : List Form → List ℕ → List (List ℕ) → Option Job
+form_in [] word rest = option_map One (command_of (word ∷ rest))
+form_in (form ∷ forms) word rest = if bytes_eq word form.0 then form.1 rest else form_in forms word rest
 
--- SEED, and no `on`
-abbrev pub sample_form : List (List ℕ) → Option ℕ → Option Job
-sample_form (seed ∷ []) None = option_map Sample (number_of seed)
-sample_form rest images = None
+-- the job that stands before `on`, with these words behind it
+abbrev pub job_form : List (List ℕ) → List (List ℕ) → Option Job
+job_form [] behind = None
+job_form (word ∷ rest) behind = form_in (forms behind) word rest
 
--- a command, each word of which is one token, and the images of a group
-abbrev pub command_form : List (List ℕ) → Option ℕ → Option Job
-command_form words images = if is_group images then option_map One (command_of words) else None
+-- ---- its images
 
--- the form of each job: its first word, and then the words behind that, how many images there are and the words behind `on`
-abbrev pub form_of : List ℕ → List (List ℕ) → Option ℕ → List (List ℕ) → Option Job
-form_of word rest images behind =
-    if bytes_eq word (codes "disk") then on_one Disk rest images
-    else if bytes_eq word (codes "records") then on_one Records rest images
-    else if bytes_eq word (codes "show") then on_group Show rest images
-    else if bytes_eq word (codes "check") then on_group Check rest images
-    else if bytes_eq word (codes "map") then map_form rest images
-    else if bytes_eq word (codes "dump") then dump_form rest images
-    else if bytes_eq word (codes "scrub") then scrub_form rest images
-    else if bytes_eq word (codes "table") then table_form rest images behind
-    else if bytes_eq word (codes "try") then on_group Try rest images
-    else if bytes_eq word (codes "edit") then on_group Edit rest images
-    else if bytes_eq word (codes "init") then init_form rest images
-    else if bytes_eq word (codes "sample") then sample_form rest images
-    else command_form (word ∷ rest) images
+-- as many as a group may have
+abbrev pub is_group : ℕ → Bool
+is_group images = nat_le 1 images && nat_le images 64
 
--- the job that stands before `on`, with so many images and these words behind it if there is an `on`
-abbrev pub job_form : List (List ℕ) → Option ℕ → List (List ℕ) → Option Job
-job_form [] images behind = None
-job_form (word ∷ rest) images behind = form_of word rest images behind
+-- how many a job takes behind `on`: those of a group, where nothing else is said
+abbrev pub takes : Job → ℕ → Bool
+takes Disk images = images == 1
+takes Records images = images == 1
+takes (Table name words) images = is_group images && images == length words
+takes (Init name guid disks) images = is_group images && images == length disks
+takes (Sample seed) images = false
+takes job images = is_group images
 
-abbrev pub with_count : ℕ → Option Job → Option (Job × ℕ)
-with_count images None = None
-with_count images (Some job) = Some (job, images)
+-- whether there is no `on`
+abbrev pub takes_none : Job → Bool
+takes_none (Sample seed) = true
+takes_none job = false
+
+abbrev pub fits : Job → Option ℕ → Bool
+fits job None = takes_none job
+fits job (Some images) = takes job images
+
+-- a job with so many images, where it takes those behind `on`
+abbrev pub with_images : ℕ → Option ℕ → Option Job → Option (Job × ℕ)
+with_images images behind None = None
+with_images images behind (Some job) = if fits job behind then Some (job, images) else None
 
 -- the job of the words, and the number of its images; nothing where they have no reading
 unfoldable pub job_of : List (List ℕ) → Option (Job × ℕ)
-job_of words = with_count (images_of words) (job_form (before_first is_on words) (images_behind words) (image_words words))
+job_of words = with_images (images_of words) (images_behind words) (job_form (before_first is_on words) (image_words words))
 
--- how many images a job may have
+-- ---- what is known of a job that was read
+
+-- how many images a job has
 abbrev pub HasCount : Job → ℕ → Type 0
 HasCount Disk images = images ≡ 1
 HasCount Records images = images ≡ 1
-HasCount Show images = (1 ≤ images) × (images ≤ 64)
-HasCount Check images = (1 ≤ images) × (images ≤ 64)
-HasCount (Map name first count) images = (1 ≤ images) × (images ≤ 64)
-HasCount (Dump name) images = (1 ≤ images) × (images ≤ 64)
-HasCount (Scrub name) images = (1 ≤ images) × (images ≤ 64)
 HasCount (Table name words) images = (1 ≤ images) × (images ≤ 64) × (images ≡ length words)
-HasCount Try images = (1 ≤ images) × (images ≤ 64)
-HasCount Edit images = (1 ≤ images) × (images ≤ 64)
-HasCount (One command) images = (1 ≤ images) × (images ≤ 64)
-HasCount (Init name guid disks) images = images ≡ length disks
+HasCount (Init name guid disks) images = (1 ≤ images) × (images ≤ 64) × (images ≡ length disks)
 HasCount (Sample seed) images = images ≡ 0
+HasCount job images = (1 ≤ images) × (images ≤ 64)
 
 -- a command of a job, and the words of a new group, keep the grammar's limits
 abbrev pub KeepsLimits : Job → Type 0
@@ -139,18 +148,38 @@ KeepsLimits (One command) = IsCommand command
 KeepsLimits (Init name guid disks) = IsNewGroup name disks
 KeepsLimits job = Unit {0}
 
--- whether a job writes to its images
-abbrev pub edits_disks : Job → Bool
-edits_disks Disk = false
-edits_disks Records = false
-edits_disks Show = false
-edits_disks Check = false
-edits_disks (Map name first count) = false
-edits_disks (Dump name) = false
-edits_disks (Scrub name) = false
-edits_disks (Table name words) = false
-edits_disks Try = false
-edits_disks Edit = true
-edits_disks (One command) = true
-edits_disks (Init name guid disks) = true
-edits_disks (Sample seed) = false
+-- ---- kinds
+
+-- the kinds of jobs, by what they do with the disks and the talk
+pub data Kind : Type 0 where
+  -- it reads the disks, if it needs any, and then says its answer
+  Reads : Kind
+  -- it reads the disks, and says its answer while it reads on
+  Streams : Kind
+  -- it hears a script, reads the disks, and then says a reply to each line
+  Hears : Kind
+  -- it hears a script, and does each line to the disks and then says the reply
+  Edits : Kind
+  -- it does one command to the disks, and then says the reply
+  Does : Kind
+  -- it makes the disks a new group, and then says so
+  Makes : Kind
+
+-- the kind of a job: it only reads, where nothing else is said
+abbrev pub kind_of : Job → Kind
+kind_of (Dump name) = Streams
+kind_of (Scrub name) = Streams
+kind_of Try = Hears
+kind_of Edit = Edits
+kind_of (One command) = Does
+kind_of (Init name guid disks) = Makes
+kind_of job = Reads
+
+-- whether jobs of a kind write to their images
+abbrev pub writes : Kind → Bool
+writes Reads = false
+writes Streams = false
+writes Hears = false
+writes Edits = true
+writes Does = true
+writes Makes = true

@@ -1,8 +1,10 @@
 //! Command lines: the words of a job, and its images.
-ghost use Rattle.std.specs.Prelude.{◌≡◌, ◌≤◌, IfOk, length};
+ghost use Rattle.std.specs.Prelude.{◌≡◌, ◌≤◌, IfOk, IfSome, length};
+ghost use Rattle.std.specs.Option.{option_map};
 ghost use Rattle.std.specs.List.{position_or_len};
-ghost use Rattle.ldm_words.specs.Jobs.{texts, is_on, image_words, images_of, images_behind, on_one, is_group, on_group, map_form, named_in, dump_form, scrub_form, table_form, init_form, sample_form, command_form, job_form, job_of, edits_disks, HasCount, KeepsLimits};
-ghost use Rattle.ldm_words.specs.Commands.{bytes_of};
+ghost use Rattle.ldm_words.specs.declared.job.Job.TheVariants as jobs;
+ghost use Rattle.ldm_words.specs.Jobs.{texts, is_on, image_words, images_of, images_behind, plain, named_in, named, map_form, init_form, sample_form, job_form, is_group, takes, fits, job_of, HasCount, KeepsLimits, kind_of, writes};
+ghost use Rattle.ldm_words.specs.Commands.{bytes_of, command_of};
 ghost use Rattle.ldm_words.specs.Readings.{Reads};
 
 use crate::command::{Command, Names};
@@ -63,20 +65,33 @@ pub enum Job {
 impl Job {
     /// Whether the job writes to its images.
     pub fn edits(&self) -> bool
-        ensures { result ≡ edits_disks self.now }
+        ensures { result ≡ writes (kind_of self.now) }
+    {
+        matches!(self, Job::Edit | Job::One(_) | Job::Init { .. })
+    }
+
+    // Whether the job takes so many images behind `on`.
+    fn takes(&self, images: usize) -> bool
+        ensures { result ≡ takes self.now images }
     {
         match self {
-            Job::Edit | Job::One(_) | Job::Init { .. } => true,
-            Job::Disk
-            | Job::Records
-            | Job::Show
-            | Job::Check
-            | Job::Map { .. }
-            | Job::Dump { .. }
-            | Job::Scrub { .. }
-            | Job::Table { .. }
-            | Job::Try
-            | Job::Sample(_) => false,
+            Job::Disk | Job::Records => images == 1,
+            Job::Table { images: words, .. } => {
+                is_group(images) && images == words.as_slice().len()
+            }
+            Job::Init { disks, .. } => is_group(images) && images == disks.as_slice().len(),
+            Job::Sample(_) => false,
+            _ => is_group(images),
+        }
+    }
+
+    // Whether the job takes the images behind `on`, or none where there is no `on`.
+    fn fits(&self, behind: Option<usize>) -> bool
+        ensures { result ≡ fits self.now behind }
+    {
+        match behind {
+            Some(images) => self.takes(images),
+            None => matches!(self, Job::Sample(_)),
         }
     }
 }
@@ -150,41 +165,38 @@ fn images_behind(words: &[String]) -> Option<usize>
     }
 }
 
-// A job that takes no words of its own, and one image.
-fn on_one(job: Job, rest: &[String], images: Option<usize>) -> Option<Job>
-    ensures { result ≡ on_one job (texts rest.now) images }
-{
-    if rest.is_empty() && images == Some(1) {
-        Some(job)
-    } else {
-        None
-    }
-}
-
 // As many images as a group may have.
-fn is_group(images: Option<usize>) -> bool
+fn is_group(images: usize) -> bool
     ensures { result ≡ is_group images }
 {
-    matches!(images, Some(1..=64))
+    matches!(images, 1..=64)
 }
 
-// A job that takes no words of its own, and the images of a group.
-fn on_group(job: Job, rest: &[String], images: Option<usize>) -> Option<Job>
-    ensures { result ≡ on_group job (texts rest.now) images }
+// A job that takes no words of its own.
+fn plain(job: Job, rest: &[String]) -> Option<Job>
+    requires { KeepsLimits job }
+    ensures is { result ≡ plain job (texts rest.now) }
+    ensures limits { IfSome result KeepsLimits }
 {
-    if rest.is_empty() && is_group(images) {
-        Some(job)
-    } else {
-        None
+    if rest.is_empty() { Some(job) } else { None }
+}
+
+// NAME
+fn read_named(alloc: Global, rest: &[String]) -> Result<Option<Bytes>, NoMemory>
+    ensures { IfOk result (λ name. name ≡ named_in (texts rest.now)) }
+{
+    match rest {
+        [name] => read_name(alloc, name.as_bytes()),
+        _ => Ok(None),
     }
 }
 
 // map NAME FIRST COUNT
-fn read_map(alloc: Global, rest: &[String], images: Option<usize>) -> Result<Option<Job>, NoMemory>
-    ensures { IfOk result (λ found. found ≡ map_form (texts rest.now) images) }
+fn read_map(alloc: Global, rest: &[String]) -> Result<Option<Job>, NoMemory>
+    ensures is { IfOk result (λ found. found ≡ map_form (texts rest.now)) }
+    ensures limits { IfOk result (λ found. IfSome found KeepsLimits) }
 {
     if let [name, first, count] = rest
-        && is_group(images)
         && let Some(first) = read_number(first.as_bytes())
         && let Some(count) = read_number(count.as_bytes())
         && let Some(name) = read_name(alloc, name.as_bytes())?
@@ -195,42 +207,23 @@ fn read_map(alloc: Global, rest: &[String], images: Option<usize>) -> Result<Opt
     }
 }
 
-// NAME, and the images of a group
-fn read_named(
-    alloc: Global,
-    rest: &[String],
-    images: Option<usize>,
-) -> Result<Option<Bytes>, NoMemory>
-    ensures { IfOk result (λ found. found ≡ named_in (texts rest.now) images) }
-{
-    if let [name] = rest
-        && is_group(images)
-    {
-        read_name(alloc, name.as_bytes())
-    } else {
-        Ok(None)
-    }
-}
-
 // dump NAME
-fn read_dump(alloc: Global, rest: &[String], images: Option<usize>) -> Result<Option<Job>, NoMemory>
-    ensures { IfOk result (λ found. found ≡ dump_form (texts rest.now) images) }
+fn read_dump(alloc: Global, rest: &[String]) -> Result<Option<Job>, NoMemory>
+    ensures is { IfOk result (λ found. found ≡ named jobs.Dump (texts rest.now)) }
+    ensures limits { IfOk result (λ found. IfSome found KeepsLimits) }
 {
-    match read_named(alloc, rest, images)? {
+    match read_named(alloc, rest)? {
         Some(name) => Ok(Some(Job::Dump { name })),
         None => Ok(None),
     }
 }
 
 // scrub NAME
-fn read_scrub(
-    alloc: Global,
-    rest: &[String],
-    images: Option<usize>,
-) -> Result<Option<Job>, NoMemory>
-    ensures { IfOk result (λ found. found ≡ scrub_form (texts rest.now) images) }
+fn read_scrub(alloc: Global, rest: &[String]) -> Result<Option<Job>, NoMemory>
+    ensures is { IfOk result (λ found. found ≡ named jobs.Scrub (texts rest.now)) }
+    ensures limits { IfOk result (λ found. IfSome found KeepsLimits) }
 {
-    match read_named(alloc, rest, images)? {
+    match read_named(alloc, rest)? {
         Some(name) => Ok(Some(Job::Scrub { name })),
         None => Ok(None),
     }
@@ -248,15 +241,11 @@ fn copy_words(alloc: Global, words: &[String]) -> Result<Names, NoMemory>
 }
 
 // table NAME, with the words of the images
-fn read_table(
-    alloc: Global,
-    rest: &[String],
-    images: Option<usize>,
-    behind: &[String],
-) -> Result<Option<Job>, NoMemory>
-    ensures { IfOk result (λ found. found ≡ table_form (texts rest.now) images (texts behind.now)) }
+fn read_table(alloc: Global, rest: &[String], behind: &[String]) -> Result<Option<Job>, NoMemory>
+    ensures is { IfOk result (λ found. found ≡ named (λ name. jobs.Table name (texts behind.now)) (texts rest.now)) }
+    ensures limits { IfOk result (λ found. IfSome found KeepsLimits) }
 {
-    match read_named(alloc, rest, images)? {
+    match read_named(alloc, rest)? {
         Some(name) => Ok(Some(Job::Table {
             name,
             images: copy_words(alloc, behind)?,
@@ -265,12 +254,12 @@ fn read_table(
     }
 }
 
-// init NAME GUID GUID.., where each image has a GUID
-fn read_init(alloc: Global, rest: &[String], images: Option<usize>) -> Result<Option<Job>, NoMemory>
-    ensures { IfOk result (λ found. found ≡ init_form (texts rest.now) images) }
+// init NAME GUID GUID..
+fn read_init(alloc: Global, rest: &[String]) -> Result<Option<Job>, NoMemory>
+    ensures is { IfOk result (λ found. found ≡ init_form (texts rest.now)) }
+    ensures limits { IfOk result (λ found. IfSome found KeepsLimits) }
 {
     if let [name, guid, disks @ ..] = rest
-        && images == Some(disks.len())
         && let Some(guid) = read_guid(guid.as_bytes())
         && let Some(name) = read_group_name(alloc, name.as_bytes())?
         && let Some(disks) = read_guids(alloc, &tokens_of(alloc, disks)?)?
@@ -281,12 +270,13 @@ fn read_init(alloc: Global, rest: &[String], images: Option<usize>) -> Result<Op
     }
 }
 
-// sample SEED, without images
-fn read_sample(rest: &[String], images: Option<usize>) -> Option<Job>
-    ensures { result ≡ sample_form (texts rest.now) images }
+// sample SEED
+fn read_sample(rest: &[String]) -> Option<Job>
+    ensures is { result ≡ sample_form (texts rest.now) }
+    ensures limits { IfSome result KeepsLimits }
 {
-    match (rest, images) {
-        ([seed], None) => Some(Job::Sample(read_number(seed.as_bytes())?)),
+    match rest {
+        [seed] => Some(Job::Sample(read_number(seed.as_bytes())?)),
         _ => None,
     }
 }
@@ -302,13 +292,11 @@ fn tokens_of(alloc: Global, words: &[String]) -> Result<Vec<&[u8]>, NoMemory>
     Ok(tokens)
 }
 
-// A command, and the images of a group.
-fn read_one(alloc: Global, words: &[String], images: Option<usize>) -> Result<Option<Job>, NoMemory>
-    ensures { IfOk result (λ found. found ≡ command_form (texts words.now) images) }
+// A command, whose tokens the words are.
+fn read_one(alloc: Global, words: &[String]) -> Result<Option<Job>, NoMemory>
+    ensures is { IfOk result (λ found. found ≡ option_map jobs.One (command_of (texts words.now))) }
+    ensures limits { IfOk result (λ found. IfSome found KeepsLimits) }
 {
-    if !is_group(images) {
-        return Ok(None);
-    }
     let tokens = tokens_of(alloc, words)?;
     match read_command(alloc, &tokens)? {
         Some(command) => Ok(Some(Job::One(command))),
@@ -317,31 +305,27 @@ fn read_one(alloc: Global, words: &[String], images: Option<usize>) -> Result<Op
 }
 
 // The job that stands before `on`, with the words behind it.
-fn read_job(
-    alloc: Global,
-    words: &[String],
-    images: Option<usize>,
-    behind: &[String],
-) -> Result<Option<Job>, NoMemory>
-    ensures { IfOk result (λ found. found ≡ job_form (texts words.now) images (texts behind.now)) }
+fn read_job(alloc: Global, words: &[String], behind: &[String]) -> Result<Option<Job>, NoMemory>
+    ensures is { IfOk result (λ found. found ≡ job_form (texts words.now) (texts behind.now)) }
+    ensures limits { IfOk result (λ found. IfSome found KeepsLimits) }
 {
     let [word, rest @ ..] = words else {
         return Ok(None);
     };
     match word.as_str() {
-        "disk" => Ok(on_one(Job::Disk, rest, images)),
-        "records" => Ok(on_one(Job::Records, rest, images)),
-        "show" => Ok(on_group(Job::Show, rest, images)),
-        "check" => Ok(on_group(Job::Check, rest, images)),
-        "map" => read_map(alloc, rest, images),
-        "dump" => read_dump(alloc, rest, images),
-        "scrub" => read_scrub(alloc, rest, images),
-        "table" => read_table(alloc, rest, images, behind),
-        "try" => Ok(on_group(Job::Try, rest, images)),
-        "edit" => Ok(on_group(Job::Edit, rest, images)),
-        "init" => read_init(alloc, rest, images),
-        "sample" => Ok(read_sample(rest, images)),
-        _ => read_one(alloc, words, images),
+        "disk" => Ok(plain(Job::Disk, rest)),
+        "records" => Ok(plain(Job::Records, rest)),
+        "show" => Ok(plain(Job::Show, rest)),
+        "check" => Ok(plain(Job::Check, rest)),
+        "map" => read_map(alloc, rest),
+        "dump" => read_dump(alloc, rest),
+        "scrub" => read_scrub(alloc, rest),
+        "table" => read_table(alloc, rest, behind),
+        "try" => Ok(plain(Job::Try, rest)),
+        "edit" => Ok(plain(Job::Edit, rest)),
+        "init" => read_init(alloc, rest),
+        "sample" => Ok(read_sample(rest)),
+        _ => read_one(alloc, words),
     }
 }
 
@@ -358,8 +342,12 @@ pub fn read_words(alloc: Global, words: &[String]) -> Result<(Job, usize), Words
     let place = on_place(words);
     let images = image_count(words);
     let behind = image_words(words);
-    match read_job(alloc, &words[..place], images_behind(words), behind)? {
-        Some(job) => Ok((job, images)),
-        None => Err(WordsError::Usage),
+    let Some(job) = read_job(alloc, &words[..place], behind)? else {
+        return Err(WordsError::Usage);
+    };
+    if job.fits(images_behind(words)) {
+        Ok((job, images))
+    } else {
+        Err(WordsError::Usage)
     }
 }

@@ -1,6 +1,6 @@
-use Rattle.std.proofs.Common.{◌+◌, ◌-◌, ◌/◌, ℕ, List, Ok, Err, subst}
+use Rattle.std.proofs.Common.{rules, ◌+◌, ◌-◌, ◌/◌, ℕ, List, Ok, Err, subst}
 use Rattle.ldm_host.specs.Seen.{image}
-use Rattle.ldm_host.proofs.Relations.{still_trans, quiet_trans}
+use Rattle.ldm_host.proofs.Relations.{looks_then}
 use Rattle.ldm_copy.specs.Alike.{sectors_from}
 use Rattle.ldm_copy.specs.Steps.{ReadsDatabase}
 use Rattle.ldm_copy.proofs.ReadLaws.{closed_found, header_found, fault_found, database_found}
@@ -22,30 +22,21 @@ returns-in_err-db-in-Some-clause-found g c tells =
     c.in_ok-header_at.field-0 c.in-Some.header c.in-Some.is (rw c.in-Some.is at c.in_ok-header_at.ensures.last) (c.in_ok-header_at.ensures.opens tells)
     c.from_residual-in_err-db-in-Some.result c.in_err-db-in-Some.field-0.0
     (subst (λ (content : List (List ℕ)). ReadsDatabase c.in-Some.header (sectors_from (c.area_start-start.result + 1) (c.in-Some.header.last / 4 - 1) (image content c.args.disk)) (Err c.in_err-db-in-Some.field-0.0))
-    c.in_ok-header_at.ensures.still.content (c.in_err-db-in-Some.ensures.reads tells)) c.from_residual-in_err-db-in-Some.ensures.1
+    c.in_ok-header_at.ensures.looks.still.content (c.in_err-db-in-Some.ensures.reads tells)) c.from_residual-in_err-db-in-Some.ensures.1
 
 pub returns-in_ok-db-in-Some-clause-found : goal.returns-in_ok-db-in-Some-clause-found
 returns-in_ok-db-in-Some-clause-found g c tells =
     database_found (image (g.H.Host.seen c.args.host.now).content c.args.disk) c.args.label.now c.requires.fits.some_area c.area_start-start.result c.area_start-start.ensures.is
     c.in_ok-header_at.field-0 c.in-Some.header c.in-Some.is (rw c.in-Some.is at c.in_ok-header_at.ensures.last) (c.in_ok-header_at.ensures.opens tells) c.in_ok-db-in-Some.db
     (subst (λ (content : List (List ℕ)). ReadsDatabase c.in-Some.header (sectors_from (c.area_start-start.result + 1) (c.in-Some.header.last / 4 - 1) (image content c.args.disk)) (Ok c.in_ok-db-in-Some.db))
-    c.in_ok-header_at.ensures.still.content (c.in_ok-db-in-Some.ensures.reads tells))
+    c.in_ok-header_at.ensures.looks.still.content (c.in_ok-db-in-Some.ensures.reads tells))
 
 pub returns-in_ok-db-in-Some-clause-sound : goal.returns-in_ok-db-in-Some-clause-sound
 returns-in_ok-db-in-Some-clause-sound g c = c.in_ok-db-in-Some.ensures.fits c.args.label.now.area_sectors (rw c.in-Some.is at c.in_ok-header_at.ensures.last)
 
-pub returns-in_err-db-in-Some-clause-still : goal.returns-in_err-db-in-Some-clause-still
-returns-in_err-db-in-Some-clause-still g c =
-    still_trans (g.H.Host.seen c.args.host.now) (g.H.Host.seen c.header_at.new.host) (g.H.Host.seen c.database_at.new.host) c.header_at.ensures.still c.database_at.ensures.still
+pub returns-in_err-db-in-Some-clause-looks : goal.returns-in_err-db-in-Some-clause-looks
+returns-in_err-db-in-Some-clause-looks g c = looks_then c.header_at.ensures.looks c.database_at.ensures.looks (λ is. search rules)
 
-pub returns-in_ok-db-in-Some-clause-still : goal.returns-in_ok-db-in-Some-clause-still
-returns-in_ok-db-in-Some-clause-still g c =
-    still_trans (g.H.Host.seen c.args.host.now) (g.H.Host.seen c.header_at.new.host) (g.H.Host.seen c.database_at.new.host) c.header_at.ensures.still c.database_at.ensures.still
-
-pub returns-in_err-db-in-Some-clause-quiet : goal.returns-in_err-db-in-Some-clause-quiet
-returns-in_err-db-in-Some-clause-quiet g c =
-    quiet_trans (g.H.Host.seen c.args.host.now) (g.H.Host.seen c.header_at.new.host) (g.H.Host.seen c.database_at.new.host) c.header_at.ensures.quiet c.database_at.ensures.quiet
-
-pub returns-in_ok-db-in-Some-clause-quiet : goal.returns-in_ok-db-in-Some-clause-quiet
-returns-in_ok-db-in-Some-clause-quiet g c =
-    quiet_trans (g.H.Host.seen c.args.host.now) (g.H.Host.seen c.header_at.new.host) (g.H.Host.seen c.database_at.new.host) c.header_at.ensures.quiet c.database_at.ensures.quiet
+pub returns-in_ok-db-in-Some-clause-looks : goal.returns-in_ok-db-in-Some-clause-looks
+returns-in_ok-db-in-Some-clause-looks g c =
+    looks_then c.header_at.ensures.looks c.database_at.ensures.looks (λ is. absurd (cc is))

@@ -1,5 +1,6 @@
 use Rattle.std.proofs.Common.{◌≡◌, ◌-◌, ◌*◌, ◌/◌, ◌∙◌, ℕ, List, Result, Err, length, ap, sym, subst, arith}
 use Rattle.ldm_host.specs.Seen.{image}
+use Rattle.ldm_host.proofs.Relations.{looks_as}
 use Rattle.ldm_frags.specs.declared.faults.Joined.{Joined}
 use Rattle.ldm_frags.specs.Joins.{Joins}
 use Rattle.ldm_group.specs.Database.{Database}
@@ -33,8 +34,8 @@ returns-clause-fits g c sectors last =
     database_fits sectors c.args.header read.bytes c.database_of.result (c.database_of.ensures.makes read.bytes joins) last size (c.database_of.ensures.room read.bytes joins)
 
 -- the database of blocks that were read never fails by the disk
-pub returns-clause-cause : goal.returns-clause-cause
-returns-clause-cause g c disk =
+pub returns-clause-looks : goal.returns-clause-looks
+returns-clause-looks g c =
     let read = c.in_ok-list.ensures.read in
     let made = c.database_of.ensures.makes read.bytes (subst (λ (list : List Joined). Joins read.bytes list) (sym c.deref.ensures.value) read.passes) in
-    absurd (subst (λ (r : Result Database CopyError). MakesDatabase c.args.header read.bytes r) disk made)
+    looks_as c.in_ok-list.ensures.looks (λ disk. absurd (subst (λ (r : Result Database CopyError). MakesDatabase c.args.header read.bytes r) disk made))

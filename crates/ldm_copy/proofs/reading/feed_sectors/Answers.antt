@@ -1,8 +1,8 @@
-use Rattle.std.proofs.Common.{◌≡◌, ◌+◌, ◌-◌, ◌*◌, ◌<◌, ◌≤◌, min, ◌++◌, ◌∙◌, subst, ℕ, List, Err, refl, arith}
+use Rattle.std.proofs.Common.{rules, ◌≡◌, ◌+◌, ◌-◌, ◌*◌, ◌<◌, ◌≤◌, min, ◌++◌, ◌∙◌, subst, ℕ, List, Err, refl, arith}
 use Rattle.std.proofs.lemmas.Result.{err_from_is_err_and}
 use Rattle.ldm_frags.specs.Fed.{IsFed}
 use Rattle.ldm_host.specs.Seen.{image}
-use Rattle.ldm_host.proofs.Relations.{still_itself, still_trans, quiet_trans}
+use Rattle.ldm_host.proofs.Relations.{looks_itself, looks_then, looks_as}
 use Rattle.ldm_copy.specs.Alike.{sectors_from}
 use Rattle.ldm_copy.specs.Steps.{IsRead, JoinsBlocks}
 use Rattle.ldm_copy.proofs.ReadLaws.{none_read, more_read, fault_read}
@@ -12,8 +12,7 @@ pub loop-chunk-init : goal.loop-chunk-init
 loop-chunk-init g c =
     let start = g.H.Host.seen c.args.host.now in
     record {
-      still = still_itself start (g.met.H.Host.counts_now c.args.host.now) (g.met.H.Host.only_now c.args.host.now);
-      quiet = record { said = refl; heard = refl; input = refl };
+      looks = looks_as (looks_itself start (g.met.H.Host.counts_now c.args.host.now) (g.met.H.Host.only_now c.args.host.now)) (λ is. absurd is);
       limit = refl;
       read = let none : 0 ≡ min (8 * 0) c.args.sectors = omega arith in
           subst (λ (n : ℕ). IsRead g.H.Host.tells_disks (image start.content c.args.disk) c.args.from n (IsFed c.args.joiner.now)) none
@@ -41,13 +40,12 @@ loop-chunk-preserved g c =
     let done : min (8 * i) c.args.sectors ≡ 8 * i = omega arith in
     let more : 8 * i + c.min-few.result ≡ min (8 * (i + 1)) c.args.sectors = omega arith in
     record {
-      still = still_trans start (g.H.Host.seen c.loop-chunk.host) (g.H.Host.seen c.feed_few.new.host) c.loop-chunk.invariant.still c.in_ok-feed_few.ensures.still;
-      quiet = quiet_trans start (g.H.Host.seen c.loop-chunk.host) (g.H.Host.seen c.feed_few.new.host) c.loop-chunk.invariant.quiet c.in_ok-feed_few.ensures.quiet;
+      looks = looks_then c.loop-chunk.invariant.looks c.in_ok-feed_few.ensures.looks (λ is. absurd is);
       limit = c.in_ok-feed_few.ensures.limit ∙ c.loop-chunk.invariant.limit;
       read = subst (λ (n : ℕ). IsRead g.H.Host.tells_disks disk c.args.from n (IsFed c.feed_few.new.joiner)) more
           (more_read g.H.Host.tells_disks disk c.args.from (8 * i) c.min-few.result c.loop-chunk.joiner
           (subst (λ (n : ℕ). IsRead g.H.Host.tells_disks disk c.args.from n (IsFed c.loop-chunk.joiner)) done c.loop-chunk.invariant.read)
-          c.feed_few.new.joiner (λ fed is. rw c.loop-chunk.invariant.still.content at (c.in_ok-feed_few.ensures.read fed is)));
+          c.feed_few.new.joiner (λ fed is. rw c.loop-chunk.invariant.looks.still.content at (c.in_ok-feed_few.ensures.read fed is)));
     }
 
 pub returns-in_err-feed_few-clause-fault : goal.returns-in_err-feed_few-clause-fault
@@ -64,12 +62,7 @@ returns-in_err-feed_few-clause-fault g c tells =
     (subst (λ (n : ℕ). IsRead g.H.Host.tells_disks disk c.args.from n (IsFed c.loop-chunk.joiner)) done c.loop-chunk.invariant.read)
     c.args.sectors c.in_err-feed_few.field-0.0 within tells
     (λ fed rest is. subst (λ (content : List (List ℕ)). JoinsBlocks (fed ++ sectors_from (c.args.from + 8 * i) c.min-few.result (image content c.args.disk) ++ rest) (Err c.in_err-feed_few.field-0.0))
-    c.loop-chunk.invariant.still.content (c.in_err-feed_few.ensures.fault tells fed rest is)))
+    c.loop-chunk.invariant.looks.still.content (c.in_err-feed_few.ensures.fault tells fed rest is)))
 
-pub returns-in_err-feed_few-clause-still : goal.returns-in_err-feed_few-clause-still
-returns-in_err-feed_few-clause-still g c =
-    still_trans (g.H.Host.seen c.args.host.now) (g.H.Host.seen c.loop-chunk.host) (g.H.Host.seen c.feed_few.new.host) c.loop-chunk.invariant.still c.feed_few.ensures.still
-
-pub returns-in_err-feed_few-clause-quiet : goal.returns-in_err-feed_few-clause-quiet
-returns-in_err-feed_few-clause-quiet g c =
-    quiet_trans (g.H.Host.seen c.args.host.now) (g.H.Host.seen c.loop-chunk.host) (g.H.Host.seen c.feed_few.new.host) c.loop-chunk.invariant.quiet c.feed_few.ensures.quiet
+pub returns-in_err-feed_few-clause-looks : goal.returns-in_err-feed_few-clause-looks
+returns-in_err-feed_few-clause-looks g c = looks_then c.loop-chunk.invariant.looks c.in_err-feed_few.ensures.looks (λ is. search rules)

@@ -1,5 +1,6 @@
 use Rattle.std.proofs.Common.{List, ℕ, Option, Result, refl, subst, ◌∙◌}
 use Rattle.ldm_host.specs.Seen.{image}
+use Rattle.ldm_host.proofs.Relations.{looks_as}
 use Rattle.ldm_vmdb.specs.declared.header.Header.{Header}
 use Rattle.ldm_copy.specs.declared.answer.CopyError.{CopyError}
 use Rattle.ldm_copy.specs.Steps.{OpensHeader, ReadsHeader}
@@ -14,6 +15,7 @@ returns-clause-opens g c tells =
     (header_read c.in_ok-first.first c.args.area_sectors c.open_header.result c.open_header.ensures.opens)
 
 -- the header of a sector that was read never fails by the disk
-pub returns-clause-cause : goal.returns-clause-cause
-returns-clause-cause g c disk =
-    absurd (subst (λ (r : Result (Option Header) CopyError). OpensHeader c.in_ok-first.first c.args.area_sectors r) disk c.open_header.ensures.opens)
+pub returns-clause-looks : goal.returns-clause-looks
+returns-clause-looks g c =
+    looks_as c.in_ok-first.ensures.looks
+    (λ disk. absurd (subst (λ (r : Result (Option Header) CopyError). OpensHeader c.in_ok-first.first c.args.area_sectors r) disk c.open_header.ensures.opens))

@@ -1,5 +1,5 @@
 use Rattle.std.proofs.Common.{◌≡◌, length, IfSome}
-use Rattle.ldm_host.specs.Moves.{Still, Quiet}
+use Rattle.ldm_host.specs.Moves.{Looks}
 use Rattle.ldm_found.specs.Steps.{IsAmong}
 use Rattle.ldm_found.proofs.CopyLaws.{HaveCopies}
 use Rattle.ldm_found.proofs.copies.read_copies.Given as goal
@@ -8,8 +8,7 @@ abbrev pub invariant-loop-disk : goal.invariant-loop-disk
 invariant-loop-disk g l =
     let start = g.H.Host.seen l.fn.host in
     record {
-      still : Still start (g.H.Host.seen l.host);
-      quiet : Quiet start (g.H.Host.seen l.host);
+      looks : Looks start (g.H.Host.seen l.host) ⊥;
       one_note : length l.notes.items ≡ l.disk;
       newest : IfSome l.newest (λ n. IsAmong l.disk n);
       copies : g.H.Host.tells_disks → HaveCopies l.labels start.content l.disk l.newest l.notes.items;

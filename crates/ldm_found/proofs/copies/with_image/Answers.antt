@@ -1,36 +1,23 @@
 use Rattle.std.proofs.Common.{◌≡◌, ℕ, List, length, Ok, Err, ap, subst, arith}
 use Rattle.ldm_host.specs.Seen.{image}
-use Rattle.ldm_host.proofs.Relations.{still_trans, quiet_trans, rose_sooner}
+use Rattle.ldm_host.proofs.Relations.{looks_then}
 use Rattle.ldm_found.specs.declared.fault.OpenError.{OpenError}
 use Rattle.ldm_found.specs.Copies.{IsCopyIn}
 use Rattle.ldm_found.proofs.CopyLaws.{one_copy_each, passed_disk}
 use Rattle.ldm_found.proofs.copies.with_image.Goals as goal
 
-pub returns-in_err-copy-clause-still : goal.returns-in_err-copy-clause-still
-returns-in_err-copy-clause-still g c =
-    still_trans (g.H.Host.seen c.args.host.now) (g.H.Host.seen c.note_alike.new.host) (g.H.Host.seen c.copy_at.new.host) c.note_alike.ensures.still c.copy_at.ensures.still
-
-pub returns-in_err-copy-clause-cause : goal.returns-in_err-copy-clause-cause
-returns-in_err-copy-clause-cause g c disk =
-    rose_sooner _ _ _ c.note_alike.ensures.still.later.disk_faults
-    (c.in_err-copy.ensures.cause (ap (λ (e : OpenError). Err e) (passed_disk c.from_residual-in_err-copy.result c.in_err-copy.field-0.0 c.from_residual-in_err-copy.ensures.1 disk)))
+pub returns-in_err-copy-clause-looks : goal.returns-in_err-copy-clause-looks
+returns-in_err-copy-clause-looks g c =
+    looks_then c.note_alike.ensures.looks c.in_err-copy.ensures.looks (λ disk. (ap (λ (e : OpenError). Err e)
+    (passed_disk c.from_residual-in_err-copy.result c.in_err-copy.field-0.0 c.from_residual-in_err-copy.ensures.1 disk)))
 
 pub returns-clause-is : goal.returns-clause-is
 returns-clause-is g c tells copies all is =
     let content = (g.H.Host.seen c.args.host.now).content in
     let one_each : length content ≡ length c.args.labels.now = omega (arith, g.met.H.Host.one_each tells c.args.host.now, c.requires.lie.one_label) in
     let at : length copies ≡ c.args.disk = one_copy_each c.args.labels.now content c.args.disk copies (omega arith) one_each all in
-    let here = subst (λ (l : List (List ℕ)). IsCopyIn (c.args.label.now, image l c.args.disk) (Ok c.in_ok-copy.copy)) c.note_alike.ensures.still.content (c.in_ok-copy.ensures.is tells) in
+    let here = subst (λ (l : List (List ℕ)). IsCopyIn (c.args.label.now, image l c.args.disk) (Ok c.in_ok-copy.copy)) c.note_alike.ensures.looks.still.content (c.in_ok-copy.ensures.is tells) in
     (c.in_ok-copy.copy, here, c.with_copy.ensures.is copies at is, c.note_of-note.ensures)
 
-pub returns-clause-still : goal.returns-clause-still
-returns-clause-still g c =
-    still_trans (g.H.Host.seen c.args.host.now) (g.H.Host.seen c.note_alike.new.host) (g.H.Host.seen c.copy_at.new.host) c.note_alike.ensures.still c.copy_at.ensures.still
-
-pub returns-in_err-copy-clause-quiet : goal.returns-in_err-copy-clause-quiet
-returns-in_err-copy-clause-quiet g c =
-    quiet_trans (g.H.Host.seen c.args.host.now) (g.H.Host.seen c.note_alike.new.host) (g.H.Host.seen c.copy_at.new.host) c.note_alike.ensures.quiet c.copy_at.ensures.quiet
-
-pub returns-clause-quiet : goal.returns-clause-quiet
-returns-clause-quiet g c =
-    quiet_trans (g.H.Host.seen c.args.host.now) (g.H.Host.seen c.note_alike.new.host) (g.H.Host.seen c.copy_at.new.host) c.note_alike.ensures.quiet c.copy_at.ensures.quiet
+pub returns-clause-looks : goal.returns-clause-looks
+returns-clause-looks g c = looks_then c.note_alike.ensures.looks c.copy_at.ensures.looks (λ is. absurd (cc is))

@@ -1,6 +1,6 @@
-use Rattle.std.proofs.Common.{◌+◌, ◌<◌, ◌≤◌, List, [], length, length-append, take, Ok, sym, ap, subst, arith}
+use Rattle.std.proofs.Common.{rules, ◌+◌, ◌<◌, ◌≤◌, List, [], length, length-append, take, Ok, sym, ap, subst, arith}
 use Rattle.std.proofs.lemmas.List.{take_all}
-use Rattle.ldm_host.proofs.Relations.{still_trans, quiet_trans}
+use Rattle.ldm_host.proofs.Relations.{looks_then}
 use Rattle.ldm_label.specs.declared.Label.{Label}
 use Rattle.ldm_found.specs.Gathers.{Gathers}
 use Rattle.ldm_found.specs.Labels.{IsLabelOf}
@@ -14,28 +14,27 @@ returns-in_err-label_at-clause-is g c tells =
     let lt : c.loop-disk.disk < length content = omega (arith, g.met.H.Host.one_each tells c.args.host.now, c.disks-count.ensures, c.loop-disk-test.true) in
     labels_passed content c.from_residual.result c.in_err-label_at.field-0.0 c.from_residual.ensures.1
     (label_fault content (g.H.Host.seen c.loop-disk.host).content c.loop-disk.disk c.loop-disk.labels.items c.in_err-label_at.field-0.0
-    c.loop-disk.invariant.still.content lt (c.loop-disk.invariant.labels tells) (c.in_err-label_at.ensures.is tells))
+    c.loop-disk.invariant.looks.still.content lt (c.loop-disk.invariant.labels tells) (c.in_err-label_at.ensures.is tells))
 
-pub returns-in_err-label_at-clause-still : goal.returns-in_err-label_at-clause-still
-returns-in_err-label_at-clause-still g c = still_trans (g.H.Host.seen c.args.host.now) (g.H.Host.seen c.loop-disk.host) (g.H.Host.seen c.label_at.new.host) c.loop-disk.invariant.still c.in_err-label_at.ensures.still
+pub returns-in_err-label_at-clause-looks : goal.returns-in_err-label_at-clause-looks
+returns-in_err-label_at-clause-looks g c = looks_then c.loop-disk.invariant.looks c.in_err-label_at.ensures.looks (λ is. search rules)
 
-pub returns-in_err-push-clause-still : goal.returns-in_err-push-clause-still
-returns-in_err-push-clause-still g c = still_trans (g.H.Host.seen c.args.host.now) (g.H.Host.seen c.loop-disk.host) (g.H.Host.seen c.label_at.new.host) c.loop-disk.invariant.still c.in_ok-label_at.ensures.still
+pub returns-in_err-push-clause-looks : goal.returns-in_err-push-clause-looks
+returns-in_err-push-clause-looks g c = looks_then c.loop-disk.invariant.looks c.in_ok-label_at.ensures.looks (λ is. search rules)
 
 pub loop-disk-preserved : goal.loop-disk-preserved
 loop-disk-preserved g c =
     let start = g.H.Host.seen c.args.host.now in
     record {
-      still = still_trans start (g.H.Host.seen c.loop-disk.host) (g.H.Host.seen c.label_at.new.host) c.loop-disk.invariant.still c.in_ok-label_at.ensures.still;
-      quiet = quiet_trans start (g.H.Host.seen c.loop-disk.host) (g.H.Host.seen c.label_at.new.host) c.loop-disk.invariant.quiet c.in_ok-label_at.ensures.quiet;
+      looks = looks_then c.loop-disk.invariant.looks c.in_ok-label_at.ensures.looks (λ is. absurd is);
       one_each = omega (arith, ap length c.in_ok-push.ensures.items, length-append {A = Label}, c.loop-disk.invariant.one_each);
       fit =
-          let here = rw c.loop-disk.invariant.still.later.sizes at c.in_ok-label_at.ensures.fits in
+          let here = rw c.loop-disk.invariant.looks.still.later.sizes at c.in_ok-label_at.ensures.fits in
           subst (λ (l : List Label). AllFit l start.sizes) (sym c.in_ok-push.ensures.items)
           (fit_more c.loop-disk.labels.items start.sizes c.in_ok-label_at.field-0 c.loop-disk.disk c.loop-disk.invariant.one_each c.loop-disk.invariant.fit here);
       labels = λ tells.
           let lt : c.loop-disk.disk < length start.content = omega (arith, g.met.H.Host.one_each tells c.args.host.now, c.disks-count.ensures, c.loop-disk-test.true) in
-          let reads = rw c.loop-disk.invariant.still.content at (c.in_ok-label_at.ensures.is tells) in
+          let reads = rw c.loop-disk.invariant.looks.still.content at (c.in_ok-label_at.ensures.is tells) in
           subst (λ (l : List Label). Gathers IsLabelOf (take (c.loop-disk.disk + 1) start.content) (Ok l)) (sym c.in_ok-push.ensures.items)
           (gather_next IsLabelOf start.content c.loop-disk.disk c.loop-disk.labels.items [] c.in_ok-label_at.field-0 lt (c.loop-disk.invariant.labels tells) reads);
     }

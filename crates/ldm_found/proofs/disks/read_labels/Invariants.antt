@@ -1,5 +1,5 @@
 use Rattle.std.proofs.Common.{◌≡◌, length, take, Ok}
-use Rattle.ldm_host.specs.Moves.{Still, Quiet}
+use Rattle.ldm_host.specs.Moves.{Looks}
 use Rattle.ldm_found.specs.Gathers.{Gathers}
 use Rattle.ldm_found.specs.Labels.{IsLabelOf}
 use Rattle.ldm_found.proofs.DiskLaws.{AllFit}
@@ -9,8 +9,7 @@ abbrev pub invariant-loop-disk : goal.invariant-loop-disk
 invariant-loop-disk g l =
     let start = g.H.Host.seen l.fn.host in
     record {
-      still : Still start (g.H.Host.seen l.host);
-      quiet : Quiet start (g.H.Host.seen l.host);
+      looks : Looks start (g.H.Host.seen l.host) ⊥;
       one_each : length l.labels.items ≡ l.disk;
       fit : AllFit l.labels.items start.sizes;
       labels : g.H.Host.tells_disks → Gathers IsLabelOf (take l.disk start.content) (Ok l.labels.items);

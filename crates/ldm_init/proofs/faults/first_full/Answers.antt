@@ -1,6 +1,6 @@
 use Rattle.std.proofs.Common.{◌<◌, [], length, sym, ◌∙◌, arith}
 use Rattle.std.proofs.lemmas.Bool.{true≢false}
-use Rattle.ldm_host.proofs.Relations.{still_trans, quiet_trans}
+use Rattle.ldm_host.proofs.Relations.{looks_then}
 use Rattle.ldm_init.specs.Faults.{IsFull}
 use Rattle.ldm_init.proofs.FaultLaws.{none_further, found_here, none_at_all}
 use Rattle.ldm_init.proofs.faults.first_full.Goals as goal
@@ -9,18 +9,17 @@ pub returns-then-not-branch-clause-is : goal.returns-then-not-branch-clause-is
 returns-then-not-branch-clause-is g c tells =
     let content = (g.H.Host.seen c.args.host.now).content in
     let lt : c.loop-disk.disk < length content = omega (arith, g.met.H.Host.one_each tells c.args.host.now, c.disks-disk-end.ensures, c.loop-disk-test.true) in
-    let is = rw c.loop-disk.invariant.still.content at (c.in_ok-is_empty.ensures.is tells) in
+    let is = rw c.loop-disk.invariant.looks.still.content at (c.in_ok-is_empty.ensures.is tells) in
     found_here IsFull content c.loop-disk.disk [] lt (c.loop-disk.invariant.before tells) (sym is ∙ c.if-not-branch.true)
 
 pub loop-disk-preserved : goal.loop-disk-preserved
 loop-disk-preserved g c =
     let start = g.H.Host.seen c.args.host.now in
     record {
-      still = still_trans start (g.H.Host.seen c.loop-disk.host) (g.H.Host.seen c.is_empty.new.host) c.loop-disk.invariant.still c.in_ok-is_empty.ensures.still;
-      quiet = quiet_trans start (g.H.Host.seen c.loop-disk.host) (g.H.Host.seen c.is_empty.new.host) c.loop-disk.invariant.quiet c.in_ok-is_empty.ensures.quiet;
+      looks = looks_then c.loop-disk.invariant.looks c.in_ok-is_empty.ensures.looks (λ is. absurd is);
       before = λ tells.
           let lt : c.loop-disk.disk < length start.content = omega (arith, g.met.H.Host.one_each tells c.args.host.now, c.disks-disk-end.ensures, c.loop-disk-test.true) in
-          let is = rw c.loop-disk.invariant.still.content at (c.in_ok-is_empty.ensures.is tells) in
+          let is = rw c.loop-disk.invariant.looks.still.content at (c.in_ok-is_empty.ensures.is tells) in
           none_further IsFull start.content c.loop-disk.disk [] lt (c.loop-disk.invariant.before tells) (λ full. true≢false (sym c.if-not-branch.false ∙ is ∙ full));
     }
 

@@ -17,12 +17,12 @@ returns-in_err-plan-clause-any_moment g c tells nothing empty images text left =
     let new = g.H.Host.seen c.prepare.new.host in
     let some : 0 < length old.sizes = (let some = c.requires.words.some in omega (arith, some, c.requires.count)) in
     still_moment old c.args.disks.now (g.met.H.Host.one_each tells c.args.host.now) (g.met.H.Host.lengths tells c.args.host.now) empty nothing c.args.name.now c.args.guid some images text
-    (quiet_moment old new c.prepare.ensures.still c.prepare.ensures.quiet images text left)
+    (quiet_moment old new c.prepare.ensures.looks.still c.prepare.ensures.looks.quiet images text left)
 
 pub write_plan-requires-clause-count : goal.write_plan-requires-clause-count
 write_plan-requires-clause-count g c =
     let old = g.H.Host.seen c.args.host.now in
-    ap length (c.in_ok-plan.ensures.labels ∙ ap (new_labels old.sizes) c.as_slice-2.ensures) ∙ labels_count old.sizes c.args.disks.now ∙ c.requires.count ∙ sym (ap length c.prepare.ensures.still.later.sizes)
+    ap length (c.in_ok-plan.ensures.labels ∙ ap (new_labels old.sizes) c.as_slice-2.ensures) ∙ labels_count old.sizes c.args.disks.now ∙ c.requires.count ∙ sym (ap length c.prepare.ensures.looks.still.later.sizes)
 
 pub write_plan-requires-clause-takes : goal.write_plan-requires-clause-takes
 write_plan-requires-clause-takes g c =
@@ -30,7 +30,7 @@ write_plan-requires-clause-takes g c =
     let guids = c.args.disks.now in
     let body = body_as c.args.guid c.in_ok-plan.plan.body c.as_slice.ensures c.as_slice-2.ensures c.in_ok-plan.ensures.body in
     let labels_are = c.in_ok-plan.ensures.labels ∙ ap (new_labels old.sizes) c.as_slice-2.ensures in
-    takes_then c.in_ok-plan.plan.body labels_are c.prepare.ensures.still.later.sizes
+    takes_then c.in_ok-plan.plan.body labels_are c.prepare.ensures.looks.still.later.sizes
     (all_take c.args.name.now c.args.guid guids old.sizes c.in_ok-plan.plan.body c.requires.words c.requires.count body (each_writable labels_are c.in_ok-plan.ensures.writable) c.in_ok-plan.ensures.large)
 
 pub returns-clause-answers : goal.returns-clause-answers
@@ -55,8 +55,8 @@ returns-clause-any_moment g c tells nothing empty =
     let guids = c.args.disks.now in
     let counts = g.met.H.Host.one_each tells c.args.host.now in
     let lengths = g.met.H.Host.lengths tells c.args.host.now in
-    let still = c.prepare.ensures.still in
-    let quiet = c.prepare.ensures.quiet in
+    let still = c.prepare.ensures.looks.still in
+    let quiet = c.prepare.ensures.looks.quiet in
     let bytes = c.in_ok-plan.plan.body in
     let body = body_as guid bytes c.as_slice.ensures c.as_slice-2.ensures c.in_ok-plan.ensures.body in
     let labels_are = c.in_ok-plan.ensures.labels ∙ ap (new_labels old.sizes) c.as_slice-2.ensures in
@@ -83,12 +83,12 @@ returns-clause-images g c tells =
     let labels_are = c.in_ok-plan.ensures.labels ∙ ap (new_labels old.sizes) c.as_slice-2.ensures in
     let writes = writes_as bytes mid new labels_are c.write_plan.ensures.writes in
     let empty = subst (λ (l : List ℕ). IsInitFault l old.content None) c.as_slice-2.ensures (c.in_ok-plan.ensures.empty tells) in
-    let count = g.met.H.Host.one_each tells c.write_plan.new.host ∙ ap length (writes.later.sizes ∙ c.prepare.ensures.still.later.sizes) ∙ sym counts in
+    let count = g.met.H.Host.one_each tells c.write_plan.new.host ∙ ap length (writes.later.sizes ∙ c.prepare.ensures.looks.still.later.sizes) ∙ sym counts in
     on_ok_map c.write_plan.result _ _ (λ written.
     new_images c.args.name.now c.args.guid guids old.sizes bytes c.requires.words c.requires.count body old.content new.content
     (all_take c.args.name.now c.args.guid guids old.sizes bytes c.requires.words c.requires.count body (each_writable labels_are c.in_ok-plan.ensures.writable) c.in_ok-plan.ensures.large)
     count lengths (clear old guids counts lengths empty)
-    (written_before bytes (new_labels old.sizes guids) old.content mid.content new.content c.prepare.ensures.still.content written))
+    (written_before bytes (new_labels old.sizes guids) old.content mid.content new.content c.prepare.ensures.looks.still.content written))
     (writes.written tells)
 
 pub returns-clause-holds : goal.returns-clause-holds
@@ -101,8 +101,8 @@ returns-clause-holds g c tells nothing =
     let guids = c.args.disks.now in
     let counts = g.met.H.Host.one_each tells c.args.host.now in
     let lengths = g.met.H.Host.lengths tells c.args.host.now in
-    let still = c.prepare.ensures.still in
-    let quiet = c.prepare.ensures.quiet in
+    let still = c.prepare.ensures.looks.still in
+    let quiet = c.prepare.ensures.looks.quiet in
     let bytes = c.in_ok-plan.plan.body in
     let body = body_as guid bytes c.as_slice.ensures c.as_slice-2.ensures c.in_ok-plan.ensures.body in
     let labels_are = c.in_ok-plan.ensures.labels ∙ ap (new_labels old.sizes) c.as_slice-2.ensures in

@@ -1,4 +1,5 @@
-use Rattle.std.proofs.Common.{◌∙◌, Ok, Err}
+use Rattle.std.proofs.Common.{rules, ◌∙◌, Ok, Err}
+use Rattle.ldm_host.proofs.Relations.{looks_as, looks_itself}
 use Rattle.ldm_init.proofs.StartLaws.{sizes_are, init_answers}
 use Rattle.ldm_init.proofs.group.prepare.Goals as goal
 
@@ -13,3 +14,7 @@ returns-in-Ok-clause-empty g c tells =
     let host = g.H.Host.seen c.args.host.now in
     init_answers c.args.guids.now host.sizes host.content (Ok tt) (sizes_are host (g.met.H.Host.one_each tells c.args.host.now) (g.met.H.Host.lengths tells c.args.host.now))
     (c.in-Ok.ensures.fault tells c.args.guids.now (c.deref.ensures.value ∙ c.in_ok-labels.ensures.are))
+
+pub returns-in_err-buffer-clause-looks : goal.returns-in_err-buffer-clause-looks
+returns-in_err-buffer-clause-looks g c =
+    looks_as (looks_itself (g.H.Host.seen c.args.host.now) (g.met.H.Host.counts_now c.args.host.now) (g.met.H.Host.only_now c.args.host.now)) (λ is. search rules)

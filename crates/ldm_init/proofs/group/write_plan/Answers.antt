@@ -20,8 +20,8 @@ returns-in-Ok-clause-writes g c =
       done = wrote.done;
       written = wrote.written;
       settled = wrote.settled;
-      later = wrote.later;
-      quiet = wrote.quiet;
+      later = wrote.works.later;
+      quiet = wrote.works.quiet;
       not_refused = tt;
     }))
 
@@ -36,7 +36,7 @@ returns-clause-writes g c =
       done = λ tells. tt;
       written = λ tells. tt;
       settled = tt;
-      later = wrote.later;
-      quiet = wrote.quiet;
+      later = wrote.works.later;
+      quiet = wrote.works.quiet;
       not_refused = tt;
     }))

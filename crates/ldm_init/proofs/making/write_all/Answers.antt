@@ -1,7 +1,7 @@
 use Rattle.std.proofs.Common.{◌≡◌, ◌≢◌, ◌∙◌, ℕ, List, length, slice_get, Some, refl, ap, sym, subst, arith, unwrap_or, ⊎_elim}
 use Rattle.std.proofs.lemmas.Bool.{cases_eq}
 use Rattle.std.proofs.lemmas.Option.{slice_get-get_or, slice_get_within}
-use Rattle.ldm_host.proofs.Relations.{later_itself, later_trans, quiet_trans, moments_trans}
+use Rattle.ldm_host.proofs.Relations.{works_itself, works_then, moments_trans}
 use Rattle.ldm_host.specs.Seen.{image}
 use Rattle.ldm_init.specs.Bytes.{IsUnsignedImage}
 use Rattle.ldm_init.specs.Moments.{IsMaking, IsReady, IsWriting}
@@ -12,8 +12,7 @@ pub disks-init : goal.disks-init
 disks-init g c =
     let host = g.H.Host.seen c.args.host.now in
     record {
-      later = later_itself host (g.met.H.Host.counts_now c.args.host.now) (g.met.H.Host.only_now c.args.host.now);
-      quiet = record { said = refl; heard = refl; input = refl };
+      works = works_itself host (g.met.H.Host.counts_now c.args.host.now) (g.met.H.Host.only_now c.args.host.now);
       size = c.requires.size;
       moments = λ tells db start bodies so images said left.
           let now = g.met.H.Host.only_now c.args.host.now images said left in
@@ -26,7 +25,7 @@ disks-init g c =
 pub write_disk-requires-clause-takes : goal.write_disk-requires-clause-takes
 write_disk-requires-clause-takes g c =
     let at = slice_get-get_or c.args.labels.now c.disks.disk _ c.disks-test.true in
-    takes_as _ c.args.body.now _ _ c.disks.disk c.disks.invariant.later.sizes (c.requires.takes c.disks.disk _ at)
+    takes_as _ c.args.body.now _ _ c.disks.disk c.disks.invariant.works.later.sizes (c.requires.takes c.disks.disk _ at)
 
 pub returns-in_err-write_disk-clause-any_moment : goal.returns-in_err-write_disk-clause-any_moment
 returns-in_err-write_disk-clause-any_moment g c tells db start bodies begun =
@@ -36,7 +35,7 @@ returns-in_err-write_disk-clause-any_moment g c tells db start bodies begun =
     let so = c.disks.invariant in
     let at = slice_get-get_or c.args.labels.now c.disks.disk _ c.disks-test.true in
     let takes = c.requires.takes c.disks.disk _ at in
-    moments_trans old mid new (λ images said. IsMaking db c.args.labels.now start images said) so.later c.write_disk.ensures.changes.later (so.moments tells db start bodies begun)
+    moments_trans old mid new (λ images said. IsMaking db c.args.labels.now start images said) so.works.later c.write_disk.ensures.changes.later (so.moments tells db start bodies begun)
     (λ images said left. writing_moments _ (kept_signature _ _ takes.fits) db c.args.labels.now start c.disks.disk (kept_beside _ c.args.body.now start.sizes old.sizes c.disks.disk (sym begun.between.sizes) takes) mid new
     (so.so_far tells db start bodies begun) c.write_disk.ensures.changes images said left)
 
@@ -52,10 +51,9 @@ disks-preserved g c =
     let kept = kept_signature _ _ takes.fits in
     let changes = c.write_disk.ensures.changes in
     record {
-      later = later_trans old mid new so.later changes.later;
-      quiet = quiet_trans old mid new so.quiet changes.quiet;
+      works = works_then {Q = ⊥} so.works (record { later = changes.later; quiet = changes.quiet; cause = λ is. absurd is }) (λ is. is);
       size = c.write_disk.ensures.size;
-      moments = λ tells db start bodies begun. moments_trans old mid new (λ images said. IsMaking db c.args.labels.now start images said) so.later changes.later (so.moments tells db start bodies begun)
+      moments = λ tells db start bodies begun. moments_trans old mid new (λ images said. IsMaking db c.args.labels.now start images said) so.works.later changes.later (so.moments tells db start bodies begun)
           (λ images said left. writing_moments _ kept db c.args.labels.now start n (kept_beside _ c.args.body.now start.sizes old.sizes n (sym begun.between.sizes) takes) mid new (so.so_far tells db start bodies begun) changes images said left);
       so_far = λ tells db start bodies begun. writing_next _ kept db c.args.labels.now start n (kept_beside _ c.args.body.now start.sizes old.sizes n (sym begun.between.sizes) takes) mid new
           (so.so_far tells db start bodies begun) changes c.in_ok-write_disk.ensures.settled

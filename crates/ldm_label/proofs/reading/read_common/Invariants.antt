@@ -1,13 +1,12 @@
 use Rattle.std.proofs.Common.{◌≡◌, drop, None}
-use Rattle.ldm_host.specs.Moves.{Still, Quiet}
+use Rattle.ldm_host.specs.Moves.{Looks}
 use Rattle.ldm_host.specs.Seen.{image}
 use Rattle.ldm_label.proofs.TocLaws.{all_joined, reads, places}
 use Rattle.ldm_label.proofs.reading.read_common.Given as goal
 
 abbrev pub invariant-loop-at : goal.invariant-loop-at
 invariant-loop-at g l = record {
-  still : Still (g.H.Host.seen l.fn.host) (g.H.Host.seen l.host);
-  quiet : Quiet (g.H.Host.seen l.fn.host) (g.H.Host.seen l.host);
+  looks : Looks (g.H.Host.seen l.fn.host) (g.H.Host.seen l.host) ⊥;
   common : g.H.Host.tells_disks → (let disk = image (g.H.Host.seen l.fn.host).content l.fn.disk in
       all_joined (reads disk l.fn.start) None places ≡ all_joined (reads disk l.fn.start) l.common (drop l.at-index places));
 }

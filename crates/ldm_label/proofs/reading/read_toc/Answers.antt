@@ -1,4 +1,5 @@
 use Rattle.ldm_host.specs.Seen.{image}
+use Rattle.ldm_host.proofs.Relations.{looks_as}
 use Rattle.ldm_label.specs.LabelOf.{tocs_in, first_toc}
 use Rattle.ldm_label.proofs.TocLaws.{tocs_err, toc_err, toc_ok}
 use Rattle.ldm_label.proofs.GivesLaws.{faulty, not_disk, passed, passed_disk}
@@ -20,32 +21,18 @@ returns-clause-is g c tells =
     let tocs = tocs_in c.args.start (image (g.H.Host.seen c.args.host.now).content c.args.disk) in
     toc_ok tocs c.in_ok-common.common c.in_ok-checked.field-0 (c.in_ok-common.ensures.is tells) c.in_ok-checked.ensures.is
 
-pub returns-in_err-common-clause-still : goal.returns-in_err-common-clause-still
-returns-in_err-common-clause-still g c = c.in_err-common.ensures.still
+pub returns-in_err-common-clause-looks : goal.returns-in_err-common-clause-looks
+returns-in_err-common-clause-looks g c =
+    looks_as c.in_err-common.ensures.looks
+    (passed_disk c.from_residual.result c.in_err-common.field-0.0 c.from_residual.ensures.1)
 
-pub returns-in_err-common-clause-quiet : goal.returns-in_err-common-clause-quiet
-returns-in_err-common-clause-quiet g c = c.in_err-common.ensures.quiet
-
-pub returns-in_err-common-clause-cause : goal.returns-in_err-common-clause-cause
-returns-in_err-common-clause-cause g c is = c.in_err-common.ensures.cause (passed_disk c.from_residual.result c.in_err-common.field-0.0 c.from_residual.ensures.1 is)
-
-pub returns-in_err-checked-clause-still : goal.returns-in_err-checked-clause-still
-returns-in_err-checked-clause-still g c = c.in_ok-common.ensures.still
-
-pub returns-in_err-checked-clause-quiet : goal.returns-in_err-checked-clause-quiet
-returns-in_err-checked-clause-quiet g c = c.in_ok-common.ensures.quiet
-
-pub returns-in_err-checked-clause-cause : goal.returns-in_err-checked-clause-cause
-returns-in_err-checked-clause-cause g c is = absurd (not_disk c.from_residual-in_err-checked.result c.in_err-checked.field-0.0 c.from_residual-in_err-checked.ensures.1 is)
+pub returns-in_err-checked-clause-looks : goal.returns-in_err-checked-clause-looks
+returns-in_err-checked-clause-looks g c =
+    looks_as c.in_ok-common.ensures.looks
+    (λ is. absurd (not_disk c.from_residual-in_err-checked.result c.in_err-checked.field-0.0 c.from_residual-in_err-checked.ensures.1 is))
 
 pub returns-clause-fits : goal.returns-clause-fits
 returns-clause-fits g c = c.in_ok-checked.ensures.fits
 
-pub returns-clause-still : goal.returns-clause-still
-returns-clause-still g c = c.in_ok-common.ensures.still
-
-pub returns-clause-quiet : goal.returns-clause-quiet
-returns-clause-quiet g c = c.in_ok-common.ensures.quiet
-
-pub returns-clause-cause : goal.returns-clause-cause
-returns-clause-cause g c is = absurd (cc is)
+pub returns-clause-looks : goal.returns-clause-looks
+returns-clause-looks g c = looks_as c.in_ok-common.ensures.looks (λ is. absurd (cc is))

@@ -1,6 +1,6 @@
 use Rattle.std.proofs.Common.{◌<◌, ℕ, List, Option, arith, length, map, fold, bit_xor, slice_index, ap, sym, subst, ◌∙◌}
 use Rattle.std.specs.Option.{option_to_list}
-use Rattle.ldm_host.proofs.Relations.{still_trans, quiet_trans}
+use Rattle.ldm_host.proofs.Relations.{looks_then}
 use Rattle.ldm_layout.specs.Columns.{column_in}
 use Rattle.ldm_dump.specs.Sources.{spot_at}
 use Rattle.ldm_dump.specs.Bytes.{byte_at}
@@ -11,15 +11,14 @@ use Rattle.ldm_scrub.proofs.comparing.join_row.Goals as goal
 
 pub columns-preserved : goal.columns-preserved
 columns-preserved g c = record {
-  still = still_trans _ _ _ c.columns.invariant.still c.in_ok-join_column.ensures.still;
-  quiet = quiet_trans _ _ _ c.columns.invariant.quiet c.in_ok-join_column.ensures.quiet;
+  looks = looks_then c.columns.invariant.looks c.in_ok-join_column.ensures.looks (λ is. absurd is);
   bytes = λ tells j lt.
       let low : j < length c.columns.out = omega (arith, lt) in
       let f : ℕ → Option Spot = λ column. spot_at c.args.found.now (column_in c.args.plan.now c.args.sector column) in
       c.in_ok-join_column.ensures.bytes tells j low
-      ∙ (ap (λ (images : List (List ℕ)). fold bit_xor (slice_index c.columns.out j) (map (byte_at images j) (option_to_list (f c.columns.column)))) c.columns.invariant.still.content
+      ∙ (ap (λ (images : List (List ℕ)). fold bit_xor (slice_index c.columns.out j) (map (byte_at images j) (option_to_list (f c.columns.column)))) c.columns.invariant.looks.still.content
       ∙ join_step (g.H.Host.seen c.args.host.now).content f c.columns.column j (slice_index c.columns.out j) (c.columns.invariant.bytes tells j low));
 }
 
 pub join_column-requires-clause-lies : goal.join_column-requires-clause-lies
-join_column-requires-clause-lies g c = subst (λ (l : List ℕ). RowsLieOn c.args.found.now c.args.plan.now l) (sym c.columns.invariant.still.later.sizes) c.requires.lies
+join_column-requires-clause-lies g c = subst (λ (l : List ℕ). RowsLieOn c.args.found.now c.args.plan.now l) (sym c.columns.invariant.looks.still.later.sizes) c.requires.lies

@@ -1,6 +1,6 @@
 use Rattle.std.proofs.Common.{◌≡◌, ℕ, ◌<◌, length, slice_index}
 use Rattle.std.specs.List.{range_with_len, filter_map}
-use Rattle.ldm_host.specs.Moves.{Still, Quiet}
+use Rattle.ldm_host.specs.Moves.{Looks}
 use Rattle.ldm_layout.specs.Columns.{column_in}
 use Rattle.ldm_dump.specs.Sources.{spot_at}
 use Rattle.ldm_dump.specs.Bytes.{joined_byte}
@@ -8,8 +8,7 @@ use Rattle.ldm_scrub.proofs.comparing.join_row.Given as goal
 
 abbrev pub invariant-columns : goal.invariant-columns
 invariant-columns g l = record {
-  still : Still (g.H.Host.seen l.fn.host) (g.H.Host.seen l.host);
-  quiet : Quiet (g.H.Host.seen l.fn.host) (g.H.Host.seen l.host);
+  looks : Looks (g.H.Host.seen l.fn.host) (g.H.Host.seen l.host) ⊥;
   bytes : g.H.Host.tells_disks → (j : ℕ) → j < length l.out
       → slice_index l.out j ≡ joined_byte (g.H.Host.seen l.fn.host).content (filter_map (λ column. spot_at l.found (column_in l.plan l.sector column)) (range_with_len 0 l.column)) j;
 }

@@ -2,7 +2,7 @@ use Rattle.std.proofs.Common.{◌≡◌, ◌+◌, ◌-◌, ◌*◌, ◌<◌, ℕ
 use Rattle.std.specs.List.{list_any, range_with_len}
 use Rattle.std.specs.Option.{option_to_list}
 use Rattle.std.specs.Str.{bytes_eq}
-use Rattle.ldm_host.proofs.Relations.{still_trans, quiet_trans}
+use Rattle.ldm_host.proofs.Relations.{looks_then}
 use Rattle.ldm_layout.specs.Layouts.{copies_of}
 use Rattle.ldm_dump.specs.Sources.{copy_spot}
 use Rattle.ldm_dump.specs.Bytes.{joined_byte}
@@ -12,8 +12,7 @@ use Rattle.ldm_scrub.proofs.comparing.mark_copies.Goals as goal
 
 pub copies-preserved : goal.copies-preserved
 copies-preserved g c = record {
-  still = still_trans _ _ _ c.copies.invariant.still c.in_ok-read_copy_run-2.ensures.still;
-  quiet = quiet_trans _ _ _ c.copies.invariant.quiet c.in_ok-read_copy_run-2.ensures.quiet;
+  looks = looks_then c.copies.invariant.looks c.in_ok-read_copy_run-2.ensures.looks (λ is. absurd is);
   first = c.copies.invariant.first;
   so_far = λ tells i lt.
       let images = (g.H.Host.seen c.args.host.now).content in
@@ -32,7 +31,7 @@ copies-preserved g c = record {
       let a : part out i ≡ copy_sector images found l (x + i) 0 = copy_part images found l x 0 c.args.run i n out c.requires.run copied c.requires.few out_size low (c.copies.invariant.first tells) in
       let b : part other i ≡ copy_sector images found l (x + i) copy = copy_part images found l x copy c.args.run i n other c.requires.run there c.requires.few other_size low
       (λ j less. c.in_ok-read_copy_run-2.ensures.bytes tells j (omega (arith, less))
-      ∙ ap (λ (im : List (List ℕ)). joined_byte im (option_to_list (copy_spot found l x copy)) j) c.copies.invariant.still.content) in
+      ∙ ap (λ (im : List (List ℕ)). joined_byte im (option_to_list (copy_spot found l x copy)) j) c.copies.invariant.looks.still.content) in
       marked_next (copy_differs images found l (x + i)) copy (bytes_eq (part out i) (part other i)) (slice_index c.copies.marks i) (slice_index c.mark_differing.new.marks i)
       (omega (arith, c.copies.auto.copy))
       (ap (λ (p : List ℕ). not (bytes_eq p (copy_sector images found l (x + i) copy))) (sym a) ∙ ap (λ (q : List ℕ). not (bytes_eq (part out i) q)) (sym b))

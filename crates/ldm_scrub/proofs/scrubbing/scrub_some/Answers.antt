@@ -6,10 +6,10 @@ use Rattle.ldm_scrub.specs.Lines.{lines_of}
 use Rattle.ldm_scrub.proofs.scrubbing.scrub_some.Goals as goal
 
 pub returns-in-Ok-say_marked-clause-still : goal.returns-in-Ok-say_marked-clause-still
-returns-in-Ok-say_marked-clause-still g c = still_trans _ _ _ c.in-Ok.ensures.still c.in-Ok-say_marked.ensures.still
+returns-in-Ok-say_marked-clause-still g c = still_trans _ _ _ c.in-Ok.ensures.looks.still c.in-Ok-say_marked.ensures.still
 
 pub returns-in-Err-clause-still : goal.returns-in-Err-clause-still
-returns-in-Err-clause-still g c = still_trans _ _ _ c.in-Ok.ensures.still c.in-Err.ensures.still
+returns-in-Err-clause-still g c = still_trans _ _ _ c.in-Ok.ensures.looks.still c.in-Err.ensures.still
 
 pub returns-in-Ok-say_marked-clause-front : goal.returns-in-Ok-say_marked-clause-front
 returns-in-Ok-say_marked-clause-front g c tells =
@@ -23,7 +23,7 @@ returns-in-Ok-say_marked-clause-front g c tells =
       c.in-Ok.ensures.fits,
       (
         part.0,
-        ap (λ (s : List ℕ). s ++ lines_of old.content c.args.found.now c.args.plan.now (range_with_len c.args.place n)) (sym c.in-Ok.ensures.quiet.said)
+        ap (λ (s : List ℕ). s ++ lines_of old.content c.args.found.now c.args.plan.now (range_with_len c.args.place n)) (sym c.in-Ok.ensures.looks.quiet.said)
             ∙ (ap (λ (m : ℕ). (g.H.Host.seen c.mark_some.new.host).said ++ lines_of old.content c.args.found.now c.args.plan.now (range_with_len c.args.place m)) (sym size) ∙ part.1),
       ),
     )
@@ -40,7 +40,7 @@ returns-in-Err-clause-front g c tells =
       c.in-Ok.ensures.fits,
       (
         part.0,
-        ap (λ (s : List ℕ). s ++ lines_of old.content c.args.found.now c.args.plan.now (range_with_len c.args.place n)) (sym c.in-Ok.ensures.quiet.said)
+        ap (λ (s : List ℕ). s ++ lines_of old.content c.args.found.now c.args.plan.now (range_with_len c.args.place n)) (sym c.in-Ok.ensures.looks.quiet.said)
             ∙ (ap (λ (m : ℕ). (g.H.Host.seen c.mark_some.new.host).said ++ lines_of old.content c.args.found.now c.args.plan.now (range_with_len c.args.place m)) (sym size) ∙ part.1),
       ),
     )

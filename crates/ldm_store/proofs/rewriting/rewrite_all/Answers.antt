@@ -1,7 +1,8 @@
 use Rattle.std.proofs.Common.{◌≡◌, ◌≢◌, ◌+◌, ◌<◌, ◌≤◌, ℕ, List, length, slice_index, slice_get, get_or, Some, refl, sym, ◌∙◌, ap, subst, arith}
 use Rattle.std.proofs.lemmas.Option.{slice_get-get_or, slice_get_within}
 use Rattle.ldm_host.specs.Seen.{Seen}
-use Rattle.ldm_host.proofs.Relations.{later_itself, later_trans, quiet_trans}
+use Rattle.ldm_host.proofs.Relations.{works_itself, works_then, works_as}
+use Rattle.ldm_host.proofs.ChangeLaws.{changes_works}
 use Rattle.ldm_label.specs.declared.Label.{Label}
 use Rattle.ldm_label.specs.LabelOf.{Fits}
 use Rattle.ldm_copy.specs.Body.{HasBody}
@@ -26,8 +27,7 @@ loop-disk-init g c =
     let a = g.H.Host.seen c.args.host.now in
     let only = g.met.H.Host.only_now c.args.host.now in
     record {
-      later = later_itself a (g.met.H.Host.counts_now c.args.host.now) only;
-      quiet = record { said = refl; heard = refl; input = refl };
+      works = works_itself a (g.met.H.Host.counts_now c.args.host.now) only;
       wrote_below = λ k lt. absurd (omega arith);
       wrote_above = λ k le. refl;
       untouched = λ k le. refl;
@@ -39,7 +39,7 @@ loop-disk-init g c =
 pub rewrite_next-requires-clause-fits : goal.rewrite_next-requires-clause-fits
 rewrite_next-requires-clause-fits g c =
     let seen = g.H.Host.seen in
-    fits_now c.args.labels.now (seen c.args.host.now) (seen c.loop-disk.host) c.loop-disk.disk _ c.requires.lie c.loop-disk.invariant.later.sizes
+    fits_now c.args.labels.now (seen c.args.host.now) (seen c.loop-disk.host) c.loop-disk.disk _ c.requires.lie c.loop-disk.invariant.works.later.sizes
     (label_at c.args.labels.now c.loop-disk.disk _ c.loop-disk-test.true)
 
 pub rewrite_next-requires-clause-body : goal.rewrite_next-requires-clause-body
@@ -65,8 +65,8 @@ returns-in_err-rewrite_next-clause-any_moment g c tells o n current bodies =
     let i = c.loop-disk.invariant in
     let at = label_at c.args.labels.now c.loop-disk.disk no_label c.loop-disk-test.true in
     turning_always c.args.labels.now o n (seen c.args.host.now) (seen c.loop-disk.host) c.loop-disk.disk c.requires.several
-    (ap length i.later.sizes ∙ sym c.requires.lie.one_label) i.settled i.quiet.said (i.turned tells o n current bodies)
-    (seen c.rewrite_next.new.host) (get_or c.args.labels.now c.loop-disk.disk no_label) at i.later c.rewrite_next.ensures.changes
+    (ap length i.works.later.sizes ∙ sym c.requires.lie.one_label) i.settled i.works.quiet.said (i.turned tells o n current bodies)
+    (seen c.rewrite_next.new.host) (get_or c.args.labels.now c.loop-disk.disk no_label) at i.works.later c.rewrite_next.ensures.changes
     (c.rewrite_next.ensures.any_moment tells n (bodies c.loop-disk.disk _ at))
 
 pub loop-disk-preserved : goal.loop-disk-preserved
@@ -84,8 +84,7 @@ loop-disk-preserved g c =
     let here : slice_index d.wrote disk ≤ slice_index b.wrote disk + most = omega (arith, c.rewrite_next.ensures.wrote) in
     let changes = c.rewrite_next.ensures.changes in
     record {
-      later = later_trans a b d i.later changes.later;
-      quiet = quiet_trans a b d i.quiet changes.quiet;
+      works = works_then i.works (changes_works changes (λ is. absurd is)) (λ is. is);
       wrote_below = wrote_below most disk _ _ a b d changes here i.wrote_below i.wrote_above;
       wrote_above = wrote_above most disk _ _ a b d changes here i.wrote_below i.wrote_above;
       untouched = λ k le. let ne : k ≢ disk = omega (arith, le) in changes.content.others k ne ∙ i.untouched k (omega (arith, le));
@@ -93,8 +92,8 @@ loop-disk-preserved g c =
           body_step labels b d disk label at changes (bytes_in c.args.next.now) (c.in_ok-rewrite_next.ensures.has tells) k other at_k (λ ne. i.has tells k other (omega (arith, lt, ne)) at_k);
       settled = settled_step labels b d disk label at changes i.settled c.in_ok-rewrite_next.ensures.settled;
       turned = λ tells o n current bodies.
-          turned_step labels o n a b disk c.requires.several (ap length i.later.sizes ∙ sym c.requires.lie.one_label) i.settled i.quiet.said (i.turned tells o n current bodies)
-          d label at i.later changes (c.rewrite_next.ensures.any_moment tells n (bodies disk label at)) (c.in_ok-rewrite_next.ensures.done tells n (bodies disk label at));
+          turned_step labels o n a b disk c.requires.several (ap length i.works.later.sizes ∙ sym c.requires.lie.one_label) i.settled i.works.quiet.said (i.turned tells o n current bodies)
+          d label at i.works.later changes (c.rewrite_next.ensures.any_moment tells n (bodies disk label at)) (c.in_ok-rewrite_next.ensures.done tells n (bodies disk label at));
     }
 
 pub returns-clause-any_moment : goal.returns-clause-any_moment
@@ -125,3 +124,10 @@ pub returns-clause-has : goal.returns-clause-has
 returns-clause-has g c tells disk label at =
     let lt = slice_get_within c.args.labels.now disk label at in
     c.loop-disk.invariant.has tells disk label (omega (arith, lt, c.loop-disk-test.false)) at
+
+pub returns-in_err-rewrite_next-clause-works : goal.returns-in_err-rewrite_next-clause-works
+returns-in_err-rewrite_next-clause-works g c =
+    works_then c.loop-disk.invariant.works (changes_works c.rewrite_next.ensures.changes c.in_err-rewrite_next.ensures.cause) (λ is. refl)
+
+pub returns-clause-works : goal.returns-clause-works
+returns-clause-works g c = works_as c.loop-disk.invariant.works (λ is. absurd (cc is))

@@ -1,6 +1,6 @@
 use Rattle.std.proofs.Common.{◌≡◌, ◌<◌, ◌≤◌, ◌+◌, ℕ, Some, slice_index, slice_get}
 use Rattle.ldm_host.specs.Seen.{image}
-use Rattle.ldm_host.specs.Moves.{Later, Quiet}
+use Rattle.ldm_host.specs.Moves.{Works}
 use Rattle.ldm_label.specs.declared.Label.{Label}
 use Rattle.ldm_group.specs.Database.{Database}
 use Rattle.ldm_copy.specs.Body.{HasBody}
@@ -14,8 +14,7 @@ invariant-loop-disk g l =
     let start = g.H.Host.seen l.fn.host in
     let now = g.H.Host.seen l.host in
     record {
-      later : Later start now;
-      quiet : Quiet start now;
+      works : Works start now ⊥;
       wrote_below : (k : ℕ) → k < l.disk → slice_index now.wrote k ≤ slice_index start.wrote k + most_in l.next;
       wrote_above : (k : ℕ) → l.disk ≤ k → slice_index now.wrote k ≡ slice_index start.wrote k;
       untouched : (k : ℕ) → l.disk ≤ k → image now.content k ≡ image start.content k;

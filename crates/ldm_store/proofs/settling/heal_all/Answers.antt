@@ -1,6 +1,7 @@
-use Rattle.std.proofs.Common.{◌≡◌, ◌<◌, ℕ, true, false, List, length, slice_index, slice_get, get_or, Some, refl, sym, ◌∙◌, ap, subst, arith, ◌+◌}
+use Rattle.std.proofs.Common.{rules, ◌≡◌, ◌<◌, ℕ, true, false, List, length, slice_index, slice_get, get_or, Some, refl, sym, ◌∙◌, ap, subst, arith, ◌+◌}
 use Rattle.std.proofs.lemmas.Option.{slice_get-get_or, slice_get_within}
-use Rattle.ldm_host.proofs.Relations.{later_itself, later_trans, quiet_trans}
+use Rattle.ldm_host.proofs.Relations.{works_itself, works_then, works_as}
+use Rattle.ldm_host.proofs.ChangeLaws.{changes_works}
 use Rattle.ldm_label.specs.declared.Label.{Label}
 use Rattle.ldm_label.specs.LabelOf.{Fits}
 use Rattle.ldm_vmdb.specs.declared.header.Header.{Header}
@@ -34,8 +35,7 @@ loop-disk-init g c =
     let only = g.met.H.Host.only_now c.args.host.now in
     let found = c.args.found.now in
     record {
-      later = later_itself a (g.met.H.Host.counts_now c.args.host.now) only;
-      quiet = record { said = refl; heard = refl; input = refl };
+      works = works_itself a (g.met.H.Host.counts_now c.args.host.now) only;
       settled = c.requires.settled;
       wrote_below = λ k lt. absurd (omega arith);
       wrote_above = λ k le. refl;
@@ -48,7 +48,7 @@ loop-disk-init g c =
 pub heal-requires-clause-fits : goal.heal-requires-clause-fits
 heal-requires-clause-fits g c =
     let at = label_in c.as_slice-labels.result.now c.args.found.now.labels c.loop-disk.disk c.as_slice-labels.ensures c.loop-disk-test.true in
-    subst (λ (l : List ℕ). Fits (get_or c.as_slice-labels.result.now c.loop-disk.disk no_label) (slice_index l c.loop-disk.disk)) (sym c.loop-disk.invariant.later.sizes) (c.requires.lies.fits c.loop-disk.disk _ at)
+    subst (λ (l : List ℕ). Fits (get_or c.as_slice-labels.result.now c.loop-disk.disk no_label) (slice_index l c.loop-disk.disk)) (sym c.loop-disk.invariant.works.later.sizes) (c.requires.lies.fits c.loop-disk.disk _ at)
 
 pub heal-requires-clause-body : goal.heal-requires-clause-body
 heal-requires-clause-body g c =
@@ -63,28 +63,7 @@ heal-requires-clause-noted g c tells =
     let i = c.loop-disk.invariant in
     let at = label_in c.as_slice-labels.result.now found.labels disk c.as_slice-labels.ensures c.loop-disk-test.true in
     let noted = note_in c.as_slice-notes.result.now found.notes c.as_slice-labels.result.now found.labels disk c.as_slice-notes.ensures c.as_slice-labels.ensures c.requires.one_note c.loop-disk-test.true in
-    note_next found a (holds_group a.content found (c.requires.is tells)) b disk (ap length i.later.sizes ∙ sym c.requires.lies.one_label) i.settled i.quiet.said (i.healed tells) _ _ at noted
-
-pub returns-in_err-heal-clause-any_moment : goal.returns-in_err-heal-clause-any_moment
-returns-in_err-heal-clause-any_moment g c tells =
-    let a = g.H.Host.seen c.args.host.now in
-    let b = g.H.Host.seen c.loop-disk.host in
-    let found = c.args.found.now in
-    let disk = c.loop-disk.disk in
-    let i = c.loop-disk.invariant in
-    let at = label_in c.as_slice-labels.result.now found.labels disk c.as_slice-labels.ensures c.loop-disk-test.true in
-    let noted = note_in c.as_slice-notes.result.now found.notes c.as_slice-labels.result.now found.labels disk c.as_slice-notes.ensures c.as_slice-labels.ensures c.requires.one_note c.loop-disk-test.true in
-    let behind = behind_is c.header.result.now found.db.header (get_or c.as_slice-notes.result.now disk notes.Closed) true c.is_behind.result c.header.ensures c.is_behind.ensures c.if-is_behind.true in
-    healing_always found a (holds_group a.content found (c.requires.is tells)) b disk (ap length i.later.sizes ∙ sym c.requires.lies.one_label) i.settled i.quiet.said (i.healed tells)
-    (g.H.Host.seen c.heal.new.host) _ _ at noted behind i.later c.heal.ensures.changes (c.heal.ensures.any_moment tells found.db (c.requires.exact tells disk _ at))
-
-pub returns-in_err-heal-clause-spared : goal.returns-in_err-heal-clause-spared
-returns-in_err-heal-clause-spared g c =
-    let found = c.args.found.now in
-    let disk = c.loop-disk.disk in
-    let noted = note_in c.as_slice-notes.result.now found.notes c.as_slice-labels.result.now found.labels disk c.as_slice-notes.ensures c.as_slice-labels.ensures c.requires.one_note c.loop-disk-test.true in
-    let behind = behind_is c.header.result.now found.db.header (get_or c.as_slice-notes.result.now disk notes.Closed) true c.is_behind.result c.header.ensures c.is_behind.ensures c.if-is_behind.true in
-    spared_step found.db.header.seq found.notes (g.H.Host.seen c.args.host.now) (g.H.Host.seen c.loop-disk.host) (g.H.Host.seen c.heal.new.host) disk _ _ _ noted behind c.heal.ensures.changes c.loop-disk.invariant.spared
+    note_next found a (holds_group a.content found (c.requires.is tells)) b disk (ap length i.works.later.sizes ∙ sym c.requires.lies.one_label) i.settled i.works.quiet.said (i.healed tells) _ _ at noted
 
 pub loop-disk-preserved : goal.loop-disk-preserved
 loop-disk-preserved g c =
@@ -94,7 +73,7 @@ loop-disk-preserved g c =
     let found = c.args.found.now in
     let disk = c.loop-disk.disk in
     let i = c.loop-disk.invariant in
-    let one_each = ap length i.later.sizes ∙ sym c.requires.lies.one_label in
+    let one_each = ap length i.works.later.sizes ∙ sym c.requires.lies.one_label in
     let at = label_in c.as_slice-labels.result.now found.labels disk c.as_slice-labels.ensures c.loop-disk-test.true in
     let noted = note_in c.as_slice-notes.result.now found.notes c.as_slice-labels.result.now found.labels disk c.as_slice-notes.ensures c.as_slice-labels.ensures c.requires.one_note c.loop-disk-test.true in
     elim c.if-is_behind.branch [
@@ -103,8 +82,7 @@ loop-disk-preserved g c =
           let changes = w.heal.ensures.changes in
           let behind = behind_is c.header.result.now found.db.header (get_or c.as_slice-notes.result.now disk notes.Closed) true c.is_behind.result c.header.ensures c.is_behind.ensures w.if-is_behind.true in
           rw w.host-is (record {
-            later = later_trans a b d i.later changes.later;
-            quiet = quiet_trans a b d i.quiet changes.quiet;
+            works = works_then i.works (changes_works changes (λ is. absurd is)) (λ is. is);
             settled = settled_step found.labels b d disk _ at changes i.settled w.in_ok-heal.ensures.settled;
             wrote_below = wrote_below (length c.args.body.now + 1) disk _ _ a b d changes (omega (arith, w.heal.ensures.wrote)) i.wrote_below i.wrote_above;
             wrote_above = wrote_above (length c.args.body.now + 1) disk _ _ a b d changes (omega (arith, w.heal.ensures.wrote)) i.wrote_below i.wrote_above;
@@ -113,14 +91,13 @@ loop-disk-preserved g c =
             has = λ tells k other mark lt at_k marked late.
                 body_step found.labels b d disk _ at changes c.args.body.now (w.in_ok-heal.ensures.has tells) k other at_k (λ ne. i.has tells k other mark (omega (arith, lt, ne)) at_k marked late);
             healed = λ tells.
-                healed_step found a (holds_group a.content found (c.requires.is tells)) b disk one_each i.settled i.quiet.said (i.healed tells)
-                d _ _ at noted behind i.later changes (w.heal.ensures.any_moment tells found.db (c.requires.exact tells disk _ at)) (w.in_ok-heal.ensures.done tells found.db (c.requires.exact tells disk _ at));
+                healed_step found a (holds_group a.content found (c.requires.is tells)) b disk one_each i.settled i.works.quiet.said (i.healed tells)
+                d _ _ at noted behind i.works.later changes (w.heal.ensures.any_moment tells found.db (c.requires.exact tells disk _ at)) (w.in_ok-heal.ensures.done tells found.db (c.requires.exact tells disk _ at));
           })
       | else-is_behind w ↦
           let fails = behind_is c.header.result.now found.db.header (get_or c.as_slice-notes.result.now disk notes.Closed) false c.is_behind.result c.header.ensures c.is_behind.ensures w.if-is_behind.false in
           rw w.host-is (record {
-            later = i.later;
-            quiet = i.quiet;
+            works = i.works;
             settled = i.settled;
             wrote_below = passed_below (length c.args.body.now + 1) disk a b i.wrote_below i.wrote_above;
             wrote_above = λ k le. i.wrote_above k (omega (arith, le));
@@ -128,40 +105,54 @@ loop-disk-preserved g c =
             stays = i.stays;
             has = λ tells k other mark lt at_k marked late. i.has tells k other mark (omega (arith, lt, other_disk found.db.header.seq found.notes k mark disk _ marked late noted fails)) at_k marked late;
             healed = λ tells.
-                healed_skip found a (holds_group a.content found (c.requires.is tells)) b disk one_each i.settled i.quiet.said (i.healed tells)
+                healed_skip found a (holds_group a.content found (c.requires.is tells)) b disk one_each i.settled i.works.quiet.said (i.healed tells)
                 _ (slice_get_within found.labels disk _ at) noted fails;
           })
     ]
 
-pub returns-in_err-heal-clause-wrote : goal.returns-in_err-heal-clause-wrote
-returns-in_err-heal-clause-wrote g c =
-    let i = c.loop-disk.invariant in
-    wrote_each (length c.args.body.now + 1) c.loop-disk.disk _ _ (g.H.Host.seen c.args.host.now) (g.H.Host.seen c.loop-disk.host) (g.H.Host.seen c.heal.new.host) c.heal.ensures.changes (omega (arith, c.heal.ensures.wrote)) i.wrote_below i.wrote_above
-
-pub returns-clause-wrote : goal.returns-clause-wrote
-returns-clause-wrote g c =
-    let i = c.loop-disk.invariant in
-    wrote_all (length c.args.body.now + 1) (g.H.Host.seen c.args.host.now) (g.H.Host.seen c.loop-disk.host) c.loop-disk.disk i.wrote_below i.wrote_above
-
-pub returns-in_err-heal-clause-outside : goal.returns-in_err-heal-clause-outside
-returns-in_err-heal-clause-outside g c tells =
-    let seen = g.H.Host.seen in
+pub returns-in_err-heal : goal.returns-in_err-heal
+returns-in_err-heal g c =
+    let a = g.H.Host.seen c.args.host.now in
+    let b = g.H.Host.seen c.loop-disk.host in
+    let d = g.H.Host.seen c.heal.new.host in
     let found = c.args.found.now in
     let disk = c.loop-disk.disk in
-    outside_step found.labels (seen c.loop-disk.host) (seen c.heal.new.host) disk _
-    (label_in c.as_slice-labels.result.now found.labels disk c.as_slice-labels.ensures c.loop-disk-test.true) c.heal.ensures.changes (seen c.args.host.now) (c.loop-disk.invariant.healed tells).outside
-
-pub returns-in_err-heal-clause-stays : goal.returns-in_err-heal-clause-stays
-returns-in_err-heal-clause-stays g c =
-    let found = c.args.found.now in
-    let disk = c.loop-disk.disk in
+    let i = c.loop-disk.invariant in
+    let changes = c.heal.ensures.changes in
+    let at = label_in c.as_slice-labels.result.now found.labels disk c.as_slice-labels.ensures c.loop-disk-test.true in
     let noted = note_in c.as_slice-notes.result.now found.notes c.as_slice-labels.result.now found.labels disk c.as_slice-notes.ensures c.as_slice-labels.ensures c.requires.one_note c.loop-disk-test.true in
     let behind = behind_is c.header.result.now found.db.header (get_or c.as_slice-notes.result.now disk notes.Closed) true c.is_behind.result c.header.ensures c.is_behind.ensures c.if-is_behind.true in
-    stays_step found.db.header.seq found.notes (g.H.Host.seen c.args.host.now) (g.H.Host.seen c.loop-disk.host) (g.H.Host.seen c.heal.new.host) disk _ _ _ noted behind c.heal.ensures.changes c.loop-disk.invariant.stays
+    record {
+      any_moment = λ tells.
+          healing_always found a (holds_group a.content found (c.requires.is tells)) b disk (ap length i.works.later.sizes ∙ sym c.requires.lies.one_label) i.settled i.works.quiet.said (i.healed tells)
+          d _ _ at noted behind i.works.later changes (c.heal.ensures.any_moment tells found.db (c.requires.exact tells disk _ at));
+      current = search rules;
+      each = search rules;
+      has = search rules;
+      stays = stays_step found.db.header.seq found.notes a b d disk _ _ _ noted behind changes i.stays;
+      outside = λ tells. outside_step found.labels b d disk _ at changes a (i.healed tells).outside;
+      settled = search rules;
+      spared = spared_step found.db.header.seq found.notes a b d disk _ _ _ noted behind changes i.spared;
+      wrote = wrote_each (length c.args.body.now + 1) disk _ _ a b d changes (omega (arith, c.heal.ensures.wrote)) i.wrote_below i.wrote_above;
+      works = works_then i.works (changes_works changes c.in_err-heal.ensures.cause) (λ is. refl);
+    }
 
-pub returns-clause-has : goal.returns-clause-has
-returns-clause-has g c tells disk label note at noted behind =
+pub returns : goal.returns
+returns g c =
     let found = c.args.found.now in
-    let lt = slice_get_within found.labels disk label at in
+    let i = c.loop-disk.invariant in
     let same : length c.as_slice-labels.result.now ≡ length found.labels = ap length c.as_slice-labels.ensures in
-    c.loop-disk.invariant.has tells disk label note (omega (arith, lt, same, c.loop-disk-test.false)) at noted behind
+    record {
+      any_moment = λ tells. (i.healed tells).always;
+      current = λ tells k lt. (i.healed tells).below k (omega (arith, lt, same, c.loop-disk-test.false));
+      each = λ tells. (i.healed tells).each;
+      has = λ tells disk label note at noted behind.
+          let lt = slice_get_within found.labels disk label at in
+          i.has tells disk label note (omega (arith, lt, same, c.loop-disk-test.false)) at noted behind;
+      stays = i.stays;
+      outside = λ tells. (i.healed tells).outside;
+      settled = i.settled;
+      spared = i.spared;
+      wrote = wrote_all (length c.args.body.now + 1) (g.H.Host.seen c.args.host.now) (g.H.Host.seen c.loop-disk.host) c.loop-disk.disk i.wrote_below i.wrote_above;
+      works = works_as i.works (λ is. absurd (cc is));
+    }

@@ -2,7 +2,7 @@ use Rattle.std.proofs.Common.{◌≡◌, ⊎_elim, ℕ, List, slice_get, get_or,
 use Rattle.std.proofs.lemmas.Bool.{cases_eq}
 use Rattle.std.proofs.lemmas.Option.{slice_get-get_or}
 use Rattle.ldm_host.specs.Seen.{image}
-use Rattle.ldm_host.proofs.Relations.{still_trans, quiet_trans}
+use Rattle.ldm_host.proofs.Relations.{looks_then}
 use Rattle.ldm_label.specs.declared.Label.{Label}
 use Rattle.ldm_group.specs.Database.{Database}
 use Rattle.ldm_found.specs.declared.notes.Note.{Note}
@@ -40,24 +40,22 @@ returns-then-not-branch-clause-no g c tells same =
       label_is = slice_get-get_or c.args.labels.now disk no_label c.loop-disk-test.true;
       note_is = slice_get-get_or c.args.notes.now disk notes.Closed (omega (arith, c.loop-disk-test.true, c.requires.one_note));
       ahead = no.0;
-      lacks = subst (λ (i : List (List ℕ)). LacksBody c.args.db.now label c.args.body.now (image i disk)) c.loop-disk.invariant.still.content no.1;
+      lacks = subst (λ (i : List (List ℕ)). LacksBody c.args.db.now label c.args.body.now (image i disk)) c.loop-disk.invariant.looks.still.content no.1;
     }
 
 pub loop-disk-preserved : goal.loop-disk-preserved
 loop-disk-preserved g c =
     let start = g.H.Host.seen c.args.host.now in
     let before = g.H.Host.seen c.loop-disk.host in
-    let after = g.H.Host.seen c.keeps_body.new.host in
     let disk = c.loop-disk.disk in
     let i = c.loop-disk.invariant in
     record {
-      still = still_trans start before after i.still c.in_ok-keeps_body.ensures.still;
-      quiet = quiet_trans start before after i.quiet c.in_ok-keeps_body.ensures.quiet;
+      looks = looks_then i.looks c.in_ok-keeps_body.ensures.looks (λ is. absurd is);
       keeps = λ tells k lt. ⊎_elim
           (λ same. subst (λ (d : ℕ). KeepsBody c.args.seq c.args.labels.now c.args.notes.now c.args.db.now c.args.body.now start.content d) (sym same)
           (keeps_here c.args.seq c.args.labels.now c.args.notes.now c.args.db.now c.args.body.now start.content before.content disk (get_or c.args.labels.now disk no_label)
           (get_or c.args.notes.now disk notes.Closed) (slice_get-get_or c.args.labels.now disk no_label c.loop-disk-test.true)
-          (slice_get-get_or c.args.notes.now disk notes.Closed (omega (arith, c.loop-disk-test.true, c.requires.one_note))) i.still.content
+          (slice_get-get_or c.args.notes.now disk notes.Closed (omega (arith, c.loop-disk-test.true, c.requires.one_note))) i.looks.still.content
           (c.in_ok-keeps_body.ensures.yes tells c.if-not-branch.false)))
           (λ ne. i.keeps tells k (omega (arith, lt, ne)))
           (cases_eq k disk);

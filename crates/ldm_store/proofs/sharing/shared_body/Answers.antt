@@ -1,7 +1,7 @@
-use Rattle.std.proofs.Common.{◌≡◌, inl, inr, ℕ, List, get_or, Option, Some, IfSome, subst, arith}
+use Rattle.std.proofs.Common.{rules, ◌≡◌, inl, inr, ℕ, List, get_or, Option, Some, IfSome, subst, arith}
 use Rattle.std.proofs.lemmas.Option.{slice_get-get_or, slice_get_within}
 use Rattle.ldm_host.specs.Seen.{image}
-use Rattle.ldm_host.proofs.Relations.{still_trans}
+use Rattle.ldm_host.proofs.Relations.{looks_then}
 use Rattle.ldm_label.specs.declared.Label.{Label}
 use Rattle.ldm_copy.specs.Table.{body_bytes}
 use Rattle.ldm_store.specs.Bodies.{KeepsBody, LosesBody}
@@ -45,7 +45,7 @@ returns-then-not-branch-clause-none g c tells none =
     let at = slice_get-get_or c.args.labels.now first no_label (omega (arith, slice_get_within c.args.notes.now first ahead.0 ahead.1, c.requires.one_note)) in
     let bytes = body_bytes c.args.db.now label (image (seen c.args.host.now).content first) in
     let same = is_of c.in_ok-body.field-0 c.in-Some-2.body bytes c.in-Some-2.is (c.in_ok-body.ensures.same tells) in
-    let loses = subst (λ (images : List (List ℕ)). LosesBody c.args.seq c.args.labels.now c.args.notes.now c.args.db.now c.in-Some-2.body images) c.read_body.ensures.still.content
+    let loses = subst (λ (images : List (List ℕ)). LosesBody c.args.seq c.args.labels.now c.args.notes.now c.args.db.now c.in-Some-2.body images) c.read_body.ensures.looks.still.content
     (c.in_ok-all_have.ensures.no tells c.if-not-branch.true) in
     inr (record {
       first = first;
@@ -59,17 +59,14 @@ returns-then-not-branch-clause-none g c tells none =
 
 pub returns-clause-keep : goal.returns-clause-keep
 returns-clause-keep g c tells disk lt =
-    subst (λ (images : List (List ℕ)). KeepsBody c.args.seq c.args.labels.now c.args.notes.now c.args.db.now c.in-Some-2.body images disk) c.read_body.ensures.still.content
+    subst (λ (images : List (List ℕ)). KeepsBody c.args.seq c.args.labels.now c.args.notes.now c.args.db.now c.in-Some-2.body images disk) c.read_body.ensures.looks.still.content
     (c.in_ok-all_have.ensures.yes tells c.if-not-branch.false disk lt)
 
-pub returns-in_err-all_have-clause-still : goal.returns-in_err-all_have-clause-still
-returns-in_err-all_have-clause-still g c =
-    still_trans (g.H.Host.seen c.args.host.now) (g.H.Host.seen c.read_body.new.host) (g.H.Host.seen c.all_have.new.host) c.read_body.ensures.still c.all_have.ensures.still
+pub returns-in_err-all_have-clause-looks : goal.returns-in_err-all_have-clause-looks
+returns-in_err-all_have-clause-looks g c = looks_then c.read_body.ensures.looks c.in_err-all_have.ensures.looks (λ is. search rules)
 
-pub returns-then-not-branch-clause-still : goal.returns-then-not-branch-clause-still
-returns-then-not-branch-clause-still g c =
-    still_trans (g.H.Host.seen c.args.host.now) (g.H.Host.seen c.read_body.new.host) (g.H.Host.seen c.all_have.new.host) c.read_body.ensures.still c.all_have.ensures.still
+pub returns-then-not-branch-clause-looks : goal.returns-then-not-branch-clause-looks
+returns-then-not-branch-clause-looks g c = looks_then c.read_body.ensures.looks c.all_have.ensures.looks (λ is. absurd (cc is))
 
-pub returns-clause-still : goal.returns-clause-still
-returns-clause-still g c =
-    still_trans (g.H.Host.seen c.args.host.now) (g.H.Host.seen c.read_body.new.host) (g.H.Host.seen c.all_have.new.host) c.read_body.ensures.still c.all_have.ensures.still
+pub returns-clause-looks : goal.returns-clause-looks
+returns-clause-looks g c = looks_then c.read_body.ensures.looks c.all_have.ensures.looks (λ is. absurd (cc is))

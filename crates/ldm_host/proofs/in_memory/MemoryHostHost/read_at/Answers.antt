@@ -33,8 +33,10 @@ returns c =
     record {
       filled = λ tells. on_ok (c.read_in.new.buf ≡ slice_range (image (memory_seen m).content c.args.disk) c.args.at (c.args.at + length c.args.buf.now)) c.end_call.result
           (λ is_fine. c.read_in.ensures (ok_whole outcome true (sym ended.ok ∙ is_fine)) ∙ ap (λ (l : List ℕ). slice_range l c.args.at (c.args.at + length c.args.buf.now)) (image_is m.held.items disks m.kept.content c.args.disk c.requires.disk));
-      still = read_still (story_of m) (counts_of m) new rises refl;
-      quiet = record { said = refl; heard = refl; input = refl };
-      cause = λ failed. rose ok m.disk_faults c.end_call.new.faults ended.faults (is_failed c.end_call.result failed);
+      looks = record {
+        still = read_still (story_of m) (counts_of m) new rises refl;
+        quiet = record { said = refl; heard = refl; input = refl };
+        cause = λ failed. rose ok m.disk_faults c.end_call.new.faults ended.faults (is_failed c.end_call.result failed);
+      };
       ending = ends Act.Read m _ outcome true _ plan is ended.ok (λ reads. refl) (failed_count ok m.disk_faults c.end_call.new.faults ended.faults) (kept_count ok m.talk_faults) ended.dry (read_took (story_of m) (counts_of m) new rises outcome);
     }
