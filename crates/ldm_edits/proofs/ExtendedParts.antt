@@ -1,5 +1,5 @@
 -- Extend: the longer volume, its component and the new partitions are made where no word refuses them, and stand in order.
-use Rattle.std.proofs.Common.{◌≡◌, ℕ, ◌+◌, ◌-◌, ◌^◌, ◌<◌, ◌≤◌, ◌==◌, List, length, get_or, sym, ap, ◌∙◌, inl, inr, arith, true, false, Option, Some, None, Ok, Contains, sum_by, find}
+use Rattle.std.proofs.Common.{◌≡◌, ℕ, ◌+◌, ◌-◌, ◌^◌, ◌<◌, ◌≤◌, ◌==◌, List, length, get_or, sym, ap, ◌∙◌, inl, inr, arith, true, false, Option, Some, None, Contains, sum_by, find}
 use Rattle.std.specs.List.{list_any}
 use Rattle.std.proofs.lemmas.Bool.{not-false, eqb-true, eqb-false, or_parts, ltb-false}
 use Rattle.std.proofs.lemmas.List.Elements.{All-contains}
@@ -22,9 +22,8 @@ use Rattle.ldm_group.proofs.Rise.{tested}
 use Rattle.ldm_label.specs.declared.Label.{Label}
 use Rattle.ldm_layout.specs.declared.parts.Plex.{Plex}
 use Rattle.ldm_layout.specs.declared.parts.Extent.{Extent}
-use Rattle.ldm_layout.specs.declared.shape.Shape.TheVariants.{Span}
-use Rattle.ldm_layout.specs.Parts.{plex_of, plexes_of, extents_of, by_offset, tile_key}
-use Rattle.ldm_layout.specs.Volumes.{layout_of, shape_of}
+use Rattle.ldm_layout.specs.Parts.{plex_of, extents_of, by_offset, tile_key}
+use Rattle.ldm_layout.specs.Volumes.{layout_of}
 use Rattle.ldm_layout.proofs.LongerSpan.{span_holds, rising_sum, few_by, many_extents}
 use Rattle.ldm_layout.proofs.VolumeLaws.{IsExtentOf, extents_are}
 use Rattle.ldm_rules.proofs.GroupLaws.{not_broken}
@@ -35,12 +34,11 @@ use Rattle.ldm_rules.specs.Facts.{IsSoundOn}
 use Rattle.ldm_space.specs.declared.taken.Taken.{Taken}
 use Rattle.ldm_space.specs.Free.{taken_in}
 use Rattle.ldm_space.specs.declared.placed.Wanted.{Wanted}
-use Rattle.ldm_space.specs.Wanted.{placed}
 use Rattle.ldm_space.specs.Placed.{AreFirstFits}
 use Rattle.ldm_space.proofs.PlacedLaws.{placed_fit, as_many}
-use Rattle.ldm_edits.specs.Asked.{asked_for, is_much}
+use Rattle.ldm_edits.specs.Asked.{is_much}
 use Rattle.ldm_edits.specs.Changes.{changed}
-use Rattle.ldm_edits.specs.Extending.{lengthened, held, component_in, component_of, is_bad_length}
+use Rattle.ldm_edits.specs.Extending.{lengthened, held, component_in, component_of, MayExtend}
 use Rattle.ldm_volumes.specs.Volumes.{span_parts}
 use Rattle.ldm_edits.proofs.AskedLaws.{are_found}
 use Rattle.ldm_edits.proofs.ExtendedFrom.{own_plex}
@@ -93,17 +91,6 @@ each_some wanted none w at = elim (tested (w.size == 0)) [
   | inr some ↦ some
   | inl empty ↦ (let any : list_any (λ (w : Wanted). w.size == 0) wanted ≡ true = list_any_at (λ (w : Wanted). w.size == 0) wanted at.0 w at.1 (ap (λ (x : Wanted). x.size == 0) at.2 ∙ empty) in absurd cc)
 ]
-
--- nothing refuses it before the limits but for IdsSpent
-pub record MayExtend (db : Database) (labels : List Label) (v : Volume) (c : Component) (wanted : List Wanted) (spots : List Taken) : Type 0 where
-  pub there : Contains db.records (kinds.Volume v)
-  pub span : shape_of (plexes_of v.head.id db.records) ≡ Some Span
-  pub component : component_of v db.records ≡ Some c
-  pub words : List (List ℕ × ℕ)
-  pub asked : asked_for (data_size labels db.records) db.records 0 words ≡ Ok wanted
-  pub sizes : is_bad_length (held (layout_of db.records v)) wanted ≡ false
-  pub places : placed (taken_in db.records) 0 wanted ≡ Ok spots
-  pub ids : max_id db.records + length wanted ≤ 2 ^ 64 - 1
 
 -- the volume, its component and the partitions that take these sectors are made
 pub record MakesLonger (db : Database) (v : Volume) (c : Component) (capacity : ℕ) (taken : List Taken) : Type 0 where
