@@ -1,5 +1,5 @@
 -- extend: the group with a longer span, or the first reason that it is refused.
-use Rattle.std.specs.Prelude.{◌≡◌, ℕ, ◌+◌, ◌-◌, ◌^◌, ◌≤◌, ◌==◌, ◌||◌, not, Bool, true, false, List, [], ◌∷◌, length, sum_by, filter, find, Option, Some, None, is_some, Result, Ok, Err, Contains}
+use Rattle.std.specs.Prelude.{◌≡◌, ℕ, ◌+◌, ◌-◌, ◌^◌, ◌≤◌, ◌==◌, ◌||◌, not, Bool, true, false, List, [], ◌∷◌, length, sum_by, find, Option, Some, None, is_some, Result, Ok, Err, Contains}
 use Rattle.std.specs.List.{list_any}
 use Rattle.std.specs.Option.{option_map}
 use Rattle.ldm_bytes.specs.Tables.{first_of}
@@ -26,6 +26,8 @@ use Rattle.ldm_words.specs.declared.command.Piece.{Piece}
 use Rattle.ldm_edits.specs.declared.reply.Refusal.{Refusal}
 use Rattle.ldm_edits.specs.declared.reply.Refusal.TheVariants as refusals
 use Rattle.ldm_edits.specs.Asked.{words_by, asked_for, is_much}
+use Rattle.ldm_edits.specs.declared.leaving.Leaving.TheVariants as leavings
+use Rattle.ldm_edits.specs.Staying.{change_of}
 use Rattle.ldm_edits.specs.Changes.{Change, when, change_to}
 use Rattle.ldm_edits.specs.Spots.{refused_or, and_then, open_wanted, spots_for}
 use Rattle.ldm_volumes.specs.Volumes.{span_parts, there}
@@ -46,10 +48,7 @@ longer_parts v c capacity id taken =
     ∷ span_parts id c.head.id capacity taken)
 
 abbrev pub lengthened : List Record → Volume → Component → ℕ → List Taken → Change
-lengthened records v c capacity taken = record {
-  stay = filter (λ r. not (changes v c r)) records;
-  made = longer_parts v c capacity (max_id records + 1) taken;
-}
+lengthened records v c capacity taken = change_of (leavings.Changed v.head.id c.head.id) records (longer_parts v c capacity (max_id records + 1) taken)
 
 -- ---- the command
 
