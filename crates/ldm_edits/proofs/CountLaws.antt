@@ -1,6 +1,5 @@
 -- The sequence counts the lines that are done.
 use Rattle.std.proofs.Common.{◌≡◌, ℕ, ◌+◌, Bool, true, false, List, [], ◌∷◌, count_by, refl, sym, ap, ◌∙◌, arith, Option, Some, None, is_some, Result, Ok, Err, if◌then◌else◌}
-use Rattle.std.specs.Prelude.{map, length}
 use Rattle.ldm_bytes.specs.Tables.{first_of, unless}
 use Rattle.ldm_label.specs.declared.Label.{Label}
 use Rattle.ldm_records.specs.declared.types.Component.{Component}
@@ -9,10 +8,6 @@ use Rattle.ldm_group.specs.Database.{Database, at_seq}
 use Rattle.ldm_group.specs.Looks.{volume_named}
 use Rattle.ldm_group.proofs.Rise.{count_yes, count_no}
 use Rattle.ldm_layout.specs.Volumes.{layout_of, shape_of}
-use Rattle.ldm_rules.specs.Ends.{data_size}
-use Rattle.ldm_space.specs.Free.{taken_in}
-use Rattle.ldm_space.specs.Wanted.{placed}
-use Rattle.ldm_space.specs.declared.taken.Taken.{Taken}
 use Rattle.ldm_space.specs.declared.placed.Wanted.{Wanted}
 use Rattle.ldm_words.specs.declared.command.Command.{Command}
 use Rattle.ldm_words.specs.declared.command.Command.TheVariants.{Create, Extend, Delete, Begin, Commit, Cancel}
@@ -22,17 +17,19 @@ use Rattle.ldm_edits.specs.declared.reply.Refusal.{Refusal}
 use Rattle.ldm_edits.specs.declared.reply.Refusal.TheVariants as refusals
 use Rattle.ldm_edits.specs.declared.reply.Reply.{Reply}
 use Rattle.ldm_edits.specs.declared.reply.Reply.TheVariants as replies
-use Rattle.ldm_edits.specs.Asked.{asked_for}
-use Rattle.ldm_edits.specs.Changes.{Change, when, limits, changed}
+use Rattle.ldm_edits.specs.Asked.{words_by}
+use Rattle.ldm_edits.specs.Changes.{Change, limits, changed}
 use Rattle.ldm_edits.specs.Counting.{is_done, SequenceCounts}
-use Rattle.ldm_edits.specs.Creating.{words_of, is_same_disk, is_bad_size, fresh_for, change_for, at_places, on_disks, created}
+use Rattle.ldm_edits.specs.Creating.{words_of, change_for, against_layout, created_new, created}
 use Rattle.ldm_edits.specs.Deleting.{without, deleted}
 use Rattle.ldm_layout.specs.declared.shape.Shape.{Shape}
 use Rattle.ldm_layout.specs.declared.shape.Shape.TheVariants.{Span, Stripe, Mirror, Raid5}
 use Rattle.ldm_layout.specs.Parts.{plexes_of}
 use Rattle.ldm_edits.specs.Mirroring.{grown}
-use Rattle.ldm_edits.specs.Extended.{len_of, mirror_placed, mirror_wanted, extended_as, extended}
-use Rattle.ldm_edits.specs.Extending.{lengthened, held, component_of, refused_or, unlengthened, is_bad_length, lengthen, with_wanted, extended_span}
+use Rattle.ldm_edits.specs.Extended.{len_of, against_growth, longer_mirror, extended_mirror, extended_as, extended}
+use Rattle.ldm_edits.specs.Extending.{lengthened, held, component_of, unlengthened, against_longer, lengthen, longer_span, extended_span}
+use Rattle.ldm_edits.specs.Spots.{refused_or}
+use Rattle.ldm_edits.proofs.SpotLaws.{all_open, all_placed}
 use Rattle.ldm_edits.specs.declared.batch.Draft.{Draft}
 use Rattle.ldm_edits.specs.declared.batch.Turn.{Turn as Verdict}
 use Rattle.ldm_edits.specs.declared.batch.Turn.TheVariants as verdicts
@@ -57,64 +54,32 @@ refused_up db (Some refusal) next up = tt
 
 -- ---- create
 
-places_up : (db : Database) (labels : List Label) (name : List ℕ) (guid : ℕ) (layout : NewLayout) (wanted : List Wanted) (places : Result (List Taken) ℕ) → IsUp db (at_places db labels name guid layout wanted places)
-places_up db labels name guid layout wanted (Err place) = tt
-places_up db labels name guid layout wanted (Ok spots) =
-    let change = change_for db name guid layout spots in
-    unless_up db (first_of (limits db labels (fresh_for layout) change)) change
-
-disks_up : (db : Database) (labels : List Label) (name : List ℕ) (guid : ℕ) (layout : NewLayout) (asked : Result (List Wanted) ℕ) → IsUp db (on_disks db labels name guid layout asked)
-disks_up db labels name guid layout (Err place) = tt
-disks_up db labels name guid layout (Ok wanted) =
-    let places = placed (taken_in db.records) 0 wanted in
-    let next = at_places db labels name guid layout wanted places in
-    if_up db (is_same_disk layout wanted) (Err refusals.SameDisk) (if is_bad_size layout then Err refusals.BadSize else next) tt
-    (if_up db (is_bad_size layout) (Err refusals.BadSize) next tt (places_up db labels name guid layout wanted places))
-
 created_up : (db : Database) (labels : List Label) (name : List ℕ) (guid : ℕ) (layout : NewLayout) → IsUp db (created db labels name guid layout)
 unfolding created
 created_up db labels name guid layout =
-    let asked = asked_for (data_size labels db.records) db.records 0 (words_of layout) in
-    if_up db (is_some (volume_named name db.records)) (Err refusals.NameTaken) (on_disks db labels name guid layout asked) tt (disks_up db labels name guid layout asked)
+    if_up db (is_some (volume_named name db.records)) (Err refusals.NameTaken) (created_new db labels name guid layout) tt
+    (all_open (IsUp db) db labels (words_of layout) (against_layout layout) _ (λ refusal. tt) (λ wanted asked free. all_placed (IsUp db) db wanted _ (λ refusal. tt) (λ spots places. unless_up db _ (change_for db name guid layout spots))))
 
 -- ---- extend
 
-lengthen_up : (db : Database) (labels : List Label) (v : Volume) (component : Option Component) (wanted : List Wanted) (places : Result (List Taken) ℕ) → IsUp db (lengthen db labels v component wanted places)
-lengthen_up db labels v None wanted places = tt
-lengthen_up db labels v (Some c) wanted (Err piece) = tt
-lengthen_up db labels v (Some c) wanted (Ok spots) =
-    let change = lengthened db.records v c (held (layout_of db.records v)) spots in
-    unless_up db (first_of (limits db labels (length wanted) change)) change
-
-wanted_up : (db : Database) (labels : List Label) (v : Volume) (asked : Result (List Wanted) ℕ) → IsUp db (with_wanted db labels v asked)
-wanted_up db labels v (Err piece) = tt
-wanted_up db labels v (Ok wanted) =
-    let places = placed (taken_in db.records) 0 wanted in
-    refused_up db (when (is_bad_length (held (layout_of db.records v)) wanted) refusals.BadSize) (lengthen db labels v (component_of v db.records) wanted places)
-    (lengthen_up db labels v (component_of v db.records) wanted places)
+lengthen_up : (db : Database) (labels : List Label) (v : Volume) (component : Option Component) (wanted : List Wanted) → IsUp db (lengthen db labels v component wanted)
+lengthen_up db labels v None wanted = tt
+lengthen_up db labels v (Some c) wanted = all_placed (IsUp db) db wanted _ (λ refusal. tt) (λ spots places. unless_up db _ (lengthened db.records v c (held (layout_of db.records v)) spots))
 
 extended_up : (db : Database) (labels : List Label) (pieces : List Piece) (volume : Option Volume) → IsUp db (extended_span db labels pieces volume)
 extended_up db labels pieces None = tt
 extended_up db labels pieces (Some v) =
-    let asked = asked_for (data_size labels db.records) db.records 0 (map (λ (p : Piece). (p.disk, p.len)) pieces) in
-    refused_up db (unlengthened db.records v) (with_wanted db labels v asked) (wanted_up db labels v asked)
+    refused_up db (unlengthened db.records v) (longer_span db labels pieces v)
+    (all_open (IsUp db) db labels (words_by pieces) (against_longer db.records v) _ (λ refusal. tt) (λ wanted asked free. lengthen_up db labels v (component_of v db.records) wanted))
 
-mirror_up : (db : Database) (labels : List Label) (v : Volume) (wanted : List Wanted) (places : Result (List Taken) ℕ) → IsUp db (mirror_placed db labels v wanted places)
-mirror_up db labels v wanted (Err piece) = tt
-mirror_up db labels v wanted (Ok spots) =
-    let change = grown db.records v (held (layout_of db.records v) + len_of wanted) spots in
-    unless_up db (first_of (limits db labels (length wanted) change)) change
-
-mirrors_up : (db : Database) (labels : List Label) (v : Volume) (asked : Result (List Wanted) ℕ) → IsUp db (mirror_wanted db labels v asked)
-mirrors_up db labels v (Err piece) = tt
-mirrors_up db labels v (Ok wanted) =
-    let places = placed (taken_in db.records) 0 wanted in
-    refused_up db _ (mirror_placed db labels v wanted places) (mirror_up db labels v wanted places)
+mirror_up : (db : Database) (labels : List Label) (pieces : List Piece) (v : Volume) → IsUp db (extended_mirror db labels pieces v)
+mirror_up db labels pieces v =
+    refused_up db _ (longer_mirror db labels pieces v)
+    (all_open (IsUp db) db labels (words_by pieces) (against_growth db.records v) _ (λ refusal. tt) (λ wanted asked free.
+    all_placed (IsUp db) db wanted _ (λ refusal. tt) (λ spots places. unless_up db _ (grown db.records v (held (layout_of db.records v) + len_of wanted) spots))))
 
 as_up : (db : Database) (labels : List Label) (pieces : List Piece) (v : Volume) (o : Option Shape) → IsUp db (extended_as o db labels pieces v)
-as_up db labels pieces v (Some Mirror) =
-    let asked = asked_for (data_size labels db.records) db.records 0 (map (λ (p : Piece). (p.disk, p.len)) pieces) in
-    refused_up db _ (mirror_wanted db labels v asked) (mirrors_up db labels v asked)
+as_up db labels pieces v (Some Mirror) = mirror_up db labels pieces v
 as_up db labels pieces v (Some Span) = extended_up db labels pieces (Some v)
 as_up db labels pieces v (Some Stripe) = extended_up db labels pieces (Some v)
 as_up db labels pieces v (Some Raid5) = extended_up db labels pieces (Some v)

@@ -28,11 +28,12 @@ use Rattle.ldm_words.specs.declared.command.NewLayout.{NewLayout}
 use Rattle.ldm_words.specs.Limits.{IsCreate}
 use Rattle.ldm_edits.specs.declared.reply.Refusal.{Refusal}
 use Rattle.ldm_edits.specs.declared.reply.Refusal.TheVariants as refusals
-use Rattle.ldm_edits.specs.Changes.{Change, limits, changed}
+use Rattle.ldm_edits.specs.Changes.{limits, changed}
 use Rattle.ldm_edits.specs.Asked.{asked_for}
-use Rattle.ldm_edits.specs.Creating.{words_of, is_same_disk, is_bad_size, made_for, fresh_for, change_for, at_places, on_disks, created}
+use Rattle.ldm_edits.specs.Creating.{words_of, is_same_disk, is_bad_size, made_for, fresh_for, change_for, against_layout, created_new, created}
 use Rattle.ldm_edits.specs.Steps.{Keeps}
-use Rattle.ldm_edits.proofs.LimitLaws.{IsWithinLimits, when_ok, within_limits}
+use Rattle.ldm_edits.proofs.LimitLaws.{IsWithinLimits, two_open, when_ok, within_limits}
+use Rattle.ldm_edits.proofs.SpotLaws.{all_open, all_placed}
 use Rattle.ldm_edits.proofs.KeepLaws.{next_keeps}
 use Rattle.ldm_edits.proofs.AskedLaws.{AreFound, are_found, found_all}
 use Rattle.ldm_edits.proofs.CreatedSizes.{IsSize, word_sizes, IsTakenFor, taken_all, taken_for}
@@ -49,7 +50,6 @@ pub record IsAccepted (db : Database) (labels : List Label) (name : List ℕ) (g
   pub spots : List Taken
   pub free : volume_named name db.records ≡ None
   pub found : asked_for (data_size labels db.records) db.records 0 (words_of layout) ≡ Ok wanted
-  pub disks : is_same_disk layout wanted ≡ false
   pub sizes : is_bad_size layout ≡ false
   pub places : placed (taken_in db.records) 0 wanted ≡ Ok spots
   pub within : first_of (limits db labels (fresh_for layout) (change_for db name guid layout spots)) ≡ None
@@ -67,34 +67,20 @@ none_some (Some x) h = absurd cc
 pub accepted : (db : Database) (labels : List Label) (name : List ℕ) (guid : ℕ) (layout : NewLayout) (next : Database) → created db labels name guid layout ≡ Ok next → IsAccepted db labels name guid layout next
 unfolding created
 accepted db labels name guid layout next h =
-    let found : Result (List Wanted) ℕ = asked_for (data_size labels db.records) db.records 0 (words_of layout) in
-    let named = test_ok (is_some (volume_named name db.records)) refusals.NameTaken (on_disks db labels name guid layout found) next h in
-    let disks = disks_ok found named.1 in
-    let wanted : List Wanted = disks.0 in
-    let apart = test_ok (is_same_disk layout wanted) refusals.SameDisk (if is_bad_size layout then Err refusals.BadSize else at_places db labels name guid layout wanted (placed (taken_in db.records) 0 wanted)) next disks.2 in
-    let sized = test_ok (is_bad_size layout) refusals.BadSize (at_places db labels name guid layout wanted (placed (taken_in db.records) 0 wanted)) next apart.1 in
-    let places = places_ok wanted (placed (taken_in db.records) 0 wanted) sized.1 in
-    let change : Change = change_for db name guid layout places.0 in
-    let within = when_ok (first_of (limits db labels (fresh_for layout) change)) (changed db change) next places.2 in
-    record {
+    let named = test_ok (is_some (volume_named name db.records)) refusals.NameTaken (created_new db labels name guid layout) next h in
+    all_open (λ r. r ≡ Ok next → IsAccepted db labels name guid layout next) db labels (words_of layout) (against_layout layout) _ (λ refusal e. absurd cc)
+    (λ wanted found free. all_placed (λ r. r ≡ Ok next → IsAccepted db labels name guid layout next) db wanted _ (λ refusal e. absurd cc)
+    (λ spots places e.
+    let within = when_ok (first_of (limits db labels (fresh_for layout) (change_for db name guid layout spots))) (changed db (change_for db name guid layout spots)) next e in record {
       wanted = wanted;
-      spots = places.0;
+      spots = spots;
       free = none_some (volume_named name db.records) named.0;
-      found = disks.1;
-      disks = apart.0;
-      sizes = sized.0;
-      places = places.1;
+      found = found;
+      sizes = (two_open (is_same_disk layout wanted) (is_bad_size layout) refusals.SameDisk refusals.BadSize free).1;
+      places = places;
       within = within.0;
       next_is = within.1;
-    }
-  where
-    disks_ok : (o : Result (List Wanted) ℕ) → on_disks db labels name guid layout o ≡ Ok next → (wanted : List Wanted) × (o ≡ Ok wanted) × (on_disks db labels name guid layout (Ok wanted) ≡ Ok next)
-    disks_ok (Ok wanted) h = (wanted, refl, h)
-    disks_ok (Err place) h = absurd cc
-
-    places_ok : (wanted : List Wanted) (o : Result (List Taken) ℕ) → at_places db labels name guid layout wanted o ≡ Ok next → (spots : List Taken) × (o ≡ Ok spots) × (at_places db labels name guid layout wanted (Ok spots) ≡ Ok next)
-    places_ok wanted (Ok spots) h = (spots, refl, h)
-    places_ok wanted (Err place) h = absurd cc
+    })) named.1
 
 -- ---- names
 

@@ -1,5 +1,5 @@
 -- Extend: what it keeps of a group.
-use Rattle.std.proofs.Common.{◌≡◌, ℕ, ◌^◌, ◌<◌, not, List, [], ◌∷◌, length, map, refl, ap, subst, Bool, true, false, Option, Some, None, Result, Ok, Err, Contains}
+use Rattle.std.proofs.Common.{◌≡◌, ℕ, ◌^◌, ◌<◌, not, List, [], ◌∷◌, length, map, refl, ap, subst, Bool, true, false, Option, Some, None, Result, Ok, Err, Contains, ◌+◌, get_or, sym, ◌∙◌, inl, inr, arith, sum_by}
 use Rattle.std.specs.Prelude.{is_some}
 use Rattle.std.specs.List.{All}
 use Rattle.std.proofs.lemmas.Bool.{not-false}
@@ -22,15 +22,20 @@ use Rattle.ldm_space.specs.declared.taken.Taken.{Taken}
 use Rattle.ldm_space.specs.Free.{taken_in}
 use Rattle.ldm_space.specs.declared.placed.Wanted.{Wanted}
 use Rattle.ldm_space.specs.Wanted.{placed}
+use Rattle.ldm_space.specs.Placed.{AllEndWithin, AreApart}
+use Rattle.ldm_space.proofs.PlacedLaws.{fits_apart, fits_within}
 use Rattle.ldm_words.specs.declared.command.Piece.{Piece}
 use Rattle.ldm_edits.specs.declared.reply.Refusal.{Refusal}
 use Rattle.ldm_edits.specs.declared.reply.Refusal.TheVariants as refusals
-use Rattle.ldm_edits.specs.Asked.{asked_for}
+use Rattle.ldm_edits.specs.Asked.{words_by, asked_for}
 use Rattle.ldm_edits.specs.Changes.{Change, when, limits, changed}
-use Rattle.ldm_edits.specs.Extending.{lengthened, held, component_of, is_span, unlengthened, is_bad_length, lengthen, with_wanted, refused_or, extended_span}
+use Rattle.ldm_edits.specs.Extending.{lengthened, held, component_of, is_span, unlengthened, is_bad_length, lengthen, extended_span, changes, against_longer, longer_span, MayExtend}
 use Rattle.ldm_edits.specs.Steps.{Keeps}
 use Rattle.ldm_edits.proofs.LongerMade.{longer_keeps}
-use Rattle.ldm_edits.proofs.ExtendedParts.{MayExtend, lengthens}
+use Rattle.ldm_edits.proofs.ExtendedParts.{lengthens}
+use Rattle.ldm_edits.specs.Spots.{refused_or}
+use Rattle.ldm_edits.proofs.SpotLaws.{all_open, all_placed}
+use Rattle.ldm_edits.proofs.KeepLaws.{next_keeps}
 use Rattle.ldm_edits.proofs.LimitLaws.{first_parts, within_limits, not_when, when_ok}
 
 -- ---- the command
@@ -55,38 +60,28 @@ pub extended_from : (db : Database) (labels : List Label) (pieces : List Piece) 
     → ((v : Volume) → o ≡ Some v → Contains db.records (kinds.Volume v)) → extended_span db labels pieces o ≡ Ok next → Rising next.records × Keeps labels db next
 extended_from db labels pieces None next up low ed at h = absurd cc
 extended_from db labels pieces (Some v) next up low ed at h =
-    let words : List (List ℕ × ℕ) = map (λ (p : Piece). (p.disk, p.len)) pieces in
-    let asked = asked_for (data_size labels db.records) db.records 0 words in
-    let open' = not_refused (unlengthened db.records v) (with_wanted db labels v asked) next h in
-    ask words asked refl open'.1 (not_unlengthened db.records v open'.0)
+    let may' = not_refused (unlengthened db.records v) (longer_span db labels pieces v) next h in
+    all_open (λ r. r ≡ Ok next → Rising next.records × Keeps labels db next) db labels (words_by pieces) (against_longer db.records v) (lengthen db labels v (component_of v db.records)) (λ refusal e. absurd cc)
+    (λ wanted asked free e. by_component (not_unlengthened db.records v may'.0) wanted asked (not_when (is_bad_length (held (layout_of db.records v)) wanted) refusals.BadSize free) (component_of v db.records) refl e) may'.1
   where
-    lay : (words : List (List ℕ × ℕ)) (wanted : List Wanted) → asked_for (data_size labels db.records) db.records 0 words ≡ Ok wanted → is_bad_length (held (layout_of db.records v)) wanted ≡ false → (c : Option Component) → component_of v db.records ≡ c
-        → (r : Result (List Taken) ℕ) → placed (taken_in db.records) 0 wanted ≡ r → lengthen db labels v c wanted r ≡ Ok next → shape_of (plexes_of v.head.id db.records) ≡ Some shapes.Span → Rising next.records × Keeps labels db next
-    lay words wanted asked good None found r places e shape = absurd cc
-    lay words wanted asked good (Some c) found (Err piece) places e shape = absurd cc
-    lay words wanted asked good (Some c) found (Ok spots) places e shape =
+    by_component : shape_of (plexes_of v.head.id db.records) ≡ Some shapes.Span → (wanted : List Wanted) → asked_for (data_size labels db.records) db.records 0 (words_by pieces) ≡ Ok wanted
+        → is_bad_length (held (layout_of db.records v)) wanted ≡ false → (c : Option Component) → component_of v db.records ≡ c → lengthen db labels v c wanted ≡ Ok next → Rising next.records × Keeps labels db next
+    by_component shape wanted asked good None found e = absurd cc
+    by_component shape wanted asked good (Some c) found e =
+        all_placed (λ r. r ≡ Ok next → Rising next.records × Keeps labels db next) db wanted _ (λ refusal e. absurd cc) (λ spots places e.
         let change : Change = lengthened db.records v c (held (layout_of db.records v)) spots in
         let made = when_ok (first_of (limits db labels (length wanted) change)) (changed db change) next e in
         let may : MayExtend db labels v c wanted spots = record {
           there = at v refl;
           span = shape;
           component = found;
-          words = words;
+          words = words_by pieces;
           asked = asked;
           sizes = good;
           places = places;
           ids = (within_limits db labels (length wanted) change made.0).ids;
         } in
-        subst (λ (x : Database). Rising x.records × Keeps labels db x) made.1 (longer_keeps up ed low (length wanted) (lengthens up ed may) made.0)
-
-    ask : (words : List (List ℕ × ℕ)) (r : Result (List Wanted) ℕ) → asked_for (data_size labels db.records) db.records 0 words ≡ r → with_wanted db labels v r ≡ Ok next → shape_of (plexes_of v.head.id db.records) ≡ Some shapes.Span
-        → Rising next.records × Keeps labels db next
-    ask words (Err piece) e h shape = absurd cc
-    ask words (Ok wanted) e h shape =
-        let bad : Bool = is_bad_length (held (layout_of db.records v)) wanted in
-        let open' = not_refused (when bad refusals.BadSize) (lengthen db labels v (component_of v db.records) wanted (placed (taken_in db.records) 0 wanted)) next h in
-        lay words wanted e (not_when bad refusals.BadSize open'.0)
-        (component_of v db.records) refl (placed (taken_in db.records) 0 wanted) refl open'.1 shape
+        subst (λ (x : Database). Rising x.records × Keeps labels db x) made.1 (longer_keeps up ed low (length wanted) (lengthens up ed may) made.0)) e
 
 pub volume_is : (o : Option Record) (v : Volume) → volume_in o ≡ Some v → o ≡ Some (kinds.Volume v)
 volume_is (Some (kinds.Volume x)) v e = (let same : x ≡ v = cc in ap (λ (y : Volume). Some (kinds.Volume y)) same)

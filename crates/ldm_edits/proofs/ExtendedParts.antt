@@ -1,9 +1,9 @@
--- Extend: the longer span, its component and the new partitions are made where no word refuses them.
+-- Extend: the longer volume, its component and the new partitions are made where no word refuses them, and stand in order.
 use Rattle.std.proofs.Common.{◌≡◌, ℕ, zero, suc, ◌+◌, ◌-◌, ◌^◌, ◌<◌, ◌≤◌, ◌==◌, ◌||◌, List, [], ◌∷◌, length, map, get_or, refl, sym, ap, subst, ◌∙◌, inl, inr, arith, Bool, true, false, Option, Some, None, Ok, Contains, sum_by, find}
 use Rattle.std.specs.Prelude.{filter, if◌then◌else◌}
 use Rattle.std.specs.List.{list_any, list_all, cons_option}
 use Rattle.std.specs.Option.{option_map}
-use Rattle.std.proofs.lemmas.Bool.{eqb-true, eq-eqb, eqb-false, or_parts, ltb-false}
+use Rattle.std.proofs.lemmas.Bool.{eqb-true, eq-eqb, eqb-false, or_parts, ltb-false, not-false}
 use Rattle.std.proofs.lemmas.List.{length-map, append-nil}
 use Rattle.std.proofs.lemmas.List.Elements.{All-contains, Contains-get_or}
 use Rattle.std.proofs.lemmas.List.Folds.{list_any_at}
@@ -30,9 +30,10 @@ use Rattle.ldm_layout.specs.declared.shape.Shape.TheVariants.{Span, Mirror}
 use Rattle.ldm_layout.specs.Parts.{plex_of, plexes_of, extent_of, extents_of, by_offset, tile_key, tiles_from}
 use Rattle.ldm_layout.specs.Volumes.{layout_of, shape_of, is_basic}
 use Rattle.ldm_layout.proofs.ChildLaws.{plex_there}
-use Rattle.ldm_layout.proofs.LongerSpan.{rising_sum, few_by, many_extents}
+use Rattle.ldm_layout.proofs.LongerSpan.{rising_sum, few_by, many_extents, span_holds}
 use Rattle.ldm_layout.proofs.VolumeLaws.{IsExtentOf, extents_are, one_component}
 use Rattle.ldm_rules.proofs.CarryLaws.{component_kept, partition_kept}
+use Rattle.ldm_rules.proofs.GroupLaws.{not_broken}
 use Rattle.ldm_rules.proofs.SoundLaws.{EachRule, sound_parts}
 use Rattle.ldm_rules.specs.Ends.{data_size}
 use Rattle.ldm_rules.specs.Facts.{IsSoundOn}
@@ -44,7 +45,7 @@ use Rattle.ldm_space.specs.Placed.{AreFirstFits, AllEndWithin, AreApart}
 use Rattle.ldm_space.proofs.PlacedLaws.{placed_fit, as_many, fits_apart, fits_within}
 use Rattle.ldm_edits.specs.Asked.{asked_for, is_much}
 use Rattle.ldm_edits.specs.Changes.{changed}
-use Rattle.ldm_edits.specs.Extending.{changes, lengthened, held, component_in, component_of, is_bad_length}
+use Rattle.ldm_edits.specs.Extending.{changes, lengthened, held, component_in, component_of, is_bad_length, MayExtend}
 use Rattle.ldm_volumes.specs.Volumes.{span_parts}
 use Rattle.ldm_edits.proofs.AskedLaws.{are_found}
 use Rattle.ldm_edits.proofs.CreatedNext.{alone_rises}
@@ -122,17 +123,6 @@ each_some wanted none w at = elim (tested (w.size == 0)) [
   | inl empty ↦ (let any : list_any (λ (w : Wanted). w.size == 0) wanted ≡ true = list_any_at (λ (w : Wanted). w.size == 0) wanted at.0 w at.1 (ap (λ (x : Wanted). x.size == 0) at.2 ∙ empty) in absurd cc)
 ]
 
--- nothing refuses it before the limits but for IdsSpent
-pub record MayExtend (db : Database) (labels : List Label) (v : Volume) (c : Component) (wanted : List Wanted) (spots : List Taken) : Type 0 where
-  pub there : Contains db.records (kinds.Volume v)
-  pub span : shape_of (plexes_of v.head.id db.records) ≡ Some Span
-  pub component : component_of v db.records ≡ Some c
-  pub words : List (List ℕ × ℕ)
-  pub asked : asked_for (data_size labels db.records) db.records 0 words ≡ Ok wanted
-  pub sizes : is_bad_length (held (layout_of db.records v)) wanted ≡ false
-  pub places : placed (taken_in db.records) 0 wanted ≡ Ok spots
-  pub ids : max_id db.records + length wanted ≤ 2 ^ 64 - 1
-
 -- the volume, its component and the partitions that take these sectors are made
 pub record MakesLonger (db : Database) (v : Volume) (c : Component) (capacity : ℕ) (taken : List Taken) : Type 0 where
   pub volume : MakesSize v (capacity + sum_by (λ (t : Taken). t.size) taken)
@@ -148,7 +138,7 @@ module _ {db : Database} {labels : List Label} {v : Volume} {c : Component} {wan
   abbrev taken : List Taken
   taken = spots
 
-  fits : AreFirstFits (taken_in db.records) wanted spots
+  pub fits : AreFirstFits (taken_in db.records) wanted spots
   fits = placed_fit wanted (taken_in db.records) 0 spots may.places
 
   on_disks : (w : Wanted) → Contains wanted w → IsOnDisk labels db.records w

@@ -82,7 +82,7 @@ module _ {db : Database} {labels : List Label} {v : Volume} {len : ℕ} {wanted 
   abbrev change : Change
   change = grown db.records v (held (layout_of db.records v) + len) spots
 
-  fits : AreFirstFits (taken_in db.records) wanted spots
+  pub fits : AreFirstFits (taken_in db.records) wanted spots
   fits = placed_fit wanted (taken_in db.records) 0 spots may.places
 
   on_disks : (w : Wanted) → Contains wanted w → IsOnDisk labels db.records w

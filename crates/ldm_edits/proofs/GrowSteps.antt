@@ -1,9 +1,8 @@
 -- extend of a mirror, reason by reason from where its pieces are placed.
-use Rattle.std.proofs.Common.{◌≡◌, ℕ, zero, suc, [], ◌∷◌, ◌++◌, arith, ◌+◌, ◌-◌, ◌^◌, ◌<◌, List, length, map, get_or, sym, ap, ◌∙◌, true, Option, Ok, Err, Contains}
+use Rattle.std.proofs.Common.{◌≡◌, ℕ, zero, suc, [], ◌∷◌, ◌++◌, arith, ◌+◌, ◌^◌, ◌<◌, List, length, map, get_or, ap, true, Option, Contains}
 use Rattle.std.specs.Prelude.{is_some}
 use Rattle.std.specs.List.{All}
 use Rattle.std.proofs.lemmas.List.Elements.{Contains-get_or}
-use Rattle.ldm_bytes.specs.Tables.{unless}
 use Rattle.std.specs.Option.{option_map}
 use Rattle.ldm_records.specs.declared.types.Record.{Record}
 use Rattle.ldm_records.specs.declared.types.Record.TheVariants as kinds
@@ -14,25 +13,18 @@ use Rattle.ldm_made.proofs.MadeLaws.{makes_children}
 use Rattle.ldm_label.specs.declared.Label.{Label}
 use Rattle.ldm_group.specs.Order.{Rising}
 use Rattle.ldm_group.specs.Database.{Database}
-use Rattle.ldm_group.specs.Looks.{max_id}
 use Rattle.ldm_layout.specs.Volumes.{layout_of}
 use Rattle.ldm_rules.specs.Facts.{IsSoundOn}
 use Rattle.ldm_space.specs.declared.taken.Taken.{Taken}
 use Rattle.ldm_space.specs.declared.placed.Wanted.{Wanted}
 use Rattle.ldm_space.specs.Free.{taken_in}
-use Rattle.ldm_space.specs.Wanted.{placed}
+use Rattle.ldm_space.proofs.PlacedLaws.{as_many}
 use Rattle.ldm_volumes.specs.Volumes.{there}
-use Rattle.ldm_edits.specs.declared.leaving.Leaving.TheVariants as leavings
-use Rattle.ldm_edits.specs.declared.reply.Refusal.{Refusal}
-use Rattle.ldm_edits.specs.declared.reply.Refusal.TheVariants as refusals
-use Rattle.ldm_edits.specs.Changes.{Change, changed, change_to}
+use Rattle.ldm_edits.specs.Changes.{changed}
 use Rattle.ldm_edits.specs.Extending.{held}
-use Rattle.ldm_edits.specs.Staying.{change_of}
 use Rattle.ldm_edits.specs.Mirroring.{components_of, grown_components, grown_parts, grown, grown_made, MayGrow}
-use Rattle.ldm_edits.specs.Extended.{len_of, mirror_placed}
-use Rattle.ldm_edits.proofs.GrowLaws.{ready, volume, rises}
+use Rattle.ldm_edits.proofs.GrowLaws.{ready, volume, fits, rises}
 use Rattle.ldm_edits.proofs.GrownMade.{IsReady}
-use Rattle.ldm_edits.proofs.LimitTable.{ids_spent}
 
 few_all : (cs : List Component) → ((c : Component) → Contains cs c → IsReady c) → All (λ c. c.children + 1 < 2 ^ 64) cs
 few_all cs are k d lt = (are (get_or cs k d) (Contains-get_or cs k d lt)).few
@@ -45,6 +37,7 @@ made_all cs are k d lt =
 
 -- what the records of the longer mirror ask for
 pub record Grows (db : Database) (v : Volume) (len : ℕ) (wanted : List Wanted) (spots : List Taken) : Type 0 where
+  pub many : length spots ≡ length wanted
   pub volume_there : is_some (resized v (held (layout_of db.records v) + len)) ≡ true
   pub few : All (λ c. c.children + 1 < 2 ^ 64) (components_of v db.records)
   pub made : All (λ c. is_some (with_children c (c.children + 1)) ≡ true) (components_of v db.records)
@@ -52,30 +45,12 @@ pub record Grows (db : Database) (v : Volume) (len : ℕ) (wanted : List Wanted)
 
 pub grows : {db : Database} {labels : List Label} {v : Volume} {len : ℕ} {wanted : List Wanted} {spots : List Taken} → Rising db.records → IsSoundOn db labels → MayGrow db labels v len wanted spots → Grows db v len wanted spots
 grows {db} {labels} {v} {len} {wanted} {spots} up old may = record {
+  many = as_many wanted (taken_in db.records) spots (fits up old may);
   volume_there = ap (λ (o : Option Volume). is_some o) (volume up old may).made;
   few = few_all (components_of v db.records) (ready up old may);
   made = made_all (components_of v db.records) (ready up old may);
   rising = rises up old may;
 }
-
-module _ (db : Database) (labels : List Label) (v : Volume) (wanted : List Wanted) where
-  pub no_spot : (piece : ℕ) → placed (taken_in db.records) 0 wanted ≡ Err piece → mirror_placed db labels v wanted (placed (taken_in db.records) 0 wanted) ≡ Err (refusals.NoSpace piece)
-  no_spot piece places = ap (mirror_placed db labels v wanted) places
-
-  pub no_more_ids : (spots : List Taken) → placed (taken_in db.records) 0 wanted ≡ Ok spots → 2 ^ 64 - 1 < max_id db.records + length wanted → mirror_placed db labels v wanted (placed (taken_in db.records) 0 wanted) ≡ Err refusals.IdsSpent
-  no_more_ids spots places spent =
-      let change : Change = grown db.records v (held (layout_of db.records v) + len_of wanted) spots in
-      ap (mirror_placed db labels v wanted) places ∙ ap (λ (o : Option Refusal). unless o (changed db change)) (sym (ids_spent db labels (length wanted) change spent))
-
-  -- what is made is tested by the limits
-  pub grown_by_limits : (spots : List Taken) (taken : List Taken) (made : List Record) (id size : ℕ) → placed (taken_in db.records) 0 wanted ≡ Ok spots → taken ≡ spots → id ≡ max_id db.records + 1
-      → size ≡ held (layout_of db.records v) + len_of wanted → made ≡ grown_made db.records v size id taken
-      → change_to db labels (length wanted) (change_of (leavings.Grown v.head.id) db.records made) ≡ mirror_placed db labels v wanted (placed (taken_in db.records) 0 wanted)
-  grown_by_limits spots taken made id size places taken_is id_is size_is made_is =
-      let change : Change = grown db.records v (held (layout_of db.records v) + len_of wanted) spots in
-      let all : made ≡ change.made = made_is ∙ (λ i. grown_made db.records v (size_is i) (id_is i) (taken_is i)) in
-      let same : change_of (leavings.Grown v.head.id) db.records made ≡ change = (λ i. record { stay = change.stay; made = all i }) in
-      ap (change_to db labels (length wanted)) same ∙ sym (ap (mirror_placed db labels v wanted) places)
 
 -- a list of values, each by what it stands for
 pub all_map : {X Y : Type 0} (f : X → Y) (P : Y → Type 0) (xs : List X) → All P (map f xs) → All (λ x. P (f x)) xs

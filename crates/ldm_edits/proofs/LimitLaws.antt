@@ -42,6 +42,12 @@ pub not_when : (b : Bool) (r : Refusal) → when b r ≡ None → b ≡ false
 not_when true r h = absurd cc
 not_when false r h = refl
 
+-- nor does one of two
+pub two_open : (a b : Bool) (r s : Refusal) → first_of (when a r ∷ (when b s ∷ [])) ≡ None → (a ≡ false) × (b ≡ false)
+two_open a b r s h =
+    let rest = first_parts (when a r) (when b s ∷ []) h in
+    (not_when a r rest.0, not_when b s (first_parts (when b s) [] rest.1).0)
+
 -- what isn't refused is made
 pub when_ok : (o : Option Refusal) (made next : Database) → unless o made ≡ Ok next → (o ≡ None) × (made ≡ next)
 when_ok None made next h = (refl, cc)

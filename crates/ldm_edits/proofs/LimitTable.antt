@@ -1,18 +1,19 @@
 -- The table of the limits, row by row.
-use Rattle.std.proofs.Common.{◌≡◌, ℕ, ◌+◌, ◌-◌, ◌^◌, ◌<◌, ◌≤◌, ◌==◌, ◌++◌, List, [], ◌∷◌, sym, ap, ◌∙◌, arith, Bool, true, false, Option, Some, None}
+use Rattle.std.proofs.Common.{◌≡◌, ℕ, ◌+◌, ◌-◌, ◌^◌, ◌<◌, ◌≤◌, ◌==◌, ◌++◌, List, [], ◌∷◌, sym, ap, ◌∙◌, arith, Bool, true, false, Option, Some, None, Err}
 use Rattle.std.specs.Prelude.{nat_lt}
 use Rattle.std.specs.Option.{option_map}
 use Rattle.std.proofs.lemmas.Bool.{lt-ltb, le-ltb, eq-eqb, ne_eqb}
 use Rattle.std.proofs.lemmas.List.Sums.{sum_by-append}
-use Rattle.ldm_bytes.specs.Tables.{first_of}
+use Rattle.ldm_bytes.specs.Tables.{first_of, unless}
 use Rattle.ldm_records.specs.declared.types.Record.{Record}
 use Rattle.ldm_frags.specs.Written.{parts_of}
 use Rattle.ldm_label.specs.declared.Label.{Label}
 use Rattle.ldm_group.specs.Database.{Database}
 use Rattle.ldm_group.specs.Looks.{max_id}
 use Rattle.ldm_group.specs.Room.{own_len, need_of}
+use Rattle.ldm_edits.specs.declared.reply.Refusal.{Refusal}
 use Rattle.ldm_edits.specs.declared.reply.Refusal.TheVariants as refusals
-use Rattle.ldm_edits.specs.Changes.{Change, need_in, most_blocks, when, long_id, limits, later_limits}
+use Rattle.ldm_edits.specs.Changes.{Change, need_in, most_blocks, when, long_id, limits, later_limits, changed, change_to}
 
 -- a record is too long
 pub too_long : (db : Database) (labels : List Label) (change : Change) (id : ℕ) → Some id ≡ long_id change.made → Some (refusals.TooLong id) ≡ first_of (later_limits db labels change)
@@ -66,3 +67,7 @@ ids_spent db labels fresh change more = ap (λ (b : Bool). first_of (when b refu
 pub ids_left : (db : Database) (labels : List Label) (fresh : ℕ) (change : Change) → max_id db.records + fresh ≤ 2 ^ 64 - 1 → first_of (later_limits db labels change) ≡ first_of (limits db labels fresh change)
 unfolding limits
 ids_left db labels fresh change few = ap (λ (b : Bool). first_of (when b refusals.IdsSpent ∷ later_limits db labels change)) (sym (le-ltb (2 ^ 64 - 1) (max_id db.records + fresh) few))
+
+-- so a change with so many new records is refused
+pub change_spent : (db : Database) (labels : List Label) (fresh : ℕ) (change : Change) → 2 ^ 64 - 1 < max_id db.records + fresh → change_to db labels fresh change ≡ Err refusals.IdsSpent
+change_spent db labels fresh change more = ap (λ (o : Option Refusal). unless o (changed db change)) (sym (ids_spent db labels fresh change more))

@@ -1,8 +1,8 @@
 -- extend of a mirror, reason by reason up to where its pieces are placed.
-use Rattle.std.proofs.Common.{◌≡◌, ℕ, zero, suc, ◌+◌, ◌-◌, ◌^◌, ◌<◌, ◌≤◌, ◌==◌, ◌||◌, not, Bool, true, false, List, [], ◌∷◌, length, map, get_or, ap, ◌∙◌, arith, Some, Ok, Err, Contains}
+use Rattle.std.proofs.Common.{◌≡◌, refl, ℕ, zero, suc, ◌+◌, ◌-◌, ◌^◌, ◌<◌, ◌≤◌, ◌==◌, ◌||◌, not, Bool, true, false, List, [], ◌∷◌, length, get_or, arith, Some, Ok, Contains}
 use Rattle.std.specs.Prelude.{is_some}
 use Rattle.std.specs.List.{All, list_any}
-use Rattle.std.proofs.lemmas.Bool.{ltb-false, eqb-false}
+use Rattle.std.proofs.lemmas.Bool.{not-false, eqb-true, ltb-false, eqb-false}
 use Rattle.ldm_bytes.specs.Tables.{first_of}
 use Rattle.ldm_records.specs.declared.types.Record.{Record}
 use Rattle.ldm_records.specs.declared.types.Record.TheVariants as kinds
@@ -20,44 +20,41 @@ use Rattle.ldm_space.specs.Free.{taken_in}
 use Rattle.ldm_space.specs.Wanted.{placed}
 use Rattle.ldm_words.specs.declared.command.Piece.{Piece}
 use Rattle.ldm_edits.specs.declared.reply.Refusal.TheVariants as refusals
-use Rattle.ldm_edits.specs.Asked.{has_twins, is_much}
+use Rattle.ldm_rules.specs.Ends.{data_size}
+use Rattle.ldm_edits.specs.Asked.{words_by, asked_for, is_much}
 use Rattle.ldm_edits.specs.Changes.{when}
-use Rattle.ldm_edits.specs.Extending.{held, refused_or}
+use Rattle.ldm_edits.specs.Extending.{held}
+use Rattle.ldm_edits.specs.Spots.{refused_or}
 use Rattle.ldm_edits.specs.Mirroring.{components_of, component_holds, MayGrow}
-use Rattle.ldm_edits.specs.Extended.{on_others, len_of, is_uneven, is_bad_growth, mirror_placed, mirror_wanted, extended_mirror}
-use Rattle.ldm_edits.proofs.MirrorLaws.{either, even_sizes, some_len}
-use Rattle.ldm_edits.proofs.ExtendSteps.{asked_by}
+use Rattle.ldm_edits.specs.Extended.{len_of, is_uneven, is_bad_growth, IsEven, longer_mirror, extended_mirror}
 
-module _ (db : Database) (labels : List Label) (pieces : List Piece) (v : Volume) (plain : is_some v.size2 ≡ false) where
-  by_count : (same : Bool) → (length pieces == length (components_of v db.records)) ≡ same
-      → extended_mirror db labels pieces v ≡ refused_or (first_of (when false refusals.ExtraSize ∷ (when (not same) (refusals.PieceCount (length (components_of v db.records))) ∷ []))) (mirror_wanted db labels v (asked_by db labels pieces))
-  by_count same is = λ i. refused_or (first_of (when (plain i) refusals.ExtraSize ∷ (when (not (is i)) (refusals.PieceCount (length (components_of v db.records))) ∷ []))) (mirror_wanted db labels v (asked_by db labels pieces))
+pub by_count : (db : Database) (labels : List Label) (pieces : List Piece) (v : Volume) (same : Bool) → is_some v.size2 ≡ false → (length pieces == length (components_of v db.records)) ≡ same
+    → extended_mirror db labels pieces v ≡ refused_or (first_of (when false refusals.ExtraSize ∷ (when (not same) (refusals.PieceCount (length (components_of v db.records))) ∷ []))) (longer_mirror db labels pieces v)
+by_count db labels pieces v same plain is =
+    λ i. refused_or (first_of (when (plain i) refusals.ExtraSize ∷ (when (not (is i)) (refusals.PieceCount (length (components_of v db.records))) ∷ []))) (longer_mirror db labels pieces v)
 
-  pub piece_count : (length pieces == length (components_of v db.records)) ≡ false → extended_mirror db labels pieces v ≡ Err (refusals.PieceCount (length (components_of v db.records)))
-  piece_count other = by_count false other
+pub either : (x y : Bool) → (x || y) ≡ false → (x ≡ false) × (y ≡ false)
+either true y h = absurd cc
+either false y h = (refl, h)
 
-  pub no_disk_there : (piece : ℕ) → (length pieces == length (components_of v db.records)) ≡ true → asked_by db labels pieces ≡ Err piece → extended_mirror db labels pieces v ≡ Err (refusals.NoDisk piece)
-  no_disk_there piece same h = by_count true same ∙ ap (mirror_wanted db labels v) h
+-- one length, and it isn't 0
+pub even_sizes : (len : ℕ) (wanted : List Wanted) → is_uneven len wanted ≡ false → All (λ w. (w.size ≡ len) × ((w.size == 0) ≡ false)) wanted
+even_sizes len [] h k d lt = absurd (omega arith)
+even_sizes len (w ∷ ws) h zero d lt =
+    let now = either ((w.size == 0) || not (w.size == len)) (is_uneven len ws) h in
+    let parts = either (w.size == 0) (not (w.size == len)) now.0 in
+    (eqb-true w.size len (not-false (w.size == len) parts.1), parts.0)
+even_sizes len (w ∷ ws) h (suc k) d lt = even_sizes len ws (either ((w.size == 0) || not (w.size == len)) (is_uneven len ws) h).1 k d (omega arith)
 
-  pub by_tests : (wanted : List Wanted) (twice bad : Bool) → (length pieces == length (components_of v db.records)) ≡ true → asked_by db labels pieces ≡ Ok wanted
-      → (has_twins wanted || on_others db.records (components_of v db.records) (components_of v db.records) wanted) ≡ twice → is_bad_growth db.records (held (layout_of db.records v)) (components_of v db.records) wanted ≡ bad
-      → extended_mirror db labels pieces v ≡ refused_or (first_of (when twice refusals.SameDisk ∷ (when bad refusals.BadSize ∷ []))) (mirror_placed db labels v wanted (placed (taken_in db.records) 0 wanted))
-  by_tests wanted twice bad same h twice_is bad_is =
-      by_count true same ∙ ap (mirror_wanted db labels v) h
-      ∙ (λ i. refused_or (first_of (when (twice_is i) refusals.SameDisk ∷ (when (bad_is i) refusals.BadSize ∷ []))) (mirror_placed db labels v wanted (placed (taken_in db.records) 0 wanted)))
+-- a mirror has a component, so there is a piece
+pub some_len : (wanted : List Wanted) → 0 < length wanted → All (λ w. (w.size ≡ len_of wanted) × ((w.size == 0) ≡ false)) wanted → (len_of wanted == 0) ≡ false
+some_len [] some all = absurd (omega arith)
+some_len (w ∷ ws) some all = (all 0 w (omega arith)).1
 
 none_much : (records : List Record) (cs : List Component) → list_any (λ c. is_much (component_holds records c)) cs ≡ false → All (λ c. component_holds records c < 2 ^ 64) cs
 none_much records [] h k d lt = absurd (omega arith)
 none_much records (c ∷ cs) h zero d lt = (let here = ltb-false (2 ^ 64 - 1) (component_holds records c) (either (is_much (component_holds records c)) _ h).0 in omega arith)
 none_much records (c ∷ cs) h (suc k) d lt = none_much records cs (either (is_much (component_holds records c)) _ h).1 k d (omega arith)
-
--- what good lengths are
-pub record IsEven (records : List Record) (capacity : ℕ) (cs : List Component) (wanted : List Wanted) : Type 0 where
-  pub room : capacity + len_of wanted < 2 ^ 64
-  pub low : All (λ c. component_holds records c < 2 ^ 64) cs
-  pub some : All (λ w. 0 < w.size) wanted
-  pub same : All (λ w. w.size ≡ len_of wanted) wanted
-  pub len : 0 < length wanted → (len_of wanted == 0) ≡ false
 
 above : (n : ℕ) → (n == 0) ≡ false → 0 < n
 above n h = (let other : n ≡ 0 → ⊥ = eqb-false n 0 h in omega arith)
@@ -76,12 +73,12 @@ good_lengths records capacity cs wanted good =
     }
 
 pub may_grow : (db : Database) (labels : List Label) (pieces : List Piece) (v : Volume) (wanted : List Wanted) → Contains db.records (kinds.Volume v) → shape_of (plexes_of v.head.id db.records) ≡ Some Mirror
-    → asked_by db labels pieces ≡ Ok wanted → length wanted ≡ length (components_of v db.records) → 0 < length wanted → IsEven db.records (held (layout_of db.records v)) (components_of v db.records) wanted → db.header.last < 2 ^ 32
+    → asked_for (data_size labels db.records) db.records 0 (words_by pieces) ≡ Ok wanted → length wanted ≡ length (components_of v db.records) → 0 < length wanted → IsEven db.records (held (layout_of db.records v)) (components_of v db.records) wanted → db.header.last < 2 ^ 32
     → (spots : List Taken) → placed (taken_in db.records) 0 wanted ≡ Ok spots → max_id db.records + length wanted ≤ 2 ^ 64 - 1 → MayGrow db labels v (len_of wanted) wanted spots
 may_grow db labels pieces v wanted there shape asked each some even low spots places ids = record {
   there = there;
   shape = shape;
-  words = map (λ (p : Piece). (p.disk, p.len)) pieces;
+  words = words_by pieces;
   asked = asked;
   one_each = each;
   sizes = even.same;

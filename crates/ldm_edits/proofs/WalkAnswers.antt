@@ -1,25 +1,28 @@
--- What the calls say that ask for sectors and place them.
-use Rattle.std.proofs.Common.{◌≡◌, ℕ, ◌∙◌, sym, subst, refl, List, [], ◌∷◌, map, Bor, Option, Some, None, Result, Ok, Err}
+-- What the calls say that ask for sectors.
+use Rattle.std.proofs.Common.{◌≡◌, ◌<◌, ◌∙◌, ℕ, refl, arith, List, [], ◌∷◌, length, map, Bor, false, Option, Some, None, Ok}
 use Rattle.std.specs.Prelude.{is_some, option_copied}
-use Rattle.std.specs.Global.{Vec as Items}
+use Rattle.std.specs.List.{All}
+use Rattle.std.proofs.lemmas.List.{length-map}
 use Rattle.ldm_records.specs.declared.types.Record.{Record}
-use Rattle.ldm_space.specs.declared.taken.Taken.{Taken}
+use Rattle.ldm_label.specs.declared.Label.{Label}
+use Rattle.ldm_group.specs.Database.{Database}
+use Rattle.ldm_rules.specs.Ends.{data_size}
+use Rattle.ldm_words.specs.declared.command.Piece.{Piece}
+use Rattle.ldm_words.specs.declared.command.NewLayout.{NewLayout}
+use Rattle.ldm_words.specs.Limits.{IsNewLayout}
+use Rattle.ldm_edits.specs.declared.reply.Refusal.TheVariants as refusals
 use Rattle.ldm_space.specs.declared.placed.Wanted.{Wanted}
-use Rattle.ldm_space.specs.Free.{taken_in}
-use Rattle.ldm_space.specs.Wanted.{placed}
-use Rattle.ldm_space.specs.Placed.{ListsAs}
-use Rattle.ldm_edits.specs.Asked.{asked_for}
-use Rattle.ldm_edits.proofs.AskedLaws.{AreFound, are_found}
+use Rattle.ldm_edits.specs.Asked.{words_by, asked_for}
+use Rattle.ldm_edits.specs.Creating.{words_of, is_bad_size}
+use Rattle.ldm_edits.specs.Spots.{wanted_by}
+use Rattle.ldm_edits.proofs.AskedLaws.{AreFound, are_found, found_all}
+use Rattle.ldm_edits.proofs.CreatedSizes.{IsSize, word_sizes}
+use Rattle.ldm_edits.proofs.SizeLists.{sizes_many}
+use Rattle.ldm_edits.proofs.SpotLaws.{place_ok}
 
 pub copied_some : {X : Type 0} (o : Option (Bor X)) → is_some o ≡ is_some (option_copied o)
 copied_some None = refl
 copied_some (Some x) = refl
-
-pub asked_ok : (asked : Result (List Wanted) ℕ) (r : Result (Items Wanted) ℕ) (wanted : Items Wanted) → ListsAs asked r → r ≡ Ok wanted → asked ≡ Ok wanted.items
-asked_ok asked r wanted h is = subst (ListsAs asked) is h
-
-pub asked_err : (asked : Result (List Wanted) ℕ) (r : Result (Items Wanted) ℕ) (at : ℕ) → ListsAs asked r → r ≡ Err at → asked ≡ Err at
-asked_err asked r at h is = subst (ListsAs asked) is h
 
 -- what is asked for is as long as the words say
 found_sizes : (sectors : ℕ → ℕ) (records : List Record) (words : List (List ℕ × ℕ)) (wanted : List Wanted) → AreFound sectors records words wanted → map (λ w. w.size) wanted ≡ map (λ (word : List ℕ × ℕ). word.1) words
@@ -31,11 +34,21 @@ found_sizes sectors records (word ∷ words) (w ∷ wanted) is = (let rest = fou
 pub asked_sizes : (sectors : ℕ → ℕ) (records : List Record) (words : List (List ℕ × ℕ)) (wanted : List Wanted) → asked_for sectors records 0 words ≡ Ok wanted → map (λ w. w.size) wanted ≡ map (λ (word : List ℕ × ℕ). word.1) words
 asked_sizes sectors records words wanted h = found_sizes sectors records words wanted (are_found sectors records 0 words wanted h)
 
--- where the sectors are placed
-pub placed_ok : (records rs : List Record) (wanted ws : List Wanted) (r : Result (Items Taken) ℕ) (spots : Items Taken) → ListsAs (placed (taken_in rs) 0 ws) r → rs ≡ records → ws ≡ wanted → r ≡ Ok spots
-    → placed (taken_in records) 0 wanted ≡ Ok spots.items
-placed_ok records rs wanted ws r spots h same_rs same_ws is = (λ i. placed (taken_in (sym same_rs i)) 0 (sym same_ws i)) ∙ subst (ListsAs (placed (taken_in rs) 0 ws)) is h
+module _ (db : Database) (labels : List Label) (words : List (List ℕ × ℕ)) (wanted : List Wanted) (asked : wanted_by db labels words ≡ Ok wanted) where
+  pub found : asked_for (data_size labels db.records) db.records 0 words ≡ Ok wanted
+  found = place_ok refusals.NoDisk (asked_for (data_size labels db.records) db.records 0 words) wanted asked
 
-pub placed_err : (records rs : List Record) (wanted ws : List Wanted) (r : Result (Items Taken) ℕ) (at : ℕ) → ListsAs (placed (taken_in rs) 0 ws) r → rs ≡ records → ws ≡ wanted → r ≡ Err at
-    → placed (taken_in records) 0 wanted ≡ Err at
-placed_err records rs wanted ws r at h same_rs same_ws is = (λ i. placed (taken_in (sym same_rs i)) 0 (sym same_ws i)) ∙ subst (ListsAs (placed (taken_in rs) 0 ws)) is h
+  pub wanted_sizes : map (λ w. w.size) wanted ≡ map (λ (word : List ℕ × ℕ). word.1) words
+  wanted_sizes = asked_sizes (data_size labels db.records) db.records words wanted found
+
+-- one for each piece
+pub piece_each : (db : Database) (labels : List Label) (pieces : List Piece) (wanted : List Wanted) → wanted_by db labels (words_by pieces) ≡ Ok wanted → length wanted ≡ length pieces
+piece_each db labels pieces wanted asked =
+    sizes_many (λ (w : Wanted). w.size) wanted (words_by pieces) (wanted_sizes db labels (words_by pieces) wanted asked) ∙ length-map pieces (λ (p : Piece). (p.disk, p.len))
+
+-- a layout of a good size asks for some sectors of each disk
+pub layout_some : (db : Database) (labels : List Label) (layout : NewLayout) (wanted : List Wanted) → IsNewLayout layout → is_bad_size layout ≡ false → wanted_by db labels (words_of layout) ≡ Ok wanted → All (λ w. 0 < w.size) wanted
+layout_some db labels layout wanted grammar good asked =
+    let sectors = data_size labels db.records in
+    found_all (λ (w : Wanted). 0 < w.size) IsSize sectors db.records (words_of layout) wanted (λ size w f h. let e = f.size_is in let some = h.0 in omega arith)
+    (are_found sectors db.records 0 (words_of layout) wanted (found db labels (words_of layout) wanted asked)) (word_sizes layout grammar good)

@@ -1,27 +1,25 @@
 -- create: the group with a new volume, or the first reason that it is refused.
-use Rattle.std.specs.Prelude.{ℕ, ◌+◌, ◌-◌, ◌*◌, ◌%◌, ◌==◌, ◌||◌, not, Bool, false, List, length, map, sum_by, Result, Ok, Err, is_some, if◌then◌else◌}
+use Rattle.std.specs.Prelude.{ℕ, ◌+◌, ◌-◌, ◌*◌, ◌%◌, ◌==◌, ◌||◌, not, Bool, false, List, [], ◌∷◌, length, map, sum_by, Option, Result, Err, is_some, if◌then◌else◌}
 use Rattle.std.specs.List.{list_any}
-use Rattle.ldm_bytes.specs.Tables.{first_of, unless}
+use Rattle.ldm_bytes.specs.Tables.{first_of}
 use Rattle.ldm_records.specs.declared.types.Record.{Record}
 use Rattle.ldm_label.specs.declared.Label.{Label}
 use Rattle.ldm_group.specs.Database.{Database}
 use Rattle.ldm_group.specs.Looks.{volume_named, max_id}
-use Rattle.ldm_rules.specs.Ends.{data_size}
 use Rattle.ldm_space.specs.declared.taken.Taken.{Taken}
-use Rattle.ldm_space.specs.Free.{taken_in}
 use Rattle.ldm_space.specs.declared.placed.Wanted.{Wanted}
-use Rattle.ldm_space.specs.Wanted.{placed}
 use Rattle.ldm_words.specs.declared.command.NewLayout.{NewLayout}
 use Rattle.ldm_words.specs.declared.command.NewLayout.TheVariants as layouts
 use Rattle.ldm_edits.specs.declared.reply.Refusal.{Refusal}
 use Rattle.ldm_edits.specs.declared.reply.Refusal.TheVariants as refusals
-use Rattle.ldm_edits.specs.Asked.{asked_for, has_twins, is_much}
-use Rattle.ldm_edits.specs.Changes.{Change, limits, changed}
+use Rattle.ldm_edits.specs.Asked.{words_by, has_twins, is_much}
+use Rattle.ldm_edits.specs.Changes.{Change, when, change_to}
+use Rattle.ldm_edits.specs.Spots.{and_then, open_wanted, spots_for}
 use Rattle.ldm_volumes.specs.Volumes.{span_made, stripe_made, raid5_made, mirror_made}
 
 -- the disk words in their order, each with the sectors that it is asked for
 abbrev pub words_of : NewLayout → List (List ℕ × ℕ)
-words_of (layouts.Span pieces) = map (λ p. (p.disk, p.len)) pieces
+words_of (layouts.Span pieces) = words_by pieces
 words_of (layouts.Stripe chunk len disks) = map (λ name. (name, len)) disks
 words_of (layouts.Mirror len disks) = map (λ name. (name, len)) disks
 words_of (layouts.Raid5 chunk len disks) = map (λ name. (name, len)) disks
@@ -57,22 +55,18 @@ fresh_for (layouts.Mirror len disks) = 1 + 2 * length disks
 fresh_for (layouts.Raid5 chunk len disks) = 2 + length disks
 
 abbrev pub change_for : Database → List ℕ → ℕ → NewLayout → List Taken → Change
-change_for db name guid layout spots =
-    record { stay = db.records; made = made_for layout (max_id db.records + 1) name guid spots }
+change_for db name guid layout spots = record { stay = db.records; made = made_for layout (max_id db.records + 1) name guid spots }
 
-abbrev pub at_places : Database → List Label → List ℕ → ℕ → NewLayout → List Wanted → Result (List Taken) ℕ → Result Database Refusal
-at_places db labels name guid layout wanted (Err place) = Err (refusals.NoSpace place)
-at_places db labels name guid layout wanted (Ok spots) =
-    unless (first_of (limits db labels (fresh_for layout) (change_for db name guid layout spots))) (changed db (change_for db name guid layout spots))
+-- what stands against it, where all disks are there
+abbrev pub against_layout : NewLayout → List Wanted → Option Refusal
+against_layout layout wanted = first_of (when (is_same_disk layout wanted) refusals.SameDisk ∷ (when (is_bad_size layout) refusals.BadSize ∷ []))
 
-abbrev pub on_disks : Database → List Label → List ℕ → ℕ → NewLayout → Result (List Wanted) ℕ → Result Database Refusal
-on_disks db labels name guid layout (Err place) = Err (refusals.NoDisk place)
-on_disks db labels name guid layout (Ok wanted) =
-    if is_same_disk layout wanted then Err refusals.SameDisk
-    else if is_bad_size layout then Err refusals.BadSize
-    else at_places db labels name guid layout wanted (placed (taken_in db.records) 0 wanted)
+-- the group with a new volume whose name no other has
+abbrev pub created_new : Database → List Label → List ℕ → ℕ → NewLayout → Result Database Refusal
+created_new db labels name guid layout =
+    and_then (open_wanted db labels (words_of layout) (against_layout layout)) (λ wanted.
+    and_then (spots_for db wanted) (λ spots. change_to db labels (fresh_for layout) (change_for db name guid layout spots)))
 
 unfoldable pub created : Database → List Label → List ℕ → ℕ → NewLayout → Result Database Refusal
 created db labels name guid layout =
-    if is_some (volume_named name db.records) then Err refusals.NameTaken
-    else on_disks db labels name guid layout (asked_for (data_size labels db.records) db.records 0 (words_of layout))
+    if is_some (volume_named name db.records) then Err refusals.NameTaken else created_new db labels name guid layout

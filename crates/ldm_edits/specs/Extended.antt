@@ -1,7 +1,7 @@
 -- extend: the group with a longer span or mirror, or the first reason that it is refused. The table of a mirror stands here.
-use Rattle.std.specs.Prelude.{ℕ, ◌+◌, ◌==◌, ◌||◌, ◌&&◌, not, Bool, false, List, [], ◌∷◌, length, map, is_some, Option, Some, None, Result, Ok, Err}
+use Rattle.std.specs.Prelude.{◌≡◌, ℕ, ◌+◌, ◌^◌, ◌<◌, All, ◌==◌, ◌||◌, ◌&&◌, not, Bool, false, List, [], ◌∷◌, length, is_some, Option, Some, None, Result, Err}
 use Rattle.std.specs.List.{list_any}
-use Rattle.ldm_bytes.specs.Tables.{first_of, unless}
+use Rattle.ldm_bytes.specs.Tables.{first_of}
 use Rattle.ldm_records.specs.declared.types.Record.{Record}
 use Rattle.ldm_records.specs.declared.types.Record.TheVariants as kinds
 use Rattle.ldm_records.specs.declared.types.Volume.{Volume}
@@ -12,17 +12,14 @@ use Rattle.ldm_layout.specs.declared.shape.Shape.{Shape}
 use Rattle.ldm_layout.specs.declared.shape.Shape.TheVariants.{Span, Stripe, Mirror, Raid5}
 use Rattle.ldm_layout.specs.Parts.{plexes_of}
 use Rattle.ldm_layout.specs.Volumes.{layout_of, shape_of}
-use Rattle.ldm_rules.specs.Ends.{data_size}
-use Rattle.ldm_space.specs.declared.taken.Taken.{Taken}
-use Rattle.ldm_space.specs.Free.{taken_in}
 use Rattle.ldm_space.specs.declared.placed.Wanted.{Wanted}
-use Rattle.ldm_space.specs.Wanted.{placed}
 use Rattle.ldm_words.specs.declared.command.Piece.{Piece}
 use Rattle.ldm_edits.specs.declared.reply.Refusal.{Refusal}
 use Rattle.ldm_edits.specs.declared.reply.Refusal.TheVariants as refusals
-use Rattle.ldm_edits.specs.Asked.{asked_for, has_twins, is_much}
-use Rattle.ldm_edits.specs.Changes.{when, limits, changed}
-use Rattle.ldm_edits.specs.Extending.{held, refused_or, extended_span}
+use Rattle.ldm_edits.specs.Asked.{words_by, has_twins, is_much}
+use Rattle.ldm_edits.specs.Changes.{when, change_to}
+use Rattle.ldm_edits.specs.Spots.{refused_or, and_then, open_wanted, spots_for}
+use Rattle.ldm_edits.specs.Extending.{held, extended_span}
 use Rattle.ldm_edits.specs.Mirroring.{components_of, component_holds, grown}
 
 -- a partition of this component on this disk
@@ -54,29 +51,33 @@ abbrev pub is_bad_growth : List Record → ℕ → List Component → List Wante
 is_bad_growth records capacity cs wanted =
     is_uneven (len_of wanted) wanted || (is_much (capacity + len_of wanted) || list_any (λ c. is_much (component_holds records c)) cs)
 
--- the next group, where its pieces are placed
-abbrev pub mirror_placed : Database → List Label → Volume → List Wanted → Result (List Taken) ℕ → Result Database Refusal
-mirror_placed db labels v wanted (Ok spots) =
-    let change = grown db.records v (held (layout_of db.records v) + len_of wanted) spots in
-    unless (first_of (limits db labels (length wanted) change)) (changed db change)
-mirror_placed db labels v wanted (Err piece) = Err (refusals.NoSpace piece)
+-- what good lengths are
+pub record IsEven (records : List Record) (capacity : ℕ) (cs : List Component) (wanted : List Wanted) : Type 0 where
+  pub room : capacity + len_of wanted < 2 ^ 64
+  pub low : All (λ c. component_holds records c < 2 ^ 64) cs
+  pub some : All (λ w. 0 < w.size) wanted
+  pub same : All (λ w. w.size ≡ len_of wanted) wanted
+  pub len : 0 < length wanted → (len_of wanted == 0) ≡ false
 
--- what refuses them before they are placed
-abbrev pub mirror_wanted : Database → List Label → Volume → Result (List Wanted) ℕ → Result Database Refusal
-mirror_wanted db labels v (Err piece) = Err (refusals.NoDisk piece)
-mirror_wanted db labels v (Ok wanted) =
-    refused_or (first_of (
-    when (has_twins wanted || on_others db.records (components_of v db.records) (components_of v db.records) wanted) refusals.SameDisk
-    ∷ (when (is_bad_growth db.records (held (layout_of db.records v)) (components_of v db.records) wanted) refusals.BadSize ∷ [])))
-    (mirror_placed db labels v wanted (placed (taken_in db.records) 0 wanted))
+-- what stands against it, where all disks are there
+abbrev pub against_growth : List Record → Volume → List Wanted → Option Refusal
+against_growth records v wanted = first_of (
+    when (has_twins wanted || on_others records (components_of v records) (components_of v records) wanted) refusals.SameDisk
+    ∷ (when (is_bad_growth records (held (layout_of records v)) (components_of v records) wanted) refusals.BadSize ∷ []))
 
--- the group with a longer mirror: one piece for each component
+-- the group whose mirror is longer, where the pieces are as many as its components
+abbrev pub longer_mirror : Database → List Label → List Piece → Volume → Result Database Refusal
+longer_mirror db labels pieces v =
+    and_then (open_wanted db labels (words_by pieces) (against_growth db.records v)) (λ wanted.
+    and_then (spots_for db wanted) (λ spots. change_to db labels (length wanted) (grown db.records v (held (layout_of db.records v) + len_of wanted) spots)))
+
+-- one piece for each component
 abbrev pub extended_mirror : Database → List Label → List Piece → Volume → Result Database Refusal
 extended_mirror db labels pieces v =
     refused_or (first_of (
     when (is_some v.size2) refusals.ExtraSize
     ∷ (when (not (length pieces == length (components_of v db.records))) (refusals.PieceCount (length (components_of v db.records))) ∷ [])))
-    (mirror_wanted db labels v (asked_for (data_size labels db.records) db.records 0 (map (λ p. (p.disk, p.len)) pieces)))
+    (longer_mirror db labels pieces v)
 
 -- by the shape of the volume
 abbrev pub extended_as : Option Shape → Database → List Label → List Piece → Volume → Result Database Refusal

@@ -1,8 +1,8 @@
 -- extend: the group with a longer span, or the first reason that it is refused.
-use Rattle.std.specs.Prelude.{ℕ, ◌+◌, ◌==◌, ◌||◌, not, Bool, true, false, List, [], ◌∷◌, length, map, sum_by, filter, find, Option, Some, None, is_some, Result, Ok, Err}
+use Rattle.std.specs.Prelude.{◌≡◌, ℕ, ◌+◌, ◌-◌, ◌^◌, ◌≤◌, ◌==◌, ◌||◌, not, Bool, true, false, List, [], ◌∷◌, length, sum_by, find, Option, Some, None, is_some, Result, Ok, Err, Contains}
 use Rattle.std.specs.List.{list_any}
 use Rattle.std.specs.Option.{option_map}
-use Rattle.ldm_bytes.specs.Tables.{first_of, unless}
+use Rattle.ldm_bytes.specs.Tables.{first_of}
 use Rattle.ldm_records.specs.declared.types.Record.{Record}
 use Rattle.ldm_records.specs.declared.types.Record.TheVariants as kinds
 use Rattle.ldm_records.specs.declared.types.Volume.{Volume}
@@ -25,8 +25,11 @@ use Rattle.ldm_space.specs.Wanted.{placed}
 use Rattle.ldm_words.specs.declared.command.Piece.{Piece}
 use Rattle.ldm_edits.specs.declared.reply.Refusal.{Refusal}
 use Rattle.ldm_edits.specs.declared.reply.Refusal.TheVariants as refusals
-use Rattle.ldm_edits.specs.Asked.{asked_for, is_much}
-use Rattle.ldm_edits.specs.Changes.{Change, when, limits, changed}
+use Rattle.ldm_edits.specs.Asked.{words_by, asked_for, is_much}
+use Rattle.ldm_edits.specs.declared.leaving.Leaving.TheVariants as leavings
+use Rattle.ldm_edits.specs.Staying.{change_of}
+use Rattle.ldm_edits.specs.Changes.{Change, when, change_to}
+use Rattle.ldm_edits.specs.Spots.{refused_or, and_then, open_wanted, spots_for}
 use Rattle.ldm_volumes.specs.Volumes.{span_parts, there}
 
 -- ---- the records
@@ -45,10 +48,7 @@ longer_parts v c capacity id taken =
     ∷ span_parts id c.head.id capacity taken)
 
 abbrev pub lengthened : List Record → Volume → Component → ℕ → List Taken → Change
-lengthened records v c capacity taken = record {
-  stay = filter (λ r. not (changes v c r)) records;
-  made = longer_parts v c capacity (max_id records + 1) taken;
-}
+lengthened records v c capacity taken = change_of (leavings.Changed v.head.id c.head.id) records (longer_parts v c capacity (max_id records + 1) taken)
 
 -- ---- the command
 
@@ -69,10 +69,6 @@ abbrev pub is_span : Option Shape → Bool
 is_span (Some Span) = true
 is_span _ = false
 
-abbrev pub refused_or : Option Refusal → Result Database Refusal → Result Database Refusal
-refused_or (Some refusal) next = Err refusal
-refused_or None next = next
-
 -- why the volume can't be extended
 abbrev pub unlengthened : List Record → Volume → Option Refusal
 unlengthened records v = first_of (when (not (is_span (shape_of (plexes_of v.head.id records)))) refusals.NotSpan ∷ (when (is_some v.size2) refusals.ExtraSize ∷ []))
@@ -81,20 +77,30 @@ unlengthened records v = first_of (when (not (is_span (shape_of (plexes_of v.hea
 abbrev pub is_bad_length : ℕ → List Wanted → Bool
 is_bad_length capacity wanted = list_any (λ w. w.size == 0) wanted || is_much (capacity + sum_by (λ w. w.size) wanted)
 
-abbrev pub lengthen : Database → List Label → Volume → Option Component → List Wanted → Result (List Taken) ℕ → Result Database Refusal
-lengthen db labels v (Some c) wanted (Ok spots) =
-    let change = lengthened db.records v c (held (layout_of db.records v)) spots in
-    unless (first_of (limits db labels (length wanted) change)) (changed db change)
-lengthen db labels v (Some c) wanted (Err piece) = Err (refusals.NoSpace piece)
-lengthen db labels v None wanted spots = Err refusals.NotSpan
+-- what stands against it, where all disks are there
+abbrev pub against_longer : List Record → Volume → List Wanted → Option Refusal
+against_longer records v wanted = when (is_bad_length (held (layout_of records v)) wanted) refusals.BadSize
 
-abbrev pub with_wanted : Database → List Label → Volume → Result (List Wanted) ℕ → Result Database Refusal
-with_wanted db labels v (Err piece) = Err (refusals.NoDisk piece)
-with_wanted db labels v (Ok wanted) =
-    refused_or (when (is_bad_length (held (layout_of db.records v)) wanted) refusals.BadSize)
-    (lengthen db labels v (component_of v db.records) wanted (placed (taken_in db.records) 0 wanted))
+abbrev pub lengthen : Database → List Label → Volume → Option Component → List Wanted → Result Database Refusal
+lengthen db labels v (Some c) wanted =
+    and_then (spots_for db wanted) (λ spots. change_to db labels (length wanted) (lengthened db.records v c (held (layout_of db.records v)) spots))
+lengthen db labels v None wanted = Err refusals.NotSpan
+
+-- the group whose span is longer
+abbrev pub longer_span : Database → List Label → List Piece → Volume → Result Database Refusal
+longer_span db labels pieces v = and_then (open_wanted db labels (words_by pieces) (against_longer db.records v)) (lengthen db labels v (component_of v db.records))
 
 abbrev pub extended_span : Database → List Label → List Piece → Option Volume → Result Database Refusal
 extended_span db labels pieces None = Err refusals.NoVolume
-extended_span db labels pieces (Some v) =
-    refused_or (unlengthened db.records v) (with_wanted db labels v (asked_for (data_size labels db.records) db.records 0 (map (λ p. (p.disk, p.len)) pieces)))
+extended_span db labels pieces (Some v) = refused_or (unlengthened db.records v) (longer_span db labels pieces v)
+
+-- nothing refuses it before the limits but for IdsSpent
+pub record MayExtend (db : Database) (labels : List Label) (v : Volume) (c : Component) (wanted : List Wanted) (spots : List Taken) : Type 0 where
+  pub there : Contains db.records (kinds.Volume v)
+  pub span : shape_of (plexes_of v.head.id db.records) ≡ Some Span
+  pub component : component_of v db.records ≡ Some c
+  pub words : List (List ℕ × ℕ)
+  pub asked : asked_for (data_size labels db.records) db.records 0 words ≡ Ok wanted
+  pub sizes : is_bad_length (held (layout_of db.records v)) wanted ≡ false
+  pub places : placed (taken_in db.records) 0 wanted ≡ Ok spots
+  pub ids : max_id db.records + length wanted ≤ 2 ^ 64 - 1

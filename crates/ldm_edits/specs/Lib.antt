@@ -1,5 +1,6 @@
 pub mod Changes
 pub mod Asked
+pub mod Spots
 pub mod Creating
 pub mod Extending
 pub mod Deleting

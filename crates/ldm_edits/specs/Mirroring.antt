@@ -1,5 +1,5 @@
 -- extend of a mirror: the group whose mirror is longer, where its pieces take given sectors.
-use Rattle.std.specs.Prelude.{◌≡◌, ℕ, ◌+◌, ◌-◌, ◌^◌, ◌<◌, ◌≤◌, ◌==◌, ◌||◌, ◌++◌, not, Bool, false, List, [], ◌∷◌, length, map, filter, sum_by, Option, Some, None, Ok, All, Contains}
+use Rattle.std.specs.Prelude.{◌≡◌, ℕ, ◌+◌, ◌-◌, ◌^◌, ◌<◌, ◌≤◌, ◌==◌, ◌||◌, ◌++◌, Bool, false, List, [], ◌∷◌, length, map, filter, sum_by, Option, Some, None, Ok, All, Contains}
 use Rattle.std.specs.List.{filter_map}
 use Rattle.std.specs.Option.{option_map}
 use Rattle.ldm_records.specs.declared.types.Record.{Record}
@@ -21,6 +21,8 @@ use Rattle.ldm_space.specs.declared.placed.Wanted.{Wanted}
 use Rattle.ldm_space.specs.Wanted.{placed}
 use Rattle.ldm_volumes.specs.Volumes.{there}
 use Rattle.ldm_edits.specs.Asked.{asked_for}
+use Rattle.ldm_edits.specs.declared.leaving.Leaving.TheVariants as leavings
+use Rattle.ldm_edits.specs.Staying.{change_of}
 use Rattle.ldm_edits.specs.Changes.{Change}
 use Rattle.ldm_edits.specs.Extending.{held}
 
@@ -61,10 +63,7 @@ grown_made records v size id taken =
 
 -- the mirror is so many sectors longer than what its components hold together
 abbrev pub grown : List Record → Volume → ℕ → List Taken → Change
-grown records v size taken = record {
-  stay = filter (λ r. not (changes v r)) records;
-  made = grown_made records v size (max_id records + 1) taken;
-}
+grown records v size taken = change_of (leavings.Grown v.head.id) records (grown_made records v size (max_id records + 1) taken)
 
 -- nothing refuses it before the limits but for IdsSpent: one piece of these sectors for each component, each placed
 pub record MayGrow (db : Database) (labels : List Label) (v : Volume) (len : ℕ) (wanted : List Wanted) (spots : List Taken) : Type 0 where

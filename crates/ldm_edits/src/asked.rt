@@ -1,16 +1,18 @@
 //! The sectors that a command asks for, and on which disks.
-ghost use Rattle.std.specs.Prelude.{◌≡◌, ◌==◌, ◌<◌, ◌≤◌, ◌^◌, length, IfOk, IfSome, map};
+ghost use Rattle.std.specs.Prelude.{◌≡◌, All, ◌==◌, ◌<◌, ◌≤◌, ◌^◌, length, IfOk, IfSome, map};
 ghost use Rattle.std.specs.List.{list_any};
 ghost use Rattle.std.specs.Option.{option_map};
 ghost use Rattle.ldm_group.specs.Looks.{disk_named};
 ghost use Rattle.ldm_rules.specs.Ends.{data_size};
 ghost use Rattle.ldm_words.specs.declared.command.Piece.{Piece};
-ghost use Rattle.ldm_edits.specs.Asked.{asked_for, has_twins};
+ghost use Rattle.ldm_edits.specs.Asked.{words_by, has_twins};
 ghost use Rattle.ldm_edits.specs.Extending.{is_bad_length};
-ghost use Rattle.ldm_space.specs.Placed.{ListsAs};
-ghost use Rattle.ldm_edits.specs.Answers.{AreLow};
+ghost use Rattle.ldm_edits.specs.Answers.{FindsAs};
+ghost use Rattle.ldm_edits.specs.Spots.{wanted_by};
 
-use ldm_bytes::{Bytes, NoMemory};
+use crate::error::StepError;
+use crate::reply::Refusal;
+use ldm_bytes::Bytes;
 use ldm_group::Db;
 use ldm_label::Labels;
 use ldm_rules::sectors_of;
@@ -31,46 +33,46 @@ fn wanted_of(db: &Db, labels: &Labels, name: &[u8], size: u64) -> Option<Wanted>
     })
 }
 
-/// What the pieces of a command ask of their disks, or the place of the first whose disk isn't there.
+/// What the pieces of a command ask of their disks, or the refusal of the first whose disk isn't there.
 pub fn asked_pieces(
     alloc: Global,
     db: &Db,
     labels: &Labels,
     pieces: &[Piece],
-) -> Result<Result<Vec<Wanted>, usize>, NoMemory>
-    ensures is { IfOk result (ListsAs (asked_for (data_size labels.now db.now.records) db.now.records 0 (map (λ p. (p.disk, p.len)) pieces.now))) }
-    ensures low { IfOk result AreLow }
+) -> Result<Vec<Wanted>, StepError>
+    ensures is { FindsAs result (wanted_by db.now labels.now (words_by pieces.now)) }
+    ensures low { IfOk result (λ v. All (λ w. w.limit < 2 ^ 64) v.items) }
 {
     let mut wanted = Vec::new(alloc);
     for at in 0..pieces.len() {
         let piece = &pieces[at];
         match wanted_of(db, labels, piece.disk.as_slice(), piece.len) {
             Some(one) => wanted.push(one)?,
-            None => return Ok(Err(at)),
+            None => return Err(StepError::Refused(Refusal::NoDisk(at))),
         }
     }
-    Ok(Ok(wanted))
+    Ok(wanted)
 }
 
-/// So many sectors of each of these disks, or the place of the first that isn't there.
+/// So many sectors of each of these disks, or the refusal of the first that isn't there.
 pub fn asked_disks(
     alloc: Global,
     db: &Db,
     labels: &Labels,
     disks: &[Bytes],
     size: u64,
-) -> Result<Result<Vec<Wanted>, usize>, NoMemory>
-    ensures is { IfOk result (ListsAs (asked_for (data_size labels.now db.now.records) db.now.records 0 (map (λ name. (name, size)) disks.now))) }
-    ensures low { IfOk result AreLow }
+) -> Result<Vec<Wanted>, StepError>
+    ensures is { FindsAs result (wanted_by db.now labels.now (map (λ name. (name, size)) disks.now)) }
+    ensures low { IfOk result (λ v. All (λ w. w.limit < 2 ^ 64) v.items) }
 {
     let mut wanted = Vec::new(alloc);
     for at in 0..disks.len() {
         match wanted_of(db, labels, disks[at].as_slice(), size) {
             Some(one) => wanted.push(one)?,
-            None => return Ok(Err(at)),
+            None => return Err(StepError::Refused(Refusal::NoDisk(at))),
         }
     }
-    Ok(Ok(wanted))
+    Ok(wanted)
 }
 
 // Whether one is asked of this disk.

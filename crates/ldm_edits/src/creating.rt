@@ -1,13 +1,12 @@
 //! `create`: a new volume, or the first refusal.
-ghost use Rattle.std.specs.Prelude.{◌≡◌, ◌+◌, ◌^◌, ◌≤◌, false, length, map, IfOk};
-ghost use Rattle.ldm_rules.specs.Ends.{data_size};
+ghost use Rattle.std.specs.Prelude.{◌≡◌, ◌+◌, ◌^◌, ◌<◌, ◌≤◌, All, List, false, length, map, IfOk};
 ghost use Rattle.ldm_rules.specs.Facts.{IsSoundOn};
 ghost use Rattle.ldm_words.specs.Limits.{IsNewLayout, IsCreate};
-ghost use Rattle.ldm_edits.specs.Asked.{asked_for};
-ghost use Rattle.ldm_space.specs.Placed.{ListsAs};
-ghost use Rattle.ldm_edits.specs.Answers.{AreLow, StepsTo};
-ghost use Rattle.ldm_edits.specs.Changes.{AreasFit};
-ghost use Rattle.ldm_edits.specs.Creating.{words_of, is_same_disk, is_bad_column, is_bad_size, made_for, fresh_for, created};
+ghost use Rattle.ldm_space.specs.declared.placed.Wanted.{Wanted};
+ghost use Rattle.ldm_edits.specs.Answers.{FindsAs, StepsTo};
+ghost use Rattle.ldm_edits.specs.Changes.{AreasFit, change_to};
+ghost use Rattle.ldm_edits.specs.Spots.{wanted_by, open_wanted, CanBePlaced, ArePlaced};
+ghost use Rattle.ldm_edits.specs.Creating.{words_of, is_same_disk, is_bad_column, is_bad_size, made_for, fresh_for, change_for, against_layout, created_new, created};
 
 use crate::asked::{asked_disks, asked_pieces, has_twins, is_bad_length};
 use crate::changing::change;
@@ -15,24 +14,25 @@ use crate::error::StepError;
 use crate::leaving::Leaving;
 use crate::limits::first_new_id;
 use crate::reply::Refusal;
+use crate::spots::spots_for;
 use ldm_bytes::NoMemory;
 use ldm_group::Db;
 use ldm_label::Labels;
 use ldm_records::Record;
-use ldm_space::{Taken, Wanted, place_all};
+use ldm_space::{Taken, Wanted};
 use ldm_volumes::{mirror, raid5, span, stripe};
 use ldm_words::NewLayout;
 use std::alloc::Global;
 
-// What the layout asks of its disks, or the place of the first word whose disk isn't there.
+// What the layout asks of its disks, or the refusal of the first word whose disk isn't there.
 fn asked(
     alloc: Global,
     db: &Db,
     labels: &Labels,
     layout: &NewLayout,
-) -> Result<Result<Vec<Wanted>, usize>, NoMemory>
-    ensures is { IfOk result (ListsAs (asked_for (data_size labels.now db.now.records) db.now.records 0 (words_of layout.now))) }
-    ensures low { IfOk result AreLow }
+) -> Result<Vec<Wanted>, StepError>
+    ensures is { FindsAs result (wanted_by db.now labels.now (words_of layout.now)) }
+    ensures low { IfOk result (λ v. All (λ w. w.limit < 2 ^ 64) v.items) }
 {
     match layout {
         NewLayout::Span { pieces } => asked_pieces(alloc, db, labels, pieces.as_slice()),
@@ -131,6 +131,70 @@ fn made_for(
     }
 }
 
+// What the layout asks of its disks, where nothing stands against it.
+fn open_wanted(
+    alloc: Global,
+    db: &Db,
+    labels: &Labels,
+    layout: &NewLayout,
+) -> Result<Vec<Wanted>, StepError>
+    requires { IsNewLayout layout.now }
+    ensures is { FindsAs result (open_wanted db.now labels.now (words_of layout.now) (against_layout layout.now)) }
+    ensures can { IfOk result (λ v. CanBePlaced v.items) }
+{
+    let wanted = asked(alloc, db, labels, layout)?;
+    if is_same_disk(layout, wanted.as_slice()) {
+        return Err(StepError::Refused(Refusal::SameDisk));
+    }
+    if is_bad_size(layout, wanted.as_slice()) {
+        return Err(StepError::Refused(Refusal::BadSize));
+    }
+    Ok(wanted)
+}
+
+// The group with a new volume whose partitions take these sectors.
+fn create_at(
+    alloc: Global,
+    db: &Db,
+    labels: &Labels,
+    name: &[u8],
+    guid: u128,
+    layout: &NewLayout,
+    spots: &[Taken],
+) -> Result<Db, StepError>
+    requires sound { IsSoundOn db.now labels.now }
+    requires areas { AreasFit labels.now }
+    requires limits { IsCreate name.now layout.now }
+    requires placed { (wanted : List Wanted) × ArePlaced db.now labels.now (words_of layout.now) (against_layout layout.now) wanted spots.now }
+    ensures { StepsTo result (change_to db.now labels.now (fresh_for layout.now) (change_for db.now name.now guid layout.now spots.now)) }
+{
+    let fresh = fresh_for(layout);
+    let Some(id) = first_new_id(db, fresh) else {
+        return Err(StepError::Refused(Refusal::IdsSpent));
+    };
+    let made = made_for(alloc, layout, id, name, guid, spots)?;
+    change(alloc, db, labels, fresh, Leaving::Nothing, made)
+}
+
+// The group with a new volume whose name no other has.
+fn create_new(
+    alloc: Global,
+    db: &Db,
+    labels: &Labels,
+    name: &[u8],
+    guid: u128,
+    layout: &NewLayout,
+) -> Result<Db, StepError>
+    requires sound { IsSoundOn db.now labels.now }
+    requires areas { AreasFit labels.now }
+    requires limits { IsCreate name.now layout.now }
+    ensures { StepsTo result (created_new db.now labels.now name.now guid layout.now) }
+{
+    let wanted = open_wanted(alloc, db, labels, layout)?;
+    let spots = spots_for(alloc, db, wanted.as_slice())?;
+    create_at(alloc, db, labels, name, guid, layout, spots.as_slice())
+}
+
 /// The group with a new volume.
 pub fn create(
     alloc: Global,
@@ -148,24 +212,5 @@ pub fn create(
     if db.volume_named(name).is_some() {
         return Err(StepError::Refused(Refusal::NameTaken));
     }
-    let wanted = match asked(alloc, db, labels, layout)? {
-        Ok(wanted) => wanted,
-        Err(word) => return Err(StepError::Refused(Refusal::NoDisk(word))),
-    };
-    if is_same_disk(layout, wanted.as_slice()) {
-        return Err(StepError::Refused(Refusal::SameDisk));
-    }
-    if is_bad_size(layout, wanted.as_slice()) {
-        return Err(StepError::Refused(Refusal::BadSize));
-    }
-    let spots = match place_all(alloc, db.as_slice(), wanted.as_slice())? {
-        Ok(spots) => spots,
-        Err(word) => return Err(StepError::Refused(Refusal::NoSpace(word))),
-    };
-    let fresh = fresh_for(layout);
-    let Some(id) = first_new_id(db, fresh) else {
-        return Err(StepError::Refused(Refusal::IdsSpent));
-    };
-    let made = made_for(alloc, layout, id, name, guid, spots.as_slice())?;
-    change(alloc, db, labels, fresh, Leaving::Nothing, made)
+    create_new(alloc, db, labels, name, guid, layout)
 }

@@ -1,15 +1,18 @@
 //! `extend`: more pieces at the end of a span or a mirror, or the first refusal.
-ghost use Rattle.std.specs.Prelude.{◌≡◌, ◌+◌, ◌^◌, ◌<◌, ◌≤◌, Contains, Some, None, Ok, find, length, option_copied, sum_by, true, is_some, IfOk};
+ghost use Rattle.std.specs.Prelude.{◌≡◌, ◌+◌, ◌-◌, ◌^◌, ◌<◌, ◌≤◌, Contains, Some, Ok, find, length, option_copied, sum_by, true, is_some, IfOk};
 ghost use Rattle.ldm_records.specs.declared.types.Record.TheVariants as kinds;
 ghost use Rattle.ldm_made.specs.Made.{resized, with_children};
-ghost use Rattle.ldm_group.specs.Looks.{is_child, volume_named};
+ghost use Rattle.ldm_group.specs.Looks.{is_child, max_id, volume_named};
+ghost use Rattle.ldm_group.specs.Order.{Rising};
 ghost use Rattle.ldm_layout.specs.Parts.{plexes_of};
 ghost use Rattle.ldm_layout.specs.Volumes.{layout_of, shape_of, volume_with};
 ghost use Rattle.ldm_rules.specs.Facts.{IsSoundOn};
 ghost use Rattle.ldm_words.specs.Limits.{ArePieces};
-ghost use Rattle.ldm_edits.specs.Answers.{StepsTo};
-ghost use Rattle.ldm_edits.specs.Changes.{AreasFit};
-ghost use Rattle.ldm_edits.specs.Extending.{component_in, held, unlengthened, longer_parts, extended_span};
+ghost use Rattle.ldm_edits.specs.Answers.{FindsAs, StepsTo};
+ghost use Rattle.ldm_edits.specs.Asked.{words_by};
+ghost use Rattle.ldm_edits.specs.Changes.{AreasFit, change_to};
+ghost use Rattle.ldm_edits.specs.Spots.{open_wanted, CanBePlaced};
+ghost use Rattle.ldm_edits.specs.Extending.{component_in, held, longer_parts, lengthened, against_longer, MayExtend, longer_span, extended_span};
 ghost use Rattle.ldm_layout.specs.declared.shape.Shape.TheVariants as shapes;
 ghost use Rattle.ldm_edits.specs.Extended.{extended_mirror, extended};
 
@@ -20,6 +23,7 @@ use crate::leaving::Leaving;
 use crate::limits::first_new_id;
 use crate::mirroring::lengthen_mirror;
 use crate::reply::Refusal;
+use crate::spots::spots_for;
 use ldm_bytes::NoMemory;
 use ldm_group::Db;
 use ldm_label::Labels;
@@ -27,7 +31,7 @@ use ldm_layout::Shape;
 use ldm_made::{resized, with_children};
 use ldm_records::{Component, Record, Volume};
 use ldm_rules::sound_plan;
-use ldm_space::{Taken, place_all};
+use ldm_space::{Taken, Wanted};
 use ldm_volumes::{sectors_with, with_tiles};
 use ldm_words::Piece;
 use std::alloc::Global;
@@ -144,6 +148,60 @@ fn extend_span(
     lengthen(alloc, db, labels, volume, capacity, pieces)
 }
 
+// What the pieces ask of their disks, where their lengths are good for a span of this capacity.
+fn open_wanted(
+    alloc: Global,
+    db: &Db,
+    labels: &Labels,
+    volume: &Volume,
+    capacity: u128,
+    pieces: &[Piece],
+) -> Result<Vec<Wanted>, StepError>
+    requires limits { ArePieces pieces.now }
+    requires held { capacity ≡ held (layout_of db.now.records volume.now) }
+    ensures is { FindsAs result (open_wanted db.now labels.now (words_by pieces.now) (against_longer db.now.records volume.now)) }
+    ensures can { IfOk result (λ v. CanBePlaced v.items) }
+    ensures some { IfOk result (λ v. 1 ≤ length v.items) }
+    ensures low { IfOk result (λ v. capacity < 2 ^ 64) }
+{
+    let wanted = asked_pieces(alloc, db, labels, pieces)?;
+    if capacity > u128::from(u64::MAX) || is_bad_length(capacity as u64, wanted.as_slice()) {
+        return Err(StepError::Refused(Refusal::BadSize));
+    }
+    Ok(wanted)
+}
+
+// The group with a longer span of this capacity, where its new partitions take these sectors.
+fn lengthen_at(
+    alloc: Global,
+    db: &Db,
+    labels: &Labels,
+    volume: &Volume,
+    component: &Component,
+    capacity: u64,
+    wanted: &[Wanted],
+    spots: &[Taken],
+) -> Result<Db, StepError>
+    requires sound { IsSoundOn db.now labels.now }
+    requires areas { AreasFit labels.now }
+    requires rising { Rising db.now.records }
+    requires held { capacity ≡ held (layout_of db.now.records volume.now) }
+    requires some { 1 ≤ length wanted.now }
+    requires may { max_id db.now.records + length wanted.now ≤ 2 ^ 64 - 1 → MayExtend db.now labels.now volume.now component.now wanted.now spots.now }
+    ensures { StepsTo result (change_to db.now labels.now (length wanted.now) (lengthened db.now.records volume.now component.now (held (layout_of db.now.records volume.now)) spots.now)) }
+{
+    let fresh = wanted.len() as u64;
+    let Some(id) = first_new_id(db, fresh) else {
+        return Err(StepError::Refused(Refusal::IdsSpent));
+    };
+    let made = lengthened(alloc, volume, component, capacity, id, spots)?;
+    let leaving = Leaving::Changed {
+        volume: volume.head.id,
+        component: component.head.id,
+    };
+    change(alloc, db, labels, fresh, leaving, made)
+}
+
 // The group with a longer span of this capacity.
 fn lengthen(
     alloc: Global,
@@ -157,33 +215,23 @@ fn lengthen(
     requires areas { AreasFit labels.now }
     requires there { Contains db.now.records (kinds.Volume volume.now) }
     requires limits { ArePieces pieces.now }
-    requires span { unlengthened db.now.records volume.now ≡ None }
+    requires span { shape_of (plexes_of volume.now.head.id db.now.records) ≡ Some shapes.Span }
     requires held { capacity ≡ held (layout_of db.now.records volume.now) }
-    ensures { StepsTo result (extended_span db.now labels.now pieces.now (Some volume.now)) }
+    ensures { StepsTo result (longer_span db.now labels.now pieces.now volume.now) }
 {
-    let wanted = match asked_pieces(alloc, db, labels, pieces)? {
-        Ok(wanted) => wanted,
-        Err(piece) => return Err(StepError::Refused(Refusal::NoDisk(piece))),
-    };
-    if capacity > u128::from(u64::MAX) || is_bad_length(capacity as u64, wanted.as_slice()) {
-        return Err(StepError::Refused(Refusal::BadSize));
-    }
+    let wanted = open_wanted(alloc, db, labels, volume, capacity, pieces)?;
     let Some(component) = component_of(db, volume.head.id) else {
         return Err(StepError::Refused(Refusal::NotSpan));
     };
-    let placed = match place_all(alloc, db.as_slice(), wanted.as_slice())? {
-        Ok(spots) => spots,
-        Err(piece) => return Err(StepError::Refused(Refusal::NoSpace(piece))),
-    };
-    let spots = placed.as_slice();
-    let fresh = spots.len() as u64;
-    let Some(id) = first_new_id(db, fresh) else {
-        return Err(StepError::Refused(Refusal::IdsSpent));
-    };
-    let made = lengthened(alloc, volume, component, capacity as u64, id, spots)?;
-    let leaving = Leaving::Changed {
-        volume: volume.head.id,
-        component: component.head.id,
-    };
-    change(alloc, db, labels, fresh, leaving, made)
+    let spots = spots_for(alloc, db, wanted.as_slice())?;
+    lengthen_at(
+        alloc,
+        db,
+        labels,
+        volume,
+        component,
+        capacity as u64,
+        wanted.as_slice(),
+        spots.as_slice(),
+    )
 }

@@ -1,24 +1,20 @@
 //! `extend` of a mirror: a piece more for each component, or the first refusal.
-ghost use Rattle.std.specs.Prelude.{◌≡◌, ◌+◌, ◌-◌, ◌^◌, ◌<◌, ◌≤◌, ℕ, false, length, map, All, List, Some, Ok, is_some, Contains};
-ghost use Rattle.ldm_bytes.specs.Tables.{first_of};
+ghost use Rattle.std.specs.Prelude.{◌≡◌, ◌+◌, ◌-◌, ◌^◌, ◌≤◌, false, length, map, Some, is_some, Contains, IfOk};
 ghost use Rattle.ldm_records.specs.declared.types.Record.TheVariants as kinds;
 ghost use Rattle.ldm_group.specs.Looks.{max_id};
 ghost use Rattle.ldm_layout.specs.declared.shape.Shape.TheVariants.{Mirror};
+ghost use Rattle.ldm_group.specs.Order.{Rising};
 ghost use Rattle.ldm_layout.specs.Parts.{plexes_of};
 ghost use Rattle.ldm_layout.specs.Volumes.{layout_of, shape_of};
 ghost use Rattle.ldm_rules.specs.Facts.{IsSoundOn};
-ghost use Rattle.ldm_space.specs.Free.{taken_in};
-ghost use Rattle.ldm_space.specs.declared.taken.Taken.{Taken};
-ghost use Rattle.ldm_space.specs.Wanted.{placed};
 ghost use Rattle.ldm_words.specs.Limits.{ArePieces};
-ghost use Rattle.ldm_edits.specs.declared.reply.Refusal.TheVariants as refusals;
-ghost use Rattle.ldm_edits.specs.Answers.{StepsTo};
-ghost use Rattle.ldm_edits.specs.Changes.{AreasFit};
-ghost use Rattle.ldm_edits.specs.Asked.{has_twins};
-ghost use Rattle.ldm_edits.specs.Changes.{when};
+ghost use Rattle.ldm_edits.specs.Answers.{FindsAs, StepsTo};
+ghost use Rattle.ldm_edits.specs.Asked.{words_by};
+ghost use Rattle.ldm_edits.specs.Changes.{AreasFit, change_to};
 ghost use Rattle.ldm_edits.specs.Extending.{held};
-ghost use Rattle.ldm_edits.specs.Mirroring.{components_of, component_holds, MayGrow};
-ghost use Rattle.ldm_edits.specs.Extended.{len_of, mirror_placed, extended_mirror};
+ghost use Rattle.ldm_edits.specs.Mirroring.{components_of, grown, MayGrow};
+ghost use Rattle.ldm_edits.specs.Spots.{open_wanted, CanBePlaced};
+ghost use Rattle.ldm_edits.specs.Extended.{len_of, against_growth, IsEven, extended_mirror};
 
 use crate::asked::asked_pieces;
 use crate::changing::change;
@@ -28,14 +24,43 @@ use crate::growing::{components_of, grown};
 use crate::leaving::Leaving;
 use crate::limits::first_new_id;
 use crate::reply::Refusal;
+use crate::spots::spots_for;
 use ldm_group::Db;
 use ldm_label::Labels;
 use ldm_records::{Component, Volume};
-use ldm_space::{Wanted, place_all};
+use ldm_space::{Taken, Wanted};
 use ldm_words::Piece;
 use std::alloc::Global;
 
-// The group with a longer mirror of this capacity, where nothing refuses the pieces before they are placed.
+// What the pieces ask of their disks, where nothing stands against them.
+fn open_wanted(
+    alloc: Global,
+    db: &Db,
+    labels: &Labels,
+    volume: &Volume,
+    capacity: u128,
+    components: &[&Component],
+    pieces: &[Piece],
+) -> Result<Vec<Wanted>, StepError>
+    requires components { map (λ c. c.now) components.now ≡ components_of volume.now db.now.records }
+    requires held { capacity ≡ held (layout_of db.now.records volume.now) }
+    requires one_each { length pieces.now ≡ length components.now }
+    ensures is { FindsAs result (open_wanted db.now labels.now (words_by pieces.now) (against_growth db.now.records volume.now)) }
+    ensures can { IfOk result (λ v. CanBePlaced v.items) }
+    ensures even { IfOk result (λ v. IsEven db.now.records capacity (components_of volume.now db.now.records) v.items) }
+    ensures one_each { IfOk result (λ v. length v.items ≡ length components.now) }
+{
+    let wanted = asked_pieces(alloc, db, labels, pieces)?;
+    if is_same_disk(db, components, wanted.as_slice()) {
+        return Err(StepError::Refused(Refusal::SameDisk));
+    }
+    if is_bad_growth(db, capacity, components, wanted.as_slice()) {
+        return Err(StepError::Refused(Refusal::BadSize));
+    }
+    Ok(wanted)
+}
+
+// The group with a longer mirror of this capacity, where its new partitions take these sectors.
 fn grow(
     alloc: Global,
     db: &Db,
@@ -44,26 +69,20 @@ fn grow(
     capacity: u64,
     components: &[&Component],
     wanted: &[Wanted],
+    spots: &[Taken],
 ) -> Result<Db, StepError>
     requires sound { IsSoundOn db.now labels.now }
     requires areas { AreasFit labels.now }
+    requires rising { Rising db.now.records }
     requires components { map (λ c. c.now) components.now ≡ components_of volume.now db.now.records }
+    requires even { IsEven db.now.records capacity (components_of volume.now db.now.records) wanted.now }
     requires held { capacity ≡ held (layout_of db.now.records volume.now) }
-    requires room { capacity + len_of wanted.now < 2 ^ 64 }
     requires one_each { length wanted.now ≡ length components.now }
     requires some { 1 ≤ length wanted.now }
-    requires limits { All (λ w. w.limit < 2 ^ 64) wanted.now }
-    requires sizes { All (λ w. 0 < w.size) wanted.now }
-    requires low { All (λ c. component_holds db.now.records c < 2 ^ 64) (components_of volume.now db.now.records) }
-    requires may { (spots : List Taken) → placed (taken_in db.now.records) 0 wanted.now ≡ Ok spots → max_id db.now.records + length wanted.now ≤ 2 ^ 64 - 1 → MayGrow db.now labels.now volume.now (len_of wanted.now) wanted.now spots }
-    ensures { StepsTo result (mirror_placed db.now labels.now volume.now wanted.now (placed (taken_in db.now.records) 0 wanted.now)) }
+    requires may { max_id db.now.records + length wanted.now ≤ 2 ^ 64 - 1 → MayGrow db.now labels.now volume.now (len_of wanted.now) wanted.now spots.now }
+    ensures { StepsTo result (change_to db.now labels.now (length wanted.now) (grown db.now.records volume.now (held (layout_of db.now.records volume.now) + len_of wanted.now) spots.now)) }
 {
-    let placed = match place_all(alloc, db.as_slice(), wanted)? {
-        Ok(spots) => spots,
-        Err(piece) => return Err(StepError::Refused(Refusal::NoSpace(piece))),
-    };
-    let spots = placed.as_slice();
-    let fresh = spots.len() as u64;
+    let fresh = wanted.len() as u64;
     let Some(id) = first_new_id(db, fresh) else {
         return Err(StepError::Refused(Refusal::IdsSpent));
     };
@@ -99,17 +118,9 @@ pub fn lengthen_mirror(
     if pieces.len() != components.len() {
         return Err(StepError::Refused(Refusal::PieceCount(components.len())));
     }
-    let asked = match asked_pieces(alloc, db, labels, pieces)? {
-        Ok(asked) => asked,
-        Err(piece) => return Err(StepError::Refused(Refusal::NoDisk(piece))),
-    };
+    let asked = open_wanted(alloc, db, labels, volume, capacity, components, pieces)?;
     let wanted = asked.as_slice();
-    if is_same_disk(db, components, wanted) {
-        return Err(StepError::Refused(Refusal::SameDisk));
-    }
-    if is_bad_growth(db, capacity, components, wanted) {
-        return Err(StepError::Refused(Refusal::BadSize));
-    }
+    let spots = spots_for(alloc, db, wanted)?;
     grow(
         alloc,
         db,
@@ -118,5 +129,6 @@ pub fn lengthen_mirror(
         capacity as u64,
         components,
         wanted,
+        spots.as_slice(),
     )
 }

@@ -5,6 +5,8 @@ use Rattle.std.proofs.lemmas.List.Elements.{All-append, All-cons, All-nil}
 use Rattle.ldm_group.specs.Looks.{disk_named}
 use Rattle.ldm_rules.specs.Ends.{data_size}
 use Rattle.ldm_space.specs.declared.placed.Wanted.{Wanted}
+use Rattle.ldm_edits.specs.declared.reply.Refusal.TheVariants as refusals
+use Rattle.ldm_edits.specs.Spots.{by_place}
 use Rattle.ldm_edits.proofs.AskWalk.{IsAskedTo, asked_of, asked_first, asked_more, asked_none, asked_all, word_at}
 use Rattle.ldm_edits.proofs.asked.asked_disks.Goals as goal
 
@@ -19,9 +21,9 @@ pub returns-in-None-clause-is : goal.returns-in-None-clause-is
 returns-in-None-clause-is c =
     let words : List (List ℕ × ℕ) = map (λ (name : List ℕ). (name, c.args.size)) c.args.disks.now in
     let many : length words ≡ length c.args.disks.now = length-map c.args.disks.now (λ (name : List ℕ). (name, c.args.size)) in
-    asked_none (data_size c.args.labels.now c.args.db.now.records) c.args.db.now.records words c.loop-at.at c.loop-at.wanted.items (c.index-disks-at.result, c.args.size) (let lt = c.loop-at-test.true in omega arith)
+    ap (by_place refusals.NoDisk) (asked_none (data_size c.args.labels.now c.args.db.now.records) c.args.db.now.records words c.loop-at.at c.loop-at.wanted.items (c.index-disks-at.result, c.args.size) (let lt = c.loop-at-test.true in omega arith)
     (word_at (λ (name : List ℕ). (name, c.args.size)) c.args.disks.now c.loop-at.at c.index-disks-at.result (sym c.index-disks-at.is))
-    (c.in-None.ensures.is ∙ ap (λ (n : List ℕ). asked_of (data_size c.args.labels.now c.args.db.now.records) c.args.size (disk_named n c.args.db.now.records)) c.as_slice.ensures) c.loop-at.invariant.asked
+    (c.in-None.ensures.is ∙ ap (λ (n : List ℕ). asked_of (data_size c.args.labels.now c.args.db.now.records) c.args.size (disk_named n c.args.db.now.records)) c.as_slice.ensures) c.loop-at.invariant.asked)
 
 pub loop-at-preserved : goal.loop-at-preserved
 loop-at-preserved c = record {
@@ -39,7 +41,7 @@ pub returns-clause-is : goal.returns-clause-is
 returns-clause-is c =
     let words : List (List ℕ × ℕ) = map (λ (name : List ℕ). (name, c.args.size)) c.args.disks.now in
     let many : length words ≡ length c.args.disks.now = length-map c.args.disks.now (λ (name : List ℕ). (name, c.args.size)) in
-    asked_all (data_size c.args.labels.now c.args.db.now.records) c.args.db.now.records words c.loop-at.at c.loop-at.wanted.items (let past = c.loop-at-test.false in omega arith) c.loop-at.invariant.asked
+    ap (by_place refusals.NoDisk) (asked_all (data_size c.args.labels.now c.args.db.now.records) c.args.db.now.records words c.loop-at.at c.loop-at.wanted.items (let past = c.loop-at-test.false in omega arith) c.loop-at.invariant.asked)
 
 pub returns-clause-low : goal.returns-clause-low
 returns-clause-low c = c.loop-at.invariant.low
