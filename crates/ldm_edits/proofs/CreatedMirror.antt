@@ -264,7 +264,7 @@ mirror_created old next id name guid len ts may enough same low some =
       parts = map (λ (x : Component × Partition). x.1) xs;
       parts_are = λ p at. copy_part xs p (volume_part v (copy_records xs) p (subst (λ (l : List Record). Contains l (kinds.Partition p)) made_are at));
       taken_are = copy_taken v.head.id (id + 1) xs ts are;
-      keeps = λ r at. volume_each (KeepsRules next) v (copy_records xs) (keeps_volume next v _ v_children (λ e. some (sym mv.size_is ∙ e)) layout)
+      keeps = λ r at. volume_each (KeepsRules next) v (copy_records xs) (keeps_volume next v layout.0 v_children (λ e. some (sym mv.size_is ∙ e)) layout.1)
           (copies_keep next v (id + 1) xs ts v_there are own may.on_disks (λ s there. in_next s (behind v (copy_records xs) s there))) r (subst (λ (l : List Record). Contains l r) made_are at);
       fresh = λ r at. volume_each (IsFresh (max_id old)) v (copy_records xs) tt (copies_fresh (max_id old) v.head.id (id + 1) xs ts v_new (omega arith) are) r (subst (λ (l : List Record). Contains l r) made_are at);
     }

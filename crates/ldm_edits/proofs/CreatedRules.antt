@@ -139,7 +139,7 @@ span_created old next id name guid ts may some low sum =
     let few = may.few in
     single_created old next id name guid false (sum_by (λ t. t.size) ts) 2 None (span_parts (id + 2) (id + 1) 0 ts) (tile_extents (id + 1) 0 ts) ts may low sum tt
     (makes_span_parts (id + 2) (id + 1) 0 ts few (omega arith) may.numbers) (tiles_of (id + 1) 0 ts)
-    (λ v size plexes extents. (_, span_layout next v (id + 1) ts plexes extents some size))
+    (λ v size plexes extents. span_layout next v (id + 1) ts plexes extents some size)
 
 pub stripe_created : (old next : List Record) (id : ℕ) (name : List ℕ) (guid chunk len : ℕ) (ts : List Taken) → MayCreate old next (stripe_made id name guid chunk len ts) id (id + 2 + length ts) name ts
     → 2 ≤ length ts → AllSized len ts → chunk ≢ 0 → chunk < 2 ^ 64 → len % chunk ≡ 0 → length ts * len < 2 ^ 64 → length ts * len ≢ 0 → IsCreated old next (stripe_made id name guid chunk len ts) name ts
@@ -147,7 +147,7 @@ stripe_created old next id name guid chunk len ts may enough same some few_chunk
     let few = may.few in
     single_created old next id name guid false (length ts * len) 1 (Some (record { chunk = chunk; columns = length ts })) (column_parts (id + 2) (id + 1) 0 ts) (column_extents (id + 1) 0 ts) ts may low sum (few_chunk, omega arith)
     (makes_column_parts (id + 2) (id + 1) 0 ts few (omega arith) (omega arith) may.numbers) (columns_of (id + 1) 0 ts)
-    (λ v size plexes extents. (_, stripe_layout next v (id + 1) chunk len ts plexes extents enough same some whole size))
+    (λ v size plexes extents. stripe_layout next v (id + 1) chunk len ts plexes extents enough same some whole size)
 
 pub raid5_created : (old next : List Record) (id : ℕ) (name : List ℕ) (guid chunk len : ℕ) (ts : List Taken) → MayCreate old next (raid5_made id name guid chunk len ts) id (id + 2 + length ts) name ts
     → 3 ≤ length ts → AllSized len ts → chunk ≢ 0 → chunk < 2 ^ 64 → len % chunk ≡ 0 → (length ts - 1) * len < 2 ^ 64 → (length ts - 1) * len ≢ 0 → IsCreated old next (raid5_made id name guid chunk len ts) name ts
@@ -155,4 +155,4 @@ raid5_created old next id name guid chunk len ts may enough same some few_chunk 
     let few = may.few in
     single_created old next id name guid true ((length ts - 1) * len) 3 (Some (record { chunk = chunk; columns = length ts })) (column_parts (id + 2) (id + 1) 0 ts) (column_extents (id + 1) 0 ts) ts may low sum (few_chunk, omega arith)
     (makes_column_parts (id + 2) (id + 1) 0 ts few (omega arith) (omega arith) may.numbers) (columns_of (id + 1) 0 ts)
-    (λ v size plexes extents. (_, raid5_layout next v (id + 1) chunk len ts plexes extents enough same some whole size))
+    (λ v size plexes extents. raid5_layout next v (id + 1) chunk len ts plexes extents enough same some whole size)

@@ -36,18 +36,11 @@ single_each P v c parts hv hc hs r at = elim (single_cases v c parts r at) [
   | inr (inr p) ↦ subst P (sym p.2) (All-contains (λ q. P (kinds.Partition q)) parts p.0 hs p.1)
 ]
 
--- the only volume, the only component, and the partitions
+-- the only volume, and the partitions
 pub only_volume : (v : Volume) (c : Component) (parts : List Partition) (w : Volume) → Contains (single_records v c parts) (kinds.Volume w) → w ≡ v
 only_volume v c parts w at = elim (single_cases v c parts (kinds.Volume w) at) [
   | inl e ↦ cc
   | inr (inl e) ↦ absurd cc
-  | inr (inr p) ↦ (let e = p.2 in absurd cc)
-]
-
-pub only_component : (v : Volume) (c : Component) (parts : List Partition) (d : Component) → Contains (single_records v c parts) (kinds.Component d) → d ≡ c
-only_component v c parts d at = elim (single_cases v c parts (kinds.Component d) at) [
-  | inl e ↦ absurd cc
-  | inr (inl e) ↦ cc
   | inr (inr p) ↦ (let e = p.2 in absurd cc)
 ]
 
