@@ -1,5 +1,5 @@
 -- The sequence counts the lines that are done.
-use Rattle.std.proofs.Common.{◌≡◌, ℕ, ◌+◌, Bool, true, false, List, [], ◌∷◌, count_by, refl, sym, ap, ◌∙◌, arith, Option, Some, None, is_some, Result, Ok, Err, if◌then◌else◌}
+use Rattle.std.proofs.Common.{◌≡◌, ℕ, ◌+◌, Bool, true, false, List, [], ◌∷◌, count_by, refl, sym, ap, ◌∙◌, arith, Option, Some, None, Result, Ok, Err, if◌then◌else◌}
 use Rattle.std.specs.Prelude.{map, length}
 use Rattle.ldm_bytes.specs.Tables.{first_of, unless}
 use Rattle.ldm_label.specs.declared.Label.{Label}
@@ -24,8 +24,9 @@ use Rattle.ldm_edits.specs.declared.reply.Reply.{Reply}
 use Rattle.ldm_edits.specs.declared.reply.Reply.TheVariants as replies
 use Rattle.ldm_edits.specs.Asked.{asked_for}
 use Rattle.ldm_edits.specs.Changes.{Change, when, limits, changed}
+use Rattle.ldm_edits.proofs.CreatedCommand.{accepted}
 use Rattle.ldm_edits.specs.Counting.{is_done, SequenceCounts}
-use Rattle.ldm_edits.specs.Creating.{words_of, is_same_disk, is_bad_size, fresh_for, change_for, at_places, on_disks, created}
+use Rattle.ldm_edits.specs.Creating.{created}
 use Rattle.ldm_edits.specs.Deleting.{without, deleted}
 use Rattle.ldm_layout.specs.declared.shape.Shape.{Shape}
 use Rattle.ldm_layout.specs.declared.shape.Shape.TheVariants.{Span, Stripe, Mirror, Raid5}
@@ -47,35 +48,18 @@ unless_up : (db : Database) (refusal : Option Refusal) (change : Change) → IsU
 unless_up db None change = refl
 unless_up db (Some refusal) change = tt
 
-if_up : (db : Database) (test : Bool) (x y : Result Database Refusal) → IsUp db x → IsUp db y → IsUp db (if test then x else y)
-if_up db true x y first second = first
-if_up db false x y first second = second
-
 refused_up : (db : Database) (refusal : Option Refusal) (next : Result Database Refusal) → IsUp db next → IsUp db (refused_or refusal next)
 refused_up db None next up = up
 refused_up db (Some refusal) next up = tt
 
 -- ---- create
 
-places_up : (db : Database) (labels : List Label) (name : List ℕ) (guid : ℕ) (layout : NewLayout) (wanted : List Wanted) (places : Result (List ℕ) ℕ) → IsUp db (at_places db labels name guid layout wanted places)
-places_up db labels name guid layout wanted (Err place) = tt
-places_up db labels name guid layout wanted (Ok starts) =
-    let change = change_for db name guid layout wanted starts in
-    unless_up db (first_of (limits db labels (fresh_for layout) change)) change
-
-disks_up : (db : Database) (labels : List Label) (name : List ℕ) (guid : ℕ) (layout : NewLayout) (asked : Result (List Wanted) ℕ) → IsUp db (on_disks db labels name guid layout asked)
-disks_up db labels name guid layout (Err place) = tt
-disks_up db labels name guid layout (Ok wanted) =
-    let places = placed (taken_in db.records) 0 wanted in
-    let next = at_places db labels name guid layout wanted places in
-    if_up db (is_same_disk layout wanted) (Err refusals.SameDisk) (if is_bad_size layout then Err refusals.BadSize else next) tt
-    (if_up db (is_bad_size layout) (Err refusals.BadSize) next tt (places_up db labels name guid layout wanted places))
+up_from : (db : Database) (r : Result Database Refusal) → ((next : Database) → r ≡ Ok next → next.header.seq ≡ db.header.seq + 1) → IsUp db r
+up_from db (Ok next) h = h next refl
+up_from db (Err refusal) h = tt
 
 created_up : (db : Database) (labels : List Label) (name : List ℕ) (guid : ℕ) (layout : NewLayout) → IsUp db (created db labels name guid layout)
-unfolding created
-created_up db labels name guid layout =
-    let asked = asked_for (data_size labels db.records) db.records 0 (words_of layout) in
-    if_up db (is_some (volume_named name db.records)) (Err refusals.NameTaken) (on_disks db labels name guid layout asked) tt (disks_up db labels name guid layout asked)
+created_up db labels name guid layout = up_from db (created db labels name guid layout) (λ next h. ap (λ (d : Database). d.header.seq) (sym (accepted db labels name guid layout next h).next_is))
 
 -- ---- extend
 
