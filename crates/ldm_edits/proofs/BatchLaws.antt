@@ -16,7 +16,7 @@ use Rattle.ldm_edits.specs.declared.reply.Refusal.{Refusal}
 use Rattle.ldm_edits.specs.declared.reply.Refusal.TheVariants as refusals
 use Rattle.ldm_edits.specs.declared.stepping.Outcome.{Outcome}
 use Rattle.ldm_edits.specs.declared.stepping.Outcome.TheVariants as outcomes
-use Rattle.ldm_edits.specs.Steps.{StepsAs, FitsAsBefore, Keeps, State, IsGood, IsDraftOf, VerdictKeeps, at_once, held_at, change_in, begun, committed, cancelled, verdict_of, state_by}
+use Rattle.ldm_edits.specs.Steps.{StepsAs, FitsAsBefore, Keeps, State, IsGood, IsDraftOf, VerdictKeeps, held_at, change_in, begun, committed, verdict_of, state_by}
 
 -- ---- the sequence put back
 
@@ -25,11 +25,6 @@ pub sound_at : (seq : ℕ) (db : Database) (labels : List Label) → IsSoundOn d
 sound_at seq db labels is = record { sound = is.sound; ends = is.ends; laid_out = is.laid_out; room = is.room; apart = is.apart; own = is.own }
 
 -- ---- what each verdict keeps
-
-pub kept_once : (labels : List Label) (db : Database) (outcome : Outcome) (step : Result Database Refusal) → StepsAs outcome step
-    → ((next : Database) → outcome ≡ outcomes.Next next → Keeps labels db next) → VerdictKeeps labels db (at_once step)
-kept_once labels db (outcomes.Next next) step is keeps = subst (λ (r : Result Database Refusal). VerdictKeeps labels db (at_once r)) (sym is) (keeps next refl)
-kept_once labels db (outcomes.Refused refusal) step is keeps = subst (λ (r : Result Database Refusal). VerdictKeeps labels db (at_once r)) (sym is) tt
 
 -- two steps in a row of a last VBLK sequence that fits as before
 fits_on : (labels : List Label) (a b c : ℕ) → FitsAsBefore labels a b → FitsAsBefore labels b c → FitsAsBefore labels a c
@@ -81,10 +76,6 @@ kept_committed labels db None of = tt
 kept_committed labels db (Some draft) of =
     elim draft.filled as (λ (b : Bool). VerdictKeeps labels db (if b then verdicts.Next (at_seq (db.header.seq + 1) draft.db) else verdicts.Refused refusals.EmptyBatch))
     [ true ↦ next_draft labels db draft (of draft refl) | false ↦ tt ]
-
-pub kept_cancelled : (labels : List Label) (db : Database) (draft : Option Draft) → VerdictKeeps labels db (cancelled draft)
-kept_cancelled labels db None = tt
-kept_cancelled labels db (Some draft) = tt
 
 -- ---- what calls answer
 

@@ -1,5 +1,6 @@
 -- The sequence counts the lines that are done.
 use Rattle.std.proofs.Common.{◌≡◌, ℕ, ◌+◌, Bool, true, false, List, [], ◌∷◌, count_by, refl, sym, ap, ◌∙◌, arith, Option, Some, None, is_some, Result, Ok, Err, if◌then◌else◌}
+use Rattle.std.specs.Prelude.{map, length}
 use Rattle.ldm_bytes.specs.Tables.{first_of, unless}
 use Rattle.ldm_label.specs.declared.Label.{Label}
 use Rattle.ldm_records.specs.declared.types.Component.{Component}
@@ -17,10 +18,11 @@ use Rattle.ldm_edits.specs.declared.reply.Refusal.{Refusal}
 use Rattle.ldm_edits.specs.declared.reply.Refusal.TheVariants as refusals
 use Rattle.ldm_edits.specs.declared.reply.Reply.{Reply}
 use Rattle.ldm_edits.specs.declared.reply.Reply.TheVariants as replies
-use Rattle.ldm_edits.specs.Asked.{words_by}
-use Rattle.ldm_edits.specs.Changes.{Change, limits, changed}
+use Rattle.ldm_edits.specs.Asked.{words_by, asked_for}
+use Rattle.ldm_edits.specs.Changes.{Change, limits, changed, when}
 use Rattle.ldm_edits.specs.Counting.{is_done, SequenceCounts}
 use Rattle.ldm_edits.specs.Creating.{words_of, change_for, against_layout, created_new, created}
+use Rattle.ldm_edits.proofs.CreatedCommand.{accepted}
 use Rattle.ldm_edits.specs.Deleting.{without, deleted}
 use Rattle.ldm_layout.specs.declared.shape.Shape.{Shape}
 use Rattle.ldm_layout.specs.declared.shape.Shape.TheVariants.{Span, Stripe, Mirror, Raid5}
@@ -44,21 +46,18 @@ unless_up : (db : Database) (refusal : Option Refusal) (change : Change) → IsU
 unless_up db None change = refl
 unless_up db (Some refusal) change = tt
 
-if_up : (db : Database) (test : Bool) (x y : Result Database Refusal) → IsUp db x → IsUp db y → IsUp db (if test then x else y)
-if_up db true x y first second = first
-if_up db false x y first second = second
-
 refused_up : (db : Database) (refusal : Option Refusal) (next : Result Database Refusal) → IsUp db next → IsUp db (refused_or refusal next)
 refused_up db None next up = up
 refused_up db (Some refusal) next up = tt
 
 -- ---- create
 
+up_from : (db : Database) (r : Result Database Refusal) → ((next : Database) → r ≡ Ok next → next.header.seq ≡ db.header.seq + 1) → IsUp db r
+up_from db (Ok next) h = h next refl
+up_from db (Err refusal) h = tt
+
 created_up : (db : Database) (labels : List Label) (name : List ℕ) (guid : ℕ) (layout : NewLayout) → IsUp db (created db labels name guid layout)
-unfolding created
-created_up db labels name guid layout =
-    if_up db (is_some (volume_named name db.records)) (Err refusals.NameTaken) (created_new db labels name guid layout) tt
-    (all_open (IsUp db) db labels (words_of layout) (against_layout layout) _ (λ refusal. tt) (λ wanted asked free. all_placed (IsUp db) db wanted _ (λ refusal. tt) (λ spots places. unless_up db _ (change_for db name guid layout spots))))
+created_up db labels name guid layout = up_from db (created db labels name guid layout) (λ next h. ap (λ (d : Database). d.header.seq) (sym (accepted db labels name guid layout next h).next_is))
 
 -- ---- extend
 

@@ -1,5 +1,5 @@
 -- New volumes are laid out as they are made.
-use Rattle.std.proofs.Common.{◌≡◌, ◌≢◌, ℕ, suc, ◌+◌, ◌-◌, ◌*◌, ◌/◌, ◌%◌, ◌^◌, ◌≤◌, ◌==◌, ◌&&◌, not, List, [], ◌∷◌, length, map, refl, sym, ap, ◌∙◌, arith, Bool, true, false, Some, None, Ok}
+use Rattle.std.proofs.Common.{◌≡◌, ◌≢◌, ℕ, suc, ◌+◌, ◌-◌, ◌*◌, ◌/◌, ◌%◌, ◌^◌, ◌≤◌, ◌==◌, ◌&&◌, not, List, [], ◌∷◌, length, map, refl, sym, ap, ◌∙◌, arith, Bool, true, false, Option, Some, None, Ok}
 use Rattle.std.specs.Prelude.{sum_by, if◌then◌else◌, nat_le}
 use Rattle.std.specs.List.{All, list_all}
 use Rattle.std.proofs.Math.Nat.{mul_assoc}
@@ -8,7 +8,6 @@ use Rattle.std.proofs.lemmas.List.Sums.{sum_by-cons}
 use Rattle.std.proofs.lemmas.List.Elements.{All-tail, All-cons, All-nil}
 use Rattle.std.proofs.lemmas.Bool.{and_from, eq-eqb, ne_eqb, le-leb, le-ltb}
 use Rattle.std.specs.Option.{option_map}
-use Rattle.ldm_records.specs.declared.pieces.Striping.{Striping}
 use Rattle.ldm_records.specs.declared.types.Record.{Record}
 use Rattle.ldm_records.specs.declared.types.Volume.{Volume}
 use Rattle.ldm_layout.specs.declared.parts.Plex.{Plex}
@@ -17,11 +16,12 @@ use Rattle.ldm_layout.specs.declared.shape.Shape.{Shape}
 use Rattle.ldm_layout.specs.declared.shape.Shape.TheVariants.{Span, Stripe, Mirror, Raid5}
 use Rattle.ldm_layout.specs.Places.{stripe_capacity, raid5_capacity}
 use Rattle.ldm_layout.specs.Parts.{plexes_of, extents_of, in_rising, by_offset, by_index, tile_key, tiles, rises_from, least}
-use Rattle.ldm_layout.specs.Layouts.{Layout, lacks_columns}
-use Rattle.ldm_layout.specs.Volumes.{layout_of, draft_of, shape_of, is_basic, striping_of, laid_out, checked}
+use Rattle.ldm_layout.specs.Layouts.{Layout, has_gap, lacks_chunk, lacks_columns, is_tiled, fewest, plex_capacity}
+use Rattle.ldm_layout.specs.Volumes.{layout_of, draft_of, shape_of, is_basic, laid_out, checked}
 use Rattle.ldm_layout.proofs.SortLaws.{AtLeast, Climbs, climbs_rises, stable_is}
 use Rattle.ldm_space.specs.declared.taken.Taken.{Taken}
-use Rattle.ldm_edits.proofs.TiledLayouts.{faultless}
+use Rattle.ldm_edits.specs.Mirroring.{held_in}
+use Rattle.ldm_edits.proofs.TiledLayouts.{copies_in, faultless, tiled_laid}
 use Rattle.ldm_edits.proofs.TakenExtents.{tile_extents, column_extents, tiles_whole, tiles_sum, columns_rise, columns_count}
 
 -- the components of a mirror, from an id on: each is followed by its partition
@@ -94,20 +94,13 @@ columns_least c i len ts some same = least_one _ len (omega (arith, columns_many
 -- a span of pieces one after the other
 pub span_layout : (records : List Record) (v : Volume) (c : ℕ) (ts : List Taken)
     → plexes_of v.head.id records ≡ record { volume = v.head.id; id = c; layout = 2; striping = None } ∷ [] → extents_of c records ≡ tile_extents c 0 ts
-    → 1 ≤ length ts → v.size ≡ sum_by (λ t. t.size) ts
-    → layout_of records v ≡ Ok (record { shape = Span; size = v.size; chunk = 0; columns = 0; plexes = tile_extents c 0 ts ∷ [] })
-unfolding layout_of
+    → 1 ≤ length ts → v.size ≡ sum_by (λ t. t.size) ts → (l : Layout) × (layout_of records v ≡ Ok l)
 span_layout records v c ts plexes extents some size =
-    ap (λ (ps : List Plex). checked (draft_of v.size ps (λ d. extents_of d records))) plexes
-    ∙ ap (λ (es : List Extent). checked (Some (span (by_offset es)))) extents
-    ∙ ap (λ (es : List Extent). checked (Some (span es))) (laid_as_is tile_key (tile_extents c 0 ts) (tiles_climb c 0 ts))
-    ∙ faultless (span (tile_extents c 0 ts)) gap refl refl (le-ltb _ _ (omega (arith, tiles_sum c 0 ts)))
-  where
-    span : List Extent → Layout
-    span es = record { shape = Span; size = v.size; chunk = 0; columns = 0; plexes = es ∷ [] }
-
-    gap : not (tiles (tile_extents c 0 ts) && true) ≡ false
-    gap = ap (λ (b : Bool). not (b && true)) (tiles_whole c ts some)
+    let sorted : by_offset (extents_of c records) ≡ tile_extents c 0 ts = ap by_offset extents ∙ laid_as_is tile_key (tile_extents c 0 ts) (tiles_climb c 0 ts) in
+    let sum = tiles_sum c 0 ts in
+    let holds = ap (sum_by (λ (e : Extent). e.size)) sorted in
+    tiled_laid records v (record { volume = v.head.id; id = c; layout = 2; striping = None } ∷ []) Span plexes refl refl
+    (ap (λ (es : List Extent). tiles es && true) sorted ∙ ap (λ (b : Bool). b && true) (tiles_whole c ts some)) (omega arith)
 
 -- chunks that fill a column
 whole_chunks : (k u len : ℕ) → u ≢ 0 → len % u ≡ 0 → k * u * (len / u) ≡ k * len
@@ -122,47 +115,45 @@ columns_whole l c ts least many enough =
     and_from _ _ (eq-eqb l.columns (length (column_extents c 0 ts)) (many ∙ sym (columns_count c 0 ts)))
     (and_from _ _ (le-leb least _ (omega (arith, columns_count c 0 ts))) (columns_rise c 0 ts))
 
+-- columns side by side that hold the volume
+columned_laid : (records : List Record) (v : Volume) (s : Shape) (c u layout : ℕ) (ts : List Taken) → is_tiled s ≡ false
+    → plexes_of v.head.id records ≡ record { volume = v.head.id; id = c; layout = layout; striping = Some (record { chunk = u; columns = length ts }) } ∷ []
+    → shape_of (record { volume = v.head.id; id = c; layout = layout; striping = Some (record { chunk = u; columns = length ts }) } ∷ []) ≡ Some s
+    → extents_of c records ≡ column_extents c 0 ts → fewest s ≤ length ts → u ≢ 0 → v.size ≤ plex_capacity s u (column_extents c 0 ts) → (l : Layout) × (layout_of records v ≡ Ok l)
+unfolding layout_of
+columned_laid records v s c u layout ts untiled plexes shape extents enough some fits =
+    let lay : List Extent → Layout = λ es. record { shape = s; size = v.size; chunk = u; columns = length ts; plexes = es ∷ [] } in
+    let es : List Extent = column_extents c 0 ts in
+    let whole = columns_whole (lay es) c ts (fewest s) refl enough in
+    let gap : has_gap (lay es) ≡ false = ap (λ (b : Bool). b && not (tiles es && true)) untiled in
+    let chunk : lacks_chunk (lay es) ≡ false = (λ i. not (untiled i) && ne_eqb u 0 some i) in
+    let columns : lacks_columns (lay es) ≡ false = (λ i. not (untiled i) && not (whole i && true)) in (
+      lay es,
+      ap (λ (ps : List Plex). checked (draft_of v.size ps (λ d. extents_of d records))) plexes
+          ∙ ap (λ (o : Option Shape). checked (option_map {U = Layout} (λ t. record { shape = t; size = v.size; chunk = u; columns = length ts; plexes = laid_out t (extents_of c records) ∷ [] }) o)) shape
+          ∙ ap (λ (b : Bool). checked (Some (lay (if b then by_offset (extents_of c records) else by_index (extents_of c records))))) untiled
+          ∙ ap (λ (xs : List Extent). checked (Some (lay (by_index xs)))) extents
+          ∙ ap (λ (xs : List Extent). checked (Some (lay xs))) (laid_as_is (λ e. e.index) es (columns_climb c 0 ts))
+          ∙ faultless (lay es) gap chunk columns (le-ltb _ _ fits),
+    )
+
 -- a stripe of equal columns
 pub stripe_layout : (records : List Record) (v : Volume) (c u len : ℕ) (ts : List Taken)
     → plexes_of v.head.id records ≡ record { volume = v.head.id; id = c; layout = 1; striping = Some (record { chunk = u; columns = length ts }) } ∷ [] → extents_of c records ≡ column_extents c 0 ts
-    → 2 ≤ length ts → AllSized len ts → u ≢ 0 → len % u ≡ 0 → v.size ≡ length ts * len
-    → layout_of records v ≡ Ok (record { shape = Stripe; size = v.size; chunk = u; columns = length ts; plexes = column_extents c 0 ts ∷ [] })
-unfolding layout_of
+    → 2 ≤ length ts → AllSized len ts → u ≢ 0 → len % u ≡ 0 → v.size ≡ length ts * len → (l : Layout) × (layout_of records v ≡ Ok l)
 stripe_layout records v c u len ts plexes extents enough same some whole size =
-    ap (λ (ps : List Plex). checked (draft_of v.size ps (λ d. extents_of d records))) plexes
-    ∙ ap (λ (es : List Extent). checked (Some (stripe (by_index es)))) extents
-    ∙ ap (λ (es : List Extent). checked (Some (stripe es))) (laid_as_is (λ e. e.index) (column_extents c 0 ts) (columns_climb c 0 ts))
-    ∙ faultless (stripe (column_extents c 0 ts)) refl (ne_eqb u 0 some) columns (le-ltb _ _ (omega (arith, holds)))
-  where
-    stripe : List Extent → Layout
-    stripe es = record { shape = Stripe; size = v.size; chunk = u; columns = length ts; plexes = es ∷ [] }
-
-    columns : lacks_columns (record { shape = Stripe; size = v.size; chunk = u; columns = length ts; plexes = column_extents c 0 ts ∷ [] }) ≡ false
-    columns = ap (λ (b : Bool). not (b && true)) (columns_whole (record { shape = Stripe; size = v.size; chunk = u; columns = length ts; plexes = column_extents c 0 ts ∷ [] }) c ts 2 refl enough)
-
-    holds : stripe_capacity (length (column_extents c 0 ts)) u (least (map (λ (e : Extent). e.size) (column_extents c 0 ts))) ≡ v.size
-    holds = (λ i. stripe_capacity (columns_count c 0 ts i) u (columns_least c 0 len ts (omega arith) same i)) ∙ whole_chunks (length ts) u len some whole ∙ sym size
+    let holds : stripe_capacity (length (column_extents c 0 ts)) u (least (map (λ (e : Extent). e.size) (column_extents c 0 ts))) ≡ length ts * len =
+    (λ i. stripe_capacity (columns_count c 0 ts i) u (columns_least c 0 len ts (omega arith) same i)) ∙ whole_chunks (length ts) u len some whole in
+    columned_laid records v Stripe c u 1 ts refl plexes refl extents enough some (omega (arith, holds, size))
 
 -- RAID-5 of equal columns
 pub raid5_layout : (records : List Record) (v : Volume) (c u len : ℕ) (ts : List Taken)
     → plexes_of v.head.id records ≡ record { volume = v.head.id; id = c; layout = 3; striping = Some (record { chunk = u; columns = length ts }) } ∷ [] → extents_of c records ≡ column_extents c 0 ts
-    → 3 ≤ length ts → AllSized len ts → u ≢ 0 → len % u ≡ 0 → v.size ≡ (length ts - 1) * len
-    → layout_of records v ≡ Ok (record { shape = Raid5; size = v.size; chunk = u; columns = length ts; plexes = column_extents c 0 ts ∷ [] })
-unfolding layout_of
+    → 3 ≤ length ts → AllSized len ts → u ≢ 0 → len % u ≡ 0 → v.size ≡ (length ts - 1) * len → (l : Layout) × (layout_of records v ≡ Ok l)
 raid5_layout records v c u len ts plexes extents enough same some whole size =
-    ap (λ (ps : List Plex). checked (draft_of v.size ps (λ d. extents_of d records))) plexes
-    ∙ ap (λ (es : List Extent). checked (Some (raid (by_index es)))) extents
-    ∙ ap (λ (es : List Extent). checked (Some (raid es))) (laid_as_is (λ e. e.index) (column_extents c 0 ts) (columns_climb c 0 ts))
-    ∙ faultless (raid (column_extents c 0 ts)) refl (ne_eqb u 0 some) columns (le-ltb _ _ (omega (arith, holds)))
-  where
-    raid : List Extent → Layout
-    raid es = record { shape = Raid5; size = v.size; chunk = u; columns = length ts; plexes = es ∷ [] }
-
-    columns : lacks_columns (record { shape = Raid5; size = v.size; chunk = u; columns = length ts; plexes = column_extents c 0 ts ∷ [] }) ≡ false
-    columns = ap (λ (b : Bool). not (b && true)) (columns_whole (record { shape = Raid5; size = v.size; chunk = u; columns = length ts; plexes = column_extents c 0 ts ∷ [] }) c ts 3 refl enough)
-
-    holds : raid5_capacity (length (column_extents c 0 ts)) u (least (map (λ (e : Extent). e.size) (column_extents c 0 ts))) ≡ v.size
-    holds = (λ i. raid5_capacity (columns_count c 0 ts i) u (columns_least c 0 len ts (omega arith) same i)) ∙ whole_chunks (length ts - 1) u len some whole ∙ sym size
+    let holds : raid5_capacity (length (column_extents c 0 ts)) u (least (map (λ (e : Extent). e.size) (column_extents c 0 ts))) ≡ (length ts - 1) * len =
+    (λ i. raid5_capacity (columns_count c 0 ts i) u (columns_least c 0 len ts (omega arith) same i)) ∙ whole_chunks (length ts - 1) u len some whole in
+    columned_laid records v Raid5 c u 3 ts refl plexes refl extents enough some (omega (arith, holds, size))
 
 -- ---- mirrors
 
@@ -197,26 +188,11 @@ mirror_sizes id len (t ∷ ts) same =
     (tiles_sum id 0 (t ∷ []) ∙ sum_by-cons (λ (u : Taken). u.size) t [] ∙ (let here : t.size ≡ len = same 0 t (omega arith) in omega arith))
     (mirror_sizes (id + 2) len ts (All-tail (λ (u : Taken). u.size ≡ len) t ts same))
 
-mirror_striping : (q id : ℕ) (ts : List Taken) → striping_of (mirror_plexes q id ts) ≡ record { chunk = 0; columns = 0 }
-mirror_striping q id [] = refl
-mirror_striping q id (t ∷ ts) = refl
-
 -- a mirror of equal copies
 pub mirror_layout : (records : List Record) (v : Volume) (id len : ℕ) (ts : List Taken)
-    → plexes_of v.head.id records ≡ mirror_plexes v.head.id id ts → HasCopies records id ts → 2 ≤ length ts → AllSized len ts → v.size ≡ len
-    → layout_of records v ≡ Ok (record { shape = Mirror; size = v.size; chunk = 0; columns = 0; plexes = mirror_extents id ts })
-unfolding layout_of
+    → plexes_of v.head.id records ≡ mirror_plexes v.head.id id ts → HasCopies records id ts → 2 ≤ length ts → AllSized len ts → v.size ≡ len → (l : Layout) × (layout_of records v ≡ Ok l)
 mirror_layout records v id len ts plexes has many same size =
-    ap (λ (ps : List Plex). checked (draft_of v.size ps (λ d. extents_of d records))) plexes
-    ∙ (λ i. checked (option_map (λ (s : Shape). drawn s (mirror_striping v.head.id id ts i) (map (λ (p : Plex). laid_out s (extents_of p.id records)) (mirror_plexes v.head.id id ts))) (mirror_shape v.head.id id ts many i)))
-    ∙ ap (λ (es : List (List Extent)). checked (Some (mirror es))) (mirror_laid records v.head.id id ts has)
-    ∙ faultless (mirror (mirror_extents id ts)) (ap (λ (b : Bool). not b) (mirror_tiled id ts)) refl refl (le-ltb _ _ (omega (arith, holds)))
-  where
-    drawn : Shape → Striping → List (List Extent) → Layout
-    drawn s striping es = record { shape = s; size = v.size; chunk = striping.chunk; columns = striping.columns; plexes = es }
-
-    mirror : List (List Extent) → Layout
-    mirror es = record { shape = Mirror; size = v.size; chunk = 0; columns = 0; plexes = es }
-
-    holds : least (map (λ (es : List Extent). sum_by (λ e. e.size) es) (mirror_extents id ts)) ≡ v.size
-    holds = least_one _ len (omega (arith, mirror_many id ts)) (mirror_sizes id len ts same) ∙ sym size
+    let copies = mirror_laid records v.head.id id ts has in
+    let holds : least (map held_in (copies_in records (mirror_plexes v.head.id id ts))) ≡ len =
+    ap (λ (es : List (List Extent)). least (map held_in es)) copies ∙ least_one _ len (omega (arith, mirror_many id ts)) (mirror_sizes id len ts same) in
+    tiled_laid records v (mirror_plexes v.head.id id ts) Mirror plexes (mirror_shape v.head.id id ts many) refl (ap (list_all tiles) copies ∙ mirror_tiled id ts) (omega (arith, holds))

@@ -1,8 +1,6 @@
 -- The records that are made for a mirror keep the rules of the next group.
-use Rattle.std.proofs.Common.{◌≡◌, ◌≢◌, ◌∙◌, ap, sym, refl, subst, ℕ, zero, suc, ◌+◌, ◌*◌, ◌≤◌, ◌<◌, ◌^◌, ◌==◌, ◌||◌, [], ◌∷◌, length, get_or, map, arith, None, List, true, false, cond}
-use Rattle.std.specs.Prelude.{filter, count_by}
-use Rattle.std.specs.List.{All, filter_map, cons_option, Contains}
-use Rattle.std.proofs.lemmas.Bool.{eq-eqb, ne_eqb}
+use Rattle.std.proofs.Common.{◌≡◌, ◌≢◌, ◌∙◌, ap, sym, refl, subst, ℕ, zero, suc, ◌+◌, ◌*◌, ◌≤◌, ◌<◌, ◌^◌, [], ◌∷◌, length, get_or, map, arith, None, List, false}
+use Rattle.std.specs.List.{All, cons_option, Contains}
 use Rattle.std.proofs.lemmas.List.{length-map}
 use Rattle.std.proofs.lemmas.List.Elements.{All-tail}
 use Rattle.ldm_records.specs.declared.types.Volume.{Volume}
@@ -12,21 +10,20 @@ use Rattle.ldm_records.specs.declared.types.Record.{Record}
 use Rattle.ldm_made.proofs.MadeLaws.{MakesVolume, makes_volume, MakesComponent, makes_component, MakesPartition, makes_partition}
 use Rattle.ldm_records.specs.declared.types.Record.TheVariants as kinds
 use Rattle.ldm_group.specs.Order.{Rising, place_of}
-use Rattle.ldm_group.specs.Looks.{is_at, is_child, children_of, max_id}
-use Rattle.ldm_layout.specs.Parts.{extent_of, extent_in, plex_of, plex_in, plexes_of}
+use Rattle.ldm_group.specs.Looks.{max_id}
+use Rattle.ldm_layout.specs.Parts.{extent_of, extents_of, plex_of, plexes_of}
 use Rattle.ldm_layout.specs.declared.parts.Extent.{Extent}
 use Rattle.ldm_layout.specs.declared.parts.Plex.{Plex}
-use Rattle.ldm_layout.proofs.ChildLaws.{plexes_by, extents_by}
-use Rattle.ldm_rules.specs.Rules.{first_broken, lacks_component}
 use Rattle.ldm_space.specs.declared.taken.Taken.{Taken}
 use Rattle.ldm_space.specs.Free.{taken_of}
-use Rattle.ldm_edits.proofs.CreatedNext.{AddsTo, kin_new, no_component, no_partition, children_are, alone_rises}
+use Rattle.ldm_edits.proofs.CreatedNext.{alone_rises}
+use Rattle.ldm_edits.proofs.Longer.{Share, news, parts_of, IsMade}
+use Rattle.ldm_edits.proofs.SingleLists.{only_one}
 use Rattle.ldm_volumes.specs.Volumes.{there, mirror_parts, mirror_made}
 use Rattle.ldm_edits.proofs.CreatedLayouts.{mirror_plexes, HasCopies, AllSized, mirror_layout}
 use Rattle.ldm_edits.proofs.CreatedIds.{IdsFollow}
 use Rattle.ldm_edits.proofs.MadeParts.{AreNumbers, numbers_head, numbers_tail, extent_is}
-use Rattle.ldm_rules.proofs.CarryLaws.{KeepsRules}
-use Rattle.ldm_edits.proofs.CreatedRules.{IsFresh, IsCreated, IsSomeOn, MayCreate, keeps_volume, keeps_component, keeps_partition, plex_is}
+use Rattle.ldm_edits.proofs.CreatedRules.{IsCreated, IsSomeOn, MayCreate, IsNewShare, IsNewVolume, plexes_are, extents_are, made_keeps, plex_is}
 
 -- a component of a mirror and its partition
 pub record IsCopy (volume id : ℕ) (c : Component) (p : Partition) (t : Taken) : Type 0 where
@@ -62,21 +59,55 @@ makes_copies volume id (t ∷ ts) low few fits =
       are = (record { plex = plex_is c; children = c.children_is; extent = extent_is p; part_id = p.id_is }, rest.are);
     }
 
--- ---- their components
+-- ---- their components and partitions
 
-abbrev components_of : List (Component × Partition) → List Record
-components_of xs = map (λ x. kinds.Component x.0) xs
+abbrev share_of : Component × Partition → Share
+share_of x = record { c = x.0; d = x.0; parts = x.1 ∷ [] }
 
-copy_components : (volume id : ℕ) (xs : List (Component × Partition)) (ts : List Taken) → AreCopies volume id xs ts → filter (is_child 3 volume) (copy_records xs) ≡ components_of xs
-copy_components volume id [] [] h = refl
-copy_components volume id [] (t ∷ ts) h = absurd h
-copy_components volume id (x ∷ xs) [] h = absurd h
-copy_components volume id (x ∷ xs) (t ∷ ts) h =
-    let parent : x.0.parent ≡ volume = ap (λ (q : Plex). q.volume) h.0.plex in
-    let rest = copy_components volume (id + 2) xs ts h.1 in
-    λ i. cond (eq-eqb x.0.parent volume parent i) (kinds.Component x.0 ∷ rest i) (rest i)
+abbrev pub shares_of : List (Component × Partition) → List Share
+shares_of xs = map share_of xs
 
-copy_plexes : (volume id : ℕ) (xs : List (Component × Partition)) (ts : List Taken) → AreCopies volume id xs ts → filter_map plex_in (components_of xs) ≡ mirror_plexes volume id ts
+-- one more in front
+made_later : (v : Volume) (x : Component × Partition) (xs : List (Component × Partition)) (r : Record) → IsMade v (shares_of xs) r → IsMade v (shares_of (x ∷ xs)) r
+made_later v x xs (kinds.Group g) m = m
+made_later v x xs (kinds.Disk d) m = m
+made_later v x xs (kinds.Volume w) m = m
+made_later v x xs (kinds.Component c) (s, at, e) = (s, (suc at.0, (let lt = at.1 in omega arith), at.2), e)
+made_later v x xs (kinds.Partition p) (s, at, e) = (s, (suc at.0, (let lt = at.1 in omega arith), at.2), e)
+
+-- a record of these is a component of a share or its partition
+copy_made : (v : Volume) (xs : List (Component × Partition)) (r : Record) → Contains (copy_records xs) r → IsMade v (shares_of xs) r
+copy_made v [] r (k, lt, is) = absurd (omega arith)
+copy_made v (x ∷ xs) r (zero, lt, is) = subst (IsMade v (shares_of (x ∷ xs))) is (share_of x, (0, omega arith, refl), refl)
+copy_made v (x ∷ xs) r (suc zero, lt, is) = subst (IsMade v (shares_of (x ∷ xs))) is (share_of x, (0, omega arith, refl), (0, omega arith, refl))
+copy_made v (x ∷ xs) r (suc (suc k), lt, is) = made_later v x xs r (copy_made v xs r (k, omega arith, is))
+
+listed : (v : Volume) (xs : List (Component × Partition)) (r : Record) → Contains (kinds.Volume v ∷ copy_records xs) r → IsMade v (shares_of xs) r
+listed v xs r (zero, lt, is) = subst (IsMade v (shares_of xs)) is refl
+listed v xs r (suc k, lt, is) = copy_made v xs r (k, omega arith, is)
+
+-- and these have both
+abbrev HasBoth : List Record → Share → Type 0
+HasBoth rs s = Contains rs (kinds.Component s.d) × ((p : Partition) → Contains s.parts p → Contains rs (kinds.Partition p))
+
+copy_both : (xs : List (Component × Partition)) (s : Share) → Contains (shares_of xs) s → HasBoth (copy_records xs) s
+copy_both [] s (k, lt, is) = absurd (omega arith)
+copy_both (x ∷ xs) s (zero, lt, is) = subst (HasBoth (copy_records (x ∷ xs))) is ((0, omega arith, refl), λ p at. (1, omega arith, ap kinds.Partition (only_one x.1 p at)))
+copy_both (x ∷ xs) s (suc k, lt, is) =
+    let rest = copy_both xs s (k, omega arith, is) in
+    ((suc (suc rest.0.0), (let lt = rest.0.1 in omega arith), rest.0.2), λ p at. let q = rest.1 p at in (suc (suc q.0), (let lt = q.1 in omega arith), q.2))
+
+behind : (v : Volume) (rs : List Record) (r : Record) → Contains rs r → Contains (kinds.Volume v ∷ rs) r
+behind v rs r at = (suc at.0, (let lt = at.1 in omega arith), at.2)
+
+made_copy : (v : Volume) (xs : List (Component × Partition)) (r : Record) → IsMade v (shares_of xs) r → Contains (kinds.Volume v ∷ copy_records xs) r
+made_copy v xs (kinds.Group g) m = absurd m
+made_copy v xs (kinds.Disk d) m = absurd m
+made_copy v xs (kinds.Volume w) m = (0, omega arith, ap kinds.Volume (sym m))
+made_copy v xs (kinds.Component c) (s, at, e) = subst (λ (d : Component). Contains (kinds.Volume v ∷ copy_records xs) (kinds.Component d)) (sym e) (behind v (copy_records xs) (kinds.Component s.d) (copy_both xs s at).0)
+made_copy v xs (kinds.Partition p) (s, at, in') = behind v (copy_records xs) (kinds.Partition p) ((copy_both xs s at).1 p in')
+
+copy_plexes : (volume id : ℕ) (xs : List (Component × Partition)) (ts : List Taken) → AreCopies volume id xs ts → map (λ (s : Share). plex_of s.d) (shares_of xs) ≡ mirror_plexes volume id ts
 copy_plexes volume id [] [] h = refl
 copy_plexes volume id [] (t ∷ ts) h = absurd h
 copy_plexes volume id (x ∷ xs) [] h = absurd h
@@ -91,59 +122,57 @@ copies_many volume id [] (t ∷ ts) h = absurd h
 copies_many volume id (x ∷ xs) [] h = absurd h
 copies_many volume id (x ∷ xs) (t ∷ ts) h = ap suc (copies_many volume (id + 2) xs ts h.1)
 
-components_at : (volume id : ℕ) (xs : List (Component × Partition)) (ts : List Taken) (k : ℕ) (r : Record) → AreCopies volume id xs ts → k < length xs → place_of (get_or (components_of xs) k r) ≡ 4 * 2 ^ 64 + (id + 2 * k)
+components_at : (volume id : ℕ) (xs : List (Component × Partition)) (ts : List Taken) (k : ℕ) (r : Record) → AreCopies volume id xs ts → k < length xs → place_of (get_or (news (shares_of xs)) k r) ≡ 4 * 2 ^ 64 + (id + 2 * k)
 unfolding place_of
 components_at volume id [] ts k r h lt = absurd (omega arith)
 components_at volume id (x ∷ xs) [] k r h lt = absurd h
 components_at volume id (x ∷ xs) (t ∷ ts) zero r h lt = let here : x.0.head.id ≡ id = ap (λ (q : Plex). q.id) h.0.plex in omega arith
 components_at volume id (x ∷ xs) (t ∷ ts) (suc k) r h lt = let rest = components_at volume (id + 2) xs ts k r h.1 (omega arith) in omega arith
 
-components_rise : (volume id : ℕ) (xs : List (Component × Partition)) (ts : List Taken) → AreCopies volume id xs ts → Rising (components_of xs)
+components_rise : (volume id : ℕ) (xs : List (Component × Partition)) (ts : List Taken) → AreCopies volume id xs ts → Rising (news (shares_of xs))
 components_rise volume id xs ts h i j d low within =
-    let long = length-map xs (λ (x : Component × Partition). kinds.Component x.0) in
+    let long = length-map (shares_of xs) (λ (s : Share). kinds.Component s.d) ∙ length-map xs share_of in
     let a = components_at volume id xs ts i d h (omega arith) in
     let b = components_at volume id xs ts j d h (omega arith) in
     omega arith
 
--- ---- their partitions
+copies_read : (next : List Record) (volume id : ℕ) (xs : List (Component × Partition)) (ts : List Taken) → AreCopies volume id xs ts
+    → ((s : Share) → Contains (shares_of xs) s → extents_of s.d.head.id next ≡ map extent_of s.parts) → HasCopies next id ts
+copies_read next volume id [] [] h read = tt
+copies_read next volume id [] (t ∷ ts) h read = absurd h
+copies_read next volume id (x ∷ xs) [] h read = absurd h
+copies_read next volume id (x ∷ xs) (t ∷ ts) h read = (
+  ap (λ (q : Plex). extents_of q.id next) (sym h.0.plex) ∙ read (share_of x) (0, omega arith, refl) ∙ ap (λ (e : Extent). e ∷ []) h.0.extent,
+  copies_read next volume (id + 2) xs ts h.1 (λ s at. read s (suc at.0, (let lt = at.1 in omega arith), at.2)),
+)
 
--- none has a parent below their ids
-no_copy : (volume id q : ℕ) (xs : List (Component × Partition)) (ts : List Taken) → AreCopies volume id xs ts → q < id → filter (is_child 4 q) (copy_records xs) ≡ []
-no_copy volume id q [] ts h low = refl
-no_copy volume id q (x ∷ xs) [] h low = absurd h
-no_copy volume id q (x ∷ xs) (t ∷ ts) h low =
+copy_taken : (volume id : ℕ) (xs : List (Component × Partition)) (ts : List Taken) → AreCopies volume id xs ts → map taken_of (parts_of (shares_of xs)) ≡ ts
+copy_taken volume id [] [] h = refl
+copy_taken volume id [] (t ∷ ts) h = absurd h
+copy_taken volume id (x ∷ xs) [] h = absurd h
+copy_taken volume id (x ∷ xs) (t ∷ ts) h =
+    let here : taken_of x.1 ≡ t = ap (λ (e : Extent). record { disk = e.disk; start = e.start; size = e.size }) h.0.extent in
+    let rest = copy_taken volume (id + 2) xs ts h.1 in
+    λ i. here i ∷ rest i
+
+-- each is new
+copies_new : (old next : List Record) (v : Volume) (id : ℕ) (xs : List (Component × Partition)) (ts : List Taken) → max_id old < id → AreCopies v.head.id id xs ts → All (IsSomeOn next) ts
+    → (s : Share) → Contains (shares_of xs) s → IsNewShare old next v s
+copies_new old next v id [] ts new h on s (k, lt, is) = absurd (omega arith)
+copies_new old next v id (x ∷ xs) [] new h on s at = absurd h
+copies_new old next v id (x ∷ xs) (t ∷ ts) new h on s (zero, lt, is) =
+    let c_id : x.0.head.id ≡ id = ap (λ (q : Plex). q.id) h.0.plex in
     let parent : x.1.parent ≡ id = ap (λ (e : Extent). e.component) h.0.extent in
-    let off : (x.1.parent == q) ≡ false = ne_eqb x.1.parent q (λ e. omega arith) in
-    let rest = no_copy volume (id + 2) q xs ts h.1 (omega arith) in
-    λ i. cond (off i || false) (kinds.Partition x.1 ∷ rest i) (rest i)
-
--- each component has its own partition in the next group
-abbrev pub OwnParts : List Record → ℕ → List (Component × Partition) → Type 0
-OwnParts next id [] = Unit {0}
-OwnParts next id (x ∷ xs) = (filter (is_child 4 id) next ≡ kinds.Partition x.1 ∷ []) × OwnParts next (id + 2) xs
-
-own_copies : (old made next : List Record) (volume id : ℕ) (xs : List (Component × Partition)) (ts : List Taken) → AddsTo old made next
-    → first_broken (lacks_component (λ q. count_by (is_at 4 q) old)) old ≡ None → max_id old < id → AreCopies volume id xs ts
-    → ((q : ℕ) → id ≤ q → filter (is_child 4 q) made ≡ filter (is_child 4 q) (copy_records xs)) → OwnParts next id xs
-own_copies old made next volume id [] ts adds sound new h same = tt
-own_copies old made next volume id (x ∷ xs) [] adds sound new h same = absurd h
-own_copies old made next volume id (x ∷ xs) (t ∷ ts) adds sound new h same =
-    let parent : x.1.parent ≡ id = ap (λ (e : Extent). e.component) h.0.extent in
-    let on : (x.1.parent == id) ≡ true = eq-eqb x.1.parent id parent in
-    let none = no_copy volume (id + 2) id xs ts h.1 (omega arith) in (
-      kin_new (is_child 4 id) old made next (kinds.Partition x.1 ∷ []) adds (no_partition old id sound new)
-          (same id (omega arith) ∙ (λ i. cond (on i || false) (kinds.Partition x.1 ∷ none i) (none i))) (alone_rises (kinds.Partition x.1)),
-      own_copies old made next volume (id + 2) xs ts adds sound (omega arith) h.1
-          (λ q low. same q (omega arith) ∙ (let off : (x.1.parent == q) ≡ false = ne_eqb x.1.parent q (λ e. omega arith) in
-          λ i. cond (off i || false) (kinds.Partition x.1 ∷ filter (is_child 4 q) (copy_records xs)) (filter (is_child 4 q) (copy_records xs)))),
-    )
-
-copies_read : (next : List Record) (volume id : ℕ) (xs : List (Component × Partition)) (ts : List Taken) → AreCopies volume id xs ts → OwnParts next id xs → HasCopies next id ts
-copies_read next volume id [] [] h own = tt
-copies_read next volume id [] (t ∷ ts) h own = absurd h
-copies_read next volume id (x ∷ xs) [] h own = absurd h
-copies_read next volume id (x ∷ xs) (t ∷ ts) h own =
-    (extents_by id next ∙ ap (filter_map extent_in) own.0 ∙ ap (λ (e : Extent). e ∷ []) h.0.extent, copies_read next volume (id + 2) xs ts h.1 own.1)
+    let takes : taken_of x.1 ≡ t = ap (λ (e : Extent). record { disk = e.disk; start = e.start; size = e.size }) h.0.extent in
+    subst (IsNewShare old next v) is (record {
+      new = omega arith;
+      parent = ap (λ (q : Plex). q.volume) h.0.plex;
+      children = h.0.children;
+      each = λ p at. subst (λ (q : Partition). (q.parent ≡ x.0.head.id) × IsSomeOn next (taken_of q)) (only_one x.1 p at) (parent ∙ sym c_id, subst (IsSomeOn next) (sym takes) (on 0 t (omega arith)));
+      rise = alone_rises (kinds.Partition x.1);
+    })
+copies_new old next v id (x ∷ xs) (t ∷ ts) new h on s (suc k, lt, is) =
+    copies_new old next v (id + 2) xs ts (omega arith) h.1 (All-tail (IsSomeOn next) t ts on) s (k, omega arith, is)
 
 -- ---- ids
 
@@ -170,70 +199,6 @@ mirror_ids id name guid len ts few short low numbers =
 
 -- ---- the rules
 
-copies_keep : (next : List Record) (v : Volume) (id : ℕ) (xs : List (Component × Partition)) (ts : List Taken) → Contains next (kinds.Volume v) → AreCopies v.head.id id xs ts → OwnParts next id xs → All (IsSomeOn next) ts
-    → ((r : Record) → Contains (copy_records xs) r → Contains next r) → (r : Record) → Contains (copy_records xs) r → KeepsRules next r
-copies_keep next v id [] ts there h own on has r (k, lt, is) = absurd (omega arith)
-copies_keep next v id (x ∷ xs) [] there h own on has r at = absurd h
-copies_keep next v id (x ∷ xs) (t ∷ ts) there h own on has r (zero, lt, is) =
-    let c_id : x.0.head.id ≡ id = ap (λ (q : Plex). q.id) h.0.plex in
-    subst (KeepsRules next) is (keeps_component next v x.0 there (ap (λ (q : Plex). q.volume) h.0.plex)
-    (h.0.children ∙ sym (children_are 4 x.0.head.id next (kinds.Partition x.1 ∷ []) (ap (λ n. filter (is_child 4 n) next) c_id ∙ own.0))))
-copies_keep next v id (x ∷ xs) (t ∷ ts) there h own on has r (suc zero, lt, is) =
-    let c_id : x.0.head.id ≡ id = ap (λ (q : Plex). q.id) h.0.plex in
-    let parent : x.1.parent ≡ id = ap (λ (e : Extent). e.component) h.0.extent in
-    let takes : taken_of x.1 ≡ t = ap (λ (e : Extent). record { disk = e.disk; start = e.start; size = e.size }) h.0.extent in
-    subst (KeepsRules next) is (keeps_partition next x.0 x.1 (has (kinds.Component x.0) (0, omega arith, refl)) (parent ∙ sym c_id) (subst (IsSomeOn next) (sym takes) (on 0 t (omega arith))))
-copies_keep next v id (x ∷ xs) (t ∷ ts) there h own on has r (suc (suc k), lt, is) =
-    copies_keep next v (id + 2) xs ts there h.1 own.1 (All-tail (IsSomeOn next) t ts on)
-    (λ s at. has s (suc (suc at.0), (let n = at.1 in omega arith), at.2)) r (k, omega arith, is)
-
-copy_taken : (volume id : ℕ) (xs : List (Component × Partition)) (ts : List Taken) → AreCopies volume id xs ts → map taken_of (map (λ (x : Component × Partition). x.1) xs) ≡ ts
-copy_taken volume id [] [] h = refl
-copy_taken volume id [] (t ∷ ts) h = absurd h
-copy_taken volume id (x ∷ xs) [] h = absurd h
-copy_taken volume id (x ∷ xs) (t ∷ ts) h =
-    let here : taken_of x.1 ≡ t = ap (λ (e : Extent). record { disk = e.disk; start = e.start; size = e.size }) h.0.extent in
-    let rest = copy_taken volume (id + 2) xs ts h.1 in
-    λ i. here i ∷ rest i
-
-copy_part : (xs : List (Component × Partition)) (p : Partition) → Contains (copy_records xs) (kinds.Partition p) → Contains (map (λ (x : Component × Partition). x.1) xs) p
-copy_part [] p (k, lt, is) = absurd (omega arith)
-copy_part (x ∷ xs) p (zero, lt, is) = absurd cc
-copy_part (x ∷ xs) p (suc zero, lt, is) = (0, omega arith, cc)
-copy_part (x ∷ xs) p (suc (suc k), lt, is) = let rest = copy_part xs p (k, omega arith, is) in (suc rest.0, (let n = rest.1 in omega arith), rest.2)
-
-copies_fresh : (top volume id : ℕ) (xs : List (Component × Partition)) (ts : List Taken) → top < volume → top < id → AreCopies volume id xs ts → (r : Record) → Contains (copy_records xs) r → IsFresh top r
-copies_fresh top volume id [] ts v c h r (k, lt, is) = absurd (omega arith)
-copies_fresh top volume id (x ∷ xs) [] v c h r at = absurd h
-copies_fresh top volume id (x ∷ xs) (t ∷ ts) v c h r (zero, lt, is) = subst (IsFresh top) is (let e : x.0.parent ≡ volume = ap (λ (q : Plex). q.volume) h.0.plex in omega arith)
-copies_fresh top volume id (x ∷ xs) (t ∷ ts) v c h r (suc zero, lt, is) = subst (IsFresh top) is (let e : x.1.parent ≡ id = ap (λ (q : Extent). q.component) h.0.extent in omega arith)
-copies_fresh top volume id (x ∷ xs) (t ∷ ts) v c h r (suc (suc k), lt, is) = copies_fresh top volume (id + 2) xs ts v (omega arith) h.1 r (k, omega arith, is)
-
-no_volume : (xs : List (Component × Partition)) (w : Volume) → Contains (copy_records xs) (kinds.Volume w) → ⊥
-no_volume [] w (k, lt, is) = omega arith
-no_volume (x ∷ xs) w (zero, lt, is) = cc
-no_volume (x ∷ xs) w (suc zero, lt, is) = cc
-no_volume (x ∷ xs) w (suc (suc k), lt, is) = no_volume xs w (k, omega arith, is)
-
-first_volume : (v w : Volume) (xs : List (Component × Partition)) → Contains (kinds.Volume v ∷ copy_records xs) (kinds.Volume w) → w ≡ v
-first_volume v w xs (zero, lt, is) = cc
-first_volume v w xs (suc k, lt, is) = absurd (no_volume xs w (k, omega arith, is))
-
--- the volume, and what is made behind it
-volume_there : (v : Volume) (rs : List Record) → Contains (kinds.Volume v ∷ rs) (kinds.Volume v)
-volume_there v rs = (0, omega arith, refl)
-
-behind : (v : Volume) (rs : List Record) (r : Record) → Contains rs r → Contains (kinds.Volume v ∷ rs) r
-behind v rs r at = (suc at.0, (let n = at.1 in omega arith), at.2)
-
-volume_each : (P : Record → Type 0) (v : Volume) (rs : List Record) → P (kinds.Volume v) → ((r : Record) → Contains rs r → P r) → (r : Record) → Contains (kinds.Volume v ∷ rs) r → P r
-volume_each P v rs first rest r (zero, lt, is) = subst P is first
-volume_each P v rs first rest r (suc k, lt, is) = rest r (k, omega arith, is)
-
-volume_part : (v : Volume) (rs : List Record) (p : Partition) → Contains (kinds.Volume v ∷ rs) (kinds.Partition p) → Contains rs (kinds.Partition p)
-volume_part v rs p (zero, lt, is) = absurd cc
-volume_part v rs p (suc k, lt, is) = (k, omega arith, is)
-
 pub mirror_created : (old next : List Record) (id : ℕ) (name : List ℕ) (guid len : ℕ) (ts : List Taken) → MayCreate old next (mirror_made id name guid len ts) id (id + 1 + 2 * length ts) name ts
     → 2 ≤ length ts → AllSized len ts → len < 2 ^ 64 → len ≢ 0 → IsCreated old next (mirror_made id name guid len ts) name ts
 mirror_created old next id name guid len ts may enough same low some =
@@ -243,28 +208,26 @@ mirror_created old next id name guid len ts may enough same low some =
     let v : Volume = mv.volume in
     let has : MakesCopies id (id + 1) ts = makes_copies id (id + 1) ts (omega arith) (omega arith) may.numbers in
     let xs : List (Component × Partition) = has.copies in
-    let made : List Record = mirror_made id name guid len ts in
-    let made_are : made ≡ kinds.Volume v ∷ copy_records xs = λ i. cons_option (mv.made i) (has.made_are i) in
+    let made_are : mirror_made id name guid len ts ≡ kinds.Volume v ∷ copy_records xs = λ i. cons_option (mv.made i) (has.made_are i) in
     let are : AreCopies v.head.id (id + 1) xs ts = subst (λ (q : ℕ). AreCopies q (id + 1) xs ts) (sym mv.id_is) has.are in
-    let v_new : max_id old < v.head.id = let e = mv.id_is in omega arith in
-    let components : filter (is_child 3 v.head.id) next ≡ components_of xs =
-    kin_new (is_child 3 v.head.id) old made next (components_of xs) may.adds (no_component old v.head.id may.volumes v_new)
-    (ap (filter (is_child 3 v.head.id)) made_are ∙ copy_components v.head.id (id + 1) xs ts are) (components_rise v.head.id (id + 1) xs ts are) in
-    let own : OwnParts next (id + 1) xs = own_copies old made next v.head.id (id + 1) xs ts may.adds may.components (omega arith) are (λ q above. ap (filter (is_child 4 q)) made_are) in
-    let plexes : plexes_of v.head.id next ≡ mirror_plexes v.head.id (id + 1) ts = plexes_by v.head.id next ∙ ap (filter_map plex_in) components ∙ copy_plexes v.head.id (id + 1) xs ts are in
-    let layout = mirror_layout next v (id + 1) len ts plexes (copies_read next v.head.id (id + 1) xs ts are own) enough same mv.size_is in
-    let v_children : v.children ≡ children_of 3 v.head.id next = mv.children_is ∙ (sym (copies_many v.head.id (id + 1) xs ts are) ∙ (sym (length-map xs (λ (x : Component × Partition). kinds.Component x.0)) ∙ sym (children_are 3 v.head.id next (components_of xs) components))) in
-    let in_next : (r : Record) → Contains (kinds.Volume v ∷ copy_records xs) r → Contains next r = λ r at. may.adds.has r (subst (λ (l : List Record). Contains l r) (sym made_are) at) in
-    let v_there : Contains next (kinds.Volume v) = in_next (kinds.Volume v) (volume_there v (copy_records xs)) in
-    record {
+    let v_id = mv.id_is in
+    let new : IsNewVolume old (mirror_made id name guid len ts) next v (shares_of xs) = record {
       adds = may.adds;
+      listed = λ r at. listed v xs r (subst (λ (l : List Record). Contains l r) made_are at);
+      lists = λ r m. subst (λ (l : List Record). Contains l r) (sym made_are) (made_copy v xs r m);
+      volumes = may.volumes;
+      components = may.components;
+      new = omega arith;
+      each = copies_new old next v (id + 1) xs ts (omega arith) are may.on_disks;
+      rise = components_rise v.head.id (id + 1) xs ts are;
+    } in
+    let plexes : plexes_of v.head.id next ≡ mirror_plexes v.head.id (id + 1) ts = plexes_are new ∙ copy_plexes v.head.id (id + 1) xs ts are in
+    record {
       volume = v;
-      volumes_are = λ w at. first_volume v w xs (subst (λ (l : List Record). Contains l (kinds.Volume w)) made_are at);
+      ss = shares_of xs;
+      new = new;
       named = mv.name_is;
-      parts = map (λ (x : Component × Partition). x.1) xs;
-      parts_are = λ p at. copy_part xs p (volume_part v (copy_records xs) p (subst (λ (l : List Record). Contains l (kinds.Partition p)) made_are at));
       taken_are = copy_taken v.head.id (id + 1) xs ts are;
-      keeps = λ r at. volume_each (KeepsRules next) v (copy_records xs) (keeps_volume next v _ v_children (λ e. some (sym mv.size_is ∙ e)) layout)
-          (copies_keep next v (id + 1) xs ts v_there are own may.on_disks (λ s there. in_next s (behind v (copy_records xs) s there))) r (subst (λ (l : List Record). Contains l r) made_are at);
-      fresh = λ r at. volume_each (IsFresh (max_id old)) v (copy_records xs) tt (copies_fresh (max_id old) v.head.id (id + 1) xs ts v_new (omega arith) are) r (subst (λ (l : List Record). Contains l r) made_are at);
+      keeps = made_keeps new (mv.children_is ∙ sym (copies_many v.head.id (id + 1) xs ts are) ∙ sym (length-map xs share_of)) (λ e. some (sym mv.size_is ∙ e))
+          (mirror_layout next v (id + 1) len ts plexes (copies_read next v.head.id (id + 1) xs ts are (extents_are new)) enough same mv.size_is);
     }

@@ -1,7 +1,8 @@
 -- Create: the next group is sound where the old one is.
-use Rattle.std.proofs.Common.{◌≡◌, inl, inr, ◌∙◌, ap, sym, refl, subst, ℕ, ◌≤◌, ◌<◌, arith, List, false, Some, bytes_eq}
+use Rattle.std.proofs.Common.{◌≡◌, inl, inr, ◌∙◌, ap, sym, refl, subst, ℕ, ◌≤◌, arith, List, false, Some, bytes_eq}
 use Rattle.std.specs.List.{Contains}
 use Rattle.ldm_records.specs.declared.types.Volume.{Volume}
+use Rattle.ldm_records.specs.declared.types.Component.{Component}
 use Rattle.ldm_records.specs.declared.types.Record.{Record}
 use Rattle.ldm_records.specs.declared.types.Record.TheVariants as kinds
 use Rattle.ldm_records.specs.declared.pieces.Head.{Head}
@@ -18,19 +19,21 @@ use Rattle.ldm_space.specs.Free.{taken_in}
 use Rattle.ldm_space.specs.Placed.{AreApart, AllEndWithin}
 use Rattle.ldm_edits.proofs.PlacedRules.{placed_carried}
 use Rattle.ldm_edits.proofs.CreatedRules.{IsCreated}
+use Rattle.ldm_edits.proofs.Longer.{parts_of}
+use Rattle.ldm_edits.proofs.LongerFrom.{part_listed}
 
 module _ (old next made : List Record) (name : List ℕ) (ts : List Taken) (up : Rising old) (created : IsCreated old next made name ts) where
   -- a new component, or partition, names no old parent
   components_kept : (q : ℕ) → q ≤ max_id old → SameComponents old next q
   components_kept q low = record {
-    stay = λ c parent at. created.adds.kept (kinds.Component c) at;
-    back = λ c parent at. elim (created.adds.from (kinds.Component c) at) [ inl o ↦ o | inr m ↦ absurd (let fresh : max_id old < c.parent = created.fresh (kinds.Component c) m in omega arith) ];
+    stay = λ c parent at. created.new.adds.kept (kinds.Component c) at;
+    back = λ c parent at. elim (created.new.adds.from (kinds.Component c) at) [ inl o ↦ o | inr m ↦ absurd (let s = created.new.listed (kinds.Component c) m in let own = ap (λ (x : Component). x.parent) s.2 in let is = (created.new.each s.0 s.1).parent in let new = created.new.new in omega arith) ];
   }
 
   partitions_kept : (q : ℕ) → q ≤ max_id old → SamePartitions old next q
   partitions_kept q low = record {
-    stay = λ p parent at. created.adds.kept (kinds.Partition p) at;
-    back = λ p parent at. elim (created.adds.from (kinds.Partition p) at) [ inl o ↦ o | inr m ↦ absurd (let fresh : max_id old < p.parent = created.fresh (kinds.Partition p) m in omega arith) ];
+    stay = λ p parent at. created.new.adds.kept (kinds.Partition p) at;
+    back = λ p parent at. elim (created.new.adds.from (kinds.Partition p) at) [ inl o ↦ o | inr m ↦ absurd (let s = created.new.listed (kinds.Partition p) m in let is = ((created.new.each s.0 s.1).each p s.2).0 in let new = (created.new.each s.0 s.1).new in omega arith) ];
   }
 
   kin : (r : Record) → Contains old r → HasSameKin old next r
@@ -41,18 +44,18 @@ module _ (old next made : List Record) (name : List ℕ) (ts : List Taken) (up :
     partitions = λ c there parent. partitions_kept c.head.id (max_above old (kinds.Component c) there);
   }
   kin (kinds.Component c) at = record {
-    parent = λ v. (v.0, created.adds.kept (kinds.Volume v.0) v.1, v.2);
+    parent = λ v. (v.0, created.new.adds.kept (kinds.Volume v.0) v.1, v.2);
     partitions = partitions_kept c.head.id (max_above old (kinds.Component c) at);
   }
-  kin (kinds.Partition p) at = λ c. (c.0, created.adds.kept (kinds.Component c.0) c.1, c.2)
+  kin (kinds.Partition p) at = λ c. (c.0, created.new.adds.kept (kinds.Component c.0) c.1, c.2)
 
   carries : Carries old next
   carries = record {
     up = up;
-    vp = created.adds.rising;
-    groups = λ g at. created.adds.kept (kinds.Group g) at;
-    disks = λ d at. created.adds.kept (kinds.Disk d) at;
-    each = λ r at. elim (created.adds.from r at) [ inl o ↦ inl (o, kin r o) | inr m ↦ inr (created.keeps r m) ];
+    vp = created.new.adds.rising;
+    groups = λ g at. created.new.adds.kept (kinds.Group g) at;
+    disks = λ d at. created.new.adds.kept (kinds.Disk d) at;
+    each = λ r at. elim (created.new.adds.from r at) [ inl o ↦ inl (o, kin r o) | inr m ↦ inr (created.keeps r (created.new.listed r m)) ];
   }
 
   pub created_heads : SameHeads old next
@@ -62,7 +65,7 @@ module _ (old next made : List Record) (name : List ℕ) (ts : List Taken) (up :
     -- the new volume has a name that no old one has
     names : AreNamed old next (Some created.volume.head)
     names = record {
-      from = λ v at. elim (created.adds.from (kinds.Volume v) at) [ inl o ↦ inl (v, o, refl) | inr m ↦ inr (ap (λ (x : Volume). Some x.head) (sym (created.volumes_are v m))) ];
+      from = λ v at. elim (created.new.adds.from (kinds.Volume v) at) [ inl o ↦ inl (v, o, refl) | inr m ↦ inr (ap (λ (x : Volume). Some x.head) (sym (created.new.listed (kinds.Volume v) m))) ];
       free = λ head is w at. (let same : created.volume.head ≡ head = cc in
           let own : name ≡ head.name = sym created.named ∙ ap (λ (h : Head). h.name) same in
           subst (λ (n : List ℕ). bytes_eq w.head.name n ≡ false) own (free (kinds.Volume w) at));
@@ -70,10 +73,10 @@ module _ (old next made : List Record) (name : List ℕ) (ts : List Taken) (up :
 
     pub created_each : AreApart (taken_in old) ts → AllEndWithin (data_size labels old) ts → EachRule next labels
     created_each apart within =
-        placed_carried labels old next created.parts carries each
+        placed_carried labels old next (parts_of created.ss) carries each
         (record {
-          members = λ p at. elim (created.adds.from (kinds.Partition p) at) [ inl o ↦ inl o | inr m ↦ inr (created.parts_are p m) ];
+          members = λ p at. elim (created.new.adds.from (kinds.Partition p) at) [ inl o ↦ inl o | inr m ↦ (let s = created.new.listed (kinds.Partition p) m in inr (part_listed created.ss s.0 p s.1 s.2)) ];
           within = subst (AllEndWithin (data_size labels old)) (sym created.taken_are) within;
           free = subst (AreApart (taken_in old)) (sym created.taken_are) apart;
         })
-        (names_next old next (Some created.volume.head) created.adds.rising names each.names)
+        (names_next old next (Some created.volume.head) created.new.adds.rising names each.names)

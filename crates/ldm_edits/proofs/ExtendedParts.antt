@@ -1,4 +1,4 @@
--- Extend: the longer volume, its component and the new partitions are made where no word refuses them, and stand in order.
+-- Extend: the longer span, its component and the new partitions are made where no word refuses them.
 use Rattle.std.proofs.Common.{◌≡◌, ℕ, zero, suc, ◌+◌, ◌-◌, ◌^◌, ◌<◌, ◌≤◌, ◌==◌, ◌||◌, List, [], ◌∷◌, length, map, get_or, refl, sym, ap, subst, ◌∙◌, inl, inr, arith, Bool, true, false, Option, Some, None, Ok, Contains, sum_by, find}
 use Rattle.std.specs.Prelude.{filter, if◌then◌else◌}
 use Rattle.std.specs.List.{list_any, list_all, cons_option}
@@ -55,7 +55,7 @@ use Rattle.ldm_edits.proofs.LongerMade.{IsOnDisk, wanted_there, taken_sum, IsTak
 use Rattle.ldm_edits.proofs.LongerRules.{held_shared}
 use Rattle.ldm_edits.proofs.MadeParts.{IdsFrom, MakesParts, makes_span_parts, parts_rise}
 use Rattle.ldm_edits.proofs.PlacedRules.{map_there}
-use Rattle.ldm_edits.proofs.SingleLists.{records_of}
+use Rattle.ldm_edits.proofs.SingleLists.{records_of, only_one}
 use Rattle.ldm_edits.proofs.TakenExtents.{tile_extents, tiles_on, tiles_sum, tiles_of, parts_taken}
 
 -- ---- the component
@@ -82,10 +82,6 @@ one_span (p ∷ (q ∷ ps)) h = absurd (go (list_all is_basic (p ∷ (q ∷ ps))
     go : (b : Bool) → (if b then Some Mirror else None) ≡ Some Span → ⊥
     go true e = cc
     go false e = cc
-
-pub only_one : {X : Type 0} (x y : X) → Contains (x ∷ []) y → x ≡ y
-only_one x y (zero, lt, is) = is
-only_one x y (suc k, lt, is) = absurd (omega arith)
 
 -- a span's component is its only one
 own_plex : (records : List Record) (v : Volume) (c : Component) → shape_of (plexes_of v.head.id records) ≡ Some Span → Contains records (kinds.Component c) → c.parent ≡ v.head.id

@@ -1,13 +1,13 @@
 -- What is made of a mirror that grows, one after the other.
-use Rattle.std.proofs.Common.{◌≡◌, ℕ, ◌+◌, ◌<◌, ◌≤◌, ◌||◌, Bool, true, false, cond, List, [], ◌∷◌, ◌++◌, length, get_or, take, map, refl, sym, ap, ◌∙◌, append_assoc, arith, Option, Some, None, Result, Ok, Err, Vec, Global}
+use Rattle.std.proofs.Common.{◌≡◌, ℕ, ◌+◌, ◌<◌, ◌≤◌, ◌||◌, Bool, true, false, List, [], ◌∷◌, ◌++◌, length, get_or, take, map, refl, sym, ap, ◌∙◌, append_assoc, arith, Option, Some, None, Result, Ok, Err, Vec, Global}
 use Rattle.std.specs.Prelude.{filter}
 use Rattle.std.specs.Borrow.{Bor}
 use Rattle.std.specs.List.{cons_option, filter_map}
 use Rattle.std.specs.Option.{option_map}
 use Rattle.std.specs.Result.{IfOk}
-use Rattle.std.proofs.lemmas.Bool.{eq-eqb, ne_eqb}
+use Rattle.std.proofs.lemmas.Bool.{eq-eqb, ne_eqb, false_from_ne_true}
 use Rattle.std.proofs.lemmas.List.{take_more, take_all, length-take-le, append-nil, length-map}
-use Rattle.std.proofs.lemmas.List.Elements.{filter_more, filter_map-append}
+use Rattle.std.proofs.lemmas.List.Elements.{filter_map-append}
 use Rattle.std.proofs.lemmas.List.Sums.{sum_by-append, sum_by-cons}
 use Rattle.ldm_records.specs.declared.types.Record.{Record}
 use Rattle.ldm_records.specs.declared.types.Record.TheVariants as kinds
@@ -15,21 +15,18 @@ use Rattle.ldm_records.specs.declared.types.Component.{Component}
 use Rattle.ldm_records.specs.declared.types.Partition.{Partition}
 use Rattle.ldm_made.specs.Made.{with_children, new_partition}
 use Rattle.ldm_group.specs.Looks.{is_child}
+use Rattle.ldm_group.proofs.KindLaws.{child_component, child_partition}
 use Rattle.ldm_layout.specs.declared.parts.Extent.{Extent}
 use Rattle.ldm_layout.specs.Parts.{extent_of, extent_in, extents_of, by_offset, tile_key}
 use Rattle.ldm_layout.proofs.ChildLaws.{extents_by}
 use Rattle.ldm_layout.proofs.LongerSpan.{rising_sum}
 use Rattle.ldm_space.specs.declared.taken.Taken.{Taken}
 use Rattle.ldm_volumes.specs.Volumes.{there}
+use Rattle.ldm_edits.proofs.StayLaws.{walk_more}
 use Rattle.ldm_edits.specs.Mirroring.{held_in}
 use Rattle.ldm_edits.specs.Mirroring.{component_at, component_holds, grown_components, grown_parts}
 
 -- ---- a walk over the records
-
-child_more : (t : Record → Bool) (rs : List Record) (at : ℕ) (r : Record) (passes : Bool) → at < length rs → r ≡ get_or rs at r → t r ≡ passes
-    → filter t (take (at + 1) rs) ≡ filter t (take at rs) ++ cond passes (r ∷ []) []
-child_more t rs at r passes lt is h =
-    filter_more t rs at r lt ∙ ap (λ (s : Record). filter t (take at rs) ++ cond (t s) (s ∷ []) []) (sym is) ∙ ap (λ (b : Bool). filter t (take at rs) ++ cond b (r ∷ []) []) h
 
 map_push : {X Y : Type 0} (f : X → Y) (xs : List X) (x : X) → map f (xs ++ x ∷ []) ≡ map f xs ++ f x ∷ []
 map_push f [] x = refl
@@ -44,31 +41,23 @@ component_more rs at q r c found pushed b lt is kind parent so_far push same =
     ∙ (λ i. so_far i ++ same i ∷ [])
     ∙ ap (λ (s : Record). filter_map component_at (filter (is_child 3 q) (take at rs)) ++ filter_map component_at (s ∷ [])) (sym kind)
     ∙ sym (filter_map-append component_at (filter (is_child 3 q) (take at rs)) (r ∷ []))
-    ∙ ap (filter_map component_at) (sym (child_more (is_child 3 q) rs at r true lt is passes))
+    ∙ ap (filter_map component_at) (sym (walk_more (is_child 3 q) rs at r true lt is passes))
 
 pub component_same : (rs : List Record) (at q : ℕ) (r : Record) (found : List (Bor Component)) → at < length rs → r ≡ get_or rs at r → is_child 3 q r ≡ false
     → map (λ (x : Bor Component). x.now) found ≡ filter_map component_at (filter (is_child 3 q) (take at rs))
     → map (λ (x : Bor Component). x.now) found ≡ filter_map component_at (filter (is_child 3 q) (take (at + 1) rs))
 component_same rs at q r found lt is fails so_far =
-    so_far ∙ ap (filter_map component_at) (sym (append-nil (filter (is_child 3 q) (take at rs)))) ∙ ap (filter_map component_at) (sym (child_more (is_child 3 q) rs at r false lt is fails))
+    so_far ∙ ap (filter_map component_at) (sym (append-nil (filter (is_child 3 q) (take at rs)))) ∙ ap (filter_map component_at) (sym (walk_more (is_child 3 q) rs at r false lt is fails))
 
 -- a record that isn't one of them
 pub no_component : (q : ℕ) (r : Record) → ((c : Component) → r ≡ kinds.Component c → ⊥) → is_child 3 q r ≡ false
-no_component q (kinds.Component c) other = absurd (other c refl)
-no_component q (kinds.Partition p) other = refl
-no_component q (kinds.Volume v) other = refl
-no_component q (kinds.Disk d) other = refl
-no_component q (kinds.Group g) other = refl
+no_component q r other = false_from_ne_true (is_child 3 q r) (λ h. let c = child_component q r h in other c.0 c.1)
 
 pub other_component : (q : ℕ) (r : Record) (c : Component) → r ≡ kinds.Component c → (c.parent ≡ q → ⊥) → is_child 3 q r ≡ false
 other_component q r c kind other = ap (is_child 3 q) kind ∙ ne_eqb c.parent q other
 
 pub no_partition : (q : ℕ) (r : Record) → ((p : Partition) → r ≡ kinds.Partition p → ⊥) → is_child 4 q r ≡ false
-no_partition q (kinds.Partition p) other = absurd (other p refl)
-no_partition q (kinds.Component c) other = refl
-no_partition q (kinds.Volume v) other = refl
-no_partition q (kinds.Disk d) other = refl
-no_partition q (kinds.Group g) other = refl
+no_partition q r other = false_from_ne_true (is_child 4 q r) (λ h. let p = child_partition q r h in other p.0 p.1)
 
 pub other_partition : (q : ℕ) (r : Record) (p : Partition) → r ≡ kinds.Partition p → (p.parent ≡ q → ⊥) → is_child 4 q r ≡ false
 other_partition q r p kind other = ap (is_child 4 q) kind ∙ ap (λ (b : Bool). b || false) (ne_eqb p.parent q other)
@@ -78,7 +67,7 @@ pub held_more : (rs : List Record) (at q sectors : ℕ) (r : Record) (p : Partit
 held_more rs at q sectors r p lt is kind parent so_far =
     let passes : is_child 4 q r ≡ true = ap (is_child 4 q) kind ∙ ap (λ (b : Bool). b || false) (eq-eqb p.parent q parent) in
     let more : extents_of q (take (at + 1) rs) ≡ extents_of q (take at rs) ++ extent_of p ∷ [] =
-    extents_by q (take (at + 1) rs) ∙ ap (filter_map extent_in) (child_more (is_child 4 q) rs at r true lt is passes)
+    extents_by q (take (at + 1) rs) ∙ ap (filter_map extent_in) (walk_more (is_child 4 q) rs at r true lt is passes)
     ∙ filter_map-append extent_in (filter (is_child 4 q) (take at rs)) (r ∷ [])
     ∙ ap (λ (s : Record). filter_map extent_in (filter (is_child 4 q) (take at rs)) ++ filter_map extent_in (s ∷ [])) kind
     ∙ ap (λ (l : List Extent). l ++ extent_of p ∷ []) (sym (extents_by q (take at rs))) in
@@ -89,7 +78,7 @@ held_more rs at q sectors r p lt is kind parent so_far =
 
 pub held_same : (rs : List Record) (at q : ℕ) (r : Record) → at < length rs → r ≡ get_or rs at r → is_child 4 q r ≡ false → held_in (extents_of q (take at rs)) ≡ held_in (extents_of q (take (at + 1) rs))
 held_same rs at q r lt is fails =
-    ap held_in (extents_by q (take at rs) ∙ ap (filter_map extent_in) (sym (append-nil (filter (is_child 4 q) (take at rs)))) ∙ ap (filter_map extent_in) (sym (child_more (is_child 4 q) rs at r false lt is fails))
+    ap held_in (extents_by q (take at rs) ∙ ap (filter_map extent_in) (sym (append-nil (filter (is_child 4 q) (take at rs)))) ∙ ap (filter_map extent_in) (sym (walk_more (is_child 4 q) rs at r false lt is fails))
     ∙ sym (extents_by q (take (at + 1) rs)))
 
 -- in the order of the layout they hold as much

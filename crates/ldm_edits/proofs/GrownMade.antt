@@ -22,11 +22,11 @@ use Rattle.ldm_space.specs.Free.{taken_of}
 use Rattle.ldm_volumes.specs.Volumes.{there}
 use Rattle.ldm_edits.specs.Mirroring.{component_at, components_of, component_holds, grown_components, grown_parts, grown_made}
 use Rattle.ldm_edits.proofs.CreatedNext.{alone_rises}
-use Rattle.ldm_edits.proofs.ExtendedParts.{only_one, plex_is}
+use Rattle.ldm_edits.proofs.ExtendedParts.{plex_is}
 use Rattle.ldm_edits.proofs.Longer.{Share, olds, news, parts_of, longer_records, IsNewPart, IsShare}
 use Rattle.ldm_edits.proofs.LongerMade.{IsTaken}
 use Rattle.ldm_edits.proofs.MadeParts.{IdsFrom}
-use Rattle.ldm_edits.proofs.SingleLists.{records_of}
+use Rattle.ldm_edits.proofs.SingleLists.{records_of, only_one}
 use Rattle.ldm_edits.proofs.TiledLayouts.{map_map}
 
 -- a component that can have one partition more

@@ -64,17 +64,18 @@ made_listed w ss (kinds.Partition x) (s, at, in') = behind w ss (kinds.Partition
 one_at : {X Y : Type 0} (f : X → Y) (xs : List X) (k : ℕ) (x : X) (y : Y) → k < length xs → get_or xs k x ≡ x → get_or (map f xs) k y ≡ f x
 one_at f xs k x y lt is = get_or-map f xs k x y lt ∙ ap f is
 
-one_share : (ss : List Share) → Rising (olds ss) → (s t : Share) → Contains ss s → Contains ss t → s.c.head.id ≡ t.c.head.id → s ≡ t
+pub one_share : (f : Share → Component) (ss : List Share) → Rising (map (λ (x : Share). kinds.Component (f x)) ss) → (s t : Share) → Contains ss s → Contains ss t → (f s).head.id ≡ (f t).head.id → s ≡ t
 unfolding place_of
-one_share ss up s t (i, lt_i, is_i) (j, lt_j, is_j) same =
-    let f : Share → Record = λ (x : Share). kinds.Component x.c in
-    let a : place_of (get_or (olds ss) i (f s)) ≡ 4 * 2 ^ 64 + s.c.head.id = ap place_of (one_at f ss i s (f s) lt_i is_i) in
-    let b : place_of (get_or (olds ss) j (f s)) ≡ 4 * 2 ^ 64 + t.c.head.id = ap place_of (one_at f ss j t (f s) lt_j is_j) in
-    let long : length (olds ss) ≡ length ss = length-map ss f in
+one_share f ss up s t (i, lt_i, is_i) (j, lt_j, is_j) same =
+    let rs : List Record = map (λ (x : Share). kinds.Component (f x)) ss in
+    let d : Record = kinds.Component (f s) in
+    let a : place_of (get_or rs i d) ≡ 4 * 2 ^ 64 + (f s).head.id = ap place_of (one_at (λ (x : Share). kinds.Component (f x)) ss i s d lt_i is_i) in
+    let b : place_of (get_or rs j d) ≡ 4 * 2 ^ 64 + (f t).head.id = ap place_of (one_at (λ (x : Share). kinds.Component (f x)) ss j t d lt_j is_j) in
+    let long : length rs ≡ length ss = length-map ss (λ (x : Share). kinds.Component (f x)) in
     elim (cases_order i j) [
       | inl e ↦ sym is_i ∙ get_or_default ss i s t lt_i ∙ ap (λ (k : ℕ). get_or ss k t) e ∙ is_j
-      | inr (inl low) ↦ (let less : place_of (get_or (olds ss) i (f s)) < place_of (get_or (olds ss) j (f s)) = up i j (f s) low (omega arith) in absurd (omega arith))
-      | inr (inr high) ↦ (let less : place_of (get_or (olds ss) j (f s)) < place_of (get_or (olds ss) i (f s)) = up j i (f s) high (omega arith) in absurd (omega arith))
+      | inr (inl low) ↦ (let less : place_of (get_or rs i d) < place_of (get_or rs j d) = up i j d low (omega arith) in absurd (omega arith))
+      | inr (inr high) ↦ (let less : place_of (get_or rs j d) < place_of (get_or rs i d) = up j i d high (omega arith) in absurd (omega arith))
     ]
 
 -- the changed components stand as those that they were
@@ -215,7 +216,7 @@ module _ {labels : List Label} {old next : List Record} {v w : Volume} {len : �
       all : (r : Record) → t r ≡ true → (x : Partition) × (r ≡ kinds.Partition x) × (x.parent ≡ s.c.head.id) → Contains next r → Contains (filter t old ++ records_of s.parts) r
       all r h (x, e, parent) at = elim (is.back (kinds.Partition x) (subst (λ (y : Record). Contains next y) e at)) [
         | inl old_there ↦ Contains-append_left (filter t old) (records_of s.parts) r (filter_keeps t old r (subst (λ (y : Record). Contains old y) (sym e) old_there.0) h)
-        | inr new ↦ (let same : new.0 ≡ s = one_share ss olds_rise new.0 s new.1 here (sym ((is.each new.0 new.1).each x new.2).parent ∙ parent) in
+        | inr new ↦ (let same : new.0 ≡ s = one_share (λ t. t.c) ss olds_rise new.0 s new.1 here (sym ((is.each new.0 new.1).each x new.2).parent ∙ parent) in
             Contains-append_right (filter t old) (records_of s.parts) r
             (subst (λ (y : Record). Contains (records_of s.parts) y) (sym e) (map_there kinds.Partition s.parts x (subst (λ (y : Share). Contains y.parts x) same new.2))))
       ]

@@ -43,7 +43,7 @@ pub old_plexes : (ss : List Share) → filter_map plex_in (olds ss) ≡ plexes_i
 old_plexes [] = refl
 old_plexes (s ∷ ss) = ap (λ (l : List Plex). plex_of s.c ∷ l) (old_plexes ss)
 
-new_plexes : (ss : List Share) → filter_map plex_in (news ss) ≡ map (λ (s : Share). plex_of s.d) ss
+pub new_plexes : (ss : List Share) → filter_map plex_in (news ss) ≡ map (λ (s : Share). plex_of s.d) ss
 new_plexes [] = refl
 new_plexes (s ∷ ss) = ap (λ (l : List Plex). plex_of s.d ∷ l) (new_plexes ss)
 

@@ -73,11 +73,6 @@ makes_column_parts id component index (t ∷ ts) few low c fits =
 
 -- ---- in order
 
-ids_at : (id : ℕ) (ps : List Partition) (k : ℕ) (d : Partition) → IdsFrom id ps → k < length ps → (get_or ps k d).head.id ≡ id + k
-ids_at id [] k d ids lt = absurd (omega arith)
-ids_at id (p ∷ ps) zero d ids lt = let here = ids.0 in omega arith
-ids_at id (p ∷ ps) (suc k) d ids lt = let rest = ids_at (id + 1) ps k d ids.1 (omega arith) in omega arith
-
 place_at : (id : ℕ) (ps : List Partition) (k : ℕ) (r : Record) → IdsFrom id ps → k < length ps → place_of (get_or (map (λ p. kinds.Partition p) ps) k r) ≡ 5 * 2 ^ 64 + (id + k)
 unfolding place_of
 place_at id [] k r ids lt = absurd (omega arith)

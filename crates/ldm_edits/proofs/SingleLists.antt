@@ -1,7 +1,6 @@
 -- The records of a volume of one component: the volume, the component and its partitions.
-use Rattle.std.proofs.Common.{◌≡◌, ◌⊎◌, inl, inr, zero, suc, List, [], ◌∷◌, map, refl, sym, ap, subst, arith}
-use Rattle.std.specs.List.{All, filter_map, Contains}
-use Rattle.std.proofs.lemmas.List.Elements.{All-contains}
+use Rattle.std.proofs.Common.{◌≡◌, zero, suc, List, [], ◌∷◌, map, refl, sym, ap, arith}
+use Rattle.std.specs.List.{filter_map, Contains}
 use Rattle.ldm_records.specs.declared.types.Volume.{Volume}
 use Rattle.ldm_records.specs.declared.types.Component.{Component}
 use Rattle.ldm_records.specs.declared.types.Partition.{Partition}
@@ -22,41 +21,10 @@ mapped f [] y (k, lt, is) = absurd (omega arith)
 mapped f (x ∷ xs) y (zero, lt, is) = (x, (0, omega arith, refl), sym is)
 mapped f (x ∷ xs) y (suc k, lt, is) = let rest = mapped f xs y (k, omega arith, is) in (rest.0, (suc rest.1.0, (let in' = rest.1.1 in omega arith), rest.1.2), rest.2)
 
--- a record of these is one of them
-pub single_cases : (v : Volume) (c : Component) (parts : List Partition) (r : Record) → Contains (single_records v c parts) r → (r ≡ kinds.Volume v) ⊎ ((r ≡ kinds.Component c) ⊎ ((p : Partition) × Contains parts p × (r ≡ kinds.Partition p)))
-single_cases v c parts r (zero, lt, is) = inl (sym is)
-single_cases v c parts r (suc zero, lt, is) = inr (inl (sym is))
-single_cases v c parts r (suc (suc k), lt, is) = inr (inr (mapped kinds.Partition parts r (k, omega arith, is)))
-
-pub single_each : (P : Record → Type 0) (v : Volume) (c : Component) (parts : List Partition) → P (kinds.Volume v) → P (kinds.Component c) → All (λ p. P (kinds.Partition p)) parts
-    → (r : Record) → Contains (single_records v c parts) r → P r
-single_each P v c parts hv hc hs r at = elim (single_cases v c parts r at) [
-  | inl e ↦ subst P (sym e) hv
-  | inr (inl e) ↦ subst P (sym e) hc
-  | inr (inr p) ↦ subst P (sym p.2) (All-contains (λ q. P (kinds.Partition q)) parts p.0 hs p.1)
-]
-
--- the only volume, the only component, and the partitions
-pub only_volume : (v : Volume) (c : Component) (parts : List Partition) (w : Volume) → Contains (single_records v c parts) (kinds.Volume w) → w ≡ v
-only_volume v c parts w at = elim (single_cases v c parts (kinds.Volume w) at) [
-  | inl e ↦ cc
-  | inr (inl e) ↦ absurd cc
-  | inr (inr p) ↦ (let e = p.2 in absurd cc)
-]
-
-pub only_component : (v : Volume) (c : Component) (parts : List Partition) (d : Component) → Contains (single_records v c parts) (kinds.Component d) → d ≡ c
-only_component v c parts d at = elim (single_cases v c parts (kinds.Component d) at) [
-  | inl e ↦ absurd cc
-  | inr (inl e) ↦ cc
-  | inr (inr p) ↦ (let e = p.2 in absurd cc)
-]
-
-pub only_part : (v : Volume) (c : Component) (parts : List Partition) (p : Partition) → Contains (single_records v c parts) (kinds.Partition p) → Contains parts p
-only_part v c parts p at = elim (single_cases v c parts (kinds.Partition p) at) [
-  | inl e ↦ absurd cc
-  | inr (inl e) ↦ absurd cc
-  | inr (inr q) ↦ (let e = q.2 in let same : q.0 ≡ p = cc in subst (λ (x : Partition). Contains parts x) same q.1)
-]
+-- a list of one element has that alone
+pub only_one : {X : Type 0} (x y : X) → Contains (x ∷ []) y → x ≡ y
+only_one x y (zero, lt, is) = is
+only_one x y (suc k, lt, is) = absurd (omega arith)
 
 -- what a layout reads of its partitions
 pub part_extents : (parts : List Partition) → filter_map extent_in (records_of parts) ≡ map extent_of parts

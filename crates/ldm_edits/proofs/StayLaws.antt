@@ -70,7 +70,7 @@ component_is records volume q up =
 -- ---- a walk over the records
 
 -- what passes of one record more
-walk_more : (p : Record → Bool) (rs : List Record) (at : ℕ) (r : Record) (passes : Bool) → at < length rs → r ≡ get_or rs at r → p r ≡ passes
+pub walk_more : (p : Record → Bool) (rs : List Record) (at : ℕ) (r : Record) (passes : Bool) → at < length rs → r ≡ get_or rs at r → p r ≡ passes
     → filter p (take (at + 1) rs) ≡ filter p (take at rs) ++ cond passes (r ∷ []) []
 walk_more p rs at r passes lt is h =
     filter_more p rs at r lt ∙ ap (λ (s : Record). filter p (take at rs) ++ cond (p s) (s ∷ []) []) (sym is) ∙ ap (λ (b : Bool). filter p (take at rs) ++ cond b (r ∷ []) []) h

@@ -24,7 +24,7 @@ use Rattle.ldm_layout.specs.declared.shape.LayoutFault.{LayoutFault}
 use Rattle.ldm_rules.proofs.GroupLaws.{not_broken, none_broken}
 use Rattle.ldm_rules.specs.Ends.{data_size, sectors_by}
 use Rattle.ldm_rules.specs.Present.{label_with}
-use Rattle.ldm_rules.specs.Rules.{first_broken, group_id, group_fault, has_twin_guid, has_namesake, lacks_disk, passes_end, fails}
+use Rattle.ldm_rules.specs.Rules.{first_broken, group_id, group_fault, has_twin_guid, has_namesake, passes_end, fails}
 
 -- a test that no volume, component or partition passes
 pub low : (t : Record → Bool) → ((v : Volume) → t (kinds.Volume v) ≡ false) → ((c : Component) → t (kinds.Component c) ≡ false) → ((p : Partition) → t (kinds.Partition p) ≡ false)
@@ -76,14 +76,8 @@ module _ (old next : List Record) (heads : SameHeads old next) where
   pub head_count : (t : Record → Bool) → ((r : Record) → t r ≡ true → kind_of r ≤ 2) → count_by t old ≡ count_by t next
   head_count t is = kin_count old next heads.up heads.vp t (λ r h. heads.there r (is r h)) (λ r h. heads.back r (is r h))
 
-  pub disk_count : (id : ℕ) → count_by (is_at 2 id) old ≡ count_by (is_at 2 id) next
-  disk_count id = head_count (is_at 2 id) (low (is_at 2 id) (λ v. refl) (λ c. refl) (λ p. refl))
-
   pub data_same : (labels : List Label) (disk : ℕ) → data_size labels old disk ≡ data_size labels next disk
   data_same labels disk = ap (λ (o : Option Record). sectors_by (option_and_then (λ d. label_with d.guid labels) (disk_in o))) (head_found (is_at 2 disk) (low (is_at 2 disk) (λ v. refl) (λ c. refl) (λ p. refl)))
-
-  pub disks_kept : first_broken (lacks_disk (λ id. count_by (is_at 2 id) old)) next ≡ None → first_broken (lacks_disk (λ id. count_by (is_at 2 id) next)) next ≡ None
-  disks_kept h = subst (λ (count : ℕ → ℕ). first_broken (lacks_disk count) next ≡ None) (λ i id. disk_count id i) h
 
   pub ends_kept : (labels : List Label) → first_broken (passes_end (data_size labels old)) next ≡ None → first_broken (passes_end (data_size labels next)) next ≡ None
   ends_kept labels h = subst (λ (sectors : ℕ → ℕ). first_broken (passes_end sectors) next ≡ None) (λ i disk. data_same labels disk i) h
