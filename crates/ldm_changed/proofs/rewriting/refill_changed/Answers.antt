@@ -1,6 +1,5 @@
-use Rattle.std.proofs.Common.{rules, ◌+◌, ◌-◌, ◌*◌, ◌<◌, ◌≤◌, ℕ, List, length, refl, sym, ◌∙◌, subst, arith}
+use Rattle.std.proofs.Common.{rules, ◌+◌, ◌-◌, ◌*◌, ◌<◌, ℕ, List, length, refl, sym, ◌∙◌, subst, arith}
 use Rattle.ldm_host.specs.Seen.{image}
-use Rattle.ldm_copy.specs.Copy.{gate_at}
 use Rattle.ldm_copy.proofs.LeftLaws.{some_sectors, room_on}
 use Rattle.ldm_copy.proofs.RewriteLaws.{body_size, settled_shut, rewrites_most, refill_fails, filled_shut, refills}
 use Rattle.ldm_changed.proofs.rewriting.refill_changed.Goals as goal

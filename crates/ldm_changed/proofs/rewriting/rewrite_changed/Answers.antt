@@ -1,4 +1,4 @@
-use Rattle.std.proofs.Common.{rules, ◌+◌, ◌*◌, ◌<◌, ◌≤◌, ℕ, List, length, refl, sym, subst, arith}
+use Rattle.std.proofs.Common.{rules, ◌+◌, ◌*◌, ◌<◌, ℕ, List, length, refl, sym, subst, arith}
 use Rattle.ldm_host.specs.Seen.{image}
 use Rattle.ldm_copy.proofs.GateLaws.{body_stays}
 use Rattle.ldm_copy.proofs.LeftLaws.{some_sectors}

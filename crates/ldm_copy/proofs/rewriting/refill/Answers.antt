@@ -1,4 +1,4 @@
-use Rattle.std.proofs.Common.{rules, ◌+◌, ◌-◌, ◌*◌, ◌<◌, ◌≤◌, ℕ, List, length, refl, sym, ◌∙◌, subst, arith}
+use Rattle.std.proofs.Common.{rules, ◌+◌, ◌-◌, ◌<◌, ℕ, List, length, refl, sym, ◌∙◌, subst, arith}
 use Rattle.ldm_host.specs.Seen.{image}
 use Rattle.ldm_host.proofs.ChangeLaws.{writes_change}
 use Rattle.ldm_copy.specs.Copy.{gate_at}

@@ -1,4 +1,4 @@
-use Rattle.std.proofs.Common.{rules, ◌+◌, ◌*◌, ◌<◌, ◌≤◌, ℕ, List, length, refl, sym, subst, arith}
+use Rattle.std.proofs.Common.{rules, ◌<◌, ℕ, List, length, refl, sym, subst, arith}
 use Rattle.ldm_copy.proofs.LeftLaws.{some_sectors}
 use Rattle.ldm_copy.proofs.RewriteLaws.{after_close, rewrites_most, rewrite_fails, rewrites}
 use Rattle.ldm_copy.proofs.rewriting.rewrite.Goals as goal

@@ -1,4 +1,4 @@
-use Rattle.std.proofs.Common.{◌+◌, length, arith}
+use Rattle.std.proofs.Common.{arith}
 use Rattle.ldm_copy.proofs.RewriteLaws.{rewrites_most}
 use Rattle.ldm_store.proofs.settling.heal.Goals as goal
 
