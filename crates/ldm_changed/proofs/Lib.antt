@@ -6,4 +6,3 @@ pub mod WeaveLaws
 pub mod DiffLaws
 pub mod TableLaws
 pub mod FillLaws
-pub mod MomentLaws

@@ -1,11 +1,12 @@
 //! Rewrites a copy by its changed blocks.
-ghost use Rattle.std.specs.Prelude.{◌+◌, ◌*◌, ◌<◌, ◌≤◌, List, ℕ, length, slice_index, OnOk, IsErr};
-ghost use Rattle.ldm_host.specs.Moves.{Changes, Settled, DiskFailed, AtEachMoment};
+ghost use Rattle.std.specs.Prelude.{◌+◌, ◌*◌, ◌<◌, List, ℕ, length, slice_index};
+ghost use Rattle.ldm_host.specs.Moves.{Settled};
 ghost use Rattle.ldm_host.specs.Seen.{image};
 ghost use Rattle.ldm_label.specs.LabelOf.{Fits};
 ghost use Rattle.ldm_group.specs.Database.{Database};
-ghost use Rattle.ldm_copy.specs.Copy.{config_area, gate_at, IsOpen};
-ghost use Rattle.ldm_copy.specs.Body.{HasBody, IsBodyOn, IsShut, IsWritten, IsBetween};
+ghost use Rattle.ldm_copy.specs.Copy.{config_area, IsOpen};
+ghost use Rattle.ldm_copy.specs.Rewriting.{Rewrites};
+ghost use Rattle.ldm_copy.specs.Body.{HasBody, IsBodyOn, IsShut};
 ghost use Rattle.ldm_changed.specs.Change.{ChangesFrom};
 
 use crate::change::Change;
@@ -28,15 +29,7 @@ pub fn refill_changed<H: Host>(
     requires settled { Settled (H.seen host.old) disk }
     requires closed { H.tells_disks → IsShut label.now (image (H.seen host.old).content disk) }
     requires before { H.tells_disks → (old : List ℕ) × ChangesFrom old change.now × HasBody label.now old (image (H.seen host.old).content disk) }
-    ensures any_moment { H.tells_disks → (db : Database) → IsBodyOn db label.now change.now.body
-        → AtEachMoment (H.seen host.old) (H.seen host.new) (λ images said. IsBetween label.now db (image (H.seen host.old).content disk) (image images disk)) }
-    ensures done { H.tells_disks → OnOk result ((db : Database) → IsBodyOn db label.now change.now.body
-        → IsWritten label.now db (image (H.seen host.new).content disk)) }
-    ensures has { H.tells_disks → OnOk result (HasBody label.now change.now.body (image (H.seen host.new).content disk)) }
-    ensures settled { OnOk result (Settled (H.seen host.new) disk) }
-    ensures changes { Changes disk (gate_at label.now) (512 * label.now.area_sectors) (H.seen host.old) (H.seen host.new) }
-    ensures wrote { slice_index (H.seen host.new).wrote disk ≤ slice_index (H.seen host.old).wrote disk + (512 + 128 * length change.now.numbers) }
-    ensures cause { IsErr result → DiskFailed (H.seen host.old) (H.seen host.new) }
+    ensures { Rewrites H.tells_disks result disk label.now change.now.body (512 + 128 * length change.now.numbers) (H.seen host.old) (H.seen host.new) }
 {
     fill_changed(host, disk, label, change)?;
     unseal(host, disk, label)
@@ -57,15 +50,7 @@ pub fn rewrite_changed<H: Host>(
     requires settled { Settled (H.seen host.old) disk }
     requires opened { H.tells_disks → IsOpen (config_area label.now (image (H.seen host.old).content disk)) }
     requires before { H.tells_disks → (old : List ℕ) × ChangesFrom old change.now × HasBody label.now old (image (H.seen host.old).content disk) }
-    ensures any_moment { H.tells_disks → (db : Database) → IsBodyOn db label.now change.now.body
-        → AtEachMoment (H.seen host.old) (H.seen host.new) (λ images said. IsBetween label.now db (image (H.seen host.old).content disk) (image images disk)) }
-    ensures done { H.tells_disks → OnOk result ((db : Database) → IsBodyOn db label.now change.now.body
-        → IsWritten label.now db (image (H.seen host.new).content disk)) }
-    ensures has { H.tells_disks → OnOk result (HasBody label.now change.now.body (image (H.seen host.new).content disk)) }
-    ensures settled { OnOk result (Settled (H.seen host.new) disk) }
-    ensures changes { Changes disk (gate_at label.now) (512 * label.now.area_sectors) (H.seen host.old) (H.seen host.new) }
-    ensures wrote { slice_index (H.seen host.new).wrote disk ≤ slice_index (H.seen host.old).wrote disk + (513 + 128 * length change.now.numbers) }
-    ensures cause { IsErr result → DiskFailed (H.seen host.old) (H.seen host.new) }
+    ensures { Rewrites H.tells_disks result disk label.now change.now.body (513 + 128 * length change.now.numbers) (H.seen host.old) (H.seen host.new) }
 {
     close(host, disk, label)?;
     refill_changed(host, disk, label, change)

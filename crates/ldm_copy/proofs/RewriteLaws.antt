@@ -1,22 +1,25 @@
 -- The moments of the three calls on one disk, and of their sequences.
-use Rattle.std.proofs.Common.{◌≡◌, ◌≢◌, ◌⊎◌, inl, inr, ⊎_elim, ℕ, ◌+◌, ◌*◌, ◌<◌, ◌≤◌, List, length, slice_index, sym, ◌∙◌, ap, subst, arith}
+use Rattle.std.proofs.Common.{◌≡◌, ◌≢◌, ◌⊎◌, inl, inr, ⊎_elim, ℕ, ◌+◌, ◌-◌, ◌*◌, ◌<◌, ◌≤◌, List, length, slice_index, Result, Ok, Err, OnOk, IsErr, sym, ◌∙◌, ap, subst, arith}
 use Rattle.ldm_host.specs.Seen.{Seen, image}
-use Rattle.ldm_host.specs.Moves.{Torn, Settled, Writes, Changes, AtEachMoment}
-use Rattle.ldm_host.proofs.Relations.{moments_trans}
+use Rattle.ldm_host.specs.Moves.{Torn, DiskFailed, Settled, Writes, Changes, AtEachMoment}
+use Rattle.ldm_host.specs.declared.host.Failed.{Failed}
+use Rattle.ldm_host.proofs.Relations.{moments_trans, rose_sooner}
 use Rattle.ldm_label.specs.declared.Label.{Label}
 use Rattle.ldm_group.specs.Database.{Database}
 use Rattle.ldm_copy.specs.Copy.{config_area, gate_at, IsOpen}
 use Rattle.ldm_copy.specs.Body.{HasBody, IsBodyOn, IsShut, IsWritten, IsBetween}
+use Rattle.ldm_copy.specs.Rewriting.{PutsGate, Fills, Rewrites}
+use Rattle.ldm_copy.proofs.LeftLaws.{on_ok_map}
 use Rattle.ldm_copy.proofs.WrittenLaws.{written_is}
 use Rattle.ldm_copy.proofs.GateLaws.{gate_shut, shut_gate, while_closing, while_filling, while_opening, body_stays}
-use Rattle.ldm_host.proofs.ChangeLaws.{writes_change, changes_trans}
+use Rattle.ldm_host.proofs.ChangeLaws.{writes_change, changes_wider, changes_trans}
 
 -- a body is no longer than the area
 pub body_size : (db : Database) (label : Label) (body : List ℕ) → IsBodyOn db label body → (1 ≤ length body) × (length body ≤ 512 * label.area_sectors)
 body_size db label body on = (omega (arith, on.is.size, on.low), omega (arith, on.is.size, on.fits))
 
 module _ (disk : ℕ) (label : Label) (some : 1 ≤ label.area_sectors) where
-  pub at_close : (a b : Seen) → disk < length a.sizes → Settled a disk → IsOpen (config_area label (image a.content disk)) → Writes disk (gate_at label) 1 a b
+  at_close : (a b : Seen) → disk < length a.sizes → Settled a disk → IsOpen (config_area label (image a.content disk)) → Writes disk (gate_at label) 1 a b
       → AtEachMoment a b (λ images said. (config_area label (image images disk) ≡ config_area label (image a.content disk)) ⊎ IsShut label (image images disk))
   at_close a b in_range settled was writes images said left =
       let m = writes.moments images said left in
@@ -24,13 +27,13 @@ module _ (disk : ℕ) (label : Label) (some : 1 ≤ label.area_sectors) where
       while_closing label some (image a.content disk) (image images disk) was (subst (λ (x : List ℕ). Torn (gate_at label) 1 x (image images disk)) is m.2.here)
 
   -- anything may be pending behind the gate
-  pub at_fill : (n : ℕ) (a b : Seen) → disk < length a.sizes → ((x : List ℕ) → a.may_leave disk x → slice_index x (gate_at label) ≢ 0x56) → Writes disk (gate_at label + 1) n a b
+  at_fill : (n : ℕ) (a b : Seen) → disk < length a.sizes → ((x : List ℕ) → a.may_leave disk x → slice_index x (gate_at label) ≢ 0x56) → Changes disk (gate_at label + 1) n a b
       → AtEachMoment a b (λ images said. IsShut label (image images disk))
-  at_fill n a b in_range shut writes images said left =
-      let m = writes.moments images said left in
+  at_fill n a b in_range shut changes images said left =
+      let m = changes.moments images said left in
       while_filling label some n (image m.0 disk) (image images disk) (shut (image m.0 disk) (m.1.each disk in_range)) m.2.here
 
-  pub at_unseal : (db : Database) (body : List ℕ) (b c : Seen) → disk < length b.sizes → IsBodyOn db label body
+  at_unseal : (db : Database) (body : List ℕ) (b c : Seen) → disk < length b.sizes → IsBodyOn db label body
       → ((x : List ℕ) → b.may_leave disk x → gate_at label + 512 * label.area_sectors ≤ length x) → ((x : List ℕ) → b.may_leave disk x → HasBody label body x) → Writes disk (gate_at label) 1 b c
       → AtEachMoment b c (λ images said. IsShut label (image images disk) ⊎ IsWritten label db (image images disk))
   at_unseal db body b c in_range is room filled writes images said left =
@@ -44,7 +47,7 @@ module _ (disk : ℕ) (label : Label) (some : 1 ≤ label.area_sectors) where
       let at = closed (image b.content disk) stays in
       gate_shut label some (image b.content disk) (λ is. let bad : 0 ≡ 0x56 = sym at ∙ is in absurd (omega (arith, bad)))
 
-  pub after_unseal : (db : Database) (body : List ℕ) (b c : Seen) → IsBodyOn db label body → gate_at label + 512 * label.area_sectors ≤ length (image c.content disk)
+  after_unseal : (db : Database) (body : List ℕ) (b c : Seen) → IsBodyOn db label body → gate_at label + 512 * label.area_sectors ≤ length (image c.content disk)
       → c.may_leave disk (image c.content disk) → ((x : List ℕ) → b.may_leave disk x → HasBody label body x)
       → Writes disk (gate_at label) 1 b c → ((x : List ℕ) → c.may_leave disk x → slice_index x (gate_at label) ≡ 0x56) → IsWritten label db (image c.content disk)
   after_unseal db body b c is room stays filled writes opened =
@@ -52,7 +55,7 @@ module _ (disk : ℕ) (label : Label) (some : 1 ≤ label.area_sectors) where
       written_is db label body (image c.content disk) is room (opened (image c.content disk) stays) (body_stays label some body from.0 (image c.content disk) (filled from.0 from.1) from.2)
 
   -- the body stands there still
-  pub body_unsealed : (body : List ℕ) (b c : Seen) → c.may_leave disk (image c.content disk) → ((x : List ℕ) → b.may_leave disk x → HasBody label body x)
+  body_unsealed : (body : List ℕ) (b c : Seen) → c.may_leave disk (image c.content disk) → ((x : List ℕ) → b.may_leave disk x → HasBody label body x)
       → Writes disk (gate_at label) 1 b c → HasBody label body (image c.content disk)
   body_unsealed body b c stays filled writes =
       let from = writes.left (image c.content disk) stays in
@@ -63,8 +66,8 @@ module _ (disk : ℕ) (label : Label) (some : 1 ≤ label.area_sectors) where
   settled_shut a settled shut x left is = shut_gate label some (image a.content disk) shut (ap (λ (l : List ℕ). slice_index l (gate_at label)) (sym (settled x left)) ∙ is)
 
   -- both calls behind a closed gate
-  pub at_refill : (n : ℕ) (db : Database) (body : List ℕ) (a b c : Seen) → disk < length a.sizes → ((x : List ℕ) → a.may_leave disk x → slice_index x (gate_at label) ≢ 0x56) → IsBodyOn db label body
-      → Writes disk (gate_at label + 1) n a b → ((x : List ℕ) → b.may_leave disk x → gate_at label + 512 * label.area_sectors ≤ length x)
+  at_refill : (n : ℕ) (db : Database) (body : List ℕ) (a b c : Seen) → disk < length a.sizes → ((x : List ℕ) → a.may_leave disk x → slice_index x (gate_at label) ≢ 0x56) → IsBodyOn db label body
+      → Changes disk (gate_at label + 1) n a b → ((x : List ℕ) → b.may_leave disk x → gate_at label + 512 * label.area_sectors ≤ length x)
       → ((x : List ℕ) → b.may_leave disk x → HasBody label body x) → Writes disk (gate_at label) 1 b c
       → AtEachMoment a c (λ images said. IsBetween label db (image a.content disk) (image images disk))
   at_refill n db body a b c in_range shut is first room filled second =
@@ -73,7 +76,7 @@ module _ (disk : ℕ) (label : Label) (some : 1 ≤ label.area_sectors) where
       (λ images said left. inr (at_unseal db body b c (subst (λ (l : List ℕ). disk < length l) (sym first.later.sizes) in_range) is room filled second images said left))
 
   -- all three
-  pub at_rewrite : (db : Database) (a b c : Seen) → disk < length a.sizes → Settled a disk → IsOpen (config_area label (image a.content disk))
+  at_rewrite : (db : Database) (a b c : Seen) → disk < length a.sizes → Settled a disk → IsOpen (config_area label (image a.content disk))
       → Writes disk (gate_at label) 1 a b → IsShut label (image b.content disk) → (Changes disk (gate_at label) (512 * label.area_sectors) b c)
       → AtEachMoment b c (λ images said. IsBetween label db (image b.content disk) (image images disk))
       → AtEachMoment a c (λ images said. IsBetween label db (image a.content disk) (image images disk))
@@ -85,18 +88,93 @@ module _ (disk : ℕ) (label : Label) (some : 1 ≤ label.area_sectors) where
       still_shut : (images : List (List ℕ)) → config_area label (image images disk) ≡ config_area label (image b.content disk) → IsShut label (image images disk)
       still_shut images same is = shut (subst (λ (area : List ℕ). IsOpen area) same is)
 
-  pub refill_changes : (n : ℕ) (a b c : Seen) → disk < length a.sizes → n + 1 ≤ 512 * label.area_sectors → Writes disk (gate_at label + 1) n a b → Writes disk (gate_at label) 1 b c
-      → Changes disk (gate_at label) (512 * label.area_sectors) a c
-  refill_changes n a b c in_range le first second = changes_trans disk (gate_at label) (512 * label.area_sectors) a b c in_range
-      (writes_change disk (gate_at label + 1) n (gate_at label) (512 * label.area_sectors) a b (omega arith) (omega (arith, le)) first)
-      (writes_change disk (gate_at label) 1 (gate_at label) (512 * label.area_sectors) b c (omega arith) (omega (arith, le)) second)
+  fill_changes : (n : ℕ) (a b : Seen) → n + 1 ≤ 512 * label.area_sectors → Changes disk (gate_at label + 1) n a b → Changes disk (gate_at label) (512 * label.area_sectors) a b
+  fill_changes n a b le first = changes_wider disk (gate_at label + 1) n (gate_at label) (512 * label.area_sectors) a b (omega arith) (omega (arith, le)) first
 
-  pub fill_changes : (n : ℕ) (a b : Seen) → n + 1 ≤ 512 * label.area_sectors → Writes disk (gate_at label + 1) n a b → Changes disk (gate_at label) (512 * label.area_sectors) a b
-  fill_changes n a b le first = writes_change disk (gate_at label + 1) n (gate_at label) (512 * label.area_sectors) a b (omega arith) (omega (arith, le)) first
+  gate_changes : (a b : Seen) → Writes disk (gate_at label) 1 a b → Changes disk (gate_at label) (512 * label.area_sectors) a b
+  gate_changes a b first = writes_change disk (gate_at label) 1 (gate_at label) (512 * label.area_sectors) a b (omega arith) (omega (arith, some)) first
 
-  pub close_changes : (a b : Seen) → Writes disk (gate_at label) 1 a b → Changes disk (gate_at label) (512 * label.area_sectors) a b
-  close_changes a b first = writes_change disk (gate_at label) 1 (gate_at label) (512 * label.area_sectors) a b (omega arith) (omega (arith, some)) first
+-- a bound on the bytes that are handed may be greater
+pub rewrites_most : {tells : Type 0} {result : Result (Unit {0}) Failed} {disk : ℕ} {label : Label} {body : List ℕ} {few : ℕ} {a b : Seen} (most : ℕ) → few ≤ most
+    → Rewrites tells result disk label body few a b → Rewrites tells result disk label body most a b
+rewrites_most most le rewrites = record {
+  any_moment = rewrites.any_moment;
+  done = rewrites.done;
+  has = rewrites.has;
+  settled = rewrites.settled;
+  changes = rewrites.changes;
+  wrote = omega (arith, rewrites.wrote, le);
+  cause = rewrites.cause;
+}
 
-  pub rewrite_changes : (a b c : Seen) → disk < length a.sizes → Writes disk (gate_at label) 1 a b → Changes disk (gate_at label) (512 * label.area_sectors) b c
-      → Changes disk (gate_at label) (512 * label.area_sectors) a c
-  rewrite_changes a b c in_range first second = changes_trans disk (gate_at label) (512 * label.area_sectors) a b c in_range (close_changes a b first) second
+-- what follows a call that failed
+if_failed : {T E : Type 0} (result : Result T E) (P : Type 0) → IsErr result → OnOk result P
+if_failed (Ok x) P failed = absurd (cc failed)
+if_failed (Err e) P failed = tt
+
+-- the calls of one disk in a row
+module _ (tells : Type 0) (disk : ℕ) (label : Label) (body : List ℕ) (a b : Seen) (some : 1 ≤ label.area_sectors) (in_range : disk < length a.sizes) (settled : Settled a disk) where
+  -- a copy is filled behind its closed gate
+  module _ (shut : tells → IsShut label (image a.content disk)) (db : Database) (on : IsBodyOn db label body) where
+    size : (1 ≤ length body) × (length body ≤ 512 * label.area_sectors)
+    size = body_size db label body on
+
+    pub refill_fails : (most : ℕ) (result : Result (Unit {0}) Failed) → IsErr result → DiskFailed a b → Changes disk (gate_at label + 1) (length body - 1) a b
+        → slice_index b.wrote disk ≤ slice_index a.wrote disk + most → Rewrites tells result disk label body most a b
+    refill_fails most result failed cause changes wrote = record {
+      any_moment = λ told other is images said left. inr (inl (at_fill disk label some (length body - 1) a b in_range (settled_shut disk label some a settled (shut told)) changes images said left));
+      done = λ told. if_failed result _ failed;
+      has = λ told. if_failed result _ failed;
+      settled = if_failed result _ failed;
+      changes = fill_changes disk label some (length body - 1) a b (omega (arith, size.0, size.1)) changes;
+      wrote = wrote;
+      cause = λ is. cause;
+    }
+
+    -- it is still closed then
+    pub filled_shut : Changes disk (gate_at label + 1) (length body - 1) a b → tells → IsShut label (image b.content disk)
+    filled_shut changes told =
+        while_filling label some (length body - 1) (image a.content disk) (image b.content disk) (shut_gate label some (image a.content disk) (shut told)) changes.content.here
+
+    pub refills : (most : ℕ) (result : Result (Unit {0}) Failed) (c : Seen) → Fills tells (Ok tt) disk label body most a b → PutsGate tells result disk label 0x56 b c
+        → (tells → (x : List ℕ) → b.may_leave disk x → gate_at label + 512 * label.area_sectors ≤ length x)
+        → (tells → gate_at label + 512 * label.area_sectors ≤ length (image c.content disk)) → (tells → c.may_leave disk (image c.content disk))
+        → Rewrites tells result disk label body (most + 1) a c
+    refills most result c fills opens room long stays = record {
+      any_moment = λ told other is.
+          at_refill disk label some (length body - 1) other body a b c in_range (settled_shut disk label some a settled (shut told)) is fills.changes (room told) (fills.filled told) opens.writes;
+      done = λ told. on_ok_map result _ _ (λ opened other is. after_unseal disk label some other body b c is (long told) (stays told) (fills.filled told) opens.writes opened) (opens.gate told);
+      has = λ told. on_ok_map result _ _ (λ opened. body_unsealed disk label some body b c (stays told) (fills.filled told) opens.writes) (opens.gate told);
+      settled = opens.settled;
+      changes = changes_trans disk (gate_at label) (512 * label.area_sectors) a b c in_range
+          (fill_changes disk label some (length body - 1) a b (omega (arith, size.0, size.1)) fills.changes) (gate_changes disk label some b c opens.writes);
+      wrote = omega (arith, fills.wrote, opens.writes.wrote);
+      cause = λ failed. rose_sooner a.disk_faults b.disk_faults c.disk_faults fills.changes.later.disk_faults (opens.cause failed);
+    }
+
+  -- an open copy is closed first
+  module _ (was : tells → IsOpen (config_area label (image a.content disk))) where
+    pub rewrite_fails : (result : Result (Unit {0}) Failed) → IsErr result → DiskFailed a b → Writes disk (gate_at label) 1 a b → Rewrites tells result disk label body 1 a b
+    rewrite_fails result failed cause writes = record {
+      any_moment = λ told db is images said left.
+          ⊎_elim (λ same. inl same) (λ closed. inr (inl closed)) (at_close disk label some a b in_range settled (was told) writes images said left);
+      done = λ told. if_failed result _ failed;
+      has = λ told. if_failed result _ failed;
+      settled = if_failed result _ failed;
+      changes = gate_changes disk label some a b writes;
+      wrote = writes.wrote;
+      cause = λ is. cause;
+    }
+
+    pub rewrites : (most : ℕ) (result : Result (Unit {0}) Failed) (c : Seen) → PutsGate tells (Ok tt) disk label 0 a b → (tells → b.may_leave disk (image b.content disk))
+        → Rewrites tells result disk label body most b c → Rewrites tells result disk label body (most + 1) a c
+    rewrites most result c closes stays refills = record {
+      any_moment = λ told db is.
+          at_rewrite disk label some db a b c in_range settled (was told) closes.writes (after_close disk label some b (stays told) (closes.gate told)) refills.changes (refills.any_moment told db is);
+      done = refills.done;
+      has = refills.has;
+      settled = refills.settled;
+      changes = changes_trans disk (gate_at label) (512 * label.area_sectors) a b c in_range (gate_changes disk label some a b closes.writes) refills.changes;
+      wrote = omega (arith, closes.writes.wrote, refills.wrote);
+      cause = λ failed. rose_sooner a.disk_faults b.disk_faults c.disk_faults closes.writes.later.disk_faults (refills.cause failed);
+    }

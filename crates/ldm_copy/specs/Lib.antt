@@ -7,3 +7,4 @@ pub mod Steps
 pub mod Alike
 pub mod Table
 pub mod Finding
+pub mod Rewriting

@@ -5,6 +5,7 @@ ghost use Rattle.ldm_host.specs.Seen.{image};
 ghost use Rattle.ldm_label.specs.LabelOf.{Fits};
 ghost use Rattle.ldm_group.specs.Database.{Database};
 ghost use Rattle.ldm_copy.specs.Copy.{config_area, gate_at, IsOpen};
+ghost use Rattle.ldm_copy.specs.Rewriting.{PutsGate};
 ghost use Rattle.ldm_copy.specs.Body.{HasBody, IsBodyOn, IsShut};
 
 use crate::body::Body;
@@ -24,20 +25,26 @@ pub fn gate_at<H: Host>(host: &H, disk: usize, label: &Label) -> u64
     512 * (label.config_start + label.area_start)
 }
 
+// Writes this byte over the gate byte of a copy, then syncs.
+fn put_gate<H: Host>(host: &mut H, disk: usize, label: &Label, byte: u8) -> Result<(), Failed>
+    requires disk { disk < length (H.seen host.old).sizes }
+    requires fits { Fits label.now (slice_index (H.seen host.old).sizes disk) }
+    ensures { PutsGate H.tells_disks result disk label.now byte (H.seen host.old) (H.seen host.new) }
+{
+    let at = gate_at(host, disk, label);
+    host.write_at(disk, at, &[byte])?;
+    host.sync(disk)
+}
+
 /// Writes 0 over the gate byte of an open copy, then syncs.
 pub fn close<H: Host>(host: &mut H, disk: usize, label: &Label) -> Result<(), Failed>
     requires disk { disk < length (H.seen host.old).sizes }
     requires fits { Fits label.now (slice_index (H.seen host.old).sizes disk) }
     requires settled { Settled (H.seen host.old) disk }
     requires opened { H.tells_disks → IsOpen (config_area label.now (image (H.seen host.old).content disk)) }
-    ensures closed { H.tells_disks → OnOk result ((c : List ℕ) → (H.seen host.new).may_leave disk c → slice_index c (gate_at label.now) ≡ 0) }
-    ensures settled { OnOk result (Settled (H.seen host.new) disk) }
-    ensures writes { Writes disk (gate_at label.now) 1 (H.seen host.old) (H.seen host.new) }
-    ensures cause { IsErr result → DiskFailed (H.seen host.old) (H.seen host.new) }
+    ensures { PutsGate H.tells_disks result disk label.now 0 (H.seen host.old) (H.seen host.new) }
 {
-    let at = gate_at(host, disk, label);
-    host.write_at(disk, at, &[0])?;
-    host.sync(disk)
+    put_gate(host, disk, label, 0)
 }
 
 /// Writes the bytes of the body but the first behind the gate of a closed copy, then syncs.
@@ -64,12 +71,7 @@ pub fn unseal<H: Host>(host: &mut H, disk: usize, label: &Label) -> Result<(), F
     requires closed { H.tells_disks → IsShut label.now (image (H.seen host.old).content disk) }
     requires filled { H.tells_disks → (db : Database) × (body : List ℕ) × IsBodyOn db label.now body
         × HasBody label.now body (image (H.seen host.old).content disk) }
-    ensures opened { H.tells_disks → OnOk result ((c : List ℕ) → (H.seen host.new).may_leave disk c → slice_index c (gate_at label.now) ≡ 0x56) }
-    ensures settled { OnOk result (Settled (H.seen host.new) disk) }
-    ensures writes { Writes disk (gate_at label.now) 1 (H.seen host.old) (H.seen host.new) }
-    ensures cause { IsErr result → DiskFailed (H.seen host.old) (H.seen host.new) }
+    ensures { PutsGate H.tells_disks result disk label.now 0x56 (H.seen host.old) (H.seen host.new) }
 {
-    let at = gate_at(host, disk, label);
-    host.write_at(disk, at, &[0x56])?;
-    host.sync(disk)
+    put_gate(host, disk, label, 0x56)
 }

@@ -1,5 +1,5 @@
 //! Why disks are not made a group.
-ghost use Rattle.std.specs.Prelude.{◌≡◌, ◌≢◌, ◌+◌, ◌*◌, ◌<◌, ◌≤◌, ℕ, length, slice_index, slice_range, take, None, Some, OnOk, IfOk, IsErr, IsErrOf};
+ghost use Rattle.std.specs.Prelude.{◌≡◌, ◌+◌, ◌*◌, ◌<◌, ◌≤◌, ℕ, length, slice_index, slice_range, take, None, Some, OnOk, IfOk, IsErr, IsErrOf};
 ghost use Rattle.ldm_host.specs.Moves.{Looks};
 ghost use Rattle.ldm_host.specs.Seen.{image};
 ghost use Rattle.ldm_found.specs.Gathers.{IsFirst};

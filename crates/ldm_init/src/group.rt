@@ -1,5 +1,5 @@
 //! A new group, made on disks that are empty.
-ghost use Rattle.std.specs.Prelude.{◌≡◌, ◌*◌, ◌<◌, ◌≤◌, ◌≢◌, ◌⊎◌, List, ℕ, length, slice_index, All, Some, None, Err, OnOk, IfOk, IfErr, IsErr, IsErrOf};
+ghost use Rattle.std.specs.Prelude.{◌≡◌, ◌*◌, ◌<◌, ◌≤◌, ◌≢◌, ◌⊎◌, ℕ, length, slice_index, All, Some, None, Err, OnOk, IfOk, IfErr, IsErr, IsErrOf};
 ghost use Rattle.ldm_host.specs.Moves.{Still, DiskFailed, Looks, Works, AtEachMoment};
 ghost use Rattle.ldm_label.specs.Written.{IsWritable};
 ghost use Rattle.ldm_words.specs.NewGroup as words;

@@ -1,5 +1,5 @@
 //! What is written to a disk before its signature.
-ghost use Rattle.std.specs.Prelude.{◌≡◌, ◌+◌, ◌*◌, ◌<◌, ◌≤◌, List, ℕ, length, replicate, slice_index, OnOk, IsErr};
+ghost use Rattle.std.specs.Prelude.{◌≡◌, ◌+◌, ◌*◌, ◌<◌, ◌≤◌, length, replicate, slice_index, OnOk, IsErr};
 ghost use Rattle.ldm_host.specs.Moves.{Settled, DiskFailed};
 ghost use Rattle.ldm_host.specs.Seen.{image};
 ghost use Rattle.ldm_bytes.specs.Places.{put};

@@ -8,17 +8,17 @@ use Rattle.ldm_host.specs.Seen.{Seen, Leaves, image}
 use Rattle.ldm_host.specs.Moves.{Later, Changes, AtEachMoment}
 use Rattle.ldm_host.proofs.Relations.{moments_trans}
 use Rattle.ldm_label.specs.declared.Label.{Label}
-use Rattle.ldm_group.specs.Database.{Database, Core, IsSameCore}
+use Rattle.ldm_group.specs.Database.{Database}
 use Rattle.ldm_copy.specs.declared.answer.CopyState.{CopyState}
 use Rattle.ldm_copy.specs.declared.answer.CopyState.TheVariants.{Closed, Valid}
-use Rattle.ldm_copy.specs.Copy.{config_area, IsOpen, gate_at}
+use Rattle.ldm_copy.specs.Copy.{config_area, gate_at}
 use Rattle.ldm_copy.proofs.OneCopy.{one_copy}
 use Rattle.ldm_found.specs.declared.found.Found.{Found}
 use Rattle.ldm_found.specs.declared.notes.Note.{Note}
 use Rattle.ldm_found.specs.declared.notes.Note.TheVariants as notes
 use Rattle.ldm_found.specs.Copies.{IsCopyIn, note_of, HasCopy, IsKnown}
 use Rattle.ldm_store.specs.Kept.{IsCurrent, IsKept, AlwaysKept}
-use Rattle.ldm_copy.specs.Body.{IsBetween, IsShut, IsWritten}
+use Rattle.ldm_copy.specs.Body.{IsBetween, IsWritten}
 use Rattle.ldm_store.specs.Turning.{AllSettled, AllHave}
 use Rattle.ldm_store.specs.Healing.{IsHealed, HasNote, is_behind, AreSpared}
 use Rattle.ldm_store.proofs.HasLaws.{has_image, has_more, known_current, valid_current, outside_itself, same_label}
@@ -28,26 +28,8 @@ use Rattle.ldm_found.proofs.FoundLaws.{HoldsGroup, copy_known, holder}
 pub one_note : {a b : Note} → Some a ≡ Some b → a ≡ b
 one_note e = cc
 
-noted_closed : (c : CopyState) → notes.Closed ≡ note_of c → c ≡ Closed
-noted_closed Closed is = refl
-noted_closed (Valid e) is = absurd cc
-
--- what a note says of the copy
-pub shut_noted : (label : Label) (x : List ℕ) → HasNote label x notes.Closed → IsShut label x
-shut_noted label x has = subst (λ (c : CopyState). IsCopyIn (label, x) (Ok c)) (noted_closed has.0 has.2) has.1
-
-pub open_noted : (label : Label) (x : List ℕ) (seq : ℕ) → HasNote label x (notes.Sequence seq) → IsOpen (config_area label x)
-open_noted label x seq has = opened has.0 has.1 has.2
-  where
-    opened : (c : CopyState) → IsCopyIn (label, x) (Ok c) → notes.Sequence seq ≡ note_of c → IsOpen (config_area label x)
-    opened Closed is noted = absurd cc
-    opened (Valid e) is noted = is.0.open_is
-
 sequence_is : (held : ℕ) (e : Database) → notes.Sequence held ≡ notes.Sequence e.header.seq → held ≡ e.header.seq
 sequence_is held e is = cc
-
-current_seq : (a b : Database) → IsSameCore a b → a.header.seq ≡ b.header.seq
-current_seq a b same = ap (λ (c : Core). c.seq) same
 
 -- a known copy that isn't behind is current
 pub not_behind : (group : Database) (note : Note) (c : CopyState) → IsKnown group group c → note ≡ note_of c → is_behind group.header.seq note ≡ false → IsCurrent group c

@@ -3,7 +3,6 @@ pub mod Recover
 pub mod OpensLaws
 pub mod HasLaws
 pub mod Stepping
-pub mod CallSteps
 pub mod TurnLaws
 pub mod HealLaws
 pub mod TidyLaws

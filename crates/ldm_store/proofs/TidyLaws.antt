@@ -72,9 +72,6 @@ core_header a b same = record {
   guid = ap (λ (c : Core). c.guid) same;
 }
 
-valid_is : (a b : Database) (X : Type 0) → Valid a ≡ Valid b → a ≡ b
-valid_is a b X e = cc
-
 -- ---- an open copy that begins with a body of some database is that database
 
 module _ (label : Label) (content : List ℕ) (room : gate_at label + 512 * label.area_sectors ≤ length content) (db e : Database) (same : IsSameCore e db) (high : db.header.last ≤ 8192) (some : 4 ≤ db.header.last)

@@ -1,5 +1,5 @@
 -- The disks are rewritten in order.
-use Rattle.std.proofs.Common.{◌≡◌, ◌≢◌, inl, inr, ⊎_elim, ℕ, ◌+◌, ◌*◌, ◌<◌, ◌≤◌, List, length, slice_index, slice_get, Some, refl, sym, ◌∙◌, subst, arith, [], ◌∷◌}
+use Rattle.std.proofs.Common.{◌≡◌, ◌≢◌, inl, inr, ⊎_elim, ℕ, ◌+◌, ◌*◌, ◌<◌, ◌≤◌, List, length, slice_index, slice_get, Some, refl, sym, ◌∙◌, subst, arith}
 use Rattle.std.proofs.lemmas.Bool.{cases_eq, cases_lt}
 use Rattle.ldm_host.specs.Seen.{Seen, Leaves, image}
 use Rattle.ldm_host.specs.Moves.{Later, Changes, AtEachMoment}
@@ -9,7 +9,7 @@ use Rattle.ldm_group.specs.Database.{Database}
 use Rattle.ldm_copy.specs.declared.answer.CopyState.TheVariants.{Valid}
 use Rattle.ldm_found.specs.Copies.{HasCopy, IsKnown}
 use Rattle.ldm_store.specs.Kept.{IsCurrent, IsKept, AlwaysKept}
-use Rattle.ldm_store.specs.Turning.{IsBodyOnEach, AllSettled, AllHave, IsTurned}
+use Rattle.ldm_store.specs.Turning.{AllSettled, AllHave, IsTurned}
 use Rattle.ldm_copy.specs.Copy.{gate_at}
 use Rattle.ldm_copy.specs.Body.{IsBetween, IsWritten}
 use Rattle.ldm_store.proofs.HasLaws.{has_more, known_current, valid_current, outside_itself}
@@ -89,11 +89,3 @@ wrote_all most a b done below above k = ⊎_elim (λ less. below k less) (λ ge.
 pub passed_below : (most disk : ℕ) (a b : Seen) → ((k : ℕ) → k < disk → slice_index b.wrote k ≤ slice_index a.wrote k + most) → ((k : ℕ) → disk ≤ k → slice_index b.wrote k ≡ slice_index a.wrote k)
     → (k : ℕ) → k < disk + 1 → slice_index b.wrote k ≤ slice_index a.wrote k + most
 passed_below most disk a b below above k lt = ⊎_elim (λ less. below k less) (λ ge. let is = above k ge in omega (arith, is)) (cases_lt k disk)
-
--- a body is no longer than the greatest area
-pub body_most : (db : Database) (labels : List Label) (body : List ℕ) → 1 ≤ length labels → IsBodyOnEach db labels body → length body ≤ 1048576
-body_most db [] body some bodies = absurd (omega arith)
-body_most db (label ∷ labels) body some bodies = let on = bodies 0 label refl in omega (arith, on.is.size, on.high)
-
-pub handed : (a b : List ℕ) (most : ℕ) → most ≤ 1048576 → ((k : ℕ) → slice_index b k ≤ slice_index a k + (most + 1)) → (k : ℕ) → slice_index b k ≤ slice_index a k + 1048577
-handed a b most le each k = let e = each k in omega (arith, e, le)

@@ -1,11 +1,11 @@
 //! Makes the group of the disks ready to be edited.
-ghost use Rattle.std.specs.Prelude.{if◌then◌else◌, ◌≡◌, ◌≢◌, ◌⊎◌, ◌↔◌, ◌+◌, ◌*◌, ◌/◌, ◌<◌, ◌≤◌, List, ℕ, true, false, length, slice_index, slice_get, Result, IfOk, IfErr, OnOk, IsErr, IsErrOf, Some, None};
-ghost use Rattle.ldm_host.specs.Moves.{Settled, Settles, Changes, DiskFailed, Looks, Works, AtEachMoment};
+ghost use Rattle.std.specs.Prelude.{if◌then◌else◌, ◌≡◌, ◌≢◌, ◌⊎◌, ◌+◌, ◌<◌, ℕ, length, slice_index, Result, IfOk, IfErr, OnOk, IsErr, IsErrOf, Some, None};
+ghost use Rattle.ldm_host.specs.Moves.{Settled, Settles, DiskFailed, Looks, Works};
 ghost use Rattle.ldm_host.specs.Seen.{image};
 ghost use Rattle.ldm_label.specs.LabelOf.{Fits};
 ghost use Rattle.ldm_group.specs.Database.{Database};
-ghost use Rattle.ldm_copy.specs.Copy.{gate_at};
-ghost use Rattle.ldm_copy.specs.Body.{HasBody, IsBodyOn, IsWritten, IsBetween};
+ghost use Rattle.ldm_copy.specs.Body.{IsBodyOn};
+ghost use Rattle.ldm_copy.specs.Rewriting.{Rewrites};
 ghost use Rattle.ldm_found.specs.declared.fault.OpenFault.{OpenFault};
 ghost use Rattle.ldm_found.specs.declared.found.Found.{Found};
 ghost use Rattle.ldm_found.specs.Facts.{LieOn};
@@ -48,15 +48,7 @@ fn heal<H: Host>(
     requires body { (db : Database) × IsBodyOn db label.now body.now }
     requires settled { Settled (H.seen host.old) disk }
     requires noted { H.tells_disks → HasNote label.now (image (H.seen host.old).content disk) note }
-    ensures any_moment { H.tells_disks → (db : Database) → IsBodyOn db label.now body.now
-        → AtEachMoment (H.seen host.old) (H.seen host.new) (λ images said. IsBetween label.now db (image (H.seen host.old).content disk) (image images disk)) }
-    ensures done { H.tells_disks → OnOk result ((db : Database) → IsBodyOn db label.now body.now
-        → IsWritten label.now db (image (H.seen host.new).content disk)) }
-    ensures has { H.tells_disks → OnOk result (HasBody label.now body.now (image (H.seen host.new).content disk)) }
-    ensures settled { OnOk result (Settled (H.seen host.new) disk) }
-    ensures changes { Changes disk (gate_at label.now) (512 * label.now.area_sectors) (H.seen host.old) (H.seen host.new) }
-    ensures wrote { slice_index (H.seen host.new).wrote disk ≤ slice_index (H.seen host.old).wrote disk + length body.now + 1 }
-    ensures cause { IsErr result → DiskFailed (H.seen host.old) (H.seen host.new) }
+    ensures { Rewrites H.tells_disks result disk label.now body.now (length body.now + 1) (H.seen host.old) (H.seen host.new) }
 {
     match note {
         Note::Closed => refill(host, disk, label, body),

@@ -1,10 +1,7 @@
-use Rattle.std.proofs.Common.{◌+◌, ◌-◌, ◌*◌, ◌<◌, ◌≤◌, ℕ, List, length, inr, inl, sym, ◌∙◌, subst, arith}
+use Rattle.std.proofs.Common.{rules, ◌+◌, ◌-◌, ◌*◌, ◌<◌, ℕ, List, length, refl, sym, ◌∙◌, subst, arith}
 use Rattle.ldm_host.specs.Seen.{image}
-use Rattle.ldm_copy.specs.Copy.{gate_at}
-use Rattle.ldm_copy.proofs.GateLaws.{while_filling, shut_gate}
-use Rattle.ldm_copy.proofs.LeftLaws.{on_ok_map, some_sectors, room_on}
-use Rattle.ldm_copy.proofs.RewriteLaws.{body_size, settled_shut, after_unseal, body_unsealed}
-use Rattle.ldm_changed.proofs.MomentLaws.{at_fill, at_refill, refill_changes, fill_changes}
+use Rattle.ldm_copy.proofs.LeftLaws.{some_sectors, room_on}
+use Rattle.ldm_copy.proofs.RewriteLaws.{body_size, settled_shut, rewrites_most, refill_fails, filled_shut, refills}
 use Rattle.ldm_changed.proofs.rewriting.refill_changed.Goals as goal
 
 pub fill_changed-requires-clause-room : goal.fill_changed-requires-clause-room
@@ -15,28 +12,23 @@ fill_changed-requires-clause-closed g c tells =
     let label = c.args.label.now in
     settled_shut c.args.disk label (some_sectors label _ c.requires.fits) (g.H.Host.seen c.args.host.now) c.requires.settled (c.requires.closed tells)
 
-pub returns-in_err-fill_changed-clause-any_moment : goal.returns-in_err-fill_changed-clause-any_moment
-returns-in_err-fill_changed-clause-any_moment g c tells db is images said left =
-    let seen = g.H.Host.seen in
-    let label = c.args.label.now in
-    let some = some_sectors label _ c.requires.fits in
-    inr (inl (at_fill c.args.disk label some _ (seen c.args.host.now) (seen c.fill_changed.new.host) c.requires.disk
-    (settled_shut c.args.disk label some (seen c.args.host.now) c.requires.settled (c.requires.closed tells)) c.fill_changed.ensures.changes images said left))
-
-pub returns-in_err-fill_changed-clause-changes : goal.returns-in_err-fill_changed-clause-changes
-returns-in_err-fill_changed-clause-changes g c =
-    let seen = g.H.Host.seen in
+pub returns-in_err-fill_changed : goal.returns-in_err-fill_changed
+returns-in_err-fill_changed g c =
+    let a = g.H.Host.seen c.args.host.now in
+    let b = g.H.Host.seen c.fill_changed.new.host in
     let label = c.args.label.now in
     let size = body_size c.requires.body.0 label c.args.change.now.body c.requires.body.1 in
-    fill_changes c.args.disk label (some_sectors label _ c.requires.fits) (length c.args.change.now.body - 1) (seen c.args.host.now) (seen c.fill_changed.new.host) (omega (arith, size.0, size.1)) c.fill_changed.ensures.changes
+    rewrites_most _ (omega (arith, size.0)) (refill_fails g.H.Host.tells_disks c.args.disk label c.args.change.now.body a b (some_sectors label _ c.requires.fits) c.requires.disk c.requires.settled c.requires.closed
+    c.requires.body.0 c.requires.body.1 (511 + 128 * length c.args.change.now.numbers) c.from_residual.result (search rules) (c.in_err-fill_changed.ensures.cause refl)
+    c.fill_changed.ensures.changes c.fill_changed.ensures.wrote)
 
 pub unseal-requires-clause-closed : goal.unseal-requires-clause-closed
-unseal-requires-clause-closed g c tells =
+unseal-requires-clause-closed g c =
     let a = g.H.Host.seen c.args.host.now in
+    let b = g.H.Host.seen c.fill_changed.new.host in
     let label = c.args.label.now in
-    let some = some_sectors label _ c.requires.fits in
-    while_filling label some _ (image a.content c.args.disk) (image (g.H.Host.seen c.fill_changed.new.host).content c.args.disk)
-    (shut_gate label some (image a.content c.args.disk) (c.requires.closed tells)) c.fill_changed.ensures.changes.content.here
+    filled_shut g.H.Host.tells_disks c.args.disk label c.args.change.now.body a b (some_sectors label _ c.requires.fits) c.requires.disk c.requires.settled c.requires.closed c.requires.body.0 c.requires.body.1
+    c.fill_changed.ensures.changes
 
 pub unseal-requires-clause-filled : goal.unseal-requires-clause-filled
 unseal-requires-clause-filled g c tells =
@@ -47,53 +39,31 @@ unseal-requires-clause-filled g c tells =
       c.in_ok-fill_changed.ensures.filled tells (image (g.H.Host.seen c.fill_changed.new.host).content c.args.disk) (g.met.H.Host.may_stay tells c.fill_changed.new.host c.args.disk lt),
     )
 
-pub returns-clause-any_moment : goal.returns-clause-any_moment
-returns-clause-any_moment g c tells db is =
-    let seen = g.H.Host.seen in
-    let label = c.args.label.now in
+pub returns : goal.returns
+returns g c =
+    let a = g.H.Host.seen c.args.host.now in
+    let b = g.H.Host.seen c.fill_changed.new.host in
+    let d = g.H.Host.seen c.unseal.new.host in
     let disk = c.args.disk in
-    let a = seen c.args.host.now in
-    let b = seen c.fill_changed.new.host in
-    let some = some_sectors label _ c.requires.fits in
-    let lt = subst (λ (l : List ℕ). disk < length l) (sym c.fill_changed.ensures.changes.later.sizes) c.requires.disk in
-    let room : gate_at label + 512 * label.area_sectors ≤ length (image b.content disk) =
-    room_on label disk a b c.requires.fits c.fill_changed.ensures.changes.later.sizes (g.met.H.Host.lengths tells c.fill_changed.new.host disk lt) in
-    at_refill disk label some _ db c.args.change.now.body a b (seen c.unseal.new.host) c.requires.disk
-    (settled_shut disk label some a c.requires.settled (c.requires.closed tells)) is c.fill_changed.ensures.changes
-    (λ x left. let e = g.met.H.Host.same_length c.fill_changed.new.host disk x left in omega (arith, e, room)) (c.in_ok-fill_changed.ensures.filled tells) c.unseal.ensures.writes
-
-pub returns-clause-done : goal.returns-clause-done
-returns-clause-done g c tells =
-    let seen = g.H.Host.seen in
-    let label = c.args.label.now in
-    let disk = c.args.disk in
-    let d = seen c.unseal.new.host in
-    let some = some_sectors label _ c.requires.fits in
-    let sizes = c.unseal.ensures.writes.later.sizes ∙ c.fill_changed.ensures.changes.later.sizes in
-    let lt = subst (λ (l : List ℕ). disk < length l) (sym sizes) c.requires.disk in
-    on_ok_map c.unseal.result _ _ (λ opened db is.
-    after_unseal disk label some db c.args.change.now.body (seen c.fill_changed.new.host) d is
-    (room_on label disk (seen c.args.host.now) d c.requires.fits sizes (g.met.H.Host.lengths tells c.unseal.new.host disk lt))
-    (g.met.H.Host.may_stay tells c.unseal.new.host disk lt) (c.in_ok-fill_changed.ensures.filled tells) c.unseal.ensures.writes opened)
-    (c.unseal.ensures.opened tells)
-
-pub returns-clause-has : goal.returns-clause-has
-returns-clause-has g c tells =
-    let seen = g.H.Host.seen in
-    let disk = c.args.disk in
-    let lt = subst (λ (l : List ℕ). disk < length l) (sym (c.unseal.ensures.writes.later.sizes ∙ c.fill_changed.ensures.changes.later.sizes)) c.requires.disk in
-    on_ok_map c.unseal.result _ _ (λ opened.
-    body_unsealed disk c.args.label.now (some_sectors c.args.label.now _ c.requires.fits) c.args.change.now.body (seen c.fill_changed.new.host) (seen c.unseal.new.host)
-    (g.met.H.Host.may_stay tells c.unseal.new.host disk lt) (c.in_ok-fill_changed.ensures.filled tells) c.unseal.ensures.writes)
-    (c.unseal.ensures.opened tells)
-
-pub returns-clause-changes : goal.returns-clause-changes
-returns-clause-changes g c =
-    let seen = g.H.Host.seen in
     let label = c.args.label.now in
     let size = body_size c.requires.body.0 label c.args.change.now.body c.requires.body.1 in
-    refill_changes c.args.disk label (some_sectors label _ c.requires.fits) (length c.args.change.now.body - 1) (seen c.args.host.now) (seen c.fill_changed.new.host) (seen c.unseal.new.host) c.requires.disk
-    (omega (arith, size.0, size.1)) c.fill_changed.ensures.changes c.unseal.ensures.writes
-
-pub returns-clause-wrote : goal.returns-clause-wrote
-returns-clause-wrote g c = omega (arith, c.fill_changed.ensures.wrote, c.unseal.ensures.writes.wrote)
+    let sizes = c.fill_changed.ensures.changes.later.sizes in
+    let all = c.unseal.ensures.writes.later.sizes ∙ sizes in
+    let at_b = subst (λ (l : List ℕ). disk < length l) (sym sizes) c.requires.disk in
+    let at_d = subst (λ (l : List ℕ). disk < length l) (sym all) c.requires.disk in
+    rewrites_most _ (omega (arith, size.0)) (refills g.H.Host.tells_disks disk label c.args.change.now.body a b (some_sectors label _ c.requires.fits) c.requires.disk c.requires.settled c.requires.closed
+    c.requires.body.0 c.requires.body.1 (511 + 128 * length c.args.change.now.numbers) c.unseal.result d
+    (record {
+      filled = c.in_ok-fill_changed.ensures.filled;
+      settled = c.in_ok-fill_changed.ensures.settled;
+      changes = c.fill_changed.ensures.changes;
+      wrote = c.fill_changed.ensures.wrote;
+      cause = λ failed. absurd (cc failed);
+    })
+    c.unseal.ensures
+    (λ tells x left.
+    let same = g.met.H.Host.same_length c.fill_changed.new.host disk x left in
+    let room = room_on label disk a b c.requires.fits sizes (g.met.H.Host.lengths tells c.fill_changed.new.host disk at_b) in
+    omega (arith, same, room))
+    (λ tells. room_on label disk a d c.requires.fits all (g.met.H.Host.lengths tells c.unseal.new.host disk at_d))
+    (λ tells. g.met.H.Host.may_stay tells c.unseal.new.host disk at_d))

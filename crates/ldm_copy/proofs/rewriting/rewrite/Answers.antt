@@ -1,40 +1,23 @@
-use Rattle.std.proofs.Common.{◌<◌, ℕ, List, length, ⊎_elim, inl, inr, sym, subst}
+use Rattle.std.proofs.Common.{rules, ◌<◌, ℕ, List, length, refl, sym, subst, arith}
 use Rattle.ldm_copy.proofs.LeftLaws.{some_sectors}
-use Rattle.ldm_copy.proofs.RewriteLaws.{at_close, at_rewrite, after_close, close_changes, rewrite_changes}
+use Rattle.ldm_copy.proofs.RewriteLaws.{after_close, rewrites_most, rewrite_fails, rewrites}
 use Rattle.ldm_copy.proofs.rewriting.rewrite.Goals as goal
 
-pub returns-in_err-close-clause-any_moment : goal.returns-in_err-close-clause-any_moment
-returns-in_err-close-clause-any_moment g c tells db is images said left =
-    let seen = g.H.Host.seen in
+pub returns-in_err-close : goal.returns-in_err-close
+returns-in_err-close g c =
     let label = c.args.label.now in
-    ⊎_elim (λ same. inl same) (λ shut. inr (inl shut))
-    (at_close c.args.disk label (some_sectors label _ c.requires.fits) (seen c.args.host.now) (seen c.close.new.host) c.requires.disk c.requires.settled (c.requires.opened tells) c.close.ensures.writes images said left)
-
-pub returns-in_err-close-clause-changes : goal.returns-in_err-close-clause-changes
-returns-in_err-close-clause-changes g c =
-    let seen = g.H.Host.seen in
-    let label = c.args.label.now in
-    close_changes c.args.disk label (some_sectors label _ c.requires.fits) (seen c.args.host.now) (seen c.close.new.host) c.close.ensures.writes
+    rewrites_most _ (omega arith) (rewrite_fails g.H.Host.tells_disks c.args.disk label c.args.body.now _ (g.H.Host.seen c.close.new.host) (some_sectors label _ c.requires.fits) c.requires.disk c.requires.settled
+    c.requires.opened c.from_residual.result (search rules) (c.in_err-close.ensures.cause refl) c.close.ensures.writes)
 
 pub refill-requires-clause-closed : goal.refill-requires-clause-closed
 refill-requires-clause-closed g c tells =
-    let seen = g.H.Host.seen in
     let label = c.args.label.now in
     let lt = subst (λ (l : List ℕ). c.args.disk < length l) (sym c.close.ensures.writes.later.sizes) c.requires.disk in
-    after_close c.args.disk label (some_sectors label _ c.requires.fits) (seen c.close.new.host) (g.met.H.Host.may_stay tells c.close.new.host c.args.disk lt) (c.in_ok-close.ensures.closed tells)
+    after_close c.args.disk label (some_sectors label _ c.requires.fits) (g.H.Host.seen c.close.new.host) (g.met.H.Host.may_stay tells c.close.new.host c.args.disk lt) (c.in_ok-close.ensures.gate tells)
 
-pub returns-clause-any_moment : goal.returns-clause-any_moment
-returns-clause-any_moment g c tells db is =
-    let seen = g.H.Host.seen in
+pub returns : goal.returns
+returns g c =
     let label = c.args.label.now in
-    let some = some_sectors label _ c.requires.fits in
     let lt = subst (λ (l : List ℕ). c.args.disk < length l) (sym c.close.ensures.writes.later.sizes) c.requires.disk in
-    at_rewrite c.args.disk label some db (seen c.args.host.now) (seen c.close.new.host) (seen c.refill.new.host) c.requires.disk c.requires.settled (c.requires.opened tells) c.close.ensures.writes
-    (after_close c.args.disk label some (seen c.close.new.host) (g.met.H.Host.may_stay tells c.close.new.host c.args.disk lt) (c.in_ok-close.ensures.closed tells))
-    c.refill.ensures.changes (c.refill.ensures.any_moment tells db is)
-
-pub returns-clause-changes : goal.returns-clause-changes
-returns-clause-changes g c =
-    let seen = g.H.Host.seen in
-    let label = c.args.label.now in
-    rewrite_changes c.args.disk label (some_sectors label _ c.requires.fits) (seen c.args.host.now) (seen c.close.new.host) (seen c.refill.new.host) c.requires.disk c.close.ensures.writes c.refill.ensures.changes
+    rewrites_most _ (omega arith) (rewrites g.H.Host.tells_disks c.args.disk label c.args.body.now _ (g.H.Host.seen c.close.new.host) (some_sectors label _ c.requires.fits) c.requires.disk c.requires.settled
+    c.requires.opened (length c.args.body.now) c.refill.result (g.H.Host.seen c.refill.new.host) c.in_ok-close.ensures (λ tells. g.met.H.Host.may_stay tells c.close.new.host c.args.disk lt) c.refill.ensures)

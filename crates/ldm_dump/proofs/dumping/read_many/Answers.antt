@@ -1,4 +1,4 @@
-use Rattle.std.proofs.Common.{◌*◌, ◌≤◌, length, refl, sym, arith}
+use Rattle.std.proofs.Common.{◌*◌, ◌≤◌, length, sym, arith}
 use Rattle.ldm_host.proofs.Relations.{looks_itself, looks_then, looks_as}
 use Rattle.ldm_dump.proofs.ByteLaws.{no_text}
 use Rattle.ldm_dump.proofs.SayLaws.{text_step}

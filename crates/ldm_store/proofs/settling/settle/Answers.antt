@@ -1,4 +1,4 @@
-use Rattle.std.proofs.Common.{◌≡◌, ◌≢◌, ℕ, List, inl, inr, Result, Ok, Err, IfOk, IfErr, refl, sym, subst}
+use Rattle.std.proofs.Common.{◌≢◌, ℕ, List, inl, inr, Result, Ok, Err, IfOk, IfErr, refl, sym, subst}
 use Rattle.ldm_host.specs.Moves.{Settles}
 use Rattle.ldm_host.proofs.Relations.{settles_trans, settles_works, works_then}
 use Rattle.ldm_found.specs.declared.fault.OpenError.TheVariants.{Disk}
