@@ -1,7 +1,7 @@
 -- The first fit is exactly the least free start.
 use Rattle.std.proofs.Common.{◌≡◌, inl, inr, ℕ, zero, suc, ◌+◌, ◌-◌, ◌<◌, ◌≤◌, ◌==◌, max, min, not, List, [], ◌∷◌, length, get_or, refl, sym, ap, ◌∙◌, arith, Bool, true, false, cond, ltb, Option, Some, None}
 use Rattle.std.specs.List.{Contains, list_any}
-use Rattle.std.proofs.lemmas.Bool.{cases_order, not-true, not-false, not_from_true, not_from_false, ltb-true, ltb-false, lt-ltb, le-ltb, cond-false, false_from_ne_true, false≢true}
+use Rattle.std.proofs.lemmas.Bool.{cases_order, not-true, not-false, ltb-true, ltb-false, lt-ltb, le-ltb, cond-false, false_from_ne_true, false≢true}
 use Rattle.std.proofs.lemmas.List.Folds.{list_any_at}
 use Rattle.ldm_bytes.proofs.NumberLaws.{some_is}
 use Rattle.std.proofs.lemmas.List.Elements.{filter_map-append}
@@ -47,29 +47,6 @@ first_none (suc n) p k test e above below = go (test p) refl e (first_none n (p 
     go true here is rest = absurd cc
     go false here is rest = elim (cases_order k p) [ inl at ↦ ap test at ∙ here | inr off ↦ rest is (elim off [ inl low ↦ absurd (omega arith) | inr high ↦ omega arith ]) (omega arith) ]
 
--- what is found is the only one that is first
-one_first : (n p q : ℕ) (test : ℕ → Bool) → IsFirst n p test q → first_from n p test ≡ Some q
-one_first n p q test h = go (first_from n p test) refl
-  where
-    go : (o : Option ℕ) → first_from n p test ≡ o → o ≡ Some q
-    go None e = absurd (false≢true (sym (first_none n p q test e h.above h.below) ∙ h.passes))
-    go (Some r) e =
-        let f = found_first n p r test e in
-        elim (cases_order r q) [
-          | inl same ↦ ap (λ (x : ℕ). Some x) same
-          | inr off ↦ elim off [
-            | inl low ↦ absurd (false≢true (sym (h.before r f.above low) ∙ f.passes))
-            | inr high ↦ absurd (false≢true (sym (f.before q h.above high) ∙ h.passes))
-          ]
-        ]
-
-no_first : (n p : ℕ) (test : ℕ → Bool) → ((k : ℕ) → p ≤ k → k < p + n → test k ≡ false) → first_from n p test ≡ None
-no_first n p test h = go (first_from n p test) refl
-  where
-    go : (o : Option ℕ) → first_from n p test ≡ o → o ≡ None
-    go None e = refl
-    go (Some r) e = let f = found_first n p r test e in absurd (false≢true (sym (h r f.above f.below) ∙ f.passes))
-
 -- ---- of free sectors
 
 pub first_is : (taken : List Taken) (disk size len p : ℕ) → first_free_start taken disk size len ≡ Some p → IsFirstFree taken disk size len p
@@ -87,32 +64,30 @@ first_is taken disk size len p e = go (ltb size len) refl e
           least = λ q lt. not-false _ (f.before q (omega arith) lt);
         }
 
-pub is_first : (taken : List Taken) (disk size len p : ℕ) → IsFirstFree taken disk size len p → first_free_start taken disk size len ≡ Some p
-unfolding first_free_start
-is_first taken disk size len p h =
-    let ends = h.ends in
-    cond-false (ltb size len) None _ (le-ltb size len (omega arith))
-    ∙ one_first (suc (size - len)) 0 p (λ q. not (is_taken taken disk len q)) (record {
-      above = omega arith;
-      below = omega arith;
-      passes = not_from_false _ h.free;
-      before = λ k a b. not_from_true _ (h.least k b);
-    })
-
 pub none_is : (taken : List Taken) (disk size len : ℕ) → first_free_start taken disk size len ≡ None → HasNoFree taken disk size len
 unfolding first_free_start
 none_is taken disk size len e q ends =
     not-false _ (first_none (suc (size - len)) 0 q (λ p. not (is_taken taken disk len p)) (sym (cond-false (ltb size len) None _ (le-ltb size len (omega arith))) ∙ e) (omega arith) (omega arith))
 
-pub is_none : (taken : List Taken) (disk size len : ℕ) → HasNoFree taken disk size len → first_free_start taken disk size len ≡ None
-unfolding first_free_start
-is_none taken disk size len h = go (ltb size len) refl
+-- so what is found is the only one that is first
+pub is_first : (taken : List Taken) (disk size len p : ℕ) → IsFirstFree taken disk size len p → first_free_start taken disk size len ≡ Some p
+is_first taken disk size len p h = go (first_free_start taken disk size len) refl
   where
-    go : (b : Bool) → ltb size len ≡ b → cond b None (first_from (suc (size - len)) 0 (λ q. not (is_taken taken disk len q))) ≡ None
-    go true much = refl
-    go false much =
-        let fits : len ≤ size = ltb-false size len much in
-        no_first (suc (size - len)) 0 (λ q. not (is_taken taken disk len q)) (λ k a b. not_from_true _ (h k (omega arith)))
+    go : (o : Option ℕ) → first_free_start taken disk size len ≡ o → o ≡ Some p
+    go None e = absurd (false≢true (sym h.free ∙ none_is taken disk size len e p h.ends))
+    go (Some r) e =
+        let f = first_is taken disk size len r e in
+        elim (cases_order r p) [
+          | inl same ↦ ap (λ (x : ℕ). Some x) same
+          | inr off ↦ elim off [ inl low ↦ absurd (false≢true (sym f.free ∙ h.least r low)) | inr high ↦ absurd (false≢true (sym h.free ∙ f.least p high)) ]
+        ]
+
+pub is_none : (taken : List Taken) (disk size len : ℕ) → HasNoFree taken disk size len → first_free_start taken disk size len ≡ None
+is_none taken disk size len h = go (first_free_start taken disk size len) refl
+  where
+    go : (o : Option ℕ) → first_free_start taken disk size len ≡ o → o ≡ None
+    go None e = refl
+    go (Some r) e = let f = first_is taken disk size len r e in absurd (false≢true (sym f.free ∙ h r f.ends))
 
 -- ---- of what is taken
 

@@ -1,5 +1,5 @@
 -- What is left of the gaps where sectors are taken from the first that has so many.
-use Rattle.std.proofs.Common.{◌≡◌, ◌≢◌, ◌⊎◌, inl, inr, ℕ, zero, suc, ◌+◌, ◌-◌, ◌<◌, ◌≤◌, ◌||◌, List, [], ◌∷◌, ◌++◌, length, get_or, set, refl, sym, ap, subst, ◌∙◌, arith, Bool, true, false, cond, Some, None, find, get_or-set_same, get_or-set_other, eq-eqb, ltb}
+use Rattle.std.proofs.Common.{◌≡◌, ◌≢◌, ◌⊎◌, inl, inr, ℕ, zero, suc, ◌+◌, ◌-◌, ◌<◌, ◌≤◌, ◌||◌, List, [], ◌∷◌, ◌++◌, length, get_or, set, refl, sym, ap, ◌∙◌, arith, Bool, true, false, cond, Some, None, find, get_or-set_same, get_or-set_other, eq-eqb, ltb}
 use Rattle.std.specs.List.{All, AllPairs, Contains, remove, position, position_or_len}
 use Rattle.std.specs.Option.{option_map}
 use Rattle.std.proofs.Math.ListN.{length-set}
@@ -174,28 +174,25 @@ leaves_one gaps at len g lt_at is_g rising longer =
         | inr ne ↦ inl (k, ne, omega arith, sym (get_or-set_other gaps at k (shorter len g) h ne) ∙ is)
       ];
       added = λ more. (at, omega arith, get_or-set_same gaps at (shorter len g) (shorter len g) lt_at);
-      rising = λ i j d lt lt_j. pair i j d lt (omega arith) (rising i j d lt (omega arith));
+      rising = λ i j d lt lt_j.
+          let here = moved i d in
+          let there = moved j d in
+          let apart = rising i j d lt (omega arith) in omega arith;
     }
   where
-    pair : (i j : ℕ) (d : Gap) → i < j → j < length gaps → (get_or gaps i d).start + (get_or gaps i d).len < (get_or gaps j d).start
-        → (get_or (set gaps at (shorter len g)) i d).start + (get_or (set gaps at (shorter len g)) i d).len < (get_or (set gaps at (shorter len g)) j d).start
-    pair i j d lt lt_j apart =
-        let is_d : get_or gaps at d ≡ g = get_or_default gaps at d g lt_at ∙ is_g in
-        elim (cases_eq i at) [
-          | inl same ↦ (let here : get_or (set gaps at (shorter len g)) i d ≡ shorter len g = ap (λ (n : ℕ). get_or (set gaps at (shorter len g)) n d) same ∙ get_or-set_same gaps at (shorter len g) d lt_at in
-              let there : get_or (set gaps at (shorter len g)) j d ≡ get_or gaps j d = get_or-set_other gaps at j (shorter len g) d (λ e. omega arith) in
-              let was : get_or gaps i d ≡ g = ap (λ (n : ℕ). get_or gaps n d) same ∙ is_d in
-              let wide : g.start + g.len < (get_or gaps j d).start = subst (λ (x : Gap). x.start + x.len < (get_or gaps j d).start) was apart in
-              subst (λ (x : Gap). x.start + x.len < (get_or (set gaps at (shorter len g)) j d).start) (sym here) (subst (λ (y : Gap). (shorter len g).start + (shorter len g).len < y.start) (sym there) (omega arith)))
-          | inr ne ↦ (let here : get_or (set gaps at (shorter len g)) i d ≡ get_or gaps i d = get_or-set_other gaps at i (shorter len g) d ne in
-              subst (λ (x : Gap). x.start + x.len < (get_or (set gaps at (shorter len g)) j d).start) (sym here) (elim (cases_eq j at) [
-                | inl same ↦ (let there : get_or (set gaps at (shorter len g)) j d ≡ shorter len g = ap (λ (n : ℕ). get_or (set gaps at (shorter len g)) n d) same ∙ get_or-set_same gaps at (shorter len g) d lt_at in
-                    let was : get_or gaps j d ≡ g = ap (λ (n : ℕ). get_or gaps n d) same ∙ is_d in
-                    let below : (get_or gaps i d).start + (get_or gaps i d).len < g.start = subst (λ (y : Gap). (get_or gaps i d).start + (get_or gaps i d).len < y.start) was apart in
-                    subst (λ (y : Gap). (get_or gaps i d).start + (get_or gaps i d).len < y.start) (sym there) (omega arith))
-                | inr off ↦ subst (λ (y : Gap). (get_or gaps i d).start + (get_or gaps i d).len < y.start) (sym (get_or-set_other gaps at j (shorter len g) d off)) apart
-              ]))
-        ]
+    -- none begins earlier, and each ends where it did
+    moved : (i : ℕ) (d : Gap) → let now = get_or (set gaps at (shorter len g)) i d in let was = get_or gaps i d in (was.start ≤ now.start) × (now.start + now.len ≡ was.start + was.len)
+    moved i d = elim (cases_eq i at) [
+      | inl same ↦ (let now : get_or (set gaps at (shorter len g)) i d ≡ shorter len g = ap (λ (n : ℕ). get_or (set gaps at (shorter len g)) n d) same ∙ get_or-set_same gaps at (shorter len g) d lt_at in
+          let was : get_or gaps i d ≡ g = ap (λ (n : ℕ). get_or gaps n d) same ∙ (get_or_default gaps at d g lt_at ∙ is_g) in
+          let starts = ap (λ (x : Gap). x.start) now in
+          let lens = ap (λ (x : Gap). x.len) now in
+          let started = ap (λ (x : Gap). x.start) was in
+          let long = ap (λ (x : Gap). x.len) was in (omega arith, omega arith))
+      | inr ne ↦ (let now : get_or (set gaps at (shorter len g)) i d ≡ get_or gaps i d = get_or-set_other gaps at i (shorter len g) d ne in
+          let starts = ap (λ (x : Gap). x.start) now in
+          let lens = ap (λ (x : Gap). x.len) now in (omega arith, omega arith))
+    ]
 
 -- ---- the laws of a taking
 

@@ -1,5 +1,5 @@
 -- A walk over what is taken of a disk, in rising start, meets all gaps.
-use Rattle.std.proofs.Common.{◌≡◌, ◌⊎◌, inl, inr, ℕ, ◌+◌, ◌-◌, ◌<◌, ◌≤◌, ◌^◌, ◌==◌, ◌&&◌, ◌||◌, max, min, List, [], ◌∷◌, ◌++◌, length, get_or, take, refl, sym, ap, subst, ◌∙◌, arith, Bool, true, false, cond, nat_lt, eq-eqb, Some, None}
+use Rattle.std.proofs.Common.{◌≡◌, inl, inr, ℕ, ◌+◌, ◌-◌, ◌<◌, ◌≤◌, ◌^◌, ◌==◌, ◌&&◌, ◌||◌, max, min, List, [], ◌∷◌, ◌++◌, length, get_or, take, refl, sym, ap, subst, ◌∙◌, arith, Bool, true, false, cond, nat_lt, eq-eqb, Some, None}
 use Rattle.std.specs.List.{All, Contains, filter_map, list_any, cons_option}
 use Rattle.std.specs.List.Sorted.{IsNonDecreasingBy, IsPermutation}
 use Rattle.std.proofs.lemmas.Bool.{cases_lt, and_parts, and_from, lt-ltb, le-ltb, eqb-true, ltb-true, or_from, or_parts, false_from_ne_true, false≢true}
@@ -133,6 +133,25 @@ met gaps taken disk low high t are on behind le covers = record {
       ];
 }
 
+-- a gap more, where there are sectors up to the next
+all_with : (P : Gap → Type 0) (gaps : List Gap) (at until : ℕ) → All P gaps → (at < until → P (record { start = at; len = until - at })) → All P (with_gap gaps at until)
+all_with P gaps at until all last = elim (cases_lt at until) [
+  | inl below ↦ subst (λ (b : Bool). All P (cond b (gaps ++ record { start = at; len = until - at } ∷ []) gaps)) (sym (lt-ltb at until below)) (All-push P gaps (record { start = at; len = until - at }) all (last below))
+  | inr past ↦ subst (λ (b : Bool). All P (cond b (gaps ++ record { start = at; len = until - at } ∷ []) gaps)) (sym (le-ltb at until past)) all
+]
+
+gaps_to : (gaps : List Gap) (taken : List Taken) (disk at until size : ℕ) → until ≤ size → AreGaps gaps taken disk (min at size) → All (λ g. g.start + g.len < at) gaps → All (λ t. t.start + t.size ≤ at) taken
+    → AreGaps (with_gap gaps at until) taken disk (max (min at size) until)
+gaps_to gaps taken disk at until size le are apart passed = elim (cases_lt at until) [
+  | inl below ↦ (let now : min at size ≡ at = omega arith in
+      let end : until ≡ max (min at size) until = omega arith in
+      subst (λ (b : Bool). AreGaps (cond b (gaps ++ record { start = at; len = until - at } ∷ []) gaps) taken disk (max (min at size) until)) (sym (lt-ltb at until below))
+      (subst (λ (n : ℕ). AreGaps (gaps ++ record { start = at; len = until - at } ∷ []) taken disk n) end (filled gaps taken disk at until (subst (λ (n : ℕ). AreGaps gaps taken disk n) now are) apart passed below)))
+  | inr past ↦ (let end : min at size ≡ max (min at size) until = omega arith in
+      subst (λ (b : Bool). AreGaps (cond b (gaps ++ record { start = at; len = until - at } ∷ []) gaps) taken disk (max (min at size) until)) (sym (le-ltb at until past))
+      (subst (λ (n : ℕ). AreGaps gaps taken disk n) end are))
+]
+
 -- so far it has met all gaps before a sector
 pub record IsWalked (taken : List Taken) (disk size k at : ℕ) (gaps : List Gap) : Type 0 where
   pub are : AreGaps gaps (take k taken) disk (min at size)
@@ -157,64 +176,31 @@ walk_begun taken disk size = record {
 -- one more
 pub walk_more : (taken : List Taken) (disk size k at : ℕ) (gaps : List Gap) (t : Taken) → IsNonDecreasingBy (λ t. t.start) taken → All (IsOn disk) taken → k < length taken → get_or taken k t ≡ t
     → IsWalked taken disk size k at gaps → IsWalked taken disk size (k + 1) (max at (t.start + t.size)) (with_gap gaps at (min t.start size))
-walk_more taken disk size k at gaps t rising on lt is walked = go (cases_lt at (min t.start size))
-  where
-    here : IsOn disk t
-    here = subst (IsOn disk) is (on k t lt)
-
-    more : take (k + 1) taken ≡ take k taken ++ t ∷ []
-    more = take_more taken k t lt ∙ ap (λ (x : Taken). take k taken ++ x ∷ []) is
-
-    -- the rest, over the list of gaps
-    onto : (now : List Gap) (low : ℕ) → AreGaps now (take k taken) disk low → All (λ g. g.start + g.len < max at (t.start + t.size)) now → All (λ g. g.start + g.len ≤ t.start) now → low ≡ max (min at size) (min t.start size)
-        → IsWalked taken disk size (k + 1) (max at (t.start + t.size)) now
-    onto now low are apart ends is_low =
-        let some = here.some in
-        record {
-          are = subst (λ (l : List Taken). AreGaps now l disk (min (max at (t.start + t.size)) size)) (sym more)
-              (met now (take k taken) disk low (min (max at (t.start + t.size)) size) t are here.on ends (omega arith) (λ s from below. (omega arith, omega arith)));
-          apart = apart;
-          behind = λ j d le lt_j.
-              let up : (get_or taken k d).start ≤ (get_or taken j d).start = rising k j d (omega arith) lt_j in
-              let same : (get_or taken k d).start ≡ t.start = ap (λ (x : Taken). x.start) (get_or_default taken k d t lt ∙ is) in
-              All-weaker (λ (g : Gap). g.start + g.len ≤ t.start) (λ (g : Gap). g.start + g.len ≤ (get_or taken j d).start) (λ g e. omega arith) now ends;
-          passed = subst (λ (l : List Taken). All (λ x. x.start + x.size ≤ max at (t.start + t.size)) l) (sym more)
-              (All-push (λ (x : Taken). x.start + x.size ≤ max at (t.start + t.size)) (take k taken) t
-              (All-weaker (λ (x : Taken). x.start + x.size ≤ at) (λ (x : Taken). x.start + x.size ≤ max at (t.start + t.size)) (λ x e. omega arith) (take k taken) walked.passed) (omega arith));
-        }
-
-    old_ends : All (λ g. g.start + g.len ≤ t.start) gaps
-    old_ends = subst (λ (x : Taken). All (λ g. g.start + g.len ≤ x.start) gaps) is (walked.behind k t (omega arith) lt)
-
-    old_apart : All (λ g. g.start + g.len < max at (t.start + t.size)) gaps
-    old_apart = All-weaker (λ (g : Gap). g.start + g.len < at) (λ (g : Gap). g.start + g.len < max at (t.start + t.size)) (λ g e. omega arith) gaps walked.apart
-
-    go : (at < min t.start size) ⊎ (min t.start size ≤ at) → IsWalked taken disk size (k + 1) (max at (t.start + t.size)) (with_gap gaps at (min t.start size))
-    go (inl below) =
-        let some = here.some in
-        let until : ℕ = min t.start size in
-        let g : Gap = record { start = at; len = until - at } in
-        let whole : min at size ≡ at = omega arith in
-        let are : AreGaps gaps (take k taken) disk at = subst (λ (n : ℕ). AreGaps gaps (take k taken) disk n) whole walked.are in
-        subst (λ (b : Bool). IsWalked taken disk size (k + 1) (max at (t.start + t.size)) (cond b (gaps ++ g ∷ []) gaps)) (sym (lt-ltb at until below))
-        (onto (gaps ++ g ∷ []) until (filled gaps (take k taken) disk at until are walked.apart walked.passed below)
-        (All-push (λ (x : Gap). x.start + x.len < max at (t.start + t.size)) gaps g old_apart (omega arith))
-        (All-push (λ (x : Gap). x.start + x.len ≤ t.start) gaps g old_ends (omega arith)) (omega arith))
-    go (inr past) =
-        subst (λ (b : Bool). IsWalked taken disk size (k + 1) (max at (t.start + t.size)) (cond b (gaps ++ record { start = at; len = min t.start size - at } ∷ []) gaps)) (sym (le-ltb at (min t.start size) past))
-        (onto gaps (min at size) walked.are old_apart old_ends (omega arith))
+walk_more taken disk size k at gaps t rising on lt is walked =
+    let here : IsOn disk t = subst (IsOn disk) is (on k t lt) in
+    let some = here.some in
+    let until : ℕ = min t.start size in
+    let now : List Gap = with_gap gaps at until in
+    let end : ℕ = max at (t.start + t.size) in
+    let more : take (k + 1) taken ≡ take k taken ++ t ∷ [] = take_more taken k t lt ∙ ap (λ (x : Taken). take k taken ++ x ∷ []) is in
+    let were : All (λ g. g.start + g.len ≤ t.start) gaps = subst (λ (x : Taken). All (λ g. g.start + g.len ≤ x.start) gaps) is (walked.behind k t (omega arith) lt) in
+    let ends : All (λ g. g.start + g.len ≤ t.start) now = all_with (λ g. g.start + g.len ≤ t.start) gaps at until were (λ below. omega arith) in
+    record {
+      are = subst (λ (l : List Taken). AreGaps now l disk (min end size)) (sym more)
+          (met now (take k taken) disk (max (min at size) until) (min end size) t (gaps_to gaps (take k taken) disk at until size (omega arith) walked.are walked.apart walked.passed) here.on ends (omega arith) (λ s from below. (omega arith, omega arith)));
+      apart = all_with (λ g. g.start + g.len < end) gaps at until (All-weaker (λ (g : Gap). g.start + g.len < at) (λ (g : Gap). g.start + g.len < end) (λ g e. omega arith) gaps walked.apart) (λ below. omega arith);
+      behind = λ j d le lt_j.
+          let up : (get_or taken k d).start ≤ (get_or taken j d).start = rising k j d (omega arith) lt_j in
+          let same : (get_or taken k d).start ≡ t.start = ap (λ (x : Taken). x.start) (get_or_default taken k d t lt ∙ is) in
+          All-weaker (λ (g : Gap). g.start + g.len ≤ t.start) (λ (g : Gap). g.start + g.len ≤ (get_or taken j d).start) (λ g e. omega arith) now ends;
+      passed = subst (λ (l : List Taken). All (λ x. x.start + x.size ≤ end) l) (sym more)
+          (All-push (λ (x : Taken). x.start + x.size ≤ end) (take k taken) t
+          (All-weaker (λ (x : Taken). x.start + x.size ≤ at) (λ (x : Taken). x.start + x.size ≤ end) (λ x e. omega arith) (take k taken) walked.passed) (omega arith));
+    }
 
 -- and the end
 pub walk_done : (taken : List Taken) (disk size k at : ℕ) (gaps : List Gap) → length taken ≤ k → IsWalked taken disk size k at gaps → AreGaps (with_gap gaps at size) taken disk size
-walk_done taken disk size k at gaps le walked = subst (λ (l : List Taken). AreGaps (with_gap gaps at size) l disk size) (take_all k taken le) (go (cases_lt at size))
-  where
-    go : (at < size) ⊎ (size ≤ at) → AreGaps (with_gap gaps at size) (take k taken) disk size
-    go (inl below) =
-        let whole : min at size ≡ at = omega arith in
-        let are : AreGaps gaps (take k taken) disk at = subst (λ (n : ℕ). AreGaps gaps (take k taken) disk n) whole walked.are in
-        subst (λ (b : Bool). AreGaps (cond b (gaps ++ record { start = at; len = size - at } ∷ []) gaps) (take k taken) disk size) (sym (lt-ltb at size below))
-        (filled gaps (take k taken) disk at size are walked.apart walked.passed below)
-    go (inr past) =
-        let whole : min at size ≡ size = omega arith in
-        subst (λ (b : Bool). AreGaps (cond b (gaps ++ record { start = at; len = size - at } ∷ []) gaps) (take k taken) disk size) (sym (le-ltb at size past))
-        (subst (λ (n : ℕ). AreGaps gaps (take k taken) disk n) whole walked.are)
+walk_done taken disk size k at gaps le walked =
+    let end : max (min at size) size ≡ size = omega arith in
+    subst (λ (l : List Taken). AreGaps (with_gap gaps at size) l disk size) (take_all k taken le)
+    (subst (λ (n : ℕ). AreGaps (with_gap gaps at size) (take k taken) disk n) end (gaps_to gaps (take k taken) disk at size size (omega arith) walked.are walked.apart walked.passed))

@@ -1,10 +1,11 @@
 -- A disk has one list of gaps.
-use Rattle.std.proofs.Common.{◌≡◌, ℕ, zero, suc, ◌+◌, ◌<◌, ◌≤◌, List, [], ◌∷◌, refl, sym, ap, subst, ◌∙◌, arith, inl, inr}
+use Rattle.std.proofs.Common.{◌≡◌, ℕ, ◌+◌, ◌<◌, ◌≤◌, List, get_or, sym, ap, subst, arith, inl, inr}
 use Rattle.std.specs.List.{AllPairs, Contains}
-use Rattle.std.proofs.lemmas.List.Elements.{All-contains}
+use Rattle.std.proofs.lemmas.List.Elements.{All-contains, Contains-get_or}
+use Rattle.ldm_group.proofs.OneOrder.{one_order}
 use Rattle.ldm_space.specs.Free.{Taken}
 use Rattle.ldm_space.specs.Gaps.{Gap, IsIn, AreGaps}
-use Rattle.ldm_space.proofs.GapLaws.{before_at, apart, run_in}
+use Rattle.ldm_space.proofs.GapLaws.{apart, run_in}
 
 -- ---- what is a gap of one list is one of the other
 
@@ -48,36 +49,11 @@ alike a b taken disk size g are_a are_b there = go (around a b taken disk size g
 
 -- ---- so the lists are one
 
-heads : (x y : Gap) (xs ys : List Gap) → AllPairs (λ a b. a.start + a.len < b.start) (x ∷ xs) → AllPairs (λ a b. a.start + a.len < b.start) (y ∷ ys) → Contains (y ∷ ys) x → Contains (x ∷ xs) y → x ≡ y
-heads x y xs ys up_x up_y (zero, lt, is) there = sym is
-heads x y xs ys up_x up_y (suc k, lt, is) (zero, lt_0, is_0) = is_0
-heads x y xs ys up_x up_y (suc k, lt, is) (suc j, lt_j, is_j) =
-    let y_first : y.start + y.len < x.start = before_at (y ∷ ys) y x 0 (suc k) up_y (omega arith) refl lt is in
-    let x_first : x.start + x.len < y.start = before_at (x ∷ xs) x y 0 (suc j) up_x (omega arith) refl lt_j is_j in
-    absurd (omega arith)
-
-behind : (x y z : Gap) (xs ys : List Gap) → AllPairs (λ a b. a.start + a.len < b.start) (x ∷ xs) → x ≡ y → Contains xs z → Contains (y ∷ ys) z → Contains ys z
-behind x y z xs ys up same (k, lt, is) (zero, lt_0, is_0) =
-    let first : x.start + x.len < z.start = before_at (x ∷ xs) x z 0 (suc k) up (omega arith) refl (omega arith) is in
-    let starts : x.start ≡ z.start = ap (λ (g : Gap). g.start) (same ∙ is_0) in
-    absurd (omega arith)
-behind x y z xs ys up same there (suc j, lt_j, is_j) = (j, omega arith, is_j)
-
-ahead : (x z : Gap) (xs : List Gap) → Contains xs z → Contains (x ∷ xs) z
-ahead x z xs (k, lt, is) = (suc k, omega arith, is)
-
-rest_up : (x : Gap) (xs : List Gap) → AllPairs (λ a b. a.start + a.len < b.start) (x ∷ xs) → AllPairs (λ a b. a.start + a.len < b.start) xs
-rest_up x xs up i j d lt lt_j = up (suc i) (suc j) d (omega arith) (omega arith)
-
-one_order : (a b : List Gap) → AllPairs (λ a b. a.start + a.len < b.start) a → AllPairs (λ a b. a.start + a.len < b.start) b → ((g : Gap) → Contains a g → Contains b g) → ((g : Gap) → Contains b g → Contains a g) → a ≡ b
-one_order [] [] up_a up_b to from = refl
-one_order [] (y ∷ ys) up_a up_b to from = let lt = (from y (0, omega arith, refl)).1 in absurd (omega arith)
-one_order (x ∷ xs) [] up_a up_b to from = let lt = (to x (0, omega arith, refl)).1 in absurd (omega arith)
-one_order (x ∷ xs) (y ∷ ys) up_a up_b to from =
-    let same : x ≡ y = heads x y xs ys up_a up_b (to x (0, omega arith, refl)) (from y (0, omega arith, refl)) in
-    let rest : xs ≡ ys = one_order xs ys (rest_up x xs up_a) (rest_up y ys up_b) (λ z there. behind x y z xs ys up_a same there (to z (ahead x z xs there)))
-    (λ z there. behind y x z ys xs up_b (sym same) there (from z (ahead y z ys there))) in
-    λ i. same i ∷ rest i
+starts_rise : (gaps : List Gap) → AllPairs (λ a b. a.start + a.len < b.start) gaps → AllPairs (λ a b. a.start < b.start) gaps
+starts_rise gaps rising i j d lt lt_j = let apart = rising i j d lt lt_j in omega arith
 
 pub one_map : (a b : List Gap) (taken : List Taken) (disk size : ℕ) → AreGaps a taken disk size → AreGaps b taken disk size → a ≡ b
-one_map a b taken disk size are_a are_b = one_order a b are_a.rising are_b.rising (λ g there. alike a b taken disk size g are_a are_b there) (λ g there. alike b a taken disk size g are_b are_a there)
+one_map a b taken disk size are_a are_b =
+    one_order (λ (g : Gap). g.start) a b (starts_rise a are_a.rising) (starts_rise b are_b.rising)
+    (λ k d lt. alike a b taken disk size (get_or a k d) are_a are_b (Contains-get_or a k d lt))
+    (λ k d lt. alike b a taken disk size (get_or b k d) are_b are_a (Contains-get_or b k d lt))
