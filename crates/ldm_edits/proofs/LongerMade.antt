@@ -54,7 +54,8 @@ pub record IsOnDisk (labels : List Label) (records : List Record) (w : Wanted) :
   pub low : w.disk ≤ max_id records
   pub limit : w.limit ≡ data_size labels records w.disk
 
-pub wanted_there : (labels : List Label) (records : List Record) (words : List (List ℕ × ℕ)) (wanted : List Wanted) → AreFound (data_size labels records) records words wanted → (w : Wanted) → Contains wanted w → IsOnDisk labels records w
+pub wanted_there : (labels : List Label) (records : List Record) (words : List (List ℕ × ℕ)) (wanted : List Wanted)
+    → AreFound (data_size labels records) records words wanted → (w : Wanted) → Contains wanted w → IsOnDisk labels records w
 wanted_there labels records [] [] found w (k, lt, is) = absurd (omega arith)
 wanted_there labels records [] (x ∷ wanted) found w at = absurd found
 wanted_there labels records (word ∷ words) [] found w at = absurd found
@@ -67,13 +68,15 @@ wanted_there labels records (word ∷ words) (x ∷ wanted) found w (suc k, lt, 
 
 -- ---- what is taken
 
-pub taken_from : (wanted : List Wanted) (starts : List ℕ) (t : Taken) → Contains (taken_at wanted starts) t → (w : Wanted) × Contains wanted w × (w.disk ≡ t.disk) × (w.size ≡ t.size)
+pub taken_from : (wanted : List Wanted) (starts : List ℕ) (t : Taken) → Contains (taken_at wanted starts) t
+    → (w : Wanted) × Contains wanted w × (w.disk ≡ t.disk) × (w.size ≡ t.size)
 taken_from [] starts t (k, lt, is) = absurd (omega arith)
 taken_from (w ∷ more) [] t (k, lt, is) = absurd (omega arith)
 taken_from (w ∷ more) (start ∷ starts) t (zero, lt, is) = (w, (0, omega arith, refl), ap (λ (x : Taken). x.disk) is, ap (λ (x : Taken). x.size) is)
 taken_from (w ∷ more) (start ∷ starts) t (suc k, lt, is) = (let rest = taken_from more starts t (k, omega arith, is) in (rest.0, (suc rest.1.0, (let in' = rest.1.1 in omega arith), rest.1.2), rest.2, rest.3))
 
-pub taken_sum : (wanted : List Wanted) (taken : List Taken) (starts : List ℕ) → AreFirstFits taken wanted starts → sum_by (λ (t : Taken). t.size) (taken_at wanted starts) ≡ sum_by (λ (w : Wanted). w.size) wanted
+pub taken_sum : (wanted : List Wanted) (taken : List Taken) (starts : List ℕ) → AreFirstFits taken wanted starts
+    → sum_by (λ (t : Taken). t.size) (taken_at wanted starts) ≡ sum_by (λ (w : Wanted). w.size) wanted
 taken_sum [] taken starts h = refl
 taken_sum (w ∷ more) taken [] h = absurd h
 taken_sum (w ∷ more) taken (start ∷ starts) h =
@@ -88,8 +91,10 @@ pub record IsTaken (records : List Record) (t : Taken) : Type 0 where
   pub some : (t.size == 0) ≡ false
   pub disk : HasDisk records t.disk
 
-pub taken_is : (labels : List Label) (records : List Record) (wanted : List Wanted) (starts : List ℕ) → max_id records < 2 ^ 64 → ((w : Wanted) → Contains wanted w → IsOnDisk labels records w)
-    → ((w : Wanted) → Contains wanted w → ((w.size == 0) ≡ false) × (w.size < 2 ^ 64)) → (t : Taken) → Contains (taken_at wanted starts) t → IsTaken records t
+pub taken_is : (labels : List Label) (records : List Record) (wanted : List Wanted) (starts : List ℕ) → max_id records < 2 ^ 64
+    → ((w : Wanted) → Contains wanted w → IsOnDisk labels records w)
+    → ((w : Wanted) → Contains wanted w → ((w.size == 0) ≡ false) × (w.size < 2 ^ 64)) → (t : Taken)
+    → Contains (taken_at wanted starts) t → IsTaken records t
 taken_is labels records wanted starts ids on sizes t at =
     let from = taken_from wanted starts t at in
     let below = (on from.0 from.1).low in
@@ -118,7 +123,8 @@ kind_most (kinds.Component x) = omega arith
 kind_most (kinds.Partition x) = omega arith
 
 -- ids are at most this, and new ids above them
-place_below : (r : Record) (p : Partition) (top : ℕ) → id_of r ≤ top → top < 2 ^ 64 → top < p.head.id → place_of r ≢ place_of (kinds.Partition p)
+place_below : (r : Record) (p : Partition) (top : ℕ) → id_of r ≤ top → top < 2 ^ 64 → top < p.head.id
+    → place_of r ≢ place_of (kinds.Partition p)
 unfolding place_of
 place_below r p top low most above e = (let kind = kind_most r in let places : kind_of r * 2 ^ 64 + id_of r ≡ 5 * 2 ^ 64 + p.head.id = e in omega arith)
 
@@ -201,7 +207,8 @@ module _ {labels : List Label} {old : List Record} {change : Change} {v w : Volu
       (λ r q at_r at_q. let a = (between r at_r).1 in let b = last q at_q in omega arith))
 
   -- no record that stays stands at the place of one that changes
-  apart : (r s t : Record) → Contains old r × IsOther v r → Contains old s → (IsOther v s → ⊥) → place_of t ≡ place_of s → place_of r ≢ place_of t
+  apart : (r s t : Record) → Contains old r × IsOther v r → Contains old s → (IsOther v s → ⊥) → place_of t ≡ place_of s
+      → place_of r ≢ place_of t
   apart r s t at there changes same e = changes (subst (IsOther v) (one_record old r s up at.0 there (e ∙ same)) at.1)
 
   cross : (r s : Record) → Contains old r × IsOther v r → IsMade w ss s → place_of r ≢ place_of s
@@ -241,8 +248,10 @@ module _ {labels : List Label} {old : List Record} {change : Change} {v w : Volu
   }
 
 -- a group whose span or mirror is longer is as sound
-pub longer_keeps : {db : Database} {labels : List Label} {change : Change} {v w : Volume} {len : ℕ} {ss : List Share} → Rising db.records → IsSoundOn db labels → All (λ l. l.data_size < 2 ^ 64) labels
-    → (fresh : ℕ) → Lengthens labels db.records change v w len ss → first_of (limits db labels fresh change) ≡ None → Rising (changed db change).records × Keeps labels db (changed db change)
+pub longer_keeps : {db : Database} {labels : List Label} {change : Change} {v w : Volume} {len : ℕ} {ss : List Share}
+    → Rising db.records → IsSoundOn db labels → All (λ l. l.data_size < 2 ^ 64) labels
+    → (fresh : ℕ) → Lengthens labels db.records change v w len ss → first_of (limits db labels fresh change) ≡ None
+    → Rising (changed db change).records × Keeps labels db (changed db change)
 longer_keeps {db} {labels} {change} up old low fresh is within =
     let next : List Record = (changed db change).records in
     let longer = is_longer up is in
