@@ -46,7 +46,8 @@ pub record MakesCopies (volume id : ℕ) (ts : List Taken) : Type 0 where
   pub made_are : there (mirror_parts id volume ts) ≡ copy_records copies
   pub are : AreCopies volume id copies ts
 
-pub makes_copies : (volume id : ℕ) (ts : List Taken) → volume < 2 ^ 64 → id + 2 * length ts ≤ 2 ^ 64 → AreNumbers ts → MakesCopies volume id ts
+pub makes_copies : (volume id : ℕ) (ts : List Taken) → volume < 2 ^ 64 → id + 2 * length ts ≤ 2 ^ 64 → AreNumbers ts
+    → MakesCopies volume id ts
 makes_copies volume id [] low few fits = record { copies = []; made_are = refl; are = tt }
 makes_copies volume id (t ∷ ts) low few fits =
     let here = numbers_head t ts fits in
@@ -68,7 +69,8 @@ abbrev pub shares_of : List (Component × Partition) → List Share
 shares_of xs = map share_of xs
 
 -- one more in front
-made_later : (v : Volume) (x : Component × Partition) (xs : List (Component × Partition)) (r : Record) → IsMade v (shares_of xs) r → IsMade v (shares_of (x ∷ xs)) r
+made_later : (v : Volume) (x : Component × Partition) (xs : List (Component × Partition)) (r : Record)
+    → IsMade v (shares_of xs) r → IsMade v (shares_of (x ∷ xs)) r
 made_later v x xs (kinds.Group g) m = m
 made_later v x xs (kinds.Disk d) m = m
 made_later v x xs (kinds.Volume w) m = m
@@ -82,7 +84,8 @@ copy_made v (x ∷ xs) r (zero, lt, is) = subst (IsMade v (shares_of (x ∷ xs))
 copy_made v (x ∷ xs) r (suc zero, lt, is) = subst (IsMade v (shares_of (x ∷ xs))) is (share_of x, (0, omega arith, refl), (0, omega arith, refl))
 copy_made v (x ∷ xs) r (suc (suc k), lt, is) = made_later v x xs r (copy_made v xs r (k, omega arith, is))
 
-listed : (v : Volume) (xs : List (Component × Partition)) (r : Record) → Contains (kinds.Volume v ∷ copy_records xs) r → IsMade v (shares_of xs) r
+listed : (v : Volume) (xs : List (Component × Partition)) (r : Record) → Contains (kinds.Volume v ∷ copy_records xs) r
+    → IsMade v (shares_of xs) r
 listed v xs r (zero, lt, is) = subst (IsMade v (shares_of xs)) is refl
 listed v xs r (suc k, lt, is) = copy_made v xs r (k, omega arith, is)
 
@@ -100,14 +103,16 @@ copy_both (x ∷ xs) s (suc k, lt, is) =
 behind : (v : Volume) (rs : List Record) (r : Record) → Contains rs r → Contains (kinds.Volume v ∷ rs) r
 behind v rs r at = (suc at.0, (let lt = at.1 in omega arith), at.2)
 
-made_copy : (v : Volume) (xs : List (Component × Partition)) (r : Record) → IsMade v (shares_of xs) r → Contains (kinds.Volume v ∷ copy_records xs) r
+made_copy : (v : Volume) (xs : List (Component × Partition)) (r : Record) → IsMade v (shares_of xs) r
+    → Contains (kinds.Volume v ∷ copy_records xs) r
 made_copy v xs (kinds.Group g) m = absurd m
 made_copy v xs (kinds.Disk d) m = absurd m
 made_copy v xs (kinds.Volume w) m = (0, omega arith, ap kinds.Volume (sym m))
 made_copy v xs (kinds.Component c) (s, at, e) = subst (λ (d : Component). Contains (kinds.Volume v ∷ copy_records xs) (kinds.Component d)) (sym e) (behind v (copy_records xs) (kinds.Component s.d) (copy_both xs s at).0)
 made_copy v xs (kinds.Partition p) (s, at, in') = behind v (copy_records xs) (kinds.Partition p) ((copy_both xs s at).1 p in')
 
-copy_plexes : (volume id : ℕ) (xs : List (Component × Partition)) (ts : List Taken) → AreCopies volume id xs ts → map (λ (s : Share). plex_of s.d) (shares_of xs) ≡ mirror_plexes volume id ts
+copy_plexes : (volume id : ℕ) (xs : List (Component × Partition)) (ts : List Taken) → AreCopies volume id xs ts
+    → map (λ (s : Share). plex_of s.d) (shares_of xs) ≡ mirror_plexes volume id ts
 copy_plexes volume id [] [] h = refl
 copy_plexes volume id [] (t ∷ ts) h = absurd h
 copy_plexes volume id (x ∷ xs) [] h = absurd h
@@ -122,14 +127,16 @@ copies_many volume id [] (t ∷ ts) h = absurd h
 copies_many volume id (x ∷ xs) [] h = absurd h
 copies_many volume id (x ∷ xs) (t ∷ ts) h = ap suc (copies_many volume (id + 2) xs ts h.1)
 
-components_at : (volume id : ℕ) (xs : List (Component × Partition)) (ts : List Taken) (k : ℕ) (r : Record) → AreCopies volume id xs ts → k < length xs → place_of (get_or (news (shares_of xs)) k r) ≡ 4 * 2 ^ 64 + (id + 2 * k)
+components_at : (volume id : ℕ) (xs : List (Component × Partition)) (ts : List Taken) (k : ℕ) (r : Record)
+    → AreCopies volume id xs ts → k < length xs → place_of (get_or (news (shares_of xs)) k r) ≡ 4 * 2 ^ 64 + (id + 2 * k)
 unfolding place_of
 components_at volume id [] ts k r h lt = absurd (omega arith)
 components_at volume id (x ∷ xs) [] k r h lt = absurd h
 components_at volume id (x ∷ xs) (t ∷ ts) zero r h lt = let here : x.0.head.id ≡ id = ap (λ (q : Plex). q.id) h.0.plex in omega arith
 components_at volume id (x ∷ xs) (t ∷ ts) (suc k) r h lt = let rest = components_at volume (id + 2) xs ts k r h.1 (omega arith) in omega arith
 
-components_rise : (volume id : ℕ) (xs : List (Component × Partition)) (ts : List Taken) → AreCopies volume id xs ts → Rising (news (shares_of xs))
+components_rise : (volume id : ℕ) (xs : List (Component × Partition)) (ts : List Taken) → AreCopies volume id xs ts
+    → Rising (news (shares_of xs))
 components_rise volume id xs ts h i j d low within =
     let long = length-map (shares_of xs) (λ (s : Share). kinds.Component s.d) ∙ length-map xs share_of in
     let a = components_at volume id xs ts i d h (omega arith) in
@@ -146,7 +153,8 @@ copies_read next volume id (x ∷ xs) (t ∷ ts) h read = (
   copies_read next volume (id + 2) xs ts h.1 (λ s at. read s (suc at.0, (let lt = at.1 in omega arith), at.2)),
 )
 
-copy_taken : (volume id : ℕ) (xs : List (Component × Partition)) (ts : List Taken) → AreCopies volume id xs ts → map taken_of (parts_of (shares_of xs)) ≡ ts
+copy_taken : (volume id : ℕ) (xs : List (Component × Partition)) (ts : List Taken) → AreCopies volume id xs ts
+    → map taken_of (parts_of (shares_of xs)) ≡ ts
 copy_taken volume id [] [] h = refl
 copy_taken volume id [] (t ∷ ts) h = absurd h
 copy_taken volume id (x ∷ xs) [] h = absurd h
@@ -156,7 +164,8 @@ copy_taken volume id (x ∷ xs) (t ∷ ts) h =
     λ i. here i ∷ rest i
 
 -- each is new
-copies_new : (old next : List Record) (v : Volume) (id : ℕ) (xs : List (Component × Partition)) (ts : List Taken) → max_id old < id → AreCopies v.head.id id xs ts → All (IsSomeOn next) ts
+copies_new : (old next : List Record) (v : Volume) (id : ℕ) (xs : List (Component × Partition)) (ts : List Taken)
+    → max_id old < id → AreCopies v.head.id id xs ts → All (IsSomeOn next) ts
     → (s : Share) → Contains (shares_of xs) s → IsNewShare old next v s
 copies_new old next v id [] ts new h on s (k, lt, is) = absurd (omega arith)
 copies_new old next v id (x ∷ xs) [] new h on s at = absurd h
@@ -176,7 +185,8 @@ copies_new old next v id (x ∷ xs) (t ∷ ts) new h on s (suc k, lt, is) =
 
 -- ---- ids
 
-copies_follow : (volume id : ℕ) (xs : List (Component × Partition)) (ts : List Taken) → AreCopies volume id xs ts → IdsFollow id (copy_records xs)
+copies_follow : (volume id : ℕ) (xs : List (Component × Partition)) (ts : List Taken) → AreCopies volume id xs ts
+    → IdsFollow id (copy_records xs)
 copies_follow volume id [] ts h = tt
 copies_follow volume id (x ∷ xs) [] h = absurd h
 copies_follow volume id (x ∷ xs) (t ∷ ts) h =
@@ -186,7 +196,8 @@ copies_length : (xs : List (Component × Partition)) → length (copy_records xs
 copies_length [] = refl
 copies_length (x ∷ xs) = let rest = copies_length xs in omega arith
 
-pub mirror_ids : (id : ℕ) (name : List ℕ) (guid len : ℕ) (ts : List Taken) → id + 1 + 2 * length ts ≤ 2 ^ 64 → length name ≤ 255 → len < 2 ^ 64 → AreNumbers ts
+pub mirror_ids : (id : ℕ) (name : List ℕ) (guid len : ℕ) (ts : List Taken) → id + 1 + 2 * length ts ≤ 2 ^ 64
+    → length name ≤ 255 → len < 2 ^ 64 → AreNumbers ts
     → IdsFollow id (mirror_made id name guid len ts) × (length (mirror_made id name guid len ts) ≡ 1 + 2 * length ts)
 mirror_ids id name guid len ts few short low numbers =
     let mv : MakesVolume id name guid false (length ts) len = makes_volume id name guid false (length ts) len (omega arith) short (omega arith) low in
@@ -199,7 +210,8 @@ mirror_ids id name guid len ts few short low numbers =
 
 -- ---- the rules
 
-pub mirror_created : (old next : List Record) (id : ℕ) (name : List ℕ) (guid len : ℕ) (ts : List Taken) → MayCreate old next (mirror_made id name guid len ts) id (id + 1 + 2 * length ts) name ts
+pub mirror_created : (old next : List Record) (id : ℕ) (name : List ℕ) (guid len : ℕ) (ts : List Taken)
+    → MayCreate old next (mirror_made id name guid len ts) id (id + 1 + 2 * length ts) name ts
     → 2 ≤ length ts → AllSized len ts → len < 2 ^ 64 → len ≢ 0 → IsCreated old next (mirror_made id name guid len ts) name ts
 mirror_created old next id name guid len ts may enough same low some =
     let few = may.few in

@@ -39,7 +39,8 @@ no_component old q sound new r at = false_from_ne_true (is_child 3 q r) (λ h.
     let named = c.2 in
     omega arith)
 
-pub no_partition : (old : List Record) (q : ℕ) → first_broken (lacks_component (λ id. count_by (is_at 4 id) old)) old ≡ None → max_id old < q
+pub no_partition : (old : List Record) (q : ℕ) → first_broken (lacks_component (λ id. count_by (is_at 4 id) old)) old ≡ None
+    → max_id old < q
     → (r : Record) → Contains old r → is_child 4 q r ≡ false
 no_partition old q sound new r at = false_from_ne_true (is_child 4 q r) (λ h.
     let p = child_partition q r h in

@@ -96,7 +96,8 @@ module _ {old made next : List Record} {v : Volume} {ss : List Share} (is : IsNe
   pub extents_are : (s : Share) → Contains ss s → extents_of s.d.head.id next ≡ map extent_of s.parts
   extents_are s here = extents_by s.d.head.id next ∙ ap (filter_map extent_in) (partitions_are s here) ∙ part_extents s.parts
 
-  pub made_keeps : v.children ≡ length ss → v.size ≢ 0 → (l : Layout) × (layout_of next v ≡ Ok l) → (r : Record) → IsMade v ss r → KeepsRules next r
+  pub made_keeps : v.children ≡ length ss → v.size ≢ 0 → (l : Layout) × (layout_of next v ≡ Ok l) → (r : Record)
+      → IsMade v ss r → KeepsRules next r
   made_keeps count some laid (kinds.Group g) m = absurd m
   made_keeps count some laid (kinds.Disk d) m = absurd m
   made_keeps count some laid (kinds.Volume w) m = subst (KeepsVolume next) (sym m) (record {
@@ -194,24 +195,30 @@ single_created old next id name guid raid size layout striping parts es ts may l
 
 -- ---- the three forms
 
-pub span_created : (old next : List Record) (id : ℕ) (name : List ℕ) (guid : ℕ) (ts : List Taken) → MayCreate old next (span_made id name guid ts) id (id + 2 + length ts) name ts
-    → 1 ≤ length ts → sum_by (λ t. t.size) ts < 2 ^ 64 → sum_by (λ t. t.size) ts ≢ 0 → IsCreated old next (span_made id name guid ts) name ts
+pub span_created : (old next : List Record) (id : ℕ) (name : List ℕ) (guid : ℕ) (ts : List Taken)
+    → MayCreate old next (span_made id name guid ts) id (id + 2 + length ts) name ts
+    → 1 ≤ length ts → sum_by (λ t. t.size) ts < 2 ^ 64 → sum_by (λ t. t.size) ts ≢ 0
+    → IsCreated old next (span_made id name guid ts) name ts
 span_created old next id name guid ts may some low sum =
     let few = may.few in
     single_created old next id name guid false (sum_by (λ t. t.size) ts) 2 None (span_parts (id + 2) (id + 1) 0 ts) (tile_extents (id + 1) 0 ts) ts may low sum tt
     (makes_span_parts (id + 2) (id + 1) 0 ts few (omega arith) may.numbers) (tiles_of (id + 1) 0 ts)
     (λ v size plexes extents. span_layout next v (id + 1) ts plexes extents some size)
 
-pub stripe_created : (old next : List Record) (id : ℕ) (name : List ℕ) (guid chunk len : ℕ) (ts : List Taken) → MayCreate old next (stripe_made id name guid chunk len ts) id (id + 2 + length ts) name ts
-    → 2 ≤ length ts → AllSized len ts → chunk ≢ 0 → chunk < 2 ^ 64 → len % chunk ≡ 0 → length ts * len < 2 ^ 64 → length ts * len ≢ 0 → IsCreated old next (stripe_made id name guid chunk len ts) name ts
+pub stripe_created : (old next : List Record) (id : ℕ) (name : List ℕ) (guid chunk len : ℕ) (ts : List Taken)
+    → MayCreate old next (stripe_made id name guid chunk len ts) id (id + 2 + length ts) name ts
+    → 2 ≤ length ts → AllSized len ts → chunk ≢ 0 → chunk < 2 ^ 64 → len % chunk ≡ 0 → length ts * len < 2 ^ 64
+    → length ts * len ≢ 0 → IsCreated old next (stripe_made id name guid chunk len ts) name ts
 stripe_created old next id name guid chunk len ts may enough same some few_chunk whole low sum =
     let few = may.few in
     single_created old next id name guid false (length ts * len) 1 (Some (record { chunk = chunk; columns = length ts })) (column_parts (id + 2) (id + 1) 0 ts) (column_extents (id + 1) 0 ts) ts may low sum (few_chunk, omega arith)
     (makes_column_parts (id + 2) (id + 1) 0 ts few (omega arith) (omega arith) may.numbers) (columns_of (id + 1) 0 ts)
     (λ v size plexes extents. stripe_layout next v (id + 1) chunk len ts plexes extents enough same some whole size)
 
-pub raid5_created : (old next : List Record) (id : ℕ) (name : List ℕ) (guid chunk len : ℕ) (ts : List Taken) → MayCreate old next (raid5_made id name guid chunk len ts) id (id + 2 + length ts) name ts
-    → 3 ≤ length ts → AllSized len ts → chunk ≢ 0 → chunk < 2 ^ 64 → len % chunk ≡ 0 → (length ts - 1) * len < 2 ^ 64 → (length ts - 1) * len ≢ 0 → IsCreated old next (raid5_made id name guid chunk len ts) name ts
+pub raid5_created : (old next : List Record) (id : ℕ) (name : List ℕ) (guid chunk len : ℕ) (ts : List Taken)
+    → MayCreate old next (raid5_made id name guid chunk len ts) id (id + 2 + length ts) name ts
+    → 3 ≤ length ts → AllSized len ts → chunk ≢ 0 → chunk < 2 ^ 64 → len % chunk ≡ 0 → (length ts - 1) * len < 2 ^ 64
+    → (length ts - 1) * len ≢ 0 → IsCreated old next (raid5_made id name guid chunk len ts) name ts
 raid5_created old next id name guid chunk len ts may enough same some few_chunk whole low sum =
     let few = may.few in
     single_created old next id name guid true ((length ts - 1) * len) 3 (Some (record { chunk = chunk; columns = length ts })) (column_parts (id + 2) (id + 1) 0 ts) (column_extents (id + 1) 0 ts) ts may low sum (few_chunk, omega arith)

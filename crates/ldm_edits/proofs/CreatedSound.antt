@@ -3,6 +3,7 @@ use Rattle.std.proofs.Common.{◌≡◌, inl, inr, ◌∙◌, ap, sym, refl, sub
 use Rattle.std.specs.List.{Contains}
 use Rattle.ldm_records.specs.declared.types.Volume.{Volume}
 use Rattle.ldm_records.specs.declared.types.Component.{Component}
+use Rattle.ldm_records.specs.declared.types.Partition.{Partition}
 use Rattle.ldm_records.specs.declared.types.Record.{Record}
 use Rattle.ldm_records.specs.declared.types.Record.TheVariants as kinds
 use Rattle.ldm_records.specs.declared.pieces.Head.{Head}
@@ -24,16 +25,31 @@ use Rattle.ldm_edits.proofs.LongerFrom.{part_listed}
 
 module _ (old next made : List Record) (name : List ℕ) (ts : List Taken) (up : Rising old) (created : IsCreated old next made name ts) where
   -- a new component, or partition, names no old parent
+  new_component : (q : ℕ) → q ≤ max_id old → (c : Component) → c.parent ≡ q → Contains made (kinds.Component c) → ⊥
+  new_component q low c parent m =
+      let s = created.new.listed (kinds.Component c) m in
+      let own = ap (λ (x : Component). x.parent) s.2 in
+      let is = (created.new.each s.0 s.1).parent in
+      let new = created.new.new in
+      omega arith
+
+  new_partition : (q : ℕ) → q ≤ max_id old → (p : Partition) → p.parent ≡ q → Contains made (kinds.Partition p) → ⊥
+  new_partition q low p parent m =
+      let s = created.new.listed (kinds.Partition p) m in
+      let own = ((created.new.each s.0 s.1).each p s.2).0 in
+      let new = (created.new.each s.0 s.1).new in
+      omega arith
+
   components_kept : (q : ℕ) → q ≤ max_id old → SameComponents old next q
   components_kept q low = record {
     stay = λ c parent at. created.new.adds.kept (kinds.Component c) at;
-    back = λ c parent at. elim (created.new.adds.from (kinds.Component c) at) [ inl o ↦ o | inr m ↦ absurd (let s = created.new.listed (kinds.Component c) m in let own = ap (λ (x : Component). x.parent) s.2 in let is = (created.new.each s.0 s.1).parent in let new = created.new.new in omega arith) ];
+    back = λ c parent at. elim (created.new.adds.from (kinds.Component c) at) [ inl o ↦ o | inr m ↦ absurd (new_component q low c parent m) ];
   }
 
   partitions_kept : (q : ℕ) → q ≤ max_id old → SamePartitions old next q
   partitions_kept q low = record {
     stay = λ p parent at. created.new.adds.kept (kinds.Partition p) at;
-    back = λ p parent at. elim (created.new.adds.from (kinds.Partition p) at) [ inl o ↦ o | inr m ↦ absurd (let s = created.new.listed (kinds.Partition p) m in let is = ((created.new.each s.0 s.1).each p s.2).0 in let new = (created.new.each s.0 s.1).new in omega arith) ];
+    back = λ p parent at. elim (created.new.adds.from (kinds.Partition p) at) [ inl o ↦ o | inr m ↦ absurd (new_partition q low p parent m) ];
   }
 
   kin : (r : Record) → Contains old r → HasSameKin old next r

@@ -42,11 +42,13 @@ pub record IsWithout (v : Volume) (old next : List Record) : Type 0 where
 
 module _ (v : Volume) (old next : List Record) (is : IsWithout v old next) where
   -- a component of a volume that stays does,
-  component_stays : (w : Volume) → Contains next (kinds.Volume w) → (c : Component) → Contains old (kinds.Component c) → c.parent ≡ w.head.id → Contains next (kinds.Component c)
+  component_stays : (w : Volume) → Contains next (kinds.Volume w) → (c : Component) → Contains old (kinds.Component c)
+      → c.parent ≡ w.head.id → Contains next (kinds.Component c)
   component_stays w there c at parent = is.there (kinds.Component c) at (ap (λ (n : ℕ). n == v.head.id) parent ∙ (is.back (kinds.Volume w) there).1)
 
   -- and so do its partitions
-  partition_stays : (c : Component) → Contains next (kinds.Component c) → (p : Partition) → p.parent ≡ c.head.id → goes v.head.id old (kinds.Partition p) ≡ false
+  partition_stays : (c : Component) → Contains next (kinds.Component c) → (p : Partition) → p.parent ≡ c.head.id
+      → goes v.head.id old (kinds.Partition p) ≡ false
   partition_stays c there p parent = elim (tested (goes v.head.id old (kinds.Partition p))) [
     | inr fails ↦ fails
     | inl holds ↦ (let was = is.back (kinds.Component c) there in
@@ -65,7 +67,8 @@ module _ (v : Volume) (old next : List Record) (is : IsWithout v old next) where
   partitions_stay c there = record { stay = λ p parent at. is.there (kinds.Partition p) at (partition_stays c there p parent); back = λ p parent at. (is.back (kinds.Partition p) at).0 }
 
   -- a component that goes takes its partitions along
-  whose_stays : (p : Partition) → Contains next (kinds.Partition p) → (c : Component) → Contains old (kinds.Component c) → c.head.id ≡ p.parent → goes v.head.id old (kinds.Component c) ≡ false
+  whose_stays : (p : Partition) → Contains next (kinds.Partition p) → (c : Component) → Contains old (kinds.Component c)
+      → c.head.id ≡ p.parent → goes v.head.id old (kinds.Component c) ≡ false
   whose_stays p there c at id = elim (tested (c.parent == v.head.id)) [
     | inr fails ↦ fails
     | inl holds ↦ (let goes = own_any old v.head.id p.parent (record { component = c; there = at; parent = eqb-true c.parent v.head.id holds; id = id }) in
@@ -98,7 +101,8 @@ module _ (v : Volume) (old next : List Record) (is : IsWithout v old next) where
 
 -- ---- the whole law
 
-without_next : (v : Volume) (old : List Record) → Rising old → IsWithout v old (in_order (filter (λ r. not (goes v.head.id old r)) old ++ []))
+without_next : (v : Volume) (old : List Record) → Rising old
+    → IsWithout v old (in_order (filter (λ r. not (goes v.head.id old r)) old ++ []))
 without_next v old up = record {
   up = up;
   vp = next_rises stay [] (AllPairs-filter (λ a b. place_of a < place_of b) (λ r. not (goes v.head.id old r)) old up) (λ i j d lt within. absurd (omega arith)) (λ r s at_r at_s. (let lt = at_s.1 in absurd (omega arith)));
@@ -118,7 +122,8 @@ pub deleted_rises : (v : Volume) (old : List Record) → Rising old → Rising (
 deleted_rises v old up = (without_next v old up).vp
 
 -- a group without a volume is as sound as with it
-without_keeps : (db : Database) (labels : List Label) (v : Volume) → Rising db.records → IsSoundOn db labels → first_of (limits db labels 0 (without v db.records)) ≡ None
+without_keeps : (db : Database) (labels : List Label) (v : Volume) → Rising db.records → IsSoundOn db labels
+    → first_of (limits db labels 0 (without v db.records)) ≡ None
     → Rising (changed db (without v db.records)).records × Keeps labels db (changed db (without v db.records))
 without_keeps db labels v up old within =
     let next : List Record = (changed db (without v db.records)).records in
@@ -132,7 +137,8 @@ without_keeps db labels v up old within =
     )
 
 -- what delete makes of a sound group is as sound
-pub deleted_keeps : (db : Database) (labels : List Label) (o : Option Volume) (next : Database) → Rising db.records → IsSoundOn db labels → deleted db labels o ≡ Ok next → Rising next.records × Keeps labels db next
+pub deleted_keeps : (db : Database) (labels : List Label) (o : Option Volume) (next : Database) → Rising db.records
+    → IsSoundOn db labels → deleted db labels o ≡ Ok next → Rising next.records × Keeps labels db next
 deleted_keeps db labels None next up old h = absurd cc
 deleted_keeps db labels (Some v) next up old h =
     let done = when_ok (first_of (limits db labels 0 (without v db.records))) (changed db (without v db.records)) next h in

@@ -68,7 +68,8 @@ component_is (Some (kinds.Disk x)) c e = absurd cc
 component_is (Some (kinds.Partition x)) c e = absurd cc
 component_is None c e = absurd cc
 
-pub component_there : (v : Volume) (c : Component) (records : List Record) → component_of v records ≡ Some c → Contains records (kinds.Component c) × (c.parent ≡ v.head.id)
+pub component_there : (v : Volume) (c : Component) (records : List Record) → component_of v records ≡ Some c
+    → Contains records (kinds.Component c) × (c.parent ≡ v.head.id)
 component_there v c records e =
     let at = find_there (is_child 3 v.head.id) records (kinds.Component c) (component_is (find (is_child 3 v.head.id) records) c e) in
     let child = child_component v.head.id (kinds.Component c) at.1 in
@@ -84,7 +85,8 @@ one_span (p ∷ (q ∷ ps)) h = absurd (go (list_all is_basic (p ∷ (q ∷ ps))
     go false e = cc
 
 -- a span's component is its only one
-own_plex : (records : List Record) (v : Volume) (c : Component) → shape_of (plexes_of v.head.id records) ≡ Some Span → Contains records (kinds.Component c) → c.parent ≡ v.head.id
+own_plex : (records : List Record) (v : Volume) (c : Component) → shape_of (plexes_of v.head.id records) ≡ Some Span
+    → Contains records (kinds.Component c) → c.parent ≡ v.head.id
     → plexes_of v.head.id records ≡ plex_of c ∷ []
 own_plex records v c shape there parent =
     let one = one_span (plexes_of v.head.id records) shape in

@@ -56,7 +56,8 @@ no_shares records v len id = record {
 }
 
 one_share : (records : List Record) (v : Volume) (len id : ℕ) (c : Component) (cs : List Component) (t : Taken) (ts : List Taken) → max_id records < id → c.parent ≡ v.head.id → IsTaken records t → t.size ≡ len
-    → MakesChildren c (c.children + 1) → MakesPartition id t.start (component_holds records c) t.size c.head.id t.disk None → MakesShares records v len (id + 1) cs ts → MakesShares records v len id (c ∷ cs) (t ∷ ts)
+    → MakesChildren c (c.children + 1) → MakesPartition id t.start (component_holds records c) t.size c.head.id t.disk None
+    → MakesShares records v len (id + 1) cs ts → MakesShares records v len id (c ∷ cs) (t ∷ ts)
 one_share records v len id c cs t ts new parent takes size d p rest = record {
   ss = here ∷ rest.ss;
   components_are = λ i. c ∷ rest.components_are i;
@@ -93,8 +94,10 @@ one_share records v len id c cs t ts new parent takes size d p rest = record {
     each s (zero, lt, is) = subst (IsShare records v len) is first
     each s (suc k, lt, is) = rest.each s (k, omega arith, is)
 
-pub makes_shares : (records : List Record) (v : Volume) (len id : ℕ) (cs : List Component) (ts : List Taken) → length cs ≡ length ts → max_id records < id → id + length ts ≤ 2 ^ 64
-    → ((c : Component) → Contains cs c → (c.parent ≡ v.head.id) × IsReady c) → ((t : Taken) → Contains ts t → IsTaken records t × (t.size ≡ len)) → MakesShares records v len id cs ts
+pub makes_shares : (records : List Record) (v : Volume) (len id : ℕ) (cs : List Component) (ts : List Taken)
+    → length cs ≡ length ts → max_id records < id → id + length ts ≤ 2 ^ 64
+    → ((c : Component) → Contains cs c → (c.parent ≡ v.head.id) × IsReady c)
+    → ((t : Taken) → Contains ts t → IsTaken records t × (t.size ≡ len)) → MakesShares records v len id cs ts
 makes_shares records v len id [] [] many new few ready takes = no_shares records v len id
 makes_shares records v len id [] (t ∷ ts) many new few ready takes = absurd (omega arith)
 makes_shares records v len id (c ∷ cs) [] many new few ready takes = absurd (omega arith)
@@ -116,7 +119,8 @@ made_are records v w size len id ts made is =
     ∙ (λ i. made.changed_are i ++ made.parts_are i))
 
 -- the components of a volume are the records that name it
-pub named_components : (q : ℕ) (records : List Record) → filter (is_child 3 q) records ≡ map (λ (c : Component). kinds.Component c) (filter_map component_at (filter (is_child 3 q) records))
+pub named_components : (q : ℕ) (records : List Record)
+    → filter (is_child 3 q) records ≡ map (λ (c : Component). kinds.Component c) (filter_map component_at (filter (is_child 3 q) records))
 named_components q [] = refl
 named_components q (kinds.Component c ∷ records) =
     let rest = named_components q records in
@@ -130,6 +134,7 @@ named_components q (kinds.Disk d ∷ records) = named_components q records
 named_components q (kinds.Group g ∷ records) = named_components q records
 named_components q (kinds.Partition p ∷ records) = named_components q records
 
-pub olds_are : (records : List Record) (v : Volume) (ss : List Share) → map (λ (s : Share). s.c) ss ≡ components_of v records → filter (is_child 3 v.head.id) records ≡ olds ss
+pub olds_are : (records : List Record) (v : Volume) (ss : List Share) → map (λ (s : Share). s.c) ss ≡ components_of v records
+    → filter (is_child 3 v.head.id) records ≡ olds ss
 olds_are records v ss are =
     named_components v.head.id records ∙ ap (map (λ (c : Component). kinds.Component c)) (sym are) ∙ map_map (λ (c : Component). kinds.Component c) (λ (s : Share). s.c) ss

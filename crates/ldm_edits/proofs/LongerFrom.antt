@@ -64,7 +64,8 @@ made_listed w ss (kinds.Partition x) (s, at, in') = behind w ss (kinds.Partition
 one_at : {X Y : Type 0} (f : X → Y) (xs : List X) (k : ℕ) (x : X) (y : Y) → k < length xs → get_or xs k x ≡ x → get_or (map f xs) k y ≡ f x
 one_at f xs k x y lt is = get_or-map f xs k x y lt ∙ ap f is
 
-pub one_share : (f : Share → Component) (ss : List Share) → Rising (map (λ (x : Share). kinds.Component (f x)) ss) → (s t : Share) → Contains ss s → Contains ss t → (f s).head.id ≡ (f t).head.id → s ≡ t
+pub one_share : (f : Share → Component) (ss : List Share) → Rising (map (λ (x : Share). kinds.Component (f x)) ss)
+    → (s t : Share) → Contains ss s → Contains ss t → (f s).head.id ≡ (f t).head.id → s ≡ t
 unfolding place_of
 one_share f ss up s t (i, lt_i, is_i) (j, lt_j, is_j) same =
     let rs : List Record = map (λ (x : Share). kinds.Component (f x)) ss in
@@ -79,7 +80,8 @@ one_share f ss up s t (i, lt_i, is_i) (j, lt_j, is_j) same =
     ]
 
 -- the changed components stand as those that they were
-place_same : (ss : List Share) → ((s : Share) → Contains ss s → s.d.head.id ≡ s.c.head.id) → (k : ℕ) (d : Record) → k < length ss → place_of (get_or (news ss) k d) ≡ place_of (get_or (olds ss) k d)
+place_same : (ss : List Share) → ((s : Share) → Contains ss s → s.d.head.id ≡ s.c.head.id) → (k : ℕ) (d : Record)
+    → k < length ss → place_of (get_or (news ss) k d) ≡ place_of (get_or (olds ss) k d)
 unfolding place_of
 place_same [] same k d lt = absurd (omega arith)
 place_same (s ∷ ss) same zero d lt = ap (λ (n : ℕ). 4 * 2 ^ 64 + n) (same s (0, omega arith, refl))
@@ -95,7 +97,8 @@ news_rise ss same up i j d lt within =
     omega arith
 
 -- a component of a share was there
-pub share_there : (old : List Record) (v : Volume) (ss : List Share) → filter (is_child 3 v.head.id) old ≡ olds ss → (s : Share) → Contains ss s → Contains old (kinds.Component s.c)
+pub share_there : (old : List Record) (v : Volume) (ss : List Share) → filter (is_child 3 v.head.id) old ≡ olds ss
+    → (s : Share) → Contains ss s → Contains old (kinds.Component s.c)
 share_there old v ss components s at =
     (filter_has (is_child 3 v.head.id) old (kinds.Component s.c)
     (subst (λ (l : List Record). Contains l (kinds.Component s.c)) (sym components) (map_there (λ (t : Share). kinds.Component t.c) ss s at))).0
@@ -130,7 +133,8 @@ module _ {labels : List Label} {old next : List Record} {v w : Volume} {len : �
   olds_rise = subst Rising is.components (AllPairs-filter (λ a b. place_of a < place_of b) (is_child 3 v.head.id) old is.up)
 
   -- a component of another volume is another
-  pub other_component : (x : Component) → (x.parent == v.head.id) ≡ false → Contains old (kinds.Component x) → (s : Share) → Contains ss s → (x.head.id == s.c.head.id) ≡ false
+  pub other_component : (x : Component) → (x.parent == v.head.id) ≡ false → Contains old (kinds.Component x) → (s : Share)
+      → Contains ss s → (x.head.id == s.c.head.id) ≡ false
   other_component x other there s at = elim (tested (x.head.id == s.c.head.id)) [
     | inr fails ↦ fails
     | inl same ↦ (let e : x ≡ s.c = one_component old x s.c is.up there (c_there s at) (eqb-true x.head.id s.c.head.id same) in
@@ -184,7 +188,8 @@ module _ {labels : List Label} {old next : List Record} {v w : Volume} {len : �
       are r (s, at, e) = subst (λ (y : Record). Contains next y × (is_child 3 v.head.id y ≡ true)) (sym e) (d_there s at, eq-eqb s.d.parent v.head.id (d_parent s at))
 
   -- the partitions of a component of the volume, and the new ones behind them
-  pub partitions_are : (s : Share) → Contains ss s → filter (is_child 4 s.c.head.id) next ≡ filter (is_child 4 s.c.head.id) old ++ records_of s.parts
+  pub partitions_are : (s : Share) → Contains ss s
+      → filter (is_child 4 s.c.head.id) next ≡ filter (is_child 4 s.c.head.id) old ++ records_of s.parts
   unfolding place_of
   partitions_are s here = kin_are t next (filter t old ++ records_of s.parts) is.vp
       (pairs_append (λ a b. place_of a < place_of b) (filter t old) (records_of s.parts) (AllPairs-filter (λ a b. place_of a < place_of b) t old is.up) (is.each s here).rise
@@ -195,7 +200,8 @@ module _ {labels : List Label} {old next : List Record} {v w : Volume} {len : �
       t : Record → Bool
       t = is_child 4 s.c.head.id
 
-      below : (r q : Record) → Contains old r × (t r ≡ true) → (p : Partition) × Contains s.parts p × (q ≡ kinds.Partition p) → place_of r < place_of q
+      below : (r q : Record) → Contains old r × (t r ≡ true) → (p : Partition) × Contains s.parts p × (q ≡ kinds.Partition p)
+          → place_of r < place_of q
       below r q at (p, new, e) =
           let x = child_partition s.c.head.id r at.1 in
           let low : id_of r ≤ max_id old = max_above old r at.0 in
@@ -213,7 +219,8 @@ module _ {labels : List Label} {old next : List Record} {v w : Volume} {len : �
           subst (λ (y : Record). Contains next y × (t y ≡ true)) (sym x.2)
           (is.made (kinds.Partition x.0) (s, here, x.1), ap (λ (b : Bool). b || false) (eq-eqb x.0.parent s.c.head.id ((is.each s here).each x.0 x.1).parent)))
 
-      all : (r : Record) → t r ≡ true → (x : Partition) × (r ≡ kinds.Partition x) × (x.parent ≡ s.c.head.id) → Contains next r → Contains (filter t old ++ records_of s.parts) r
+      all : (r : Record) → t r ≡ true → (x : Partition) × (r ≡ kinds.Partition x) × (x.parent ≡ s.c.head.id) → Contains next r
+          → Contains (filter t old ++ records_of s.parts) r
       all r h (x, e, parent) at = elim (is.back (kinds.Partition x) (subst (λ (y : Record). Contains next y) e at)) [
         | inl old_there ↦ Contains-append_left (filter t old) (records_of s.parts) r (filter_keeps t old r (subst (λ (y : Record). Contains old y) (sym e) old_there.0) h)
         | inr new ↦ (let same : new.0 ≡ s = one_share (λ t. t.c) ss olds_rise new.0 s new.1 here (sym ((is.each new.0 new.1).each x new.2).parent ∙ parent) in

@@ -54,7 +54,8 @@ pub record IsOnDisk (labels : List Label) (records : List Record) (w : Wanted) :
   pub low : w.disk ≤ max_id records
   pub limit : w.limit ≡ data_size labels records w.disk
 
-pub wanted_there : (labels : List Label) (records : List Record) (words : List (List ℕ × ℕ)) (wanted : List Wanted) → AreFound (data_size labels records) records words wanted → (w : Wanted) → Contains wanted w → IsOnDisk labels records w
+pub wanted_there : (labels : List Label) (records : List Record) (words : List (List ℕ × ℕ)) (wanted : List Wanted)
+    → AreFound (data_size labels records) records words wanted → (w : Wanted) → Contains wanted w → IsOnDisk labels records w
 wanted_there labels records [] [] found w (k, lt, is) = absurd (omega arith)
 wanted_there labels records [] (x ∷ wanted) found w at = absurd found
 wanted_there labels records (word ∷ words) [] found w at = absurd found
@@ -120,7 +121,8 @@ kind_most (kinds.Component x) = omega arith
 kind_most (kinds.Partition x) = omega arith
 
 -- ids are at most this, and new ids above them
-place_below : (r : Record) (p : Partition) (top : ℕ) → id_of r ≤ top → top < 2 ^ 64 → top < p.head.id → place_of r ≢ place_of (kinds.Partition p)
+place_below : (r : Record) (p : Partition) (top : ℕ) → id_of r ≤ top → top < 2 ^ 64 → top < p.head.id
+    → place_of r ≢ place_of (kinds.Partition p)
 unfolding place_of
 place_below r p top low most above e = (let kind = kind_most r in let places : kind_of r * 2 ^ 64 + id_of r ≡ 5 * 2 ^ 64 + p.head.id = e in omega arith)
 
@@ -203,7 +205,8 @@ module _ {labels : List Label} {old : List Record} {change : Change} {v w : Volu
       (λ r q at_r at_q. let a = (between r at_r).1 in let b = last q at_q in omega arith))
 
   -- no record that stays stands at the place of one that changes
-  apart : (r s t : Record) → Contains old r × IsOther v r → Contains old s → (IsOther v s → ⊥) → place_of t ≡ place_of s → place_of r ≢ place_of t
+  apart : (r s t : Record) → Contains old r × IsOther v r → Contains old s → (IsOther v s → ⊥) → place_of t ≡ place_of s
+      → place_of r ≢ place_of t
   apart r s t at there changes same e = changes (subst (IsOther v) (one_record old r s up at.0 there (e ∙ same)) at.1)
 
   cross : (r s : Record) → Contains old r × IsOther v r → IsMade w ss s → place_of r ≢ place_of s
@@ -243,8 +246,10 @@ module _ {labels : List Label} {old : List Record} {change : Change} {v w : Volu
   }
 
 -- a group whose span or mirror is longer is as sound
-pub longer_keeps : {db : Database} {labels : List Label} {change : Change} {v w : Volume} {len : ℕ} {ss : List Share} → Rising db.records → IsSoundOn db labels → All (λ l. l.data_size < 2 ^ 64) labels
-    → (fresh : ℕ) → Lengthens labels db.records change v w len ss → first_of (limits db labels fresh change) ≡ None → Rising (changed db change).records × Keeps labels db (changed db change)
+pub longer_keeps : {db : Database} {labels : List Label} {change : Change} {v w : Volume} {len : ℕ} {ss : List Share}
+    → Rising db.records → IsSoundOn db labels → All (λ l. l.data_size < 2 ^ 64) labels
+    → (fresh : ℕ) → Lengthens labels db.records change v w len ss → first_of (limits db labels fresh change) ≡ None
+    → Rising (changed db change).records × Keeps labels db (changed db change)
 longer_keeps {db} {labels} {change} up old low fresh is within =
     let next : List Record = (changed db change).records in
     let longer = is_longer up is in

@@ -52,7 +52,8 @@ pub copies_are : (ss : List Share) (records : List Record) → copies_in records
 copies_are ss records = map_map (λ (p : Plex). by_offset (extents_of p.id records)) (λ (s : Share). plex_of s.c) ss
 
 -- what the volume holds
-pub held_shared : (old : List Record) (v : Volume) (l : Layout) (shape : Shape) (ss : List Share) → filter (is_child 3 v.head.id) old ≡ olds ss → shape_of (plexes_of v.head.id old) ≡ Some shape → is_tiled shape ≡ true
+pub held_shared : (old : List Record) (v : Volume) (l : Layout) (shape : Shape) (ss : List Share)
+    → filter (is_child 3 v.head.id) old ≡ olds ss → shape_of (plexes_of v.head.id old) ≡ Some shape → is_tiled shape ≡ true
     → layout_of old v ≡ Ok l → held (layout_of old v) ≡ least (map (share_holds old) ss)
 held_shared old v l shape ss components shape_is tiled layout =
     let plexes : plexes_of v.head.id old ≡ plexes_in ss = plexes_by v.head.id old ∙ ap (filter_map plex_in) components ∙ old_plexes ss in

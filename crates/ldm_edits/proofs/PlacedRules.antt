@@ -55,7 +55,8 @@ pub taken_there : (records : List Record) (p : Partition) → Contains records (
 taken_there records p (k, lt, is) = named_there taken_by records (kinds.Partition p) k (taken_of p) lt (ap taken_by is)
 
 -- the next group meets nowhere, where the old one doesn't and the new partitions lie apart
-pub meetings_next : (old next : List Record) (new : List Partition) → NoneMeet old → IsOldOrNew old next new → AreApart (taken_in old) (map taken_of new) → NoneMeet next
+pub meetings_next : (old next : List Record) (new : List Partition) → NoneMeet old → IsOldOrNew old next new
+    → AreApart (taken_in old) (map taken_of new) → NoneMeet next
 meetings_next old next new apart members free p q at_p at_q =
     elim (members p at_p) [
       | inl old_p ↦ elim (members q at_q) [
@@ -92,7 +93,8 @@ pub record ArePlaced (labels : List Label) (old next : List Record) (new : List 
   pub free : AreApart (taken_in old) (map taken_of new)
 
 -- so what a change carries over keeps the rules, where no two volumes have one name
-pub placed_carried : (labels : List Label) (old next : List Record) (new : List Partition) → Carries old next → EachRule old labels → ArePlaced labels old next new
+pub placed_carried : (labels : List Label) (old next : List Record) (new : List Partition) → Carries old next
+    → EachRule old labels → ArePlaced labels old next new
     → first_broken (has_namesake (λ name. count_by (is_volume_named name) next)) next ≡ None → EachRule next labels
 placed_carried labels old next new carries each placed names =
     carried carries labels each names (ends_next (data_size labels old) old next new each.ends placed.members placed.within)

@@ -24,7 +24,8 @@ abbrev pub copies_in : List Record → List Plex → List (List Extent)
 copies_in records ps = map (λ (p : Plex). by_offset (extents_of p.id records)) ps
 
 -- a layout without a fault
-pub faultless : (l : Layout) → has_gap l ≡ false → lacks_chunk l ≡ false → lacks_columns l ≡ false → is_short l ≡ false → checked (Some l) ≡ Ok l
+pub faultless : (l : Layout) → has_gap l ≡ false → lacks_chunk l ≡ false → lacks_columns l ≡ false → is_short l ≡ false
+    → checked (Some l) ≡ Ok l
 faultless l gap chunk columns short = λ i. unless (first_fault ((Gap, gap i) ∷ (Chunk, chunk i) ∷ (Columns, columns i) ∷ (Short, short i) ∷ [])) l
 
 -- a tiled component holds what its partitions do
@@ -42,7 +43,8 @@ module _ (records : List Record) (v : Volume) (ps : List Plex) (s : Shape) (plex
   capacities chunk es = ap (λ (f : List Extent → ℕ). least (map f es)) (λ i x. tiled_capacity s chunk x is i)
 
   -- a volume of which each component is tiled and holds its size has a layout
-  pub tiled_laid : list_all tiles (copies_in records ps) ≡ true → v.size ≤ least (map held_in (copies_in records ps)) → (l : Layout) × (layout_of records v ≡ Ok l)
+  pub tiled_laid : list_all tiles (copies_in records ps) ≡ true → v.size ≤ least (map held_in (copies_in records ps))
+      → (l : Layout) × (layout_of records v ≡ Ok l)
   unfolding layout_of
   tiled_laid tiled fits =
       let lay : List (List Extent) → Layout = λ xs. record { shape = s; size = v.size; chunk = (striping_of ps).chunk; columns = (striping_of ps).columns; plexes = xs } in
@@ -69,7 +71,8 @@ not_gap : (b : Bool) → not b ≡ false → b ≡ true
 not_gap true h = refl
 not_gap false h = absurd cc
 
-pub tiled_holds : (records : List Record) (v : Volume) (ps : List Plex) (s : Shape) (l : Layout) → plexes_of v.head.id records ≡ ps → shape_of ps ≡ Some s → is_tiled s ≡ true → layout_of records v ≡ Ok l
+pub tiled_holds : (records : List Record) (v : Volume) (ps : List Plex) (s : Shape) (l : Layout)
+    → plexes_of v.head.id records ≡ ps → shape_of ps ≡ Some s → is_tiled s ≡ true → layout_of records v ≡ Ok l
     → HoldsTiled records v ps l
 tiled_holds records v ps s l plexes shaped is layout =
     let es : List (List Extent) = copies_in records ps in
@@ -106,11 +109,13 @@ map_same {X} {Y} f g (x ∷ xs) same =
     let rest : map f xs ≡ map g xs = map_same f g xs (rest_of {P = λ y. f y ≡ g y} x xs same) in
     λ i. first i ∷ rest i
 
-pub all_pass : {X Y : Type 0} (t : Y → Bool) (f : X → Y) (xs : List X) → ((x : X) → Contains xs x → t (f x) ≡ true) → list_all t (map f xs) ≡ true
+pub all_pass : {X Y : Type 0} (t : Y → Bool) (f : X → Y) (xs : List X) → ((x : X) → Contains xs x → t (f x) ≡ true)
+    → list_all t (map f xs) ≡ true
 all_pass t f [] each = refl
 all_pass {X} {Y} t f (x ∷ xs) each = and_from (t (f x)) (list_all t (map f xs)) (each x (0, omega arith, refl)) (all_pass t f xs (rest_of {P = λ y. t (f y) ≡ true} x xs each))
 
-pub one_passes : {X Y : Type 0} (t : Y → Bool) (f : X → Y) (xs : List X) (x : X) → list_all t (map f xs) ≡ true → Contains xs x → t (f x) ≡ true
+pub one_passes : {X Y : Type 0} (t : Y → Bool) (f : X → Y) (xs : List X) (x : X) → list_all t (map f xs) ≡ true → Contains xs x
+    → t (f x) ≡ true
 one_passes t f [] x all at = (let lt = at.1 in absurd (omega arith))
 one_passes t f (y ∷ xs) x all (zero, lt, is) = ap (λ z. t (f z)) (sym is) ∙ (and_parts (t (f y)) (list_all t (map f xs)) all).0
 one_passes t f (y ∷ xs) x all (suc k, lt, is) = one_passes t f xs x (and_parts (t (f y)) (list_all t (map f xs)) all).1 (k, omega arith, is)
