@@ -42,7 +42,7 @@ no_parts : (id : ℕ) → MakesParts id [] []
 no_parts id = record { parts = []; made_are = refl; extents_are = refl; ids = tt }
 
 -- a new partition, as a layout reads it
-pub extent_is : {id start offset size parent disk : ℕ} {index : Option ℕ} (one : MakesPartition id start offset size parent disk index)
+extent_is : {id start offset size parent disk : ℕ} {index : Option ℕ} (one : MakesPartition id start offset size parent disk index)
     → extent_of one.partition ≡ record { component = parent; disk = disk; start = start; size = size; offset = offset; index = unwrap_or index 0 }
 extent_is one = λ i. record { component = one.parent_is i; disk = one.disk_is i; start = one.start_is i; size = one.size_is i; offset = one.offset_is i; index = unwrap_or (one.index_is i) 0 }
 
