@@ -1,9 +1,7 @@
--- extend of a mirror, reason by reason up to where its pieces are placed.
+-- extend of a mirror: what lengths that nothing stands against are.
 use Rattle.std.proofs.Common.{◌≡◌, refl, ℕ, zero, suc, ◌+◌, ◌-◌, ◌^◌, ◌<◌, ◌≤◌, ◌==◌, ◌||◌, not, Bool, true, false, List, [], ◌∷◌, length, get_or, arith, Some, Ok, Contains}
-use Rattle.std.specs.Prelude.{is_some}
 use Rattle.std.specs.List.{All, list_any}
 use Rattle.std.proofs.lemmas.Bool.{not-false, eqb-true, ltb-false, eqb-false}
-use Rattle.ldm_bytes.specs.Tables.{first_of}
 use Rattle.ldm_records.specs.declared.types.Record.{Record}
 use Rattle.ldm_records.specs.declared.types.Record.TheVariants as kinds
 use Rattle.ldm_records.specs.declared.types.Volume.{Volume}
@@ -19,19 +17,11 @@ use Rattle.ldm_space.specs.declared.placed.Wanted.{Wanted}
 use Rattle.ldm_space.specs.Free.{taken_in}
 use Rattle.ldm_space.specs.Wanted.{placed}
 use Rattle.ldm_words.specs.declared.command.Piece.{Piece}
-use Rattle.ldm_edits.specs.declared.reply.Refusal.TheVariants as refusals
 use Rattle.ldm_rules.specs.Ends.{data_size}
 use Rattle.ldm_edits.specs.Asked.{words_by, asked_for, is_much}
-use Rattle.ldm_edits.specs.Changes.{when}
 use Rattle.ldm_edits.specs.Extending.{held}
-use Rattle.ldm_edits.specs.Spots.{refused_or}
 use Rattle.ldm_edits.specs.Mirroring.{components_of, component_holds, MayGrow}
-use Rattle.ldm_edits.specs.Extended.{len_of, is_uneven, is_bad_growth, IsEven, longer_mirror, extended_mirror}
-
-pub by_count : (db : Database) (labels : List Label) (pieces : List Piece) (v : Volume) (same : Bool) → is_some v.size2 ≡ false → (length pieces == length (components_of v db.records)) ≡ same
-    → extended_mirror db labels pieces v ≡ refused_or (first_of (when false refusals.ExtraSize ∷ (when (not same) (refusals.PieceCount (length (components_of v db.records))) ∷ []))) (longer_mirror db labels pieces v)
-by_count db labels pieces v same plain is =
-    λ i. refused_or (first_of (when (plain i) refusals.ExtraSize ∷ (when (not (is i)) (refusals.PieceCount (length (components_of v db.records))) ∷ []))) (longer_mirror db labels pieces v)
+use Rattle.ldm_edits.specs.Extended.{len_of, is_uneven, is_bad_growth, IsEven}
 
 pub either : (x y : Bool) → (x || y) ≡ false → (x ≡ false) × (y ≡ false)
 either true y h = absurd cc

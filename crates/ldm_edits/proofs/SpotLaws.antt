@@ -1,5 +1,5 @@
--- What the stages of create and extend come to, step by step.
-use Rattle.std.proofs.Common.{◌≡◌, ℕ, ap, ◌∙◌, refl, sym, subst, Option, Some, None, List, Result, Ok, Err}
+-- What holds of the stages of create and extend.
+use Rattle.std.proofs.Common.{◌≡◌, ℕ, ap, refl, Option, Some, None, List, Result, Ok, Err}
 use Rattle.ldm_label.specs.declared.Label.{Label}
 use Rattle.ldm_group.specs.Database.{Database}
 use Rattle.ldm_rules.specs.Ends.{data_size}
@@ -7,35 +7,15 @@ use Rattle.ldm_space.specs.declared.taken.Taken.{Taken}
 use Rattle.ldm_space.specs.declared.placed.Wanted.{Wanted}
 use Rattle.ldm_space.specs.Free.{taken_in}
 use Rattle.ldm_space.specs.Wanted.{placed}
-use Rattle.ldm_edits.specs.declared.error.StepError.{StepError}
-use Rattle.ldm_edits.specs.declared.error.StepError.TheVariants as errors
 use Rattle.ldm_edits.specs.declared.reply.Refusal.{Refusal}
 use Rattle.ldm_edits.specs.declared.reply.Refusal.TheVariants as refusals
 use Rattle.ldm_edits.specs.Asked.{asked_for}
-use Rattle.ldm_edits.specs.Answers.{RefusesAs, StepsTo}
-use Rattle.ldm_edits.specs.Spots.{refused_or, and_then, by_place, wanted_by, open_wanted, spots_for}
+use Rattle.ldm_edits.specs.Spots.{refused_or, and_then, by_place, open_wanted, spots_for}
 
--- ---- steps
-
--- what refuses a step refuses all that comes after it
-pub refused_on : {X Y : Type 0} (error : StepError) (step : Result X Refusal) (next : X → Result Y Refusal) → RefusesAs error step → RefusesAs error (and_then step next)
-refused_on errors.NoMemory step next h = tt
-refused_on (errors.Refused refusal) step next h = ap (λ s. and_then s next) h
-
--- and after a step that is done the rest decides
-pub steps_on : {X : Type 0} (result : Result Database StepError) (step : Result X Refusal) (x : X) (next : X → Result Database Refusal) → step ≡ Ok x → StepsTo result (next x) → StepsTo result (and_then step next)
-steps_on {X} result step x next is h = subst (λ (s : Result X Refusal). StepsTo result (and_then s next)) (sym is) h
-
+-- a list that no place refuses
 pub place_ok : {T : Type 0} (refusal : ℕ → Refusal) (o : Result (List T) ℕ) (list : List T) → by_place refusal o ≡ Ok list → o ≡ Ok list
 place_ok refusal (Ok xs) list h = (let same : xs ≡ list = cc in ap (λ l. Ok l) same)
 place_ok refusal (Err place) list h = absurd cc
-
--- ---- what is asked for
-
-pub opened : (db : Database) (labels : List Label) (words : List (List ℕ × ℕ)) (against : List Wanted → Option Refusal) (wanted : List Wanted) (o : Option Refusal) → wanted_by db labels words ≡ Ok wanted → against wanted ≡ o
-    → open_wanted db labels words against ≡ refused_or o (Ok wanted)
-opened db labels words against wanted o asked is =
-    ap (λ (s : Result (List Wanted) Refusal). and_then s (λ w. refused_or (against w) (Ok w))) asked ∙ ap (λ (x : Option Refusal). refused_or x (Ok wanted)) is
 
 -- what holds of each refusal, and of what comes after disks that are asked, holds of both
 pub all_open : (P : Result Database Refusal → Type 0) (db : Database) (labels : List Label) (words : List (List ℕ × ℕ)) (against : List Wanted → Option Refusal) (next : List Wanted → Result Database Refusal) → ((refusal : Refusal) → P (Err refusal))
