@@ -1,5 +1,6 @@
 //! The grammar of command lines once more, read in its order up to the first word that is wrong.
 use crate::shown::{Shown, UsageError};
+use crate::text::HELP;
 use ldm_bytes::{NoMemory, read_guid};
 use ldm_words::{image_count, read_name, read_number};
 use std::alloc::{AllocError, Global};
@@ -20,20 +21,70 @@ impl From<AllocError> for UsageError<'_> {
     }
 }
 
-const JOBS: [&str; 15] = [
-    "disk", "records", "show", "check", "map", "dump", "scrub", "table", "try", "edit", "init",
-    "sample", "create", "extend", "delete",
-];
+// The part of the help that says the jobs: the form of each in a line that begins with two spaces.
+fn jobs() -> &'static str {
+    match HELP.split_once("A line of a script") {
+        Some((jobs, _)) => jobs,
+        None => HELP,
+    }
+}
 
-// The job whose name takes the fewest changes to be this word.
-fn nearest(alloc: Global, word: &str) -> Result<&'static str, AllocError> {
-    let mut best = ("show", usize::MAX);
-    for job in JOBS {
-        let changes = levenshtein(alloc, word, job)?;
-        if changes < best.1 {
-            best = (job, changes);
+// The form of a job that a line of the help says, if it says one.
+fn form_in(line: &'static str) -> Option<&'static str> {
+    let text = line.strip_prefix("  ")?;
+    match text.split_once("  ") {
+        Some((form, _)) => Some(form),
+        None => Some(text),
+    }
+}
+
+// The first word of a form.
+fn word_of(form: &'static str) -> &'static str {
+    match form.split_once(' ') {
+        Some((word, _)) => word,
+        None => form,
+    }
+}
+
+// The form of the job of this name.
+fn form_of(name: &str) -> Option<&'static str> {
+    for line in jobs().lines() {
+        if let Some(form) = form_in(line)
+            && word_of(form) == name
+            && name != COMMAND
+        {
+            return Some(form);
         }
     }
+    None
+}
+
+// What stands in the help for a command.
+const COMMAND: &str = "COMMAND";
+
+// The one of two words that takes fewer changes to be this word, the first where they take as many; with how many.
+type Near = (&'static str, usize);
+
+fn nearer(alloc: Global, word: &str, best: Near, name: &'static str) -> Result<Near, AllocError> {
+    let changes = levenshtein(alloc, word, name)?;
+    if changes < best.1 && name != COMMAND {
+        Ok((name, changes))
+    } else {
+        Ok(best)
+    }
+}
+
+// The job or the command whose name takes the fewest changes to be this word.
+fn nearest(alloc: Global, word: &str) -> Result<&'static str, AllocError> {
+    let mut best = ("show", usize::MAX);
+    for line in jobs().lines() {
+        if let Some(form) = form_in(line) {
+            best = nearer(alloc, word, best, word_of(form))?;
+        }
+    }
+    let best = nearer(alloc, word, best, "create")?;
+    let best = nearer(alloc, word, best, "extend")?;
+    let best = nearer(alloc, word, best, "delete")?;
     Ok(best.0)
 }
 
@@ -186,7 +237,15 @@ fn images<'a>(job: &'static str, on: Option<usize>) -> Read<'a> {
     }
 }
 
-// A job that takes no words of its own, where there is an `on`: without one its images stand there.
+// No image.
+fn no_images<'a>(job: &'static str, on: Option<usize>) -> Read<'a> {
+    match on {
+        Some(_) => Err(UsageError::Images { job }),
+        None => Ok(()),
+    }
+}
+
+// No more words, where there is an `on`: without one the images stand there.
 fn plain<'a>(form: &'static str, rest: &'a [String], on: Option<usize>) -> Read<'a> {
     match on {
         Some(_) => no_more(form, rest),
@@ -194,66 +253,66 @@ fn plain<'a>(form: &'static str, rest: &'a [String], on: Option<usize>) -> Read<
     }
 }
 
-// A job of one image.
-fn on_one<'a>(
-    form: &'static str,
-    job: &'static str,
-    rest: &'a [String],
-    on: Option<usize>,
-) -> Read<'a> {
-    plain(form, rest, on)?;
-    image(job, on)
-}
-
-// A job of the images of a group.
-fn on_group<'a>(
-    form: &'static str,
-    job: &'static str,
-    rest: &'a [String],
-    on: Option<usize>,
-) -> Read<'a> {
-    plain(form, rest, on)?;
-    images(job, on)
-}
-
-fn map<'a>(alloc: Global, rest: &'a [String], on: Option<usize>) -> Read<'a> {
-    let form = "map VOLUME FIRST COUNT on IMAGE...";
-    all_there(form, &["VOLUME", "FIRST", "COUNT"], rest)?;
-    if let [volume, first, count, more @ ..] = rest {
-        name(alloc, "VOLUME", volume.as_str())?;
-        number("FIRST", first.as_str())?;
-        number("COUNT", count.as_str())?;
-        plain(form, more, on)?;
+// A word that stands for one of a form: VOLUME and NAME are names, and any other is a number.
+fn worded<'a>(alloc: Global, what: &'static str, word: &'a str) -> Read<'a> {
+    if what == "VOLUME" || what == "NAME" {
+        name(alloc, what, word)
+    } else {
+        number(what, word)
     }
-    images("map", on)
 }
 
-// A job of a volume of the group.
-fn on_volume<'a>(
+// Each word of a form, and no more.
+fn words_by<'a>(
     alloc: Global,
     form: &'static str,
-    job: &'static str,
+    names: &[&'static str],
     rest: &'a [String],
     on: Option<usize>,
 ) -> Read<'a> {
-    all_there(form, &["VOLUME"], rest)?;
-    if let [volume, more @ ..] = rest {
-        name(alloc, "VOLUME", volume.as_str())?;
-        plain(form, more, on)?;
+    all_there(form, names, rest)?;
+    for (what, word) in names.iter().zip(rest) {
+        worded(alloc, *what, word.as_str())?;
     }
-    images(job, on)
+    if names.len() <= rest.len() {
+        plain(form, &rest[names.len()..], on)
+    } else {
+        Ok(())
+    }
 }
 
-fn sample<'a>(rest: &'a [String], on: Option<usize>) -> Read<'a> {
-    let form = "sample SEED";
-    all_there(form, &["SEED"], rest)?;
-    if let [seed, more @ ..] = rest {
-        number("SEED", seed.as_str())?;
-        no_more(form, more)?;
+// The images that the end of a form says.
+fn images_by<'a>(job: &'static str, end: &'static str, on: Option<usize>) -> Read<'a> {
+    if end == "IMAGE" {
+        image(job, on)
+    } else {
+        images(job, on)
     }
-    match on {
-        Some(_) => Err(UsageError::Images),
-        None => Ok(()),
+}
+
+// The words behind that of a job, and its images, by the form that the help says.
+fn by_form<'a>(
+    alloc: Global,
+    form: &'static str,
+    rest: &'a [String],
+    on: Option<usize>,
+) -> Read<'a> {
+    let (front, end) = match form.split_once(" on ") {
+        Some(parts) => parts,
+        None => (form, ""),
+    };
+    let mut names = Vec::new(alloc);
+    for name in front.split(' ').skip(1) {
+        if names.push(name).is_err() {
+            return Err(UsageError::NoMemory);
+        }
+    }
+    if !end.is_empty() {
+        words_by(alloc, form, &names, rest, on)?;
+        images_by(word_of(form), end, on)
+    } else {
+        words_by(alloc, form, &names, rest, Some(0))?;
+        no_images(word_of(form), on)
     }
 }
 
@@ -366,18 +425,7 @@ fn job<'a>(alloc: Global, words: &'a [String], on: Option<usize>) -> Read<'a> {
         return Err(UsageError::NoJob);
     };
     match word.as_str() {
-        "disk" => on_one("disk on IMAGE", "disk", rest, on),
-        "records" => on_one("records on IMAGE", "records", rest, on),
-        "show" => on_group("show on IMAGE...", "show", rest, on),
-        "check" => on_group("check on IMAGE...", "check", rest, on),
-        "map" => map(alloc, rest, on),
-        "dump" => on_volume(alloc, "dump VOLUME on IMAGE...", "dump", rest, on),
-        "scrub" => on_volume(alloc, "scrub VOLUME on IMAGE...", "scrub", rest, on),
-        "table" => on_volume(alloc, "table VOLUME on IMAGE...", "table", rest, on),
-        "try" => on_group("try on IMAGE...", "try", rest, on),
-        "edit" => on_group("edit on IMAGE...", "edit", rest, on),
         "init" => init(alloc, rest, on),
-        "sample" => sample(rest, on),
         "create" => {
             create(alloc, rest)?;
             images("create", on)
@@ -393,10 +441,13 @@ fn job<'a>(alloc: Global, words: &'a [String], on: Option<usize>) -> Read<'a> {
         "begin" | "commit" | "cancel" => Err(UsageError::OfBatch {
             word: Shown(word.as_str()),
         }),
-        word => Err(UsageError::UnknownJob {
-            word: Shown(word),
-            nearest: nearest(alloc, word)?,
-        }),
+        word => match form_of(word) {
+            Some(form) => by_form(alloc, form, rest, on),
+            None => Err(UsageError::UnknownJob {
+                word: Shown(word),
+                nearest: nearest(alloc, word)?,
+            }),
+        },
     }
 }
 

@@ -57,8 +57,10 @@ pub enum UsageError<'a> {
     ManyImages {
         count: usize,
     },
-    #[error("sample takes no images")]
-    Images,
+    #[error("{job} takes no images")]
+    Images {
+        job: &'static str,
+    },
     #[error("\"{word}\" is a word too many: the form is {form}")]
     Extra {
         form: &'static str,

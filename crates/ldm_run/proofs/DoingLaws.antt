@@ -1,6 +1,5 @@
 -- The moments of one line: while it is done on all disks, and while the reply is said.
-use Rattle.std.proofs.Common.{◌≡◌, ◌⊎◌, inl, inr, ⊎_elim, ℕ, ◌≤◌, List, ◌++◌, take, drop, refl, sym, ap, subst, ◌∙◌, append_assoc, arith, Option, Some, false}
-use Rattle.std.proofs.lemmas.List.{take-append-drop}
+use Rattle.std.proofs.Common.{◌≡◌, ◌⊎◌, inl, inr, ⊎_elim, ℕ, ◌≤◌, List, ◌++◌, refl, sym, ap, subst, ◌∙◌, arith, Option, Some, false}
 use Rattle.ldm_host.specs.Seen.{Seen, Leaves, image}
 use Rattle.ldm_host.specs.Moves.{Begins, Later, Quiet, Still}
 use Rattle.ldm_host.specs.StoryLaws.{begins_both}
@@ -23,6 +22,7 @@ use Rattle.ldm_store.specs.Sessions.{IsEditable, IsNextFor, IsTurnOf, Opened, Re
 use Rattle.ldm_store.proofs.OpensLaws.{editable_opens}
 use Rattle.ldm_store.proofs.ApplyLaws.{untouched}
 use Rattle.ldm_group_text.specs.Reply.{text_of_reply}
+use Rattle.ldm_run.specs.Said.{SaysReply}
 use Rattle.ldm_run.specs.Kinds.{SameInput}
 use Rattle.ldm_run.specs.Editing.{turn_on, IsDoing, IsAnswering, AreWritten}
 use Rattle.ldm_run.proofs.OpenLaws.{outside_trans}
@@ -109,41 +109,30 @@ module _ (session : Opened) (a : Seen) (editable : IsEditable session.db session
 
 -- ---- the reply
 
-begins_part : (said text new : List ℕ) (n : ℕ) → new ≡ said ++ take n text → Begins new (said ++ text)
-begins_part said text new n is = (
-  drop n text,
-  ap (λ (l : List ℕ). said ++ l) (sym (take-append-drop n text)) ∙ sym (append_assoc said (take n text) (drop n text)) ∙ ap (λ (l : List ℕ). l ++ drop n text) (sym is),
-)
-
 -- nothing of the reply was said
 pub unsaid : (old mid : Seen) (text : List ℕ) → Quiet old mid → Begins mid.said (old.said ++ text)
 unsaid old mid text quiet = (text, ap (λ (l : List ℕ). l ++ text) (sym quiet.said))
 
--- what is quiet and then says something leaves the input as it was
-pub input_stays : (old mid new : Seen) → Quiet old mid → new.input ≡ mid.input → new.heard ≡ mid.heard → SameInput old new
-input_stays old mid new quiet input heard = record { input = input ∙ quiet.input; heard = heard ∙ quiet.heard }
+-- what is quiet leaves the input as it was
+pub input_stays : {old mid new : Seen} → Quiet old mid → SameInput mid new → SameInput old new
+input_stays quiet same = record { input = same.input ∙ quiet.input; heard = same.heard ∙ quiet.heard }
 
-module _ (session next : Opened) (line : Option Command) (number : ℕ) (reply : Reply) (old mid new : Seen) (turned : IsTurnOf (turn_on session line) session.labels next reply)
-    (later : Later old mid) (quiet : Quiet old mid) (still : Still mid new) (text : List ℕ) (text_is : text ≡ text_of_reply (number, reply))
-    (front : (n : ℕ) × (new.said ≡ mid.said ++ take n text)) where
-  same_text : mid.said ++ text ≡ old.said ++ text_of_reply (number, (turn_on session line).reply)
-  same_text = ap (λ (l : List ℕ). mid.said ++ l) (text_is ∙ ap (λ (r : Reply). text_of_reply (number, r)) turned.reply_is)
-      ∙ ap (λ (l : List ℕ). l ++ text_of_reply (number, (turn_on session line).reply)) quiet.said
+module _ (session : Opened) (line : Option Command) {next : Opened} {number : ℕ} {reply : Reply} {old mid new : Seen} (turned : IsTurnOf (turn_on session line) session.labels next reply)
+    (quiet : Quiet old mid) (says : SaysReply number reply mid new) where
+  pub same_text : mid.said ++ text_of_reply (number, reply) ≡ old.said ++ text_of_reply (number, (turn_on session line).reply)
+  same_text = ap (λ (r : Reply). mid.said ++ text_of_reply (number, r)) turned.reply_is ∙ ap (λ (l : List ℕ). l ++ text_of_reply (number, (turn_on session line).reply)) quiet.said
 
   pub reply_front : Begins new.said (old.said ++ text_of_reply (number, (turn_on session line).reply))
-  reply_front = subst (λ (l : List ℕ). Begins new.said l) same_text (begins_part mid.said text new.said front.0 front.1)
-
-  pub reply_said : new.said ≡ mid.said ++ text → new.said ≡ old.said ++ text_of_reply (number, (turn_on session line).reply)
-  reply_said is = is ∙ same_text
+  reply_front = subst (λ (l : List ℕ). Begins new.said l) same_text says.front
 
   -- while it is said
-  pub answering : (stays : Leaves mid mid.content) → IsEditable next.db next.labels → RestsOn next mid → HoldsGroup next mid.content → Counts mid → Only mid
+  pub answering : Later old mid → (stays : Leaves mid mid.content) → IsEditable next.db next.labels → RestsOn next mid → HoldsGroup next mid.content → Counts mid → Only mid
       → ((images : List (List ℕ)) (said : List ℕ) → mid.left_since old.clock images said → IsDoing session line old images said)
       → (images : List (List ℕ)) (said : List ℕ) → new.left_since old.clock images said → IsDoing session line old images said ⊎ IsAnswering session line number old images said
-  answering stays editable rests holds counts only doing =
-      moments_trans old mid new (λ images said. IsDoing session line old images said ⊎ IsAnswering session line number old images said) later still.later
+  answering later stays editable rests holds counts only doing =
+      moments_trans old mid new (λ images said. IsDoing session line old images said ⊎ IsAnswering session line number old images said) later says.still.later
       (λ images said left. inl (doing images said left))
-      (λ images said left. inr (said_now images said (still.moments images said left)))
+      (λ images said left. inr (said_now images said (says.still.moments images said left)))
     where
       outside : AreSameOutside session.labels old.content mid.content
       outside = (doing mid.content mid.said (counts old.clock mid.content later.clock stays)).outside

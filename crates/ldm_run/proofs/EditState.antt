@@ -15,7 +15,7 @@ use Rattle.ldm_edits.specs.Steps.{turns_of, group_after, replies_to}
 use Rattle.ldm_found.specs.Labels.{AreSameOutside}
 use Rattle.ldm_store.specs.Kept.{Opens}
 use Rattle.ldm_store.specs.Turning.{AllHave}
-use Rattle.ldm_store.specs.Sessions.{IsEditable, Opened, RestsOn, HoldsGroup}
+use Rattle.ldm_store.specs.Sessions.{IsEditable, IsTurnOf, Opened, RestsOn, HoldsGroup}
 use Rattle.ldm_group_text.specs.Reply.{text_of_reply, text_of_replies}
 use Rattle.ldm_run.specs.declared.running.Status.{Status}
 use Rattle.ldm_run.specs.declared.running.Status.TheVariants.{Done, Refused, DiskFault, NoMemory}
@@ -23,9 +23,9 @@ use Rattle.ldm_run.specs.Said.{HasAnswer}
 use Rattle.ldm_run.specs.Scripts.{is_refused, status_of}
 use Rattle.ldm_run.specs.Kinds.{SameInput, SaysLines}
 use Rattle.ldm_run.specs.Stops.{Reopens}
-use Rattle.ldm_run.specs.Editing.{EditFails, turn_on, IsDoing, IsAnswering, IsAnswered, AreWritten, DoesLines}
+use Rattle.ldm_run.specs.Editing.{EditFails, turn_on, IsDoing, IsAnswering, AreWritten, DoesLines}
 pub use Rattle.ldm_run.proofs.Saying.{Failing, failing}
-use Rattle.ldm_run.proofs.Saying.{causes_since, ends_part, ends_whole, not_fault}
+use Rattle.ldm_run.proofs.Saying.{failing_since, ends_part, ends_whole, not_fault}
 use Rattle.ldm_run.proofs.ReplyLaws.{has_answer, or_false}
 use Rattle.ldm_run.proofs.TurnLists.{after_lines, no_lines_after, db_more, draft_more, replies_more, text_more, text_front}
 use Rattle.ldm_run.proofs.LineCounts.{ends_in_line}
@@ -197,8 +197,7 @@ module _ {tells : Type 0} {first : Opened} {all before after : List (Option Comm
   pub line_fails : {status : Status} → EditFails mid now status → SameInput start now → (tells → Begins now.said (mid.said ++ text_of_reply (number, (turn_on session line).reply)))
       → (status ≡ DiskFault → now.said ≡ mid.said) → DoesLines tells first all start now status
   line_fails {status} fails input front silent =
-      let ends = failing mid now status fails in
-      stops_with (later_trans start mid now sooner later) input (record { none = ends.none; no_usage = ends.no_usage; causes = causes_since start mid now status sooner ends.causes })
+      stops_with (later_trans start mid now sooner later) input (failing_since sooner (failing mid now status fails))
       (λ told. begins_trans now.said (mid.said ++ text_of_reply (number, (turn_on session line).reply)) _ (front told) (whole told))
       (λ told is. says_lines start now (text_of_replies 1 (replies_to first.labels first.db before)) (silent is ∙ (state.comes told).said_is) (replies_are_lines 1 (replies_to first.labels first.db before)))
       line_reopens
@@ -213,14 +212,14 @@ module _ {tells : Type 0} {first : Opened} {all before after : List (Option Comm
           )
 
   -- the line is done and answered
-  pub line_done : {next : Opened} {was : Bool} → IsAnswered session line next was → (tells → now.said ≡ mid.said ++ text_of_reply (number, (turn_on session line).reply))
+  pub line_done : {next : Opened} {reply : Reply} {was : Bool} → IsTurnOf (turn_on session line) session.labels next reply → was ≡ is_refused reply → (tells → now.said ≡ mid.said ++ text_of_reply (number, (turn_on session line).reply))
       → (tells → AreWritten session.labels session.db next.db mid.content now.content) → (tells → Leaves now now.content)
       → ((t : ℕ) (images : List (List ℕ)) → t ≤ now.clock → Leaves now images → now.left_since t images now.said)
       → IsEditedTo tells first all (before ++ line ∷ []) after start now next (number + 1) (refused || was)
-  line_done {next} {was} answered said written stays counts = record {
+  line_done {next} {reply} {was} turned refuses said written stays counts = record {
     all_is = state.all_is ∙ sym (append_assoc before (line ∷ []) after);
-    session_is = same_session next_db (answered.labels_stay ∙ ap (λ (s : Opened). s.labels) state.session_is)
-        (answered.draft ∙ ap (λ (s : Opened). (turn_on s line).state.draft) state.session_is ∙ draft_more first before line);
+    session_is = same_session next_db (turned.labels_stay ∙ ap (λ (s : Opened). s.labels) state.session_is)
+        (turned.draft ∙ ap (λ (s : Opened). (turn_on s line).state.draft) state.session_is ∙ draft_more first before line);
     number_is = let more = length-append before (line ∷ []) in omega (arith, more, state.number_is);
     refused_is = (λ i. state.refused_is i || was_is i) ∙ sym (list_any-append is_refused (replies_to first.labels first.db before) ((turn_on (after_lines first before) line).reply ∷ []))
         ∙ ap (λ (rs : List Reply). list_any is_refused rs) (sym (replies_more first before line));
@@ -239,10 +238,10 @@ module _ {tells : Type 0} {first : Opened} {all before after : List (Option Comm
       clock = omega (arith, sooner.clock, later.clock)
 
       next_db : next.db ≡ (after_lines first (before ++ line ∷ [])).db
-      next_db = answered.db ∙ ap (λ (s : Opened). (turn_on s line).state.db) state.session_is ∙ db_more first before line
+      next_db = turned.db ∙ ap (λ (s : Opened). (turn_on s line).state.db) state.session_is ∙ db_more first before line
 
       was_is : was ≡ list_any is_refused ((turn_on (after_lines first before) line).reply ∷ [])
-      was_is = answered.refused_is ∙ ap (λ (s : Opened). is_refused (turn_on s line).reply) state.session_is ∙ sym (or_false (is_refused (turn_on (after_lines first before) line).reply))
+      was_is = refuses ∙ ap is_refused turned.reply_is ∙ ap (λ (s : Opened). is_refused (turn_on s line).reply) state.session_is ∙ sym (or_false (is_refused (turn_on (after_lines first before) line).reply))
 
       same_session : {other : Opened} → next.db ≡ other.db → next.labels ≡ other.labels → next.draft ≡ other.draft → next ≡ other
       same_session {other} db labels draft = λ i. record { db = db i; labels = labels i; draft = draft i }

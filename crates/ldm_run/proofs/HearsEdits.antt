@@ -36,8 +36,8 @@ use Rattle.ldm_run.proofs.JobLaws.{HasSome, still_job, undone}
 pub unheard : {tells talks : Type 0} {old new : Seen} {status : Status} (job : Job) → ((talks → HearsScript old new status) → JobInput talks (kind_of job) old new status) → HasSome job (length old.sizes)
     → TalkFails old new status → (talks → (taken : List ℕ) × Takes old new taken) → new.said ≡ old.said → Still old new → (tells → length old.content ≡ length old.sizes)
     → (tells → (disk : ℕ) → disk < length old.sizes → length (image old.content disk) / 512 ≡ slice_index old.sizes disk) → DoesJob tells talks job old new status
-unheard {status = status} job input some failed takes silent still one_each lengths =
-    let end = talk_failing status failed in
+unheard {old = old} {new = new} {status = status} job input some failed takes silent still one_each lengths =
+    let end = talk_failing old new status failed in
     undone end.0 silent still one_each lengths job some (input (λ told. unheard_script (takes told) end.0.none end.1 still.wrote))
 
 -- the script was heard, or is too long, and replies are said

@@ -38,4 +38,4 @@ all_replied {tells} {old} {new} all left number refused none is so_far still inp
 -- memory or the talk failed
 pub stopped : {tells : Type 0} {old new : Seen} {answer : Answer} {status : Status} → TalkFails old new status → (tells → Begins new.said (old.said ++ answer.0)) → Still old new
     → SameInput old new → Replies tells old new (λ a. a ≡ answer) status
-stopped {status = status} failed front still input = (let end = talk_failing status failed in says_part end.1 end.0 front still input)
+stopped {old = old} {new = new} {status = status} failed front still input = (let end = talk_failing old new status failed in says_part end.1 end.0 front still input)

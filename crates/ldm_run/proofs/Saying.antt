@@ -13,6 +13,13 @@ use Rattle.ldm_run.specs.Kinds.{SameInput}
 use Rattle.ldm_run.specs.Editing.{EditFails}
 use Rattle.ldm_run.specs.Runs.{Answers, Completes, Causes, Ends, NoFault, OnlyReads, Says}
 
+-- a fault since a later state is one since the old
+pub causes_since : (old mid new : Seen) (status : Status) → Later old mid → Causes mid new status → Causes old new status
+causes_since old mid new status later causes = record {
+  disk = λ is. rose_sooner old.disk_faults mid.disk_faults new.disk_faults later.disk_faults (causes.disk is);
+  talk = λ is. rose_sooner old.talk_faults mid.talk_faults new.talk_faults later.talk_faults (causes.talk is);
+}
+
 -- ---- statuses
 
 -- the status of an answer is none of the others
@@ -33,23 +40,29 @@ failing old new Done never = absurd never
 failing old new Refused never = absurd never
 failing old new Usage never = absurd never
 
+-- so it is since a sooner state
+pub failing_since : {old mid new : Seen} {status : Status} → Later old mid → Failing mid new status → Failing old new status
+failing_since {old} {mid} {new} {status} later fails = record { none = fails.none; no_usage = fails.no_usage; causes = causes_since old mid new status later fails.causes }
+
 -- where no disk failed
-pub talk_failing : {old new : Seen} (status : Status) → TalkFails old new status → Failing old new status × (status ≢ DiskFault)
-talk_failing {old} {new} TalkFault rose = (failing old new TalkFault rose, λ is. cc)
-talk_failing {old} {new} NoMemory free = (failing old new NoMemory free, λ is. cc)
-talk_failing Done never = absurd never
-talk_failing Refused never = absurd never
-talk_failing Usage never = absurd never
-talk_failing DiskFault never = absurd never
+pub talk_failing : (old new : Seen) (status : Status) → TalkFails old new status → Failing old new status × (status ≢ DiskFault)
+talk_failing old new TalkFault rose = (failing old new TalkFault rose, λ is. cc)
+talk_failing old new NoMemory free = (failing old new NoMemory free, λ is. cc)
+talk_failing old new Done never = absurd never
+talk_failing old new Refused never = absurd never
+talk_failing old new Usage never = absurd never
+talk_failing old new DiskFault never = absurd never
+
+-- a fault of the talk since a later state
+pub talk_edits : (old mid new : Seen) → Later old mid → (status : Status) → TalkFails mid new status → EditFails old new status
+talk_edits old mid new later TalkFault rose = rose_sooner old.talk_faults mid.talk_faults new.talk_faults later.talk_faults rose
+talk_edits old mid new later NoMemory free = tt
+talk_edits old mid new later Done never = absurd never
+talk_edits old mid new later Refused never = absurd never
+talk_edits old mid new later Usage never = absurd never
+talk_edits old mid new later DiskFault never = absurd never
 
 -- ---- how a job ends
-
--- a fault since a later state is one since the old
-pub causes_since : (old mid new : Seen) (status : Status) → Later old mid → Causes mid new status → Causes old new status
-causes_since old mid new status later causes = record {
-  disk = λ is. rose_sooner old.disk_faults mid.disk_faults new.disk_faults later.disk_faults (causes.disk is);
-  talk = λ is. rose_sooner old.talk_faults mid.talk_faults new.talk_faults later.talk_faults (causes.talk is);
-}
 
 -- what was quiet before adds nothing, and what is an answer of one kind may be one of another
 pub answers_as : (old mid new : Seen) (IsOne IsOther : Answer → Type 0) (status : Status) → mid.said ≡ old.said
@@ -167,11 +180,15 @@ says_nothing fails quiet still = record {
   input = record { input = quiet.input; heard = quiet.heard };
 }
 
+-- a part of a text begins it
+pub part_begins : (said text new : List ℕ) (n : ℕ) → new ≡ said ++ take n text → Begins new (said ++ text)
+part_begins said text new n is = (
+  drop n text,
+  ap (λ (l : List ℕ). said ++ l) (sym (take-append-drop n text)) ∙ sym (append_assoc said (take n text) (drop n text)) ∙ ap (λ (l : List ℕ). l ++ drop n text) (sym is),
+)
+
 -- the talk failed in the middle of the text
 pub talk_failed : {tells : Type 0} {old new : Seen} {text : List ℕ} {wanted : Status} (n : ℕ) → new.said ≡ old.said ++ take n text → Rose old.talk_faults new.talk_faults → Still old new
     → SameInput old new → OnlyReads tells old new (λ answer. answer ≡ (text, wanted)) TalkFault
 talk_failed {tells} {old} {new} {text} {wanted} n said rose still input =
-    says_part (λ silent. silent) (failing old new TalkFault rose) (λ told. (
-      drop n text,
-      ap (λ (l : List ℕ). old.said ++ l) (sym (take-append-drop n text)) ∙ sym (append_assoc old.said (take n text) (drop n text)) ∙ ap (λ (l : List ℕ). l ++ drop n text) (sym said),
-    )) still input
+    says_part (λ silent. silent) (failing old new TalkFault rose) (λ told. part_begins old.said text new.said n said) still input

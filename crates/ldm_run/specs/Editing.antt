@@ -1,5 +1,5 @@
 -- What becomes of the host while lines are done to a group, each on all disks and then answered.
-use Rattle.std.specs.Prelude.{◌≡◌, ◌⊎◌, ℕ, Bool, false, List, ◌++◌, Option}
+use Rattle.std.specs.Prelude.{◌≡◌, ◌⊎◌, ℕ, false, List, ◌++◌, Option}
 use Rattle.ldm_host.specs.Seen.{Seen}
 use Rattle.ldm_host.specs.Moves.{Rose, Begins, Later}
 use Rattle.ldm_label.specs.declared.Label.{Label}
@@ -15,7 +15,7 @@ use Rattle.ldm_group_text.specs.Reply.{text_of_reply}
 use Rattle.ldm_run.specs.declared.running.Status.{Status}
 use Rattle.ldm_run.specs.declared.running.Status.TheVariants.{DiskFault, NoMemory, TalkFault}
 use Rattle.ldm_run.specs.Said.{HasAnswer}
-use Rattle.ldm_run.specs.Scripts.{is_refused, replies_from, try_answer}
+use Rattle.ldm_run.specs.Scripts.{replies_from, try_answer}
 use Rattle.ldm_run.specs.Answer.{IsGroupAnswer}
 use Rattle.ldm_run.specs.Kinds.{SameInput, SaysLines, NothingPending}
 use Rattle.ldm_run.specs.Stops.{Reopens, EveryStopReopens, EveryStopSinceSyncs}
@@ -47,13 +47,6 @@ pub record IsAnswering (session : Opened) (line : Option Command) (number : ℕ)
   pub opens : Opens images (turn_on session line).state.db
   pub since : Begins start.said said
   pub front : Begins said (start.said ++ text_of_reply (number, (turn_on session line).reply))
-
--- the session after a line that was answered, and whether it was refused
-pub record IsAnswered (session : Opened) (line : Option Command) (after : Opened) (refused : Bool) : Type 0 where
-  pub db : after.db ≡ (turn_on session line).state.db
-  pub draft : after.draft ≡ (turn_on session line).state.draft
-  pub labels_stay : after.labels ≡ session.labels
-  pub refused_is : refused ≡ is_refused (turn_on session line).reply
 
 -- ---- all lines
 

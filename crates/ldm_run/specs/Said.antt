@@ -1,6 +1,11 @@
 -- What is answered: a text and a status.
-use Rattle.std.specs.Prelude.{ℕ, List}
+use Rattle.std.specs.Prelude.{ℕ, List, ◌++◌}
+use Rattle.ldm_host.specs.Seen.{Seen}
+use Rattle.ldm_host.specs.Moves.{Begins, Still}
+use Rattle.ldm_dump.specs.Saying.{SameInput}
+use Rattle.ldm_edits.specs.declared.reply.Reply.{Reply}
 use Rattle.ldm_text.specs.Texts.{text_of_refusal}
+use Rattle.ldm_group_text.specs.Reply.{text_of_reply}
 use Rattle.ldm_run.specs.declared.running.Status.{Status}
 use Rattle.ldm_run.specs.declared.running.Status.TheVariants.{Done, Refused, Usage, DiskFault, NoMemory, TalkFault}
 
@@ -29,3 +34,9 @@ SaysNothing Usage = Unit {0}
 SaysNothing DiskFault = Unit {0}
 SaysNothing NoMemory = Unit {0}
 SaysNothing TalkFault = ⊥
+
+-- What is done where a reply is said: a part of it was said, or all.
+pub record SaysReply (number : ℕ) (reply : Reply) (old new : Seen) : Type 0 where
+  pub front : Begins new.said (old.said ++ text_of_reply (number, reply))
+  pub still : Still old new
+  pub input : SameInput old new

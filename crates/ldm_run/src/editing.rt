@@ -14,14 +14,13 @@ ghost use Rattle.ldm_group_text.specs.Reply.{text_of_reply};
 ghost use Rattle.ldm_run.specs.Kinds.{SameInput, NothingPending};
 ghost use Rattle.ldm_run.specs.Scripts.{command_in, commands_in};
 ghost use Rattle.ldm_run.specs.Runs.{DoesJob};
-ghost use Rattle.ldm_run.specs.Editing.{EditFails, turn_on, IsDoing, IsAnswering, IsAnswered, AreWritten, DoesLines, DoesGroup};
+ghost use Rattle.ldm_run.specs.Editing.{EditFails, turn_on, IsDoing, IsAnswering, AreWritten, DoesLines, DoesGroup};
 
-use crate::replying::is_refused;
+use crate::replying::{is_refused, say_reply};
 use crate::running::{Status, refuse_opening};
 use ldm_bytes::NoMemory;
 use ldm_edits::{Refusal, Reply};
 use ldm_found::OpenError;
-use ldm_group_text::reply_text;
 use ldm_host::Host;
 use ldm_store::{ApplyError, Session, settle};
 use ldm_words::{Command, LineError, front_line, read_line};
@@ -80,20 +79,20 @@ fn apply_line<H: Host>(
     }
 }
 
-// Does a line on all disks and says the reply. It answers the session, and whether the line was refused.
+// Does a line on all disks and says the reply.
 fn edit_line<H: Host>(
     alloc: Global,
     host: &mut H,
     session: Session,
     number: u64,
     line: Option<Command>,
-) -> Result<(Session, bool), Status>
+) -> Result<(Session, Reply), Status>
     requires rests { RestsOn session.group (H.seen host.old) }
     requires holds { H.tells_disks → HoldsSession session (H.seen host.old).content }
     requires limits { IfSome line IsCommand }
     ensures any_moment { H.tells_disks → (images : List (List ℕ)) (said : List ℕ) → (H.seen host.new).left_since (H.seen host.old).clock images said
         → IsDoing session.group line (H.seen host.old) images said ⊎ IsAnswering session.group line number (H.seen host.old) images said }
-    ensures turn { IfOk result (λ answer. IsAnswered session.group line answer.0.group answer.1) }
+    ensures turn { IfOk result (λ answer. IsTurnOf (turn_on session.group line) session.group.labels answer.0.group answer.1) }
     ensures rests { IfOk result (λ answer. RestsOn answer.0.group (H.seen host.new)) }
     ensures holds { H.tells_disks → IfOk result (λ answer. HoldsSession answer.0 (H.seen host.new).content) }
     ensures written { H.tells_disks → IfOk result (λ answer. AreWritten session.group.labels session.group.db answer.0.group.db (H.seen host.old).content (H.seen host.new).content) }
@@ -105,13 +104,10 @@ fn edit_line<H: Host>(
     ensures input { SameInput (H.seen host.old) (H.seen host.new) }
 {
     let (session, reply) = apply_line(alloc, host, session, line)?;
-    let Ok(text) = reply_text(alloc, number, &reply) else {
-        return Err(Status::NoMemory);
-    };
-    let Ok(()) = host.say(text.as_slice()) else {
-        return Err(Status::TalkFault);
-    };
-    Ok((session, is_refused(&reply)))
+    match say_reply(alloc, host, number, &reply) {
+        Ok(()) => Ok((session, reply)),
+        Err(status) => Err(status),
+    }
 }
 
 // Done where no line was refused.
@@ -153,14 +149,14 @@ fn edit_each<H: Host>(alloc: Global, host: &mut H, first: Session, script: &[u8]
         let Ok(line) = command_in(alloc, front) else {
             return Status::NoMemory;
         };
-        let (next, was_refused) = match edit_line(alloc, host, session, number, line) {
+        let (next, reply) = match edit_line(alloc, host, session, number, line) {
             Ok(answer) => answer,
             Err(status) => return status,
         };
         session = next;
         rest = after;
         number += 1;
-        refused |= was_refused;
+        refused |= is_refused(&reply);
     }
     status_of(refused)
 }
@@ -211,11 +207,11 @@ fn edit_alone<H: Host>(alloc: Global, host: &mut H, session: Session, command: C
     ensures does { DoesLines H.tells_disks session.group (Some command ∷ []) (H.seen host.old) (H.seen host.new) result }
     ensures silent { result ≡ Status.DiskFault → (H.seen host.new).said ≡ (H.seen host.old).said }
 {
-    let (_, refused) = match edit_line(alloc, host, session, 1, Some(command)) {
+    let (_, reply) = match edit_line(alloc, host, session, 1, Some(command)) {
         Ok(answer) => answer,
         Err(status) => return status,
     };
-    status_of(refused)
+    status_of(is_refused(&reply))
 }
 
 /// Does one command to the group that the disks hold.

@@ -1,5 +1,6 @@
 //! What is said of words without a reading.
 use super::*;
+use ldm_words::read_words;
 use std::test::Fail;
 
 // Words that are separated by a bar, and what is said of them.
@@ -181,5 +182,48 @@ fn counts_images_and_the_bytes_of_a_name(rt: HostRuntime) -> Result<(), Fail> {
         said.as_str(),
         "a group has 64 images at most, and 65 are named behind \"on\""
     );
+    Ok(())
+}
+
+// Some words that a word of a form stands for.
+fn words_for(what: &str) -> &'static str {
+    match what {
+        "VOLUME" | "NAME" => "V",
+        "FIRST" | "COUNT" | "SEED" => "1",
+        "GUID" => "GUID",
+        "DISKGUID..." => "GUID|GUID",
+        "IMAGE" => "a",
+        "IMAGE..." => "a|b",
+        "COMMAND" => "delete|V",
+        "on" => "on",
+        _ => "",
+    }
+}
+
+#[test]
+fn each_form_of_the_help_has_a_reading(rt: HostRuntime) -> Result<(), Fail> {
+    let alloc = rt.alloc();
+    let id = "bbbbbbbb-bbbb-bbbb-bbbb-bbbbbbbbbbbb";
+    for line in jobs().lines() {
+        let Some(form) = form_in(line) else {
+            continue;
+        };
+        let mut words = Vec::new(alloc);
+        for what in form.split(' ') {
+            let some = if what == word_of(form) && what != COMMAND {
+                what
+            } else {
+                words_for(what)
+            };
+            if some.is_empty() {
+                break;
+            }
+            for word in some.split('|') {
+                let word = if word == "GUID" { id } else { word };
+                words.push(String::from_str(alloc, word)?)?;
+            }
+        }
+        assert!(rt; read_words(alloc, &words).is_ok());
+    }
     Ok(())
 }

@@ -22,7 +22,7 @@ returns-clause-does g c =
     let state : IsEditedTo g.H.Host.tells_disks first lines [] lines start start first 1 false =
     edited_none first lines start c.requires.fresh (λ tells disk label at. outside_itself label (image start.content disk))
     (λ tells. reopens_none first lines start c.requires.fresh kept.editable c.requires.rests (c.requires.holds tells).holds (g.met.H.Host.counts_now host) (g.met.H.Host.only_now host)) in
-    ended (line_done state same c.edit_line.ensures.later c.edit_line.ensures.any_moment c.in-Ok.ensures.turn c.in-Ok.ensures.said c.in-Ok.ensures.written
+    ended (line_done state same c.edit_line.ensures.later c.edit_line.ensures.any_moment c.in-Ok.ensures.turn c.is_refused.ensures c.in-Ok.ensures.said c.in-Ok.ensures.written
     (λ tells. record { one_each = g.met.H.Host.one_each tells now; each = λ disk lt. g.met.H.Host.may_stay tells now disk lt }) (g.met.H.Host.counts_now now))
     c.edit_line.ensures.later c.edit_line.ensures.input c.in-Ok.ensures.rests (λ tells. (c.in-Ok.ensures.holds tells).holds) c.status_of.ensures
 
@@ -46,4 +46,4 @@ no_fault true status is fault = let e : Refused ≡ DiskFault = sym is ∙ fault
 no_fault false status is fault = let e : Done ≡ DiskFault = sym is ∙ fault in cc
 
 pub returns-clause-silent : goal.returns-clause-silent
-returns-clause-silent g c fault = absurd (no_fault c.in-Ok.answer.1 c.status_of.result c.status_of.ensures fault)
+returns-clause-silent g c fault = absurd (no_fault c.is_refused.result c.status_of.result c.status_of.ensures fault)

@@ -62,7 +62,7 @@ editing-preserved g c =
       holds = c.in-Ok-edit_line.ensures.holds;
       to = (
         held.to.0 ++ c.in-Ok.line ∷ [],
-        line_done state held.later c.edit_line.ensures.later c.edit_line.ensures.any_moment c.in-Ok-edit_line.ensures.turn c.in-Ok-edit_line.ensures.said c.in-Ok-edit_line.ensures.written
+        line_done state held.later c.edit_line.ensures.later c.edit_line.ensures.any_moment c.in-Ok-edit_line.ensures.turn c.is_refused-refused.ensures c.in-Ok-edit_line.ensures.said c.in-Ok-edit_line.ensures.written
             (λ tells. record { one_each = g.met.H.Host.one_each tells host; each = λ disk lt. g.met.H.Host.may_stay tells host disk lt }) (g.met.H.Host.counts_now host),
       );
     }
