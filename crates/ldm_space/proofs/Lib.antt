@@ -2,7 +2,6 @@ pub mod FreeLaws
 pub mod GapLaws
 pub mod GapTake
 pub mod GapWalk
-pub mod OneMap
 pub mod PlacedWalk
 pub mod PlacedMaps
 pub mod PlacedLaws
