@@ -1,5 +1,6 @@
 //! A change of a body: the new body, and the numbers of the blocks that differ.
-ghost use Rattle.std.specs.Prelude.{◌≡◌, ◌≢◌, ◌↔◌, ℕ, ◌+◌, ◌-◌, ◌*◌, ◌≤◌, ◌<◌, ◌++◌, IsTrue, length, drop, map, count_by, IfOk, OnOk, All, AllPairs, Contains};
+ghost use Rattle.std.specs.Prelude.{◌≡◌, ◌≢◌, ◌↔◌, ℕ, ◌+◌, ◌-◌, ◌*◌, ◌≤◌, ◌<◌, ◌++◌, IsTrue, length, drop, map};
+ghost use Rattle.std.specs.Prelude.{count_by, IfOk, OnOk, All, AllPairs, Contains};
 ghost use Rattle.ldm_vmdb.specs.Sectors.{last_of};
 ghost use Rattle.ldm_vmdb.specs.Headers.{written};
 ghost use Rattle.ldm_frags.specs.Blocks.{count};
@@ -80,7 +81,8 @@ fn next_blocks(
     ensures size { IfOk result (λ next. length next.0 ≡ 128 * room) }
     ensures store { IfOk result (λ next. Store next.0 new.now.records) }
     ensures changed { IfOk result (λ next. next.1 ≡ changed_numbers blocks.now next.0) }
-    ensures few { IfOk result (λ next. length next.1 ≤ touched_blocks old.now.records new.now.records + (room - count blocks.now)) }
+    ensures few { IfOk result (λ next. length next.1
+        ≤ touched_blocks old.now.records new.now.records + (room - count blocks.now)) }
     ensures one_each { IfOk result (λ next. length next.2.items ≡ length new.now.records) }
     ensures holds { IfOk result (λ next. Holds next.0 (map placed_of (stored_at new.now.records next.2.items))) }
 {
@@ -103,7 +105,8 @@ fn next_bytes(
     requires high { new.now.header.last ≤ 8192 }
     requires room { FitsHeader new.now }
     ensures next { IfOk result (λ next. IsNext body.now new.now next.0 next.1 next.2.items) }
-    ensures few { IfOk result (λ next. length next.1 ≤ touched_blocks old.now.records new.now.records + added_blocks (last_of (header_sector body.now)) new.now.header.last) }
+    ensures few { IfOk result (λ next. length next.1
+        ≤ touched_blocks old.now.records new.now.records + added_blocks (last_of (header_sector body.now)) new.now.header.last) }
 {
     let bytes = body.as_slice();
     let slots = body.table();
@@ -127,12 +130,15 @@ pub fn next_body(alloc: Global, body: &Body, old: &Db, new: &Db) -> Result<Chang
     requires high { new.now.header.last ≤ 8192 }
     requires room { FitsHeader new.now }
     ensures body { IfOk result (λ change. IsBodyOf new.now change.body) }
-    ensures header { IfOk result (λ change. header_sector change.body ≡ written new.now.header new.now.header.seq (counts_of new.now.records)) }
+    ensures header { IfOk result (λ change. header_sector change.body
+        ≡ written new.now.header new.now.header.seq (counts_of new.now.records)) }
     ensures from { IfOk result (λ change. ChangesFrom body.now change) }
     ensures apart { IfOk result (λ change. AllPairs (λ a b. a ≢ b) change.numbers) }
     ensures within { IfOk result (λ change. All (λ n. (4 ≤ n) × (128 * n + 128 ≤ length change.body)) change.numbers) }
-    ensures added { IfOk result (λ change. (n : ℕ) → length body.now ≤ 128 * n → 128 * n + 128 ≤ length change.body → Contains change.numbers n) }
-    ensures few { IfOk result (λ change. length change.numbers ≤ touched_blocks old.now.records new.now.records + added_blocks (last_of (header_sector body.now)) new.now.header.last) }
+    ensures added { IfOk result (λ change. (n : ℕ) → length body.now ≤ 128 * n → 128 * n + 128 ≤ length change.body
+        → Contains change.numbers n) }
+    ensures few { IfOk result (λ change. length change.numbers
+        ≤ touched_blocks old.now.records new.now.records + added_blocks (last_of (header_sector body.now)) new.now.header.last) }
     // So writing them takes no more bytes than writing the whole body.
     ensures most { IfOk result (λ change. 513 + 128 * length change.numbers ≤ length change.body + 1) }
 {

@@ -62,12 +62,16 @@ pub fn fill_changed<H: Host>(
     requires fits { Fits label.now (slice_index (H.seen host.old).sizes disk) }
     requires room { length change.now.body ≤ 512 * label.now.area_sectors }
     requires settled { Settled (H.seen host.old) disk }
-    requires closed { H.tells_disks → (c : List ℕ) → (H.seen host.old).may_leave disk c → slice_index c (gate_at label.now) ≢ 0x56 }
-    requires before { H.tells_disks → (old : List ℕ) × ChangesFrom old change.now × HasBody label.now old (image (H.seen host.old).content disk) }
-    ensures filled { H.tells_disks → OnOk result ((c : List ℕ) → (H.seen host.new).may_leave disk c → HasBody label.now change.now.body c) }
+    requires closed { H.tells_disks → (c : List ℕ) → (H.seen host.old).may_leave disk c
+        → slice_index c (gate_at label.now) ≢ 0x56 }
+    requires before { H.tells_disks → (old : List ℕ) × ChangesFrom old change.now
+        × HasBody label.now old (image (H.seen host.old).content disk) }
+    ensures filled { H.tells_disks → OnOk result ((c : List ℕ) → (H.seen host.new).may_leave disk c
+        → HasBody label.now change.now.body c) }
     ensures settled { OnOk result (Settled (H.seen host.new) disk) }
     ensures changes { Changes disk (gate_at label.now + 1) (length change.now.body - 1) (H.seen host.old) (H.seen host.new) }
-    ensures wrote { slice_index (H.seen host.new).wrote disk ≤ slice_index (H.seen host.old).wrote disk + (511 + 128 * length change.now.numbers) }
+    ensures wrote { slice_index (H.seen host.new).wrote disk
+        ≤ slice_index (H.seen host.old).wrote disk + (511 + 128 * length change.now.numbers) }
     ensures cause { IsErr result → DiskFailed (H.seen host.old) (H.seen host.new) }
 {
     let at = gate_at(host, disk, label);

@@ -1,12 +1,14 @@
 //! The next body from the one that is there: which blocks are freed and which are taken.
-ghost use Rattle.std.specs.Prelude.{◌≡◌, ◌≢◌, ◌↔◌, ℕ, ◌+◌, ◌*◌, ◌≤◌, ◌<◌, ◌++◌, ◌∷◌, [], List, length, take, map, filter, bytes_eq, if◌then◌else◌, IsTrue, IfOk, OnOk, All, AllPairs, Contains};
+ghost use Rattle.std.specs.Prelude.{◌≡◌, ◌≢◌, ◌↔◌, ℕ, ◌+◌, ◌*◌, ◌≤◌, ◌<◌, ◌++◌, ◌∷◌, [], List, length, take, map};
+ghost use Rattle.std.specs.Prelude.{filter, bytes_eq, if◌then◌else◌, IsTrue, IfOk, OnOk, All, AllPairs, Contains};
 ghost use Rattle.ldm_frags.specs.Blocks.{count};
 ghost use Rattle.ldm_frags.specs.Written.{parts_of, block_at, IsInUse, IsPlaced, Holds};
 ghost use Rattle.ldm_records.specs.Plain.{own_spelling, IsRecord};
 ghost use Rattle.ldm_records.specs.Views.{plain_of};
 ghost use Rattle.ldm_group.specs.Room.{own_len, IsFitting, need_of};
 ghost use Rattle.ldm_copy.specs.Body.{Stored, placed_of, Store};
-ghost use Rattle.ldm_changed.specs.Plan.{has_record, lacks, touched_blocks, stays, goes, Avoids, AreFreed, KeepsOrFrees, slots_from, IsAdded, LeavesOrAdds, differs, changed_numbers};
+ghost use Rattle.ldm_changed.specs.Plan.{has_record, lacks, touched_blocks, stays, goes, Avoids, AreFreed};
+ghost use Rattle.ldm_changed.specs.Plan.{KeepsOrFrees, slots_from, IsAdded, LeavesOrAdds, differs, changed_numbers};
 ghost use Rattle.ldm_copy.specs.Body.{stored_at};
 ghost use Rattle.ldm_frags.specs.Free.{is_free, free_numbers};
 
@@ -79,9 +81,11 @@ pub fn free_gone(
     requires one_each { length table.now ≡ length records.now }
     requires small { length out.old ≤ 1048576 }
     requires holds { Holds out.old (map placed_of (stored_at records.now table.now)) }
-    ensures kept { IfOk result (λ kept. kept.items ≡ map (λ s. s.slots) (filter (stays new.now.records) (stored_at records.now table.now))) }
+    ensures kept { IfOk result (λ kept. kept.items
+        ≡ map (λ s. s.slots) (filter (stays new.now.records) (stored_at records.now table.now))) }
     ensures holds { OnOk result (Holds out.new (map placed_of (filter (stays new.now.records) (stored_at records.now table.now)))) }
-    ensures others { OnOk result ((b : ℕ) → 4 ≤ b → All (Avoids b) (filter (goes new.now.records) (stored_at records.now table.now))
+    ensures others { OnOk result ((b : ℕ) → 4 ≤ b
+        → All (Avoids b) (filter (goes new.now.records) (stored_at records.now table.now))
         → block_at out.new b ≡ block_at out.old b) }
     ensures there { OnOk result (All (λ s. Contains new.now.records s.record_is) (filter (stays new.now.records) (stored_at records.now table.now))) }
 {
@@ -189,7 +193,8 @@ pub fn write_made(
     ensures one_each { IfOk result (λ made. length made.items ≡ length (filter (lacks old.now.records) records.now)) }
     ensures holds { IfOk result (λ made. (rest : List Stored) → Holds out.old (map placed_of rest)
         → Holds out.new (map placed_of (stored_at (filter (lacks old.now.records) records.now) made.items ++ rest))) }
-    ensures others { OnOk result ((b : ℕ) → 4 ≤ b → All (λ n. n ≢ b) (take (need_of (filter (lacks old.now.records) records.now)) free.now)
+    ensures others { OnOk result ((b : ℕ) → 4 ≤ b
+        → All (λ n. n ≢ b) (take (need_of (filter (lacks old.now.records) records.now)) free.now)
         → block_at out.new b ≡ block_at out.old b) }
     ensures sound { OnOk result (All (λ r. IsRecord (plain_of r)) (filter (lacks old.now.records) records.now)) }
     ensures there { OnOk result (All (Contains old.now.records) (filter (has_record old.now.records) records.now)) }
@@ -239,11 +244,13 @@ pub fn rewrite_blocks(
     requires sound { All (λ r. IsRecord (plain_of r)) old.now.records }
     requires fits { All IsFitting new.now.records }
     requires room { need_of new.now.records ≤ count out.old }
-    ensures kept { IfOk result (λ slots. slots.0.items ≡ map (λ s. s.slots) (filter (stays new.now.records) (stored_at old.now.records table.now))) }
+    ensures kept { IfOk result (λ slots. slots.0.items
+        ≡ map (λ s. s.slots) (filter (stays new.now.records) (stored_at old.now.records table.now))) }
     ensures made { IfOk result (λ slots. length slots.1.items ≡ length (filter (lacks old.now.records) new.now.records)) }
     ensures holds { IfOk result (λ slots. Holds out.new (map placed_of (stored_at (filter (lacks old.now.records) new.now.records) slots.1.items
         ++ filter (stays new.now.records) (stored_at old.now.records table.now)))) }
-    ensures same { OnOk result (filter (has_record new.now.records) old.now.records ≡ filter (has_record old.now.records) new.now.records) }
+    ensures same { OnOk result (filter (has_record new.now.records) old.now.records
+        ≡ filter (has_record old.now.records) new.now.records) }
     ensures store { OnOk result (Store out.new new.now.records) }
     ensures touched { OnOk result ((numbers : List ℕ) × (length numbers ≤ touched_blocks old.now.records new.now.records)
         × ((b : ℕ) → 4 ≤ b → All (λ n. n ≢ b) numbers → block_at out.new b ≡ block_at out.old b)) }

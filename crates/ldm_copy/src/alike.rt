@@ -42,7 +42,8 @@ fn is_chunk_same<H: Host>(
     requires other { other < length (H.seen host.old).sizes }
     requires other_inside { other_at + length bytes.old ≤ 512 * slice_index (H.seen host.old).sizes other }
     requires one_size { length other_bytes.old ≡ length bytes.old }
-    ensures is { H.tells_disks → IfOk result (λ same. IsTrue same ↔ (slice_range (image (H.seen host.old).content disk) at (at + length bytes.old)
+    ensures is { H.tells_disks → IfOk result (λ same. IsTrue same
+        ↔ (slice_range (image (H.seen host.old).content disk) at (at + length bytes.old)
         ≡ slice_range (image (H.seen host.old).content other) other_at (other_at + length bytes.old))) }
     ensures looks { Looks (H.seen host.old) (H.seen host.new) (IsErr result) }
 {
@@ -67,7 +68,8 @@ fn are_few_same<H: Host>(
     requires other { other < length (H.seen host.old).sizes }
     requires other_inside { other_from + sectors ≤ slice_index (H.seen host.old).sizes other }
     requires other_small { other_from < 2 ^ 55 }
-    ensures is { H.tells_disks → IfOk result (λ same. IsTrue same ↔ (sectors_from from sectors (image (H.seen host.old).content disk)
+    ensures is { H.tells_disks → IfOk result (λ same. IsTrue same
+        ↔ (sectors_from from sectors (image (H.seen host.old).content disk)
         ≡ sectors_from other_from sectors (image (H.seen host.old).content other))) }
     ensures looks { Looks (H.seen host.old) (H.seen host.new) (IsErr result) }
 {
@@ -102,7 +104,8 @@ fn is_same<H: Host>(
     requires other { other < length (H.seen host.old).sizes }
     requires other_inside { other_from + sectors ≤ slice_index (H.seen host.old).sizes other }
     requires other_small { other_from + sectors < 2 ^ 55 }
-    ensures is { H.tells_disks → IfOk result (λ same. IsTrue same ↔ (sectors_from from sectors (image (H.seen host.old).content disk)
+    ensures is { H.tells_disks → IfOk result (λ same. IsTrue same
+        ↔ (sectors_from from sectors (image (H.seen host.old).content disk)
         ≡ sectors_from other_from sectors (image (H.seen host.old).content other))) }
     ensures looks { Looks (H.seen host.old) (H.seen host.new) (IsErr result) }
 {

@@ -1,5 +1,6 @@
 //! A body with the blocks of each of its records, made or read from a disk.
-ghost use Rattle.std.specs.Prelude.{◌≡◌, ◌+◌, ◌*◌, ◌/◌, ◌<◌, ◌≤◌, IsTrue, false, None, length, slice_index, slice_range, drop, IfOk, IfSome, IsErrOf};
+ghost use Rattle.std.specs.Prelude.{◌≡◌, ◌+◌, ◌*◌, ◌/◌, ◌<◌, ◌≤◌, IsTrue, false, None, length, slice_index};
+ghost use Rattle.std.specs.Prelude.{slice_range, drop, IfOk, IfSome, IsErrOf};
 ghost use Rattle.ldm_host.specs.Moves.{Looks};
 ghost use Rattle.ldm_host.specs.Seen.{image};
 ghost use Rattle.ldm_label.specs.LabelOf.{Fits};
@@ -129,7 +130,8 @@ fn copy_bytes<H: Host>(
     requires disk { disk < length (H.seen host.old).sizes }
     requires fits { Fits label.now (slice_index (H.seen host.old).sizes disk) }
     requires within { len ≤ 512 * label.now.area_sectors }
-    ensures bytes { H.tells_disks → IfOk result (λ b. b.items ≡ slice_range (image (H.seen host.old).content disk) (gate_at label.now) (gate_at label.now + len)) }
+    ensures bytes { H.tells_disks → IfOk result (λ b. b.items
+        ≡ slice_range (image (H.seen host.old).content disk) (gate_at label.now) (gate_at label.now + len)) }
     ensures size { IfOk result (λ b. length b.items ≡ len) }
     ensures looks { Looks (H.seen host.old) (H.seen host.new) (IsErrOf result BodyError.Disk) }
 {
@@ -152,11 +154,13 @@ pub fn read_body<H: Host>(
     requires low { 4 ≤ db.now.header.last }
     requires room { db.now.header.last ≤ 4 * label.now.area_sectors }
     // It is the bytes that are there.
-    ensures same { H.tells_disks → IfOk result (λ found. IfSome found (λ body. body ≡ body_bytes db.now label.now (image (H.seen host.old).content disk))) }
+    ensures same { H.tells_disks → IfOk result (λ found. IfSome found (λ body. body
+        ≡ body_bytes db.now label.now (image (H.seen host.old).content disk))) }
     // For every host, it is a body of the database but for the carried bytes of the header.
     ensures core { IfOk result (λ found. IfSome found (λ body. IsCoreBody db.now body)) }
     // Where there is one, it is found.
-    ensures none { H.tells_disks → IfOk result (λ found. found ≡ None → IsNoBody db.now label.now.area_sectors (body_bytes db.now label.now (image (H.seen host.old).content disk))) }
+    ensures none { H.tells_disks → IfOk result (λ found. found ≡ None
+        → IsNoBody db.now label.now.area_sectors (body_bytes db.now label.now (image (H.seen host.old).content disk))) }
     ensures looks { Looks (H.seen host.old) (H.seen host.new) (IsErrOf result BodyError.Disk) }
 {
     // The area has 2048 sectors at most.

@@ -4,7 +4,8 @@ ghost use Rattle.ldm_frags.specs.Blocks.{count, parts};
 ghost use Rattle.ldm_frags.specs.Written.{IsInUse};
 ghost use Rattle.ldm_group.specs.Order.{place_of, Rising};
 ghost use Rattle.ldm_copy.specs.Body.{Store};
-ghost use Rattle.ldm_copy.specs.Finding.{HoldsTable, place_in, HasPlaces, slots_in, payloads, IsFirst, IsLater, IsFoundAt, HoldNone, Looks, AreFound, stored_of};
+ghost use Rattle.ldm_copy.specs.Finding.{HoldsTable, place_in, HasPlaces, slots_in, payloads, IsFirst, IsLater};
+ghost use Rattle.ldm_copy.specs.Finding.{IsFoundAt, HoldNone, Looks, AreFound, stored_of};
 
 use ldm_bytes::{Bytes, NoMemory, get_u16, get_u32};
 use ldm_frags::{Slots, is_unused, is_written};

@@ -52,8 +52,10 @@ pub fn fill<H: Host>(host: &mut H, disk: usize, label: &Label, body: &Body) -> R
     requires disk { disk < length (H.seen host.old).sizes }
     requires fits { Fits label.now (slice_index (H.seen host.old).sizes disk) }
     requires room { length body.now ≤ 512 * label.now.area_sectors }
-    requires closed { H.tells_disks → (c : List ℕ) → (H.seen host.old).may_leave disk c → slice_index c (gate_at label.now) ≢ 0x56 }
-    ensures filled { H.tells_disks → OnOk result ((c : List ℕ) → (H.seen host.new).may_leave disk c → HasBody label.now body.now c) }
+    requires closed { H.tells_disks → (c : List ℕ) → (H.seen host.old).may_leave disk c
+        → slice_index c (gate_at label.now) ≢ 0x56 }
+    ensures filled { H.tells_disks → OnOk result ((c : List ℕ) → (H.seen host.new).may_leave disk c
+        → HasBody label.now body.now c) }
     ensures settled { OnOk result (Settled (H.seen host.new) disk) }
     ensures writes { Writes disk (gate_at label.now + 1) (length body.now - 1) (H.seen host.old) (H.seen host.new) }
     ensures cause { IsErr result → DiskFailed (H.seen host.old) (H.seen host.new) }

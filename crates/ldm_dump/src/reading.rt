@@ -1,5 +1,6 @@
 //! Bytes of a volume, read from the images.
-ghost use Rattle.std.specs.Prelude.{◌≡◌, ◌*◌, ◌<◌, ◌≤◌, ℕ, List, length, map, fold, bit_xor, slice_index, false, OnOk, IsErr, Some};
+ghost use Rattle.std.specs.Prelude.{◌≡◌, ◌*◌, ◌<◌, ◌≤◌, ℕ, List, length, map, fold, bit_xor, slice_index, false};
+ghost use Rattle.std.specs.Prelude.{OnOk, IsErr, Some};
 ghost use Rattle.std.specs.Option.{option_to_list};
 ghost use Rattle.ldm_host.specs.Moves.{Looks};
 ghost use Rattle.ldm_layout.specs.Columns.{columns_of};
@@ -18,7 +19,8 @@ use ldm_layout::Plan;
 /// Reads the bytes from the start of a sector of an image on.
 pub fn read_spot<H: Host>(host: &mut H, spot: Spot, out: &mut [u8]) -> Result<(), Failed>
     requires { HasBytes (H.seen host.old).sizes spot (length out.old) }
-    ensures bytes { H.tells_disks → OnOk result ((j : ℕ) → j < length out.old → slice_index out.new j ≡ byte_at (H.seen host.old).content j spot) }
+    ensures bytes { H.tells_disks → OnOk result ((j : ℕ) → j < length out.old
+        → slice_index out.new j ≡ byte_at (H.seen host.old).content j spot) }
     ensures looks { Looks (H.seen host.old) (H.seen host.new) (IsErr result) }
 {
     let sectors = host.sectors(spot.image);
@@ -97,7 +99,8 @@ fn join_other<H: Host>(
     requires raid5 { plan.now.shape ≡ Raid5 }
     requires within { sector < plan.now.size }
     requires there { column < length (columns_of plan.now) }
-    requires has { (s : Place) → other_spot found.now plan.now sector column ≡ Some s → HasBytes (H.seen host.old).sizes s (length out.old) }
+    requires has { (s : Place) → other_spot found.now plan.now sector column ≡ Some s
+        → HasBytes (H.seen host.old).sizes s (length out.old) }
     requires lies { LiesOn found.now plan.now (H.seen host.old).sizes }
     requires same { length scratch.old ≡ length out.old }
     ensures bytes { H.tells_disks → OnOk result ((j : ℕ) → j < length out.old → slice_index out.new j
@@ -121,7 +124,8 @@ fn rebuild<H: Host>(
 ) -> Result<(), Failed>
     requires raid5 { plan.now.shape ≡ Raid5 }
     requires within { sector < plan.now.size }
-    requires has { (column : ℕ) (s : Place) → other_spot found.now plan.now sector column ≡ Some s → HasBytes (H.seen host.old).sizes s (length out.old) }
+    requires has { (column : ℕ) (s : Place) → other_spot found.now plan.now sector column ≡ Some s
+        → HasBytes (H.seen host.old).sizes s (length out.old) }
     requires lies { LiesOn found.now plan.now (H.seen host.old).sizes }
     requires same { length scratch.old ≡ length out.old }
     ensures bytes { H.tells_disks → OnOk result ((j : ℕ) → j < length out.old

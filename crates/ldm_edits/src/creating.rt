@@ -6,7 +6,8 @@ ghost use Rattle.ldm_space.specs.declared.placed.Wanted.{Wanted};
 ghost use Rattle.ldm_edits.specs.Answers.{FindsAs, StepsTo};
 ghost use Rattle.ldm_edits.specs.Changes.{AreasFit, change_to};
 ghost use Rattle.ldm_edits.specs.Spots.{wanted_by, open_wanted, CanBePlaced, ArePlaced};
-ghost use Rattle.ldm_edits.specs.Creating.{words_of, is_same_disk, is_bad_column, is_bad_size, made_for, fresh_for, change_for, against_layout, created_new, created};
+ghost use Rattle.ldm_edits.specs.Creating.{words_of, is_same_disk, is_bad_column, is_bad_size, made_for, fresh_for};
+ghost use Rattle.ldm_edits.specs.Creating.{change_for, against_layout, created_new, created};
 
 use crate::asked::{asked_disks, asked_pieces, has_twins, is_bad_length};
 use crate::changing::change;
@@ -165,7 +166,8 @@ fn create_at(
     requires sound { IsSoundOn db.now labels.now }
     requires areas { AreasFit labels.now }
     requires limits { IsCreate name.now layout.now }
-    requires placed { (wanted : List Wanted) × ArePlaced db.now labels.now (words_of layout.now) (against_layout layout.now) wanted spots.now }
+    requires placed { (wanted : List Wanted)
+        × ArePlaced db.now labels.now (words_of layout.now) (against_layout layout.now) wanted spots.now }
     ensures { StepsTo result (change_to db.now labels.now (fresh_for layout.now) (change_for db.now name.now guid layout.now spots.now)) }
 {
     let fresh = fresh_for(layout);

@@ -1,5 +1,6 @@
 //! `extend`: more pieces at the end of a span or a mirror, or the first refusal.
-ghost use Rattle.std.specs.Prelude.{◌≡◌, ◌+◌, ◌-◌, ◌^◌, ◌<◌, ◌≤◌, Contains, Some, Ok, find, length, option_copied, sum_by, true, is_some, IfOk};
+ghost use Rattle.std.specs.Prelude.{◌≡◌, ◌+◌, ◌-◌, ◌^◌, ◌<◌, ◌≤◌, Contains, Some, Ok, find, length, option_copied};
+ghost use Rattle.std.specs.Prelude.{sum_by, true, is_some, IfOk};
 ghost use Rattle.ldm_records.specs.declared.types.Record.TheVariants as kinds;
 ghost use Rattle.ldm_made.specs.Made.{resized, with_children};
 ghost use Rattle.ldm_group.specs.Looks.{is_child, max_id, volume_named};
@@ -12,7 +13,8 @@ ghost use Rattle.ldm_edits.specs.Answers.{FindsAs, StepsTo};
 ghost use Rattle.ldm_edits.specs.Asked.{words_by};
 ghost use Rattle.ldm_edits.specs.Changes.{AreasFit, change_to};
 ghost use Rattle.ldm_edits.specs.Spots.{open_wanted, CanBePlaced};
-ghost use Rattle.ldm_edits.specs.Extending.{component_in, held, longer_parts, lengthened, against_longer, MayExtend, longer_span, extended_span};
+ghost use Rattle.ldm_edits.specs.Extending.{component_in, held, longer_parts, lengthened, against_longer, MayExtend};
+ghost use Rattle.ldm_edits.specs.Extending.{longer_span, extended_span};
 ghost use Rattle.ldm_layout.specs.declared.shape.Shape.TheVariants as shapes;
 ghost use Rattle.ldm_edits.specs.Extended.{extended_mirror, extended};
 
@@ -187,7 +189,8 @@ fn lengthen_at(
     requires rising { Rising db.now.records }
     requires held { capacity ≡ held (layout_of db.now.records volume.now) }
     requires some { 1 ≤ length wanted.now }
-    requires may { max_id db.now.records + length wanted.now ≤ 2 ^ 64 - 1 → MayExtend db.now labels.now volume.now component.now wanted.now spots.now }
+    requires may { max_id db.now.records + length wanted.now ≤ 2 ^ 64 - 1
+        → MayExtend db.now labels.now volume.now component.now wanted.now spots.now }
     ensures { StepsTo result (change_to db.now labels.now (length wanted.now) (lengthened db.now.records volume.now component.now (held (layout_of db.now.records volume.now)) spots.now)) }
 {
     let fresh = wanted.len() as u64;

@@ -78,7 +78,8 @@ fn with_parts(
     requires one_each { length components.now ≡ length spots.now }
     requires ids { id + length spots.now ≤ 2 ^ 64 }
     requires low { All (λ c. component_holds db.now.records c.now < 2 ^ 64) components.now }
-    ensures { IfOk result (λ v. v.items ≡ records.items ++ there (grown_parts db.now.records id (map (λ c. c.now) components.now) spots.now)) }
+    ensures { IfOk result (λ v. v.items ≡ records.items
+        ++ there (grown_parts db.now.records id (map (λ c. c.now) components.now) spots.now)) }
 {
     let mut records = records;
     for at in 0..spots.len() {

@@ -25,7 +25,8 @@ fn has_ids(db: &Db, fresh: u64) -> bool
 /// The first id of so many new records; none where there are fewer left.
 pub fn first_new_id(db: &Db, fresh: u64) -> Option<u64>
     requires { 1 ≤ fresh }
-    ensures { MatchOption result (2 ^ 64 - 1 < max_id db.now.records + fresh) (λ id. (id ≡ max_id db.now.records + 1) × (max_id db.now.records + fresh ≤ 2 ^ 64 - 1)) }
+    ensures { MatchOption result (2 ^ 64 - 1 < max_id db.now.records + fresh) (λ id. (id ≡ max_id db.now.records + 1)
+        × (max_id db.now.records + fresh ≤ 2 ^ 64 - 1)) }
 {
     if has_ids(db, fresh) {
         Some(db.max_id() + 1)

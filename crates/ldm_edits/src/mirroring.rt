@@ -79,7 +79,8 @@ fn grow(
     requires held { capacity ≡ held (layout_of db.now.records volume.now) }
     requires one_each { length wanted.now ≡ length components.now }
     requires some { 1 ≤ length wanted.now }
-    requires may { max_id db.now.records + length wanted.now ≤ 2 ^ 64 - 1 → MayGrow db.now labels.now volume.now (len_of wanted.now) wanted.now spots.now }
+    requires may { max_id db.now.records + length wanted.now ≤ 2 ^ 64 - 1
+        → MayGrow db.now labels.now volume.now (len_of wanted.now) wanted.now spots.now }
     ensures { StepsTo result (change_to db.now labels.now (length wanted.now) (grown db.now.records volume.now (held (layout_of db.now.records volume.now) + len_of wanted.now) spots.now)) }
 {
     let fresh = wanted.len() as u64;

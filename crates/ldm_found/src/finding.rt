@@ -22,7 +22,8 @@ pub fn find_group<H: Host>(alloc: Global, host: &mut H) -> Result<Found, OpenErr
     requires { 0 < length (H.seen host.old).sizes }
     // What is answered is the group in the images, and there is one.
     ensures found { H.tells_disks → FindsIn (H.seen host.old).content result }
-    ensures one { (a b : Result Found OpenFault) → IsGroupIn (H.seen host.old).content a → IsGroupIn (H.seen host.old).content b → a ≡ b }
+    ensures one { (a b : Result Found OpenFault) → IsGroupIn (H.seen host.old).content a → IsGroupIn (H.seen host.old).content b
+        → a ≡ b }
     // For every host, these facts hold of the group.
     ensures sound { IfOk result (λ found. IsSoundGroup found) }
     ensures lies { IfOk result (λ found. LieOn found.labels (H.seen host.old).sizes) }

@@ -1,5 +1,6 @@
 //! Disks, an input and an output: what each call promises, also of stops.
-ghost use Rattle.std.specs.Prelude.{◌≡◌, ◌^◌, ◌+◌, ◌-◌, ◌*◌, ◌/◌, ◌<◌, ◌≤◌, ◌++◌, min, List, ℕ, length, take, set, slice_index, slice_range, IfOk, OnOk, OnErr, IsErr, is_ok, Bool, ⊤};
+ghost use Rattle.std.specs.Prelude.{◌≡◌, ◌^◌, ◌+◌, ◌-◌, ◌*◌, ◌/◌, ◌<◌, ◌≤◌, ◌++◌, min, List, ℕ, length, take, set};
+ghost use Rattle.std.specs.Prelude.{slice_index, slice_range, IfOk, OnOk, OnErr, IsErr, is_ok, Bool, ⊤};
 ghost use Rattle.ldm_bytes.specs.Numbers.{IsBytes};
 ghost use Rattle.ldm_bytes.specs.Places.{put};
 ghost use Rattle.ldm_host.specs.Seen.{Seen, Leaves, image};
@@ -41,7 +42,8 @@ pub trait Host {
     fn read_at(&mut self, disk: usize, at: u64, buf: &mut [u8]) -> Result<(), Failed>
         requires disk { disk < length (seen self.old).sizes }
         requires range { at + length buf.old ≤ 512 * slice_index (seen self.old).sizes disk }
-        ensures filled { tells_disks → OnOk result (buf.new ≡ slice_range (image (seen self.old).content disk) at (at + length buf.old)) }
+        ensures filled { tells_disks → OnOk result (buf.new
+            ≡ slice_range (image (seen self.old).content disk) at (at + length buf.old)) }
         ensures looks { Looks (seen self.old) (seen self.new) (IsErr result) }
         ensures ending { ending Act.Read self.old self.new (is_ok result) };
 
@@ -50,9 +52,11 @@ pub trait Host {
     fn write_at(&mut self, disk: usize, at: u64, bytes: &[u8]) -> Result<(), Failed>
         requires disk { disk < length (seen self.old).sizes }
         requires range { at + length bytes.now ≤ 512 * slice_index (seen self.old).sizes disk }
-        ensures written { tells_disks → OnOk result ((seen self.new).content ≡ set (seen self.old).content disk (put (image (seen self.old).content disk) at bytes.now)) }
+        ensures written { tells_disks → OnOk result ((seen self.new).content
+            ≡ set (seen self.old).content disk (put (image (seen self.old).content disk) at bytes.now)) }
         ensures writes { Writes disk at (length bytes.now) (seen self.old) (seen self.new) }
-        ensures wrote { (seen self.new).wrote ≡ set (seen self.old).wrote disk (min (slice_index (seen self.old).wrote disk + length bytes.now) (2 ^ 64 - 1)) }
+        ensures wrote { (seen self.new).wrote
+            ≡ set (seen self.old).wrote disk (min (slice_index (seen self.old).wrote disk + length bytes.now) (2 ^ 64 - 1)) }
         ensures ticks { Ticks (seen self.old) (seen self.new) }
         ensures cause { IsErr result → DiskFailed (seen self.old) (seen self.new) }
         ensures ending { ending (Act.Write disk at bytes.now) self.old self.new (is_ok result) };

@@ -45,7 +45,8 @@ fn last_sync(calls: &[Call], disk: usize) -> usize
 
 // Takes into the bytes of a disk what a call wrote there.
 fn take_again(image: &mut Vec<u8>, call: &Call, disk: usize)
-    requires { (at asked : ℕ) (bytes : Vec ℕ Global) → call.now ≡ Write disk at bytes asked → at + length bytes.items ≤ length image.old.items }
+    requires { (at asked : ℕ) (bytes : Vec ℕ Global) → call.now ≡ Write disk at bytes asked
+        → at + length bytes.items ≤ length image.old.items }
     ensures { image.new.items ≡ taken_on disk call.now image.old.items }
 {
     if let Call::Write {
@@ -62,7 +63,8 @@ fn take_again(image: &mut Vec<u8>, call: &Call, disk: usize)
 
 // Fills the range of a write to a disk with one byte.
 fn fill_range(image: &mut Vec<u8>, call: &Call, disk: usize, byte: u8)
-    requires { (at asked : ℕ) (bytes : Vec ℕ Global) → call.now ≡ Write disk at bytes asked → at + asked ≤ length image.old.items }
+    requires { (at asked : ℕ) (bytes : Vec ℕ Global) → call.now ≡ Write disk at bytes asked
+        → at + asked ≤ length image.old.items }
     ensures { image.new.items ≡ filled_on disk byte call.now image.old.items }
 {
     if let Call::Write {
@@ -95,7 +97,8 @@ impl MemoryHost {
     fn left_on(&self, alloc: Global, disk: usize, filling: Filling) -> Result<Vec<u8>, AllocError>
         requires { disk < length self.now.held.items }
         ensures small { (byte : ℕ) → filling ≡ Fill byte → byte < 256 }
-        ensures is { IfOk result (λ bytes. bytes.items ≡ left_on filling (disk_at (run (fresh_state (items_of self.now.first.items)) self.now.calls.items).disks disk)) }
+        ensures is { IfOk result (λ bytes. bytes.items
+            ≡ left_on filling (disk_at (run (fresh_state (items_of self.now.first.items)) self.now.calls.items).disks disk)) }
     {
         match filling {
             Filling::Old => self.last_synced(alloc, disk),
@@ -107,7 +110,8 @@ impl MemoryHost {
     // The bytes of a disk after its last sync.
     fn last_synced(&self, alloc: Global, disk: usize) -> Result<Vec<u8>, AllocError>
         requires { disk < length self.now.held.items }
-        ensures { IfOk result (λ bytes. bytes.items ≡ (disk_at (run (fresh_state (items_of self.now.first.items)) self.now.calls.items).disks disk).synced) }
+        ensures { IfOk result (λ bytes. bytes.items
+            ≡ (disk_at (run (fresh_state (items_of self.now.first.items)) self.now.calls.items).disks disk).synced) }
     {
         let mut image = copy_of(alloc, &self.first[disk])?;
         for call in &self.calls[..last_sync(&self.calls, disk)] {
@@ -119,7 +123,8 @@ impl MemoryHost {
     // The content of a disk with one byte throughout the ranges that are pending.
     fn filled(&self, alloc: Global, disk: usize, byte: u8) -> Result<Vec<u8>, AllocError>
         requires { disk < length self.now.held.items }
-        ensures { IfOk result (λ bytes. bytes.items ≡ filled byte (disk_at (run (fresh_state (items_of self.now.first.items)) self.now.calls.items).disks disk).pending (image (items_of self.now.held.items) disk)) }
+        ensures { IfOk result (λ bytes. bytes.items
+            ≡ filled byte (disk_at (run (fresh_state (items_of self.now.first.items)) self.now.calls.items).disks disk).pending (image (items_of self.now.held.items) disk)) }
     {
         let mut image = copy_of(alloc, &self.held[disk])?;
         for place in last_sync(&self.calls, disk)..self.calls.len() {

@@ -45,7 +45,8 @@ pub fn put_at(target: &mut Vec<u8>, at: usize, bytes: &[u8])
 pub fn put_in(images: &mut Vec<Vec<u8>>, disk: usize, at: usize, bytes: &[u8])
     requires disk { disk < length images.old.items }
     requires range { at + length bytes.now ≤ length (image (items_of images.old.items) disk) }
-    ensures { items_of images.new.items ≡ set (items_of images.old.items) disk (put (image (items_of images.old.items) disk) at bytes.now) }
+    ensures { items_of images.new.items
+        ≡ set (items_of images.old.items) disk (put (image (items_of images.old.items) disk) at bytes.now) }
 {
     put_at(&mut images[disk], at, bytes);
 }

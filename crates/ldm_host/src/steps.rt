@@ -5,7 +5,8 @@ ghost use Rattle.ldm_host.specs.declared.outcome.Outcome.TheVariants.{Whole};
 ghost use Rattle.ldm_host.specs.Images.{items_of};
 ghost use Rattle.ldm_host.specs.Plan.{next};
 ghost use Rattle.ldm_host.specs.Seen.{image};
-ghost use Rattle.ldm_host.specs.Steps.{Adds, IsHear, IsSay, IsSayOf, IsSync, IsWrite, IsWriteOf, Moved, held_after, is_whole, placed, said_after, said_more};
+ghost use Rattle.ldm_host.specs.Steps.{Adds, IsHear, IsSay, IsSayOf, IsSync, IsWrite, IsWriteOf, Moved, held_after};
+ghost use Rattle.ldm_host.specs.Steps.{is_whole, placed, said_after, said_more};
 
 use crate::Failed;
 use crate::call::Call;

@@ -54,7 +54,8 @@ pub fn new_database(
     requires without_zero { All (λ byte. byte ≢ 0) name.now }
     requires few { length disks.now ≤ 64 }
     ensures made { IfOk result (IsNewGroup name.now guid disks.now last seq) }
-    ensures new { IfOk result (λ db. (labels : List Label) → map (λ label. label.disk_guid) labels ≡ disks.now → IsNewOn db.records labels) }
+    ensures new { IfOk result (λ db. (labels : List Label) → map (λ label. label.disk_guid) labels ≡ disks.now
+        → IsNewOn db.records labels) }
     ensures fits { IfOk result (λ db. length disks.now + 1 ≤ room_of last → FitsHeader db) }
 {
     let header = Header::new(alloc, name, guid, last, seq)?;

@@ -1,5 +1,6 @@
 //! Why disks are not made a group.
-ghost use Rattle.std.specs.Prelude.{◌≡◌, ◌+◌, ◌*◌, ◌<◌, ◌≤◌, ℕ, length, slice_index, slice_range, take, None, Some, OnOk, IfOk, IsErr, IsErrOf};
+ghost use Rattle.std.specs.Prelude.{◌≡◌, ◌+◌, ◌*◌, ◌<◌, ◌≤◌, ℕ, length, slice_index, slice_range, take, None, Some};
+ghost use Rattle.std.specs.Prelude.{OnOk, IfOk, IsErr, IsErrOf};
 ghost use Rattle.ldm_host.specs.Moves.{Looks};
 ghost use Rattle.ldm_host.specs.Seen.{image};
 ghost use Rattle.ldm_found.specs.Gathers.{IsFirst};
@@ -80,7 +81,8 @@ fn is_zero<H: Host>(
     requires range { at + length buffer.old ≤ 512 * slice_index (H.seen host.old).sizes disk }
     requires few { count ≤ length buffer.old }
     ensures size { length buffer.new ≡ length buffer.old }
-    ensures is { H.tells_disks → IfOk result (λ zero. zero ≡ are_zero (take count (slice_range (image (H.seen host.old).content disk) at (at + length buffer.old)))) }
+    ensures is { H.tells_disks → IfOk result (λ zero. zero
+        ≡ are_zero (take count (slice_range (image (H.seen host.old).content disk) at (at + length buffer.old)))) }
     ensures looks { Looks (H.seen host.old) (H.seen host.new) (IsErr result) }
 {
     host.read_at(disk, at, buffer)?;
@@ -125,7 +127,8 @@ pub fn check_disks<H: Host>(
     requires room { length buffer.old ≡ 512 * 2048 }
     ensures fault { H.tells_disks → (guids : _) → labels.now ≡ new_labels (H.seen host.old).sizes guids
         → ChecksAs guids (H.seen host.old).sizes (H.seen host.old).content result }
-    ensures large { OnOk result ((disk : ℕ) → disk < length (H.seen host.old).sizes → 2112 ≤ slice_index (H.seen host.old).sizes disk) }
+    ensures large { OnOk result ((disk : ℕ) → disk < length (H.seen host.old).sizes
+        → 2112 ≤ slice_index (H.seen host.old).sizes disk) }
     ensures looks { Looks (H.seen host.old) (H.seen host.new) (IsErrOf result InitError.Disk) }
 {
     if let Some((place, other)) = twins(labels) {

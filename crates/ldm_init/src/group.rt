@@ -1,5 +1,6 @@
 //! A new group, made on disks that are empty.
-ghost use Rattle.std.specs.Prelude.{◌≡◌, ◌*◌, ◌<◌, ◌≤◌, ◌≢◌, ◌⊎◌, ℕ, length, slice_index, All, Some, None, Err, OnOk, IfOk, IfErr, IsErr, IsErrOf};
+ghost use Rattle.std.specs.Prelude.{◌≡◌, ◌*◌, ◌<◌, ◌≤◌, ◌≢◌, ◌⊎◌, ℕ, length, slice_index, All, Some, None, Err, OnOk};
+ghost use Rattle.std.specs.Prelude.{IfOk, IfErr, IsErr, IsErrOf};
 ghost use Rattle.ldm_host.specs.Moves.{Still, DiskFailed, Looks, Works, AtEachMoment};
 ghost use Rattle.ldm_label.specs.Written.{IsWritable};
 ghost use Rattle.ldm_words.specs.NewGroup as words;
@@ -62,7 +63,8 @@ fn prepare<H: Host>(
     ensures writable { IfOk result (λ plan. All (λ label. IsWritable label) plan.labels.items) }
     ensures body { IfOk result (λ plan. IsNewBody name.now guid guids.now plan.body) }
     ensures buffer { IfOk result (λ plan. length plan.buffer.items ≡ 512 * 2048) }
-    ensures large { OnOk result ((disk : ℕ) → disk < length (H.seen host.old).sizes → 2112 ≤ slice_index (H.seen host.old).sizes disk) }
+    ensures large { OnOk result ((disk : ℕ) → disk < length (H.seen host.old).sizes
+        → 2112 ≤ slice_index (H.seen host.old).sizes disk) }
     ensures empty { H.tells_disks → OnOk result (IsInitFault guids.now (H.seen host.old).content None) }
     ensures fault { H.tells_disks → IfErr result (λ error. InitAnswers guids.now (H.seen host.old).content (Err error)) }
     ensures looks { Looks (H.seen host.old) (H.seen host.new) (IsErrOf result InitError.Disk) }
@@ -114,13 +116,15 @@ pub fn init<H: Host>(
     ensures answers { H.tells_disks → InitAnswers disks.now (H.seen host.old).content result }
     // Nothing is written after a fault or want of memory, nor where there is a fault, whatever is answered.
     ensures unwritten { MayHaveWritten result ⊎ Still (H.seen host.old) (H.seen host.new) }
-    ensures faulty { H.tells_disks → (fault : InitFault) → IsInitFault disks.now (H.seen host.old).content (Some fault) → Still (H.seen host.old) (H.seen host.new) }
+    ensures faulty { H.tells_disks → (fault : InitFault) → IsInitFault disks.now (H.seen host.old).content (Some fault)
+        → Still (H.seen host.old) (H.seen host.new) }
     // Whatever a stop leaves is refused as without signature, or is the new group.
     ensures any_moment { H.tells_disks → NothingPending (H.seen host.old) → IsInitFault disks.now (H.seen host.old).content None
         → AtEachMoment (H.seen host.old) (H.seen host.new) (IsInitMoment name.now guid disks.now (H.seen host.old)) }
     // After Ok the disks hold its images, which are found as the new group, and nothing is pending.
     ensures images { H.tells_disks → OnOk result (AreNewImages name.now guid disks.now (H.seen host.old).sizes (H.seen host.old).content (H.seen host.new).content) }
-    ensures holds { H.tells_disks → NothingPending (H.seen host.old) → OnOk result (HoldNewGroup name.now guid disks.now (H.seen host.old).sizes (H.seen host.new).content) }
+    ensures holds { H.tells_disks → NothingPending (H.seen host.old)
+        → OnOk result (HoldNewGroup name.now guid disks.now (H.seen host.old).sizes (H.seen host.new).content) }
     ensures settled { OnOk result (NothingPending (H.seen host.new)) }
     ensures works { Works (H.seen host.old) (H.seen host.new) (IsErrOf result InitError.Disk) }
 {

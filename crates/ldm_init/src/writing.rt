@@ -77,8 +77,10 @@ pub fn write_disk<H: Host>(
     requires disk { disk < length (H.seen host.old).sizes }
     requires takes { CanTake label.now body.now (slice_index (H.seen host.old).sizes disk) }
     requires size { length buffer.old ≡ 512 * 2048 }
-    ensures written { H.tells_disks → OnOk result (IsUnsignedImage label.now body.now (image (H.seen host.old).content disk) (image (H.seen host.new).content disk)) }
-    ensures ready { H.tells_disks → OnOk result ((db : Database) → IsBodyOn db label.now body.now → IsReady db label.now (image (H.seen host.new).content disk)) }
+    ensures written { H.tells_disks
+        → OnOk result (IsUnsignedImage label.now body.now (image (H.seen host.old).content disk) (image (H.seen host.new).content disk)) }
+    ensures ready { H.tells_disks → OnOk result ((db : Database) → IsBodyOn db label.now body.now
+        → IsReady db label.now (image (H.seen host.new).content disk)) }
     ensures settled { OnOk result (Settled (H.seen host.new) disk) }
     ensures changes { ChangesBeside (IsBeside (512 * label.now.config_start) (512 * 2048)) disk (H.seen host.old) (H.seen host.new) }
     ensures size { length buffer.new ≡ 512 * 2048 }

@@ -4,7 +4,8 @@ ghost use Rattle.ldm_host.specs.Moves.{Looks};
 ghost use Rattle.ldm_host.specs.Seen.{image};
 ghost use Rattle.ldm_label.specs.Answer.{answer, Gives};
 ghost use Rattle.ldm_label.specs.Fields.{sector, header_of};
-ghost use Rattle.ldm_label.specs.LabelOf.{mbr_faults, header_faults, copy_faults, toc_faults, tocs_in, some_differ, first_toc, label_of, Fits};
+ghost use Rattle.ldm_label.specs.LabelOf.{mbr_faults, header_faults, copy_faults, toc_faults, tocs_in, some_differ};
+ghost use Rattle.ldm_label.specs.LabelOf.{first_toc, label_of, Fits};
 ghost use Rattle.ldm_label.specs.Parts.{HeaderFits, TocFits};
 
 use crate::header::PrivateHeader;

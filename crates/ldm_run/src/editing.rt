@@ -1,5 +1,6 @@
 //! Does lines to the group of the disks, each on all disks and then answered.
-ghost use Rattle.std.specs.Prelude.{if◌then◌else◌, ◌≡◌, ◌≤◌, ◌<◌, ◌⊎◌, ◌++◌, List, ℕ, length, IfOk, IfErr, IfSome, OnOk, ◌∷◌, [], Option, Some, None, Ok};
+ghost use Rattle.std.specs.Prelude.{if◌then◌else◌, ◌≡◌, ◌≤◌, ◌<◌, ◌⊎◌, ◌++◌, List, ℕ, length, IfOk, IfErr, IfSome};
+ghost use Rattle.std.specs.Prelude.{OnOk, ◌∷◌, [], Option, Some, None, Ok};
 ghost use Rattle.ldm_host.specs.Moves.{Later, Quiet, Begins};
 ghost use Rattle.ldm_words.specs.declared.command.Command.{Command as Line};
 ghost use Rattle.ldm_words.specs.declared.job.Job.TheVariants as jobs;
@@ -36,12 +37,14 @@ fn apply_command<H: Host>(
     requires rests { RestsOn session.group (H.seen host.old) }
     requires holds { H.tells_disks → HoldsSession session (H.seen host.old).content }
     requires limits { IsCommand command.now }
-    ensures any_moment { H.tells_disks → (images : List (List ℕ)) (said : List ℕ) → (H.seen host.new).left_since (H.seen host.old).clock images said
+    ensures any_moment { H.tells_disks → (images : List (List ℕ)) (said : List ℕ)
+        → (H.seen host.new).left_since (H.seen host.old).clock images said
         → IsDoing session.group (Some command.now) (H.seen host.old) images said }
     ensures turn { IfOk result (λ answer. IsTurnOf (turn_on session.group (Some command.now)) session.group.labels answer.0.group answer.1) }
     ensures rests { IfOk result (λ answer. RestsOn answer.0.group (H.seen host.new)) }
     ensures holds { H.tells_disks → IfOk result (λ answer. HoldsSession answer.0 (H.seen host.new).content) }
-    ensures written { H.tells_disks → IfOk result (λ answer. AreWritten session.group.labels session.group.db answer.0.group.db (H.seen host.old).content (H.seen host.new).content) }
+    ensures written { H.tells_disks
+        → IfOk result (λ answer. AreWritten session.group.labels session.group.db answer.0.group.db (H.seen host.old).content (H.seen host.new).content) }
     ensures fault { IfErr result (EditFails (H.seen host.old) (H.seen host.new)) }
     ensures later { Later (H.seen host.old) (H.seen host.new) }
     ensures quiet { Quiet (H.seen host.old) (H.seen host.new) }
@@ -63,12 +66,14 @@ fn apply_line<H: Host>(
     requires rests { RestsOn session.group (H.seen host.old) }
     requires holds { H.tells_disks → HoldsSession session (H.seen host.old).content }
     requires limits { IfSome line IsCommand }
-    ensures any_moment { H.tells_disks → (images : List (List ℕ)) (said : List ℕ) → (H.seen host.new).left_since (H.seen host.old).clock images said
+    ensures any_moment { H.tells_disks → (images : List (List ℕ)) (said : List ℕ)
+        → (H.seen host.new).left_since (H.seen host.old).clock images said
         → IsDoing session.group line (H.seen host.old) images said }
     ensures turn { IfOk result (λ answer. IsTurnOf (turn_on session.group line) session.group.labels answer.0.group answer.1) }
     ensures rests { IfOk result (λ answer. RestsOn answer.0.group (H.seen host.new)) }
     ensures holds { H.tells_disks → IfOk result (λ answer. HoldsSession answer.0 (H.seen host.new).content) }
-    ensures written { H.tells_disks → IfOk result (λ answer. AreWritten session.group.labels session.group.db answer.0.group.db (H.seen host.old).content (H.seen host.new).content) }
+    ensures written { H.tells_disks
+        → IfOk result (λ answer. AreWritten session.group.labels session.group.db answer.0.group.db (H.seen host.old).content (H.seen host.new).content) }
     ensures fault { IfErr result (EditFails (H.seen host.old) (H.seen host.new)) }
     ensures later { Later (H.seen host.old) (H.seen host.new) }
     ensures quiet { Quiet (H.seen host.old) (H.seen host.new) }
@@ -90,14 +95,18 @@ fn edit_line<H: Host>(
     requires rests { RestsOn session.group (H.seen host.old) }
     requires holds { H.tells_disks → HoldsSession session (H.seen host.old).content }
     requires limits { IfSome line IsCommand }
-    ensures any_moment { H.tells_disks → (images : List (List ℕ)) (said : List ℕ) → (H.seen host.new).left_since (H.seen host.old).clock images said
+    ensures any_moment { H.tells_disks → (images : List (List ℕ)) (said : List ℕ)
+        → (H.seen host.new).left_since (H.seen host.old).clock images said
         → IsDoing session.group line (H.seen host.old) images said ⊎ IsAnswering session.group line number (H.seen host.old) images said }
     ensures turn { IfOk result (λ answer. IsTurnOf (turn_on session.group line) session.group.labels answer.0.group answer.1) }
     ensures rests { IfOk result (λ answer. RestsOn answer.0.group (H.seen host.new)) }
     ensures holds { H.tells_disks → IfOk result (λ answer. HoldsSession answer.0 (H.seen host.new).content) }
-    ensures written { H.tells_disks → IfOk result (λ answer. AreWritten session.group.labels session.group.db answer.0.group.db (H.seen host.old).content (H.seen host.new).content) }
-    ensures said { H.tells_disks → OnOk result ((H.seen host.new).said ≡ (H.seen host.old).said ++ text_of_reply (number, (turn_on session.group line).reply)) }
-    ensures front { H.tells_disks → Begins (H.seen host.new).said ((H.seen host.old).said ++ text_of_reply (number, (turn_on session.group line).reply)) }
+    ensures written { H.tells_disks
+        → IfOk result (λ answer. AreWritten session.group.labels session.group.db answer.0.group.db (H.seen host.old).content (H.seen host.new).content) }
+    ensures said { H.tells_disks → OnOk result ((H.seen host.new).said ≡ (H.seen host.old).said
+        ++ text_of_reply (number, (turn_on session.group line).reply)) }
+    ensures front { H.tells_disks → Begins (H.seen host.new).said ((H.seen host.old).said
+        ++ text_of_reply (number, (turn_on session.group line).reply)) }
     ensures silent { IfErr result (λ status. status ≡ Status.DiskFault → (H.seen host.new).said ≡ (H.seen host.old).said) }
     ensures fault { IfErr result (EditFails (H.seen host.old) (H.seen host.new)) }
     ensures later { Later (H.seen host.old) (H.seen host.new) }
@@ -166,9 +175,11 @@ fn open_session<H: Host>(alloc: Global, host: &mut H) -> Result<Session, Status>
     requires { 0 < length (H.seen host.old).sizes }
     ensures opened { H.tells_disks → IfOk result (λ session. IsOpenedFrom (H.seen host.old).content session.group) }
     ensures fresh { IfOk result (λ session. session.group.draft ≡ None) }
-    ensures kept { H.tells_disks → OnOk result ((found : Found) → IsGroupIn (H.seen host.old).content (Ok found) → found.blocked ≡ None
+    ensures kept { H.tells_disks → OnOk result ((found : Found) → IsGroupIn (H.seen host.old).content (Ok found)
+        → found.blocked ≡ None
         → NothingPending (H.seen host.old) → AlwaysKept found.labels found.db found.db (H.seen host.old) (H.seen host.new)) }
-    ensures one_group { H.tells_disks → OnOk result ((found : Found) → IsGroupIn (H.seen host.old).content (Ok found) → found.blocked ≡ None
+    ensures one_group { H.tells_disks
+        → OnOk result ((found : Found) → IsGroupIn (H.seen host.old).content (Ok found) → found.blocked ≡ None
         → OneGroup (H.seen host.old) (H.seen host.new)) }
     ensures rests { IfOk result (λ session. RestsOn session.group (H.seen host.new)) }
     ensures holds { H.tells_disks → IfOk result (λ session. HoldsSession session (H.seen host.new).content) }
@@ -176,7 +187,8 @@ fn open_session<H: Host>(alloc: Global, host: &mut H) -> Result<Session, Status>
     ensures later { OnOk result (Later (H.seen host.old) (H.seen host.new)) }
     ensures quiet { OnOk result (Quiet (H.seen host.old) (H.seen host.new)) }
     ensures silent { IfErr result (λ status. status ≡ Status.DiskFault → (H.seen host.new).said ≡ (H.seen host.old).said) }
-    ensures fault { IfErr result (λ status. (lines : List (Option Line)) → DoesGroup H.tells_disks lines (H.seen host.old) (H.seen host.new) status) }
+    ensures fault { IfErr result (λ status. (lines : List (Option Line))
+        → DoesGroup H.tells_disks lines (H.seen host.old) (H.seen host.new) status) }
 {
     match settle(alloc, host) {
         Ok(session) => Ok(session),

@@ -16,7 +16,8 @@ use std::alloc::Global;
 
 // Two places of one GUID.
 fn same_text(alloc: Global, first: usize, second: usize) -> Result<Bytes, NoMemory>
-    ensures { IfOk result (λ text. text ≡ ((codes "GUIDs " ++ decimal first) ++ (codes " and " ++ decimal second)) ++ codes " are one") }
+    ensures { IfOk result (λ text. text ≡ ((codes "GUIDs " ++ decimal first) ++ (codes " and " ++ decimal second))
+        ++ codes " are one") }
 {
     let mut text = Text::new(alloc);
     push_number(&mut text, b"GUIDs ", first as u64)?;
@@ -45,7 +46,8 @@ fn init_refusal(alloc: Global, fault: InitFault) -> Result<Bytes, NoMemory>
 
 // Refuses disks for a fault.
 fn refuse_disks<H: Host>(alloc: Global, host: &mut H, fault: InitFault) -> Status
-    ensures { OnlyReads H.tells_talk (H.seen host.old) (H.seen host.new) (λ answer. answer ≡ refused (text_of_init_fault fault)) result }
+    ensures { OnlyReads H.tells_talk (H.seen host.old) (H.seen host.new) (λ answer. answer
+        ≡ refused (text_of_init_fault fault)) result }
 {
     let line = init_refusal(alloc, fault);
     say_made(host, line, Status::Refused)
@@ -53,7 +55,8 @@ fn refuse_disks<H: Host>(alloc: Global, host: &mut H, fault: InitFault) -> Statu
 
 // Says that the group was made. It takes no memory.
 fn say_done<H: Host>(host: &mut H) -> Status
-    ensures says { OnlyReads H.tells_talk (H.seen host.old) (H.seen host.new) (λ answer. answer ≡ (made_text, Status.Done)) result }
+    ensures says { OnlyReads H.tells_talk (H.seen host.old) (H.seen host.new) (λ answer. answer
+        ≡ (made_text, Status.Done)) result }
     ensures not_refused { result ≢ Status.Refused }
     ensures no_memory { result ≢ Status.NoMemory }
 {

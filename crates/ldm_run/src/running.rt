@@ -17,7 +17,8 @@ ghost use Rattle.ldm_run.specs.Scripts.{commands_in, try_answer};
 ghost use Rattle.ldm_run.specs.Kinds.{kind_of, JobTalk};
 ghost use Rattle.ldm_run.specs.Stops.{JobStops, JobSinceSyncs};
 ghost use Rattle.ldm_run.specs.Written.{JobDisks};
-ghost use Rattle.ldm_run.specs.Runs.{Answers, Completes, Causes, DoesJob, NoFault, HasImages, IsUnread, OfJob, OnlyReads, Replies};
+ghost use Rattle.ldm_run.specs.Runs.{Answers, Completes, Causes, DoesJob, NoFault, HasImages, IsUnread, OfJob};
+ghost use Rattle.ldm_run.specs.Runs.{OnlyReads, Replies};
 
 use crate::dump::dump;
 use crate::editing::{edit_one, edit_script};
@@ -90,7 +91,8 @@ pub(crate) fn say_made<H: Host>(
 
 // The line that refuses an image for a fault, whose text was made.
 fn refusal(alloc: Global, image: usize, made: Result<Bytes, NoMemory>) -> Result<Bytes, NoMemory>
-    ensures { (text : List ℕ) → IfOk made (λ m. m ≡ text) → IfOk result (λ line. line ≡ text_of_refusal (text_of_image_fault image text)) }
+    ensures { (text : List ℕ) → IfOk made (λ m. m ≡ text)
+        → IfOk result (λ line. line ≡ text_of_refusal (text_of_image_fault image text)) }
 {
     let of_image = image_fault_text(alloc, image, made?.as_slice())?;
     refusal_text(alloc, of_image.as_slice())
@@ -320,7 +322,8 @@ pub fn run<H: Host>(alloc: Global, words: &[String], host: &mut H) -> Status
     // Usage comes exactly where the words have no reading.
     ensures usage { result ≢ Status.NoMemory → (result ≡ Status.Usage) ↔ (job_of (texts words.now) ≡ None) }
     // Done and Refused are the answer, and nothing is said but the beginning of its text. There is one answer.
-    ensures answers { H.tells_disks → Answers (H.seen host.old) (H.seen host.new) (IsAnswerTo (texts words.now) (H.seen host.old).content (H.seen host.old).input) result }
+    ensures answers { H.tells_disks
+        → Answers (H.seen host.old) (H.seen host.new) (IsAnswerTo (texts words.now) (H.seen host.old).content (H.seen host.old).input) result }
     ensures one { (a b : Answer) → IsAnswerTo (texts words.now) (H.seen host.old).content (H.seen host.old).input a
         → IsAnswerTo (texts words.now) (H.seen host.old).content (H.seen host.old).input b → a ≡ b }
     // A fault comes only where its count rose.
@@ -329,15 +332,19 @@ pub fn run<H: Host>(alloc: Global, words: &[String], host: &mut H) -> Status
     ensures complete { H.tells_disks → NoFault (H.seen host.old) (H.seen host.new) → result ≢ Status.NoMemory
         → Completes (H.seen host.old) (H.seen host.new) (IsAnswerTo (texts words.now) (H.seen host.old).content (H.seen host.old).input) result }
     // No call of the host is made where the words have no reading.
-    ensures disks { OfJob (job_of (texts words.now)) (host.new ≡ host.old) (λ job. JobDisks H.tells_disks job (H.seen host.old) (H.seen host.new) result) }
+    ensures disks { OfJob (job_of (texts words.now)) (host.new
+        ≡ host.old) (λ job. JobDisks H.tells_disks job (H.seen host.old) (H.seen host.new) result) }
     // After a fault nothing more is said, but where the answer is said while the disks are read on.
-    ensures talk { OfJob (job_of (texts words.now)) (host.new ≡ host.old) (λ job. JobTalk H.tells_disks H.tells_talk (kind_of job) (H.seen host.old) (H.seen host.new) result) }
+    ensures talk { OfJob (job_of (texts words.now)) (host.new
+        ≡ host.old) (λ job. JobTalk H.tells_disks H.tells_talk (kind_of job) (H.seen host.old) (H.seen host.new) result) }
     // Whatever a stop leaves at any moment of a job that writes, and after it, opens as the group after some first lines,
     // among them each that was answered.
-    ensures stops { OfJob (job_of (texts words.now)) (host.new ≡ host.old) (λ job. JobStops H.tells_disks job (H.seen host.old) (H.seen host.new)) }
+    ensures stops { OfJob (job_of (texts words.now)) (host.new
+        ≡ host.old) (λ job. JobStops H.tells_disks job (H.seen host.old) (H.seen host.new)) }
     // Where anything was pending at the start, so it is from the end of the syncs on; until then a stop leaves what it could
     // leave before.
-    ensures since_syncs { OfJob (job_of (texts words.now)) (host.new ≡ host.old) (λ job. JobSinceSyncs H.tells_disks job (H.seen host.old) (H.seen host.new)) }
+    ensures since_syncs { OfJob (job_of (texts words.now)) (host.new
+        ≡ host.old) (λ job. JobSinceSyncs H.tells_disks job (H.seen host.old) (H.seen host.new)) }
 {
     do_words(alloc, words, host)
 }

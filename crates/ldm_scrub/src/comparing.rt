@@ -1,5 +1,6 @@
 //! Copies and rows of a volume, compared.
-ghost use Rattle.std.specs.Prelude.{◌≡◌, ◌+◌, ◌-◌, ◌*◌, ◌/◌, ◌%◌, ◌<◌, ◌≤◌, ℕ, length, map, fold, bit_xor, slice_index, false, OnOk, IfOk, IsErr, Some};
+ghost use Rattle.std.specs.Prelude.{◌≡◌, ◌+◌, ◌-◌, ◌*◌, ◌/◌, ◌%◌, ◌<◌, ◌≤◌, ℕ, length, map, fold, bit_xor};
+ghost use Rattle.std.specs.Prelude.{slice_index, false, OnOk, IfOk, IsErr, Some};
 ghost use Rattle.std.specs.List.{list_any, range_with_len};
 ghost use Rattle.std.specs.Option.{option_to_list};
 ghost use Rattle.std.specs.Str.{bytes_eq};
@@ -24,7 +25,8 @@ use ldm_layout::{Plan, Shape};
 fn mark_differing(bytes: &[u8], others: &[u8], marks: &mut [u8])
     requires size { length bytes.now ≡ 512 * length marks.old }
     requires same { length others.now ≡ length bytes.now }
-    ensures { (i : ℕ) → i < length marks.old → slice_index marks.new i ≡ marked (bytes_eq (part bytes.now i) (part others.now i)) (slice_index marks.old i) }
+    ensures { (i : ℕ) → i < length marks.old
+        → slice_index marks.new i ≡ marked (bytes_eq (part bytes.now i) (part others.now i)) (slice_index marks.old i) }
 {
     for i in 0..marks.len() {
         if bytes[512 * i..512 * i + 512] != others[512 * i..512 * i + 512] {
@@ -36,7 +38,8 @@ fn mark_differing(bytes: &[u8], others: &[u8], marks: &mut [u8])
 // Marks each sector that differs from this one.
 fn mark_unlike(bytes: &[u8], sector: &[u8], marks: &mut [u8])
     requires size { length bytes.now ≡ 512 * length marks.old }
-    ensures { (i : ℕ) → i < length marks.old → slice_index marks.new i ≡ marked (bytes_eq (part bytes.now i) sector.now) (slice_index marks.old i) }
+    ensures { (i : ℕ) → i < length marks.old
+        → slice_index marks.new i ≡ marked (bytes_eq (part bytes.now i) sector.now) (slice_index marks.old i) }
 {
     for i in 0..marks.len() {
         if &bytes[512 * i..512 * i + 512] != sector {
@@ -85,7 +88,8 @@ fn read_column<H: Host>(
     requires raid5 { plan.now.shape ≡ Raid5 }
     requires within { sector < plan.now.size }
     requires there { column < length (columns_of plan.now) }
-    requires has { (s : Place) → spot_at found.now (column_in plan.now sector column) ≡ Some s → HasBytes (H.seen host.old).sizes s (length out.old) }
+    requires has { (s : Place) → spot_at found.now (column_in plan.now sector column) ≡ Some s
+        → HasBytes (H.seen host.old).sizes s (length out.old) }
     requires lies { RowsLieOn found.now plan.now (H.seen host.old).sizes }
     ensures bytes { H.tells_disks → OnOk result ((j : ℕ) → j < length out.old → slice_index out.new j
         ≡ joined_byte (H.seen host.old).content (option_to_list (spot_at found.now (column_in plan.now sector column))) j) }
@@ -113,7 +117,8 @@ fn join_column<H: Host>(
     requires raid5 { plan.now.shape ≡ Raid5 }
     requires within { sector < plan.now.size }
     requires there { column < length (columns_of plan.now) }
-    requires has { (s : Place) → spot_at found.now (column_in plan.now sector column) ≡ Some s → HasBytes (H.seen host.old).sizes s (length out.old) }
+    requires has { (s : Place) → spot_at found.now (column_in plan.now sector column) ≡ Some s
+        → HasBytes (H.seen host.old).sizes s (length out.old) }
     requires lies { RowsLieOn found.now plan.now (H.seen host.old).sizes }
     requires same { length scratch.old ≡ length out.old }
     ensures bytes { H.tells_disks → OnOk result ((j : ℕ) → j < length out.old → slice_index out.new j
@@ -138,7 +143,8 @@ fn join_row<H: Host>(
     requires raid5 { plan.now.shape ≡ Raid5 }
     requires columned { IsColumned plan.now }
     requires within { sector < plan.now.size }
-    requires has { (column : ℕ) (s : Place) → spot_at found.now (column_in plan.now sector column) ≡ Some s → HasBytes (H.seen host.old).sizes s (length out.old) }
+    requires has { (column : ℕ) (s : Place) → spot_at found.now (column_in plan.now sector column) ≡ Some s
+        → HasBytes (H.seen host.old).sizes s (length out.old) }
     requires lies { RowsLieOn found.now plan.now (H.seen host.old).sizes }
     requires same { length scratch.old ≡ length out.old }
     ensures bytes { H.tells_disks → OnOk result ((j : ℕ) → j < length out.old
@@ -229,7 +235,8 @@ fn mark_one<H: Host>(
     requires same { length scratch.old ≡ length out.old }
     requires lies { LiesOn found.now plan.now (H.seen host.old).sizes }
     requires rows { RowsLieOn found.now plan.now (H.seen host.old).sizes }
-    ensures marks { H.tells_disks → OnOk result (slice_index marks.new 0 ≡ mark (is_bad (H.seen host.old).content found.now plan.now sector)) }
+    ensures marks { H.tells_disks → OnOk result (slice_index marks.new 0
+        ≡ mark (is_bad (H.seen host.old).content found.now plan.now sector)) }
     ensures looks { Looks (H.seen host.old) (H.seen host.new) (IsErr result) }
 {
     match plan.shape() {

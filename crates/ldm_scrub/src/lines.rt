@@ -1,5 +1,6 @@
 //! The lines of bad places, written in memory that was taken before.
-ghost use Rattle.std.specs.Prelude.{◌≡◌, ◌++◌, ◌+◌, ◌*◌, ◌/◌, ◌%◌, ◌<◌, ◌≤◌, ◌^◌, ℕ, Bool, List, [], length, take, slice_index, flat_map, count_by, decimal, if◌then◌else◌};
+ghost use Rattle.std.specs.Prelude.{◌≡◌, ◌++◌, ◌+◌, ◌*◌, ◌/◌, ◌%◌, ◌<◌, ◌≤◌, ◌^◌, ℕ, Bool, List, [], length, take};
+ghost use Rattle.std.specs.Prelude.{slice_index, flat_map, count_by, decimal, if◌then◌else◌};
 ghost use Rattle.std.specs.List.{range_with_len};
 ghost use Rattle.ldm_layout.specs.declared.shape.Shape.TheVariants.{Raid5};
 ghost use Rattle.ldm_scrub.specs.Compare.{mark};
@@ -73,7 +74,8 @@ fn push_line(page: &mut [u8], used: usize, plan: &Plan, place: u64) -> usize
 fn push_marked(page: &mut [u8], used: usize, plan: &Plan, place: u64, m: u8) -> usize
     requires { used + LINE ≤ length page.old }
     ensures end { result ≤ used + LINE }
-    ensures is { (bad : Bool) → m ≡ mark bad → take result page.new ≡ take used page.old ++ (if bad then line_of plan.now place else []) }
+    ensures is { (bad : Bool) → m ≡ mark bad
+        → take result page.new ≡ take used page.old ++ (if bad then line_of plan.now place else []) }
 {
     if m == 1 {
         push_line(page, used, plan, place)
@@ -108,7 +110,8 @@ fn one_if(m: u8) -> u64
 /// How many places from this one on are marked.
 pub fn count_marks(marks: &[u8]) -> u64
     ensures few { result ≤ length marks.now }
-    ensures is { (place : ℕ) (bad : ℕ → Bool) → ((i : ℕ) → i < length marks.now → slice_index marks.now i ≡ mark (bad (place + i)))
+    ensures is { (place : ℕ) (bad : ℕ → Bool)
+        → ((i : ℕ) → i < length marks.now → slice_index marks.now i ≡ mark (bad (place + i)))
         → result ≡ count_by bad (range_with_len place (length marks.now)) }
 {
     let mut count = 0;

@@ -1,5 +1,6 @@
 //! The places of a volume, compared, and what is said of them.
-ghost use Rattle.std.specs.Prelude.{◌≡◌, ◌++◌, ◌+◌, ◌*◌, ◌<◌, ◌≤◌, ◌^◌, ℕ, List, length, slice_index, false, IfOk, OnOk, IsErr, IsErrOf};
+ghost use Rattle.std.specs.Prelude.{◌≡◌, ◌++◌, ◌+◌, ◌*◌, ◌<◌, ◌≤◌, ◌^◌, ℕ, List, length, slice_index, false, IfOk};
+ghost use Rattle.std.specs.Prelude.{OnOk, IsErr, IsErrOf};
 ghost use Rattle.std.specs.List.{range_with_len};
 ghost use Rattle.ldm_host.specs.Moves.{Still, Begins, DiskFailed, TalkFailed, Looks};
 ghost use Rattle.ldm_layout.specs.declared.shape.Shape.TheVariants.{Raid5};
@@ -149,13 +150,15 @@ fn say_marked<H: Host>(
     ensures few { IfOk result (λ n. n ≤ length marks.now) }
     ensures said { H.tells_talk → (images : List (List ℕ)) (found : Found)
         → ((i : ℕ) → i < length marks.now → slice_index marks.now i ≡ mark (is_bad_at images found plan.now (place + i)))
-        → IfOk result (λ n. (H.seen host.new).said ≡ (H.seen host.old).said ++ lines_of images found plan.now (range_with_len place (length marks.now))) }
+        → IfOk result (λ n. (H.seen host.new).said ≡ (H.seen host.old).said
+        ++ lines_of images found plan.now (range_with_len place (length marks.now))) }
     ensures count { (images : List (List ℕ)) (found : Found)
         → ((i : ℕ) → i < length marks.now → slice_index marks.now i ≡ mark (is_bad_at images found plan.now (place + i)))
         → IfOk result (λ n. n ≡ bad_of images found plan.now (range_with_len place (length marks.now))) }
     ensures front { (images : List (List ℕ)) (found : Found)
         → ((i : ℕ) → i < length marks.now → slice_index marks.now i ≡ mark (is_bad_at images found plan.now (place + i)))
-        → Begins (H.seen host.new).said ((H.seen host.old).said ++ lines_of images found plan.now (range_with_len place (length marks.now))) }
+        → Begins (H.seen host.new).said ((H.seen host.old).said
+        ++ lines_of images found plan.now (range_with_len place (length marks.now))) }
     ensures still { Still (H.seen host.old) (H.seen host.new) }
     ensures input { SameInput (H.seen host.old) (H.seen host.new) }
     ensures cause { IsErr result → TalkFailed (H.seen host.old) (H.seen host.new) }
@@ -195,7 +198,8 @@ fn scrub_some<H: Host>(
     ensures few { IfOk result (λ n. n.1 ≤ n.0) }
     ensures said { H.tells_disks → IfOk result (λ n. (H.seen host.new).said
         ≡ (H.seen host.old).said ++ lines_of (H.seen host.old).content found.now plan.now (range_with_len place n.0)) }
-    ensures count { H.tells_disks → IfOk result (λ n. n.1 ≡ bad_of (H.seen host.old).content found.now plan.now (range_with_len place n.0)) }
+    ensures count { H.tells_disks → IfOk result (λ n. n.1
+        ≡ bad_of (H.seen host.old).content found.now plan.now (range_with_len place n.0)) }
     ensures front { H.tells_disks → (n : ℕ) × (place + n ≤ all) × Begins (H.seen host.new).said
         ((H.seen host.old).said ++ lines_of (H.seen host.old).content found.now plan.now (range_with_len place n)) }
     ensures still { Still (H.seen host.old) (H.seen host.new) }
@@ -232,7 +236,8 @@ fn scrub_places<H: Host>(
     requires rows { RowsLieOn found.now plan.now (H.seen host.old).sizes }
     ensures said { H.tells_disks → OnOk result ((H.seen host.new).said
         ≡ (H.seen host.old).said ++ lines_of (H.seen host.old).content found.now plan.now (places_of plan.now)) }
-    ensures count { H.tells_disks → IfOk result (λ bad. bad ≡ bad_of (H.seen host.old).content found.now plan.now (places_of plan.now)) }
+    ensures count { H.tells_disks → IfOk result (λ bad. bad
+        ≡ bad_of (H.seen host.old).content found.now plan.now (places_of plan.now)) }
     ensures front { H.tells_disks → Begins (H.seen host.new).said
         ((H.seen host.old).said ++ lines_of (H.seen host.old).content found.now plan.now (places_of plan.now)) }
     ensures still { Still (H.seen host.old) (H.seen host.new) }
@@ -271,7 +276,8 @@ pub fn scrub_volume<H: Host>(
     requires rows { RowsLieOn found.now plan.now (H.seen host.old).sizes }
     ensures said { H.tells_disks → OnOk result ((H.seen host.new).said
         ≡ (H.seen host.old).said ++ text_of_scrub front.now (H.seen host.old).content found.now plan.now) }
-    ensures count { H.tells_disks → IfOk result (λ bad. bad ≡ bad_of (H.seen host.old).content found.now plan.now (places_of plan.now)) }
+    ensures count { H.tells_disks → IfOk result (λ bad. bad
+        ≡ bad_of (H.seen host.old).content found.now plan.now (places_of plan.now)) }
     ensures front { H.tells_disks → Begins (H.seen host.new).said
         ((H.seen host.old).said ++ text_of_scrub front.now (H.seen host.old).content found.now plan.now) }
     ensures still { Still (H.seen host.old) (H.seen host.new) }

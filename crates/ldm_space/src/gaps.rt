@@ -131,7 +131,8 @@ impl FreeMap {
         ensures found { result ≡ first_gap len self.old }
         ensures left { self.new ≡ without_first len self.old }
         ensures unchanged { IfNone result (self.new ≡ self.old) }
-        ensures first { (taken : List Taken) (disk size : ℕ) → AreGaps self.old taken disk size → TakesFirst taken disk size len result self.new }
+        ensures first { (taken : List Taken) (disk size : ℕ) → AreGaps self.old taken disk size
+            → TakesFirst taken disk size len result self.new }
     {
         let at = first_long(self.gaps.as_slice(), len)?;
         let gap = self.gaps[at];

@@ -40,8 +40,10 @@ fn opened(
 // Takes the first fit, where it ends within the limit. The map is of no use after `None`.
 fn fit(map: &mut FreeMap, asked: Wanted) -> Option<u64>
     requires some { 0 < asked.size }
-    ensures first { (taken : List Taken) → AreGaps map.old taken asked.disk (2 ^ 64 - 1) → result ≡ first_free_start taken asked.disk asked.limit asked.size }
-    ensures left { IfSome result (λ start. (taken : List Taken) → AreGaps map.old taken asked.disk (2 ^ 64 - 1) → AreGaps map.new (record { disk = asked.disk; start = start; size = asked.size } ∷ taken) asked.disk (2 ^ 64 - 1)) }
+    ensures first { (taken : List Taken) → AreGaps map.old taken asked.disk (2 ^ 64 - 1)
+        → result ≡ first_free_start taken asked.disk asked.limit asked.size }
+    ensures left { IfSome result (λ start. (taken : List Taken) → AreGaps map.old taken asked.disk (2 ^ 64 - 1)
+        → AreGaps map.new (record { disk = asked.disk; start = start; size = asked.size } ∷ taken) asked.disk (2 ^ 64 - 1)) }
 {
     let last = asked.limit.checked_sub(asked.size)?;
     let start = map.take(asked.size)?;

@@ -25,7 +25,8 @@ pub fn rewrite_all<H: Host>(host: &mut H, labels: &[Label], next: &Next) -> Resu
     requires body { (db : Database) × IsBodyOnEach db labels.now (bytes_in next.now) }
     requires settled { AllSettled labels.now (H.seen host.old) }
     requires current { H.tells_disks → (o : Database) × AllHave labels.now (H.seen host.old).content (IsCurrent o) }
-    requires before { H.tells_disks → (change : Changed) → next.now ≡ nexts.Changed change → (disk : ℕ) (label : Label) → slice_get labels.now disk ≡ Some label
+    requires before { H.tells_disks → (change : Changed) → next.now ≡ nexts.Changed change → (disk : ℕ) (label : Label)
+        → slice_get labels.now disk ≡ Some label
         → (old : List ℕ) × ChangesFrom old change × HasBody label old (image (H.seen host.old).content disk) }
     // At each moment the group before or the one after is found, whatever the outcome.
     ensures any_moment { H.tells_disks → (o n : Database) → AllHave labels.now (H.seen host.old).content (IsCurrent o)
@@ -36,7 +37,8 @@ pub fn rewrite_all<H: Host>(host: &mut H, labels: &[Label], next: &Next) -> Resu
         → HasBody label (bytes_in next.now) (image (H.seen host.new).content disk)) }
     ensures outside { H.tells_disks → AreSameOutside labels.now (H.seen host.old).content (H.seen host.new).content }
     ensures settled { OnOk result (AllSettled labels.now (H.seen host.new)) }
-    ensures wrote { (disk : ℕ) → slice_index (H.seen host.new).wrote disk ≤ slice_index (H.seen host.old).wrote disk + most_in next.now }
+    ensures wrote { (disk : ℕ) → slice_index (H.seen host.new).wrote disk
+        ≤ slice_index (H.seen host.old).wrote disk + most_in next.now }
     ensures works { Works (H.seen host.old) (H.seen host.new) (IsErr result) }
 {
     for disk in 0..labels.len() {

@@ -68,7 +68,8 @@ fn next_of(alloc: Global, body: &Option<Body>, older: &Db, newer: &Db) -> Result
 }
 
 impl Session {
-    ghost use Rattle.std.specs.Prelude.{◌≡◌, ◌+◌, ◌*◌, ◌/◌, ◌<◌, ◌≤◌, ℕ, List, slice_index, Option, IfOk, IfSome, IsErrOf, Some, None, option_copied};
+    ghost use Rattle.std.specs.Prelude.{◌≡◌, ◌+◌, ◌*◌, ◌/◌, ◌<◌, ◌≤◌, ℕ, List, slice_index, Option, IfOk, IfSome};
+    ghost use Rattle.std.specs.Prelude.{IsErrOf, Some, None, option_copied};
     ghost use Rattle.std.specs.Option.{ForSome};
     ghost use Rattle.ldm_host.specs.Moves.{Still, Works};
     ghost use Rattle.ldm_copy.specs.Table.{IsCoreBody};
@@ -166,13 +167,15 @@ impl Session {
         requires holds { H.tells_disks → HoldsSession self (H.seen host.old).content }
         requires command { IsCommand command.now }
         // At each moment the group before the command or the one after it is found, whatever the outcome.
-        ensures any_moment { H.tells_disks → AlwaysKept self.group.labels self.group.db (turn_in self.group command.now).state.db (H.seen host.old) (H.seen host.new) }
+        ensures any_moment { H.tells_disks
+            → AlwaysKept self.group.labels self.group.db (turn_in self.group command.now).state.db (H.seen host.old) (H.seen host.new) }
         // What comes back is the session after the command, which the disks hold, and its reply.
         ensures applied { IfOk result (λ answer. IsApplied H.tells_disks self command.now answer.0 answer.1 (H.seen host.old) (H.seen host.new)) }
         // Where a disk failed the group after the command may be edited too.
         ensures torn { IsErrOf result ApplyError.Disk → IsNextFor self.group (turn_in self.group command.now).state.db }
         // Where memory ran out the session comes back as it was.
-        ensures no_memory { (session : _) → IsErrOf result (ApplyError.NoMemory session) → (session ≡ self) × Still (H.seen host.old) (H.seen host.new) }
+        ensures no_memory { (session : _) → IsErrOf result (ApplyError.NoMemory session) → (session ≡ self)
+            × Still (H.seen host.old) (H.seen host.new) }
         // Each disk is handed the bytes of the body of the next group at most, and one more.
         ensures wrote { (disk : ℕ) → slice_index (H.seen host.new).wrote disk
             ≤ slice_index (H.seen host.old).wrote disk + (512 * ((turn_in self.group command.now).state.db.header.last / 4) + 1) }

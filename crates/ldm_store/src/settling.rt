@@ -1,5 +1,6 @@
 //! Makes the group of the disks ready to be edited.
-ghost use Rattle.std.specs.Prelude.{if◌then◌else◌, ◌≡◌, ◌≢◌, ◌⊎◌, ◌+◌, ◌<◌, ℕ, length, slice_index, Result, IfOk, IfErr, OnOk, IsErr, IsErrOf, Some, None};
+ghost use Rattle.std.specs.Prelude.{if◌then◌else◌, ◌≡◌, ◌≢◌, ◌⊎◌, ◌+◌, ◌<◌, ℕ, length, slice_index, Result, IfOk};
+ghost use Rattle.std.specs.Prelude.{IfErr, OnOk, IsErr, IsErrOf, Some, None};
 ghost use Rattle.ldm_host.specs.Moves.{Settled, Settles, DiskFailed, Looks, Works};
 ghost use Rattle.ldm_host.specs.Seen.{image};
 ghost use Rattle.ldm_label.specs.LabelOf.{Fits};
@@ -89,7 +90,8 @@ fn kept(body: Body, is_kept: bool) -> Option<Body>
 fn ready<H: Host>(alloc: Global, host: &mut H) -> Result<(Found, Body, bool), OpenError>
     requires { 0 < length (H.seen host.old).sizes }
     ensures ready { IfOk result (λ it. IsReady H.tells_disks (H.seen host.old) it.0 it.1 it.2) }
-    ensures fault { H.tells_disks → (fault : OpenFault) → IsErrOf result (OpenError.Fault fault) → HoldsNoneFor fault (H.seen host.old).content }
+    ensures fault { H.tells_disks → (fault : OpenFault) → IsErrOf result (OpenError.Fault fault)
+        → HoldsNoneFor fault (H.seen host.old).content }
     ensures looks { Looks (H.seen host.old) (H.seen host.new) (IsErrOf result OpenError.Disk) }
 {
     let found = find_group(alloc, host)?;
@@ -109,7 +111,8 @@ fn settle_synced<H: Host>(alloc: Global, host: &mut H) -> Result<Session, OpenEr
         → AlwaysKept found.labels found.db found.db (H.seen host.old) (H.seen host.new) }
     ensures written { H.tells_disks → Settles (H.seen host.old) (H.seen host.new) ⊎ HoldsEditable (H.seen host.old).content }
     ensures session { IfOk result (λ session. IsSettled H.tells_disks (H.seen host.old).content session (H.seen host.new)) }
-    ensures fault { H.tells_disks → (fault : OpenFault) → IsErrOf result (OpenError.Fault fault) → HoldsNoneFor fault (H.seen host.old).content }
+    ensures fault { H.tells_disks → (fault : OpenFault) → IsErrOf result (OpenError.Fault fault)
+        → HoldsNoneFor fault (H.seen host.old).content }
     ensures unwritten { IfErr result (λ error. error ≢ OpenError.Disk → Settles (H.seen host.old) (H.seen host.new)) }
     ensures handed { H.tells_disks → (found : Found) → IsGroupIn (H.seen host.old).content (Result.Ok found)
         → IsHandedFew found (H.seen host.old).wrote (H.seen host.new).wrote }
@@ -135,7 +138,8 @@ pub fn settle<H: Host>(alloc: Global, host: &mut H) -> Result<Session, OpenError
     ensures any_moment { H.tells_disks → KeepsOneGroup (H.seen host.old) (H.seen host.new) (IsErrOf result OpenError.Disk) }
     // The session is that of the group which the disks held, and they hold it now.
     ensures session { IfOk result (λ session. IsSettled H.tells_disks (H.seen host.old).content session (H.seen host.new)) }
-    ensures fault { H.tells_disks → (fault : OpenFault) → IsErrOf result (OpenError.Fault fault) → HoldsNoneFor fault (H.seen host.old).content }
+    ensures fault { H.tells_disks → (fault : OpenFault) → IsErrOf result (OpenError.Fault fault)
+        → HoldsNoneFor fault (H.seen host.old).content }
     // Where the disks hold no group that may be edited, they are synced and handed no byte, whatever the answer.
     ensures untouched { H.tells_disks → HoldsNone (H.seen host.old).content → Settles (H.seen host.old) (H.seen host.new) }
     ensures unwritten { IfErr result (λ error. error ≢ OpenError.Disk → Settles (H.seen host.old) (H.seen host.new)) }

@@ -1,5 +1,6 @@
 //! The body that the copies share which aren't behind.
-ghost use Rattle.std.specs.Prelude.{◌≡◌, ◌*◌, ◌<◌, ◌≤◌, ℕ, IsTrue, true, false, Result, Option, Some, None, length, slice_index, slice_get, IfOk, IfSome, IsErrOf};
+ghost use Rattle.std.specs.Prelude.{◌≡◌, ◌*◌, ◌<◌, ◌≤◌, ℕ, IsTrue, true, false, Result, Option, Some, None, length};
+ghost use Rattle.std.specs.Prelude.{slice_index, slice_get, IfOk, IfSome, IsErrOf};
 ghost use Rattle.ldm_host.specs.Moves.{Looks};
 ghost use Rattle.ldm_host.specs.Seen.{image};
 ghost use Rattle.ldm_label.specs.declared.Label.{Label};
@@ -43,8 +44,10 @@ fn has_body<H: Host>(
     requires fits { Fits label.now (slice_index (H.seen host.old).sizes disk) }
     requires low { 4 ≤ db.now.header.last }
     requires room { db.now.header.last ≤ 4 * label.now.area_sectors }
-    ensures yes { H.tells_disks → IfOk result (λ has. IsTrue has → body.now ≡ body_bytes db.now label.now (image (H.seen host.old).content disk)) }
-    ensures no { H.tells_disks → IfOk result (λ has. has ≡ false → LacksBody db.now label.now body.now (image (H.seen host.old).content disk)) }
+    ensures yes { H.tells_disks → IfOk result (λ has. IsTrue has
+        → body.now ≡ body_bytes db.now label.now (image (H.seen host.old).content disk)) }
+    ensures no { H.tells_disks → IfOk result (λ has. has ≡ false
+        → LacksBody db.now label.now body.now (image (H.seen host.old).content disk)) }
     ensures looks { Looks (H.seen host.old) (H.seen host.new) (IsErrOf result BodyError.Disk) }
 {
     let found = read_body(alloc, host, disk, label, db)?;
@@ -69,8 +72,10 @@ fn keeps_body<H: Host>(
     requires fits { Fits label.now (slice_index (H.seen host.old).sizes disk) }
     requires low { 4 ≤ db.now.header.last }
     requires room { db.now.header.last ≤ 4 * label.now.area_sectors }
-    ensures yes { H.tells_disks → IfOk result (λ keeps. IsTrue keeps → is_behind seq note ≡ false → body.now ≡ body_bytes db.now label.now (image (H.seen host.old).content disk)) }
-    ensures no { H.tells_disks → IfOk result (λ keeps. keeps ≡ false → (is_behind seq note ≡ false) × LacksBody db.now label.now body.now (image (H.seen host.old).content disk)) }
+    ensures yes { H.tells_disks → IfOk result (λ keeps. IsTrue keeps → is_behind seq note ≡ false
+        → body.now ≡ body_bytes db.now label.now (image (H.seen host.old).content disk)) }
+    ensures no { H.tells_disks → IfOk result (λ keeps. keeps ≡ false → (is_behind seq note ≡ false)
+        × LacksBody db.now label.now body.now (image (H.seen host.old).content disk)) }
     ensures looks { Looks (H.seen host.old) (H.seen host.new) (IsErrOf result BodyError.Disk) }
 {
     if is_behind(seq, note) {
@@ -92,10 +97,12 @@ fn all_have<H: Host>(
     requires lie { LieOn labels.now (H.seen host.old).sizes }
     requires one_note { length notes.now ≡ length labels.now }
     requires low { 4 ≤ db.now.header.last }
-    requires room { (disk : ℕ) (label : Label) → slice_get labels.now disk ≡ Some label → db.now.header.last ≤ 4 * label.area_sectors }
+    requires room { (disk : ℕ) (label : Label) → slice_get labels.now disk ≡ Some label
+        → db.now.header.last ≤ 4 * label.area_sectors }
     ensures yes { H.tells_disks → IfOk result (λ all. IsTrue all → (disk : ℕ) → disk < length labels.now
         → KeepsBody seq labels.now notes.now db.now body.now (H.seen host.old).content disk) }
-    ensures no { H.tells_disks → IfOk result (λ all. all ≡ false → LosesBody seq labels.now notes.now db.now body.now (H.seen host.old).content) }
+    ensures no { H.tells_disks → IfOk result (λ all. all ≡ false
+        → LosesBody seq labels.now notes.now db.now body.now (H.seen host.old).content) }
     ensures looks { Looks (H.seen host.old) (H.seen host.new) (IsErrOf result BodyError.Disk) }
 {
     for disk in 0..labels.len() {
@@ -108,7 +115,8 @@ fn all_have<H: Host>(
 
 // The first copy that is neither closed nor of a lower sequence than this.
 fn first_ahead(seq: u64, notes: &[Note]) -> Option<usize>
-    ensures found { (disk : ℕ) → result ≡ Some disk → (note : Note) × (slice_get notes.now disk ≡ Some note) × (is_behind seq note ≡ false) }
+    ensures found { (disk : ℕ) → result ≡ Some disk → (note : Note) × (slice_get notes.now disk ≡ Some note)
+        × (is_behind seq note ≡ false) }
     ensures none { result ≡ None → (disk : ℕ) (note : Note) → slice_get notes.now disk ≡ Some note → is_behind seq note ≡ true }
 {
     for disk in 0..notes.len() {
@@ -131,11 +139,13 @@ fn shared_body<H: Host>(
     requires lie { LieOn labels.now (H.seen host.old).sizes }
     requires one_note { length notes.now ≡ length labels.now }
     requires low { 4 ≤ db.now.header.last }
-    requires room { (disk : ℕ) (label : Label) → slice_get labels.now disk ≡ Some label → db.now.header.last ≤ 4 * label.area_sectors }
+    requires room { (disk : ℕ) (label : Label) → slice_get labels.now disk ≡ Some label
+        → db.now.header.last ≤ 4 * label.area_sectors }
     ensures core { IfOk result (λ body. IfSome body (IsCoreBody db.now)) }
     ensures keep { H.tells_disks → IfOk result (λ body. IfSome body (λ bytes. (disk : ℕ) → disk < length labels.now
         → KeepsBody seq labels.now notes.now db.now bytes (H.seen host.old).content disk)) }
-    ensures none { H.tells_disks → IfOk result (λ body. body ≡ None → ShareNone seq labels.now notes.now db.now (H.seen host.old).content) }
+    ensures none { H.tells_disks → IfOk result (λ body. body ≡ None
+        → ShareNone seq labels.now notes.now db.now (H.seen host.old).content) }
     ensures looks { Looks (H.seen host.old) (H.seen host.new) (IsErrOf result BodyError.Disk) }
 {
     let Some(first) = first_ahead(seq, notes) else {

@@ -3,7 +3,9 @@ ghost use Rattle.std.specs.Prelude.{◌≡◌, ◌≤◌, IfOk, IfSome, length};
 ghost use Rattle.std.specs.Option.{option_map};
 ghost use Rattle.std.specs.List.{position_or_len};
 ghost use Rattle.ldm_words.specs.declared.job.Job.TheVariants as jobs;
-ghost use Rattle.ldm_words.specs.Jobs.{texts, is_on, image_words, images_of, images_behind, plain, named_in, named, map_form, init_form, sample_form, job_form, is_group, takes, fits, job_of, HasCount, KeepsLimits, kind_of, writes};
+ghost use Rattle.ldm_words.specs.Jobs.{texts, is_on, image_words, images_of, images_behind, plain, named_in, named};
+ghost use Rattle.ldm_words.specs.Jobs.{map_form, init_form, sample_form, job_form, is_group, takes, fits, job_of};
+ghost use Rattle.ldm_words.specs.Jobs.{HasCount, KeepsLimits, kind_of, writes};
 ghost use Rattle.ldm_words.specs.Commands.{bytes_of, command_of};
 ghost use Rattle.ldm_words.specs.Readings.{Reads};
 

@@ -1,7 +1,8 @@
 //! Commands from tokens.
 ghost use Rattle.std.specs.Prelude.{◌≡◌, IfOk, IfSome};
 ghost use Rattle.ldm_words.specs.Names.{name_of};
-ghost use Rattle.ldm_words.specs.Commands.{bytes_of, many, piece_of, columns_of, mirror_of, layout_of, new_name, create_of, extend_of, delete_of, command_of, alone, line_of};
+ghost use Rattle.ldm_words.specs.Commands.{bytes_of, many, piece_of, columns_of, mirror_of, layout_of, new_name};
+ghost use Rattle.ldm_words.specs.Commands.{create_of, extend_of, delete_of, command_of, alone, line_of};
 ghost use Rattle.ldm_words.specs.Equals.{IsLastEquals};
 ghost use Rattle.ldm_words.specs.Limits.{IsCommand, CommandsKeepLimits, LinesKeepLimits};
 
