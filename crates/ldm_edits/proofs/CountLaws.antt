@@ -1,6 +1,5 @@
 -- The sequence counts the lines that are done.
-use Rattle.std.proofs.Common.{◌≡◌, ℕ, ◌+◌, Bool, true, false, List, [], ◌∷◌, count_by, refl, sym, ap, ◌∙◌, arith, Option, Some, None, is_some, Result, Ok, Err, if◌then◌else◌}
-use Rattle.std.specs.Prelude.{map, length}
+use Rattle.std.proofs.Common.{◌≡◌, ℕ, ◌+◌, Bool, true, false, List, [], ◌∷◌, count_by, refl, sym, ap, ◌∙◌, arith, Option, Some, None, Result, Ok, Err, if◌then◌else◌}
 use Rattle.ldm_bytes.specs.Tables.{first_of, unless}
 use Rattle.ldm_label.specs.declared.Label.{Label}
 use Rattle.ldm_records.specs.declared.types.Component.{Component}
@@ -18,10 +17,10 @@ use Rattle.ldm_edits.specs.declared.reply.Refusal.{Refusal}
 use Rattle.ldm_edits.specs.declared.reply.Refusal.TheVariants as refusals
 use Rattle.ldm_edits.specs.declared.reply.Reply.{Reply}
 use Rattle.ldm_edits.specs.declared.reply.Reply.TheVariants as replies
-use Rattle.ldm_edits.specs.Asked.{words_by, asked_for}
-use Rattle.ldm_edits.specs.Changes.{Change, limits, changed, when}
+use Rattle.ldm_edits.specs.Asked.{words_by}
+use Rattle.ldm_edits.specs.Changes.{Change, limits, changed}
 use Rattle.ldm_edits.specs.Counting.{is_done, SequenceCounts}
-use Rattle.ldm_edits.specs.Creating.{words_of, change_for, against_layout, created_new, created}
+use Rattle.ldm_edits.specs.Creating.{created}
 use Rattle.ldm_edits.proofs.CreatedCommand.{accepted}
 use Rattle.ldm_edits.specs.Deleting.{without, deleted}
 use Rattle.ldm_layout.specs.declared.shape.Shape.{Shape}

@@ -1,5 +1,5 @@
 -- Extend: what it keeps of a group.
-use Rattle.std.proofs.Common.{◌≡◌, ℕ, ◌^◌, ◌<◌, not, List, [], ◌∷◌, length, map, refl, ap, subst, Bool, true, false, Option, Some, None, Result, Ok, Err, Contains, ◌+◌, get_or, sym, ◌∙◌, inl, inr, arith, sum_by}
+use Rattle.std.proofs.Common.{◌≡◌, ◌^◌, ◌<◌, not, List, [], ◌∷◌, length, refl, ap, subst, Bool, true, false, Option, Some, None, Result, Ok, Contains}
 use Rattle.std.specs.Prelude.{is_some}
 use Rattle.std.specs.List.{All}
 use Rattle.std.proofs.lemmas.Bool.{not-false}
@@ -18,24 +18,18 @@ use Rattle.ldm_layout.specs.Parts.{plexes_of}
 use Rattle.ldm_layout.specs.Volumes.{layout_of, shape_of}
 use Rattle.ldm_rules.specs.Ends.{data_size}
 use Rattle.ldm_rules.specs.Facts.{IsSoundOn}
-use Rattle.ldm_space.specs.declared.taken.Taken.{Taken}
-use Rattle.ldm_space.specs.Free.{taken_in}
 use Rattle.ldm_space.specs.declared.placed.Wanted.{Wanted}
-use Rattle.ldm_space.specs.Wanted.{placed}
-use Rattle.ldm_space.specs.Placed.{AllEndWithin, AreApart}
-use Rattle.ldm_space.proofs.PlacedLaws.{fits_apart, fits_within}
 use Rattle.ldm_words.specs.declared.command.Piece.{Piece}
 use Rattle.ldm_edits.specs.declared.reply.Refusal.{Refusal}
 use Rattle.ldm_edits.specs.declared.reply.Refusal.TheVariants as refusals
 use Rattle.ldm_edits.specs.Asked.{words_by, asked_for}
 use Rattle.ldm_edits.specs.Changes.{Change, when, limits, changed}
-use Rattle.ldm_edits.specs.Extending.{lengthened, held, component_of, is_span, unlengthened, is_bad_length, lengthen, extended_span, changes, against_longer, longer_span, MayExtend}
+use Rattle.ldm_edits.specs.Extending.{lengthened, held, component_of, is_span, unlengthened, is_bad_length, lengthen, extended_span, against_longer, longer_span, MayExtend}
 use Rattle.ldm_edits.specs.Steps.{Keeps}
 use Rattle.ldm_edits.proofs.LongerMade.{longer_keeps}
 use Rattle.ldm_edits.proofs.ExtendedParts.{lengthens}
 use Rattle.ldm_edits.specs.Spots.{refused_or}
 use Rattle.ldm_edits.proofs.SpotLaws.{all_open, all_placed}
-use Rattle.ldm_edits.proofs.KeepLaws.{next_keeps}
 use Rattle.ldm_edits.proofs.LimitLaws.{first_parts, within_limits, not_when, when_ok}
 
 -- ---- the command

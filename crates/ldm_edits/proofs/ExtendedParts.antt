@@ -1,9 +1,9 @@
 -- Extend: the longer span, its component and the new partitions are made where no word refuses them.
-use Rattle.std.proofs.Common.{◌≡◌, ℕ, zero, suc, ◌+◌, ◌-◌, ◌^◌, ◌<◌, ◌≤◌, ◌==◌, ◌||◌, List, [], ◌∷◌, length, map, get_or, refl, sym, ap, subst, ◌∙◌, inl, inr, arith, Bool, true, false, Option, Some, None, Ok, Contains, sum_by, find}
+use Rattle.std.proofs.Common.{◌≡◌, ℕ, ◌+◌, ◌-◌, ◌^◌, ◌<◌, ◌≤◌, ◌==◌, ◌||◌, List, [], ◌∷◌, length, map, get_or, refl, sym, ap, subst, ◌∙◌, inl, inr, arith, Bool, true, false, Option, Some, None, Contains, sum_by, find}
 use Rattle.std.specs.Prelude.{filter, if◌then◌else◌}
 use Rattle.std.specs.List.{list_any, list_all, cons_option}
 use Rattle.std.specs.Option.{option_map}
-use Rattle.std.proofs.lemmas.Bool.{eqb-true, eq-eqb, eqb-false, or_parts, ltb-false, not-false}
+use Rattle.std.proofs.lemmas.Bool.{eqb-true, eq-eqb, eqb-false, or_parts, ltb-false}
 use Rattle.std.proofs.lemmas.List.{length-map, append-nil}
 use Rattle.std.proofs.lemmas.List.Elements.{All-contains, Contains-get_or}
 use Rattle.std.proofs.lemmas.List.Folds.{list_any_at}
@@ -30,22 +30,20 @@ use Rattle.ldm_layout.specs.declared.shape.Shape.TheVariants.{Span, Mirror}
 use Rattle.ldm_layout.specs.Parts.{plex_of, plexes_of, extent_of, extents_of, by_offset, tile_key, tiles_from}
 use Rattle.ldm_layout.specs.Volumes.{layout_of, shape_of, is_basic}
 use Rattle.ldm_layout.proofs.ChildLaws.{plex_there}
-use Rattle.ldm_layout.proofs.LongerSpan.{rising_sum, few_by, many_extents, span_holds}
+use Rattle.ldm_layout.proofs.LongerSpan.{rising_sum, few_by, many_extents}
 use Rattle.ldm_layout.proofs.VolumeLaws.{IsExtentOf, extents_are, one_component}
 use Rattle.ldm_rules.proofs.CarryLaws.{component_kept, partition_kept}
-use Rattle.ldm_rules.proofs.GroupLaws.{not_broken}
 use Rattle.ldm_rules.proofs.SoundLaws.{EachRule, sound_parts}
 use Rattle.ldm_rules.specs.Ends.{data_size}
 use Rattle.ldm_rules.specs.Facts.{IsSoundOn}
 use Rattle.ldm_space.specs.declared.taken.Taken.{Taken}
 use Rattle.ldm_space.specs.Free.{taken_of, taken_in}
 use Rattle.ldm_space.specs.declared.placed.Wanted.{Wanted}
-use Rattle.ldm_space.specs.Wanted.{placed}
 use Rattle.ldm_space.specs.Placed.{AreFirstFits, AllEndWithin, AreApart}
 use Rattle.ldm_space.proofs.PlacedLaws.{placed_fit, as_many, fits_apart, fits_within}
-use Rattle.ldm_edits.specs.Asked.{asked_for, is_much}
+use Rattle.ldm_edits.specs.Asked.{is_much}
 use Rattle.ldm_edits.specs.Changes.{changed}
-use Rattle.ldm_edits.specs.Extending.{changes, lengthened, held, component_in, component_of, is_bad_length, MayExtend}
+use Rattle.ldm_edits.specs.Extending.{changes, lengthened, held, component_in, component_of, MayExtend}
 use Rattle.ldm_volumes.specs.Volumes.{span_parts}
 use Rattle.ldm_edits.proofs.AskedLaws.{are_found}
 use Rattle.ldm_edits.proofs.CreatedNext.{alone_rises}

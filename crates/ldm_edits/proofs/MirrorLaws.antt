@@ -1,5 +1,5 @@
 -- extend of a mirror: what isn't refused keeps the group.
-use Rattle.std.proofs.Common.{◌≡◌, ℕ, ◌+◌, ◌^◌, ◌<◌, ◌==◌, ◌||◌, not, List, [], ◌∷◌, length, refl, subst, ◌∙◌, arith, Bool, Option, Some, None, Result, Ok, Contains, find}
+use Rattle.std.proofs.Common.{◌≡◌, ℕ, ◌+◌, ◌^◌, ◌<◌, ◌==◌, ◌||◌, not, List, [], ◌∷◌, length, refl, subst, ◌∙◌, arith, Bool, Option, Some, None, Ok, Contains, find}
 use Rattle.std.specs.Prelude.{is_some}
 use Rattle.std.specs.List.{All}
 use Rattle.std.proofs.lemmas.Bool.{not-false, eqb-true}
@@ -24,11 +24,9 @@ use Rattle.ldm_rules.specs.Ends.{data_size}
 use Rattle.ldm_rules.specs.Facts.{IsSoundOn}
 use Rattle.ldm_space.specs.declared.placed.Wanted.{Wanted}
 use Rattle.ldm_words.specs.declared.command.Piece.{Piece}
-use Rattle.ldm_edits.specs.declared.reply.Refusal.{Refusal}
 use Rattle.ldm_edits.specs.declared.reply.Refusal.TheVariants as refusals
 use Rattle.ldm_edits.specs.Asked.{words_by, has_twins}
 use Rattle.ldm_edits.specs.Changes.{Change, when, limits, changed}
-use Rattle.ldm_edits.specs.Spots.{refused_or}
 use Rattle.ldm_edits.specs.Steps.{Keeps}
 use Rattle.ldm_edits.proofs.LimitLaws.{two_open, within_limits, when_ok}
 use Rattle.ldm_edits.proofs.SpotLaws.{all_open, all_placed}
