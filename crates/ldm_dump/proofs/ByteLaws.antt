@@ -1,5 +1,5 @@
 -- The bytes that are read of a run are those of its sectors.
-use Rattle.std.proofs.Common.{◌≡◌, ℕ, zero, suc, ◌+◌, ◌-◌, ◌*◌, ◌<◌, ◌≤◌, List, [], ◌∷◌, ◌++◌, map, flat_map, fold, bit_xor, length, get_or, take, drop, slice_index, slice_range, refl, ap, sym, ◌∙◌, arith, Option, Some, unwrap_or}
+use Rattle.std.proofs.Common.{◌≡◌, ℕ, zero, suc, ◌+◌, ◌*◌, ◌<◌, ◌≤◌, List, [], ◌∷◌, ◌++◌, map, flat_map, fold, bit_xor, length, get_or, take, drop, slice_index, refl, ap, sym, ◌∙◌, arith, Option, Some, unwrap_or}
 use Rattle.std.specs.List.{range_with_len}
 use Rattle.std.specs.Option.{option_map}
 use Rattle.std.proofs.lemmas.List.{nil_from_length, ext_get_or, take-append-drop, get_or-take, get_or-drop, length-take-le, length-drop, map-append}
@@ -83,12 +83,6 @@ whole_sector images found l x spots out is size bytes =
     same : out ≡ joined_sector images spots
     same = ext_get_or 0 out (joined_sector images spots) (size ∙ sym (length-map-range_with_len (joined_byte images spots) 0 512))
         (λ k lt. bytes k lt ∙ sym (get_or-map-range_with_len (joined_byte images spots) 0 512 k k 0 (omega (arith, lt, size)) (omega arith)))
-
--- a byte of what is read
-pub byte_read : (img buf : List ℕ) (at n j : ℕ) → buf ≡ slice_range img at (at + n) → j < n → slice_index buf j ≡ slice_index img (at + j)
-byte_read img buf at n j is lt =
-    let e : at + n - at ≡ n = omega arith in
-    ap (λ (b : List ℕ). slice_index b j) (is ∙ ap (λ m. take m (drop at img)) e) ∙ (get_or-take n (drop at img) j 0 lt ∙ get_or-drop at img j 0)
 
 -- what a spot more adds
 pub joined_more : (images : List (List ℕ)) (spots more : List Spot) (j : ℕ) → joined_byte images (spots ++ more) j ≡ fold bit_xor (joined_byte images spots j) (map (byte_at images j) more)

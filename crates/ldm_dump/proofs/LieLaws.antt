@@ -1,8 +1,9 @@
 -- The sectors of a volume of a sound group lie on the images.
-use Rattle.std.proofs.Common.{◌≡◌, ℕ, ◌+◌, ◌<◌, ◌≤◌, ◌==◌, inl, inr, Bool, true, false, cond, List, [], length, get_or, refl, ap, sym, subst, ◌∙◌, arith, ltb, Option, Some, None, if◌then◌else◌, slice_get, slice_index, option_and_then, unwrap_or}
-use Rattle.std.specs.List.{position_or_len}
+use Rattle.std.proofs.Common.{◌≡◌, ℕ, ◌+◌, ◌<◌, ◌≤◌, ◌==◌, inl, inr, Bool, true, false, List, [], length, get_or, refl, ap, sym, subst, ◌∙◌, arith, Option, Some, None, if◌then◌else◌, slice_get, slice_index, option_and_then, unwrap_or}
+use Rattle.ldm_dump.proofs.ReadLaws.{some_same}
+use Rattle.std.proofs.lemmas.List.Quantifiers.{position-Some}
 use Rattle.std.specs.Option.{option_map}
-use Rattle.std.proofs.lemmas.Bool.{cases_lt, ltb-true, ltb-false}
+use Rattle.std.proofs.lemmas.Bool.{cases_lt, ltb-false}
 use Rattle.std.proofs.lemmas.Option.{slice_get-get_or, slice_get_past}
 use Rattle.ldm_records.specs.declared.types.Record.TheVariants as kinds
 use Rattle.ldm_records.specs.declared.types.Volume.{Volume}
@@ -35,9 +36,6 @@ use Rattle.ldm_dump.specs.Sources.{data_start, spot_of, spot_at, copy_spot, othe
 use Rattle.ldm_dump.specs.Runs.{IsOn, LiesOn, RowsLieOn}
 use Rattle.ldm_dump.specs.declared.spots.Spot.{Spot}
 
-some_same : {A : Type 0} {a b : A} → Some a ≡ Some b → a ≡ b
-some_same h = cc
-
 -- the label of the first image of a disk
 pub record HasImage (found : Found) (disk image : ℕ) : Type 0 where
   pub label : Label
@@ -45,24 +43,14 @@ pub record HasImage (found : Found) (disk image : ℕ) : Type 0 where
   pub within : image < length found.labels
   pub ends : data_size found.labels found.db.records disk ≡ label.data_size
 
-at_position : (guid image : ℕ) (labels : List Label) → image_with guid labels ≡ Some image → image < length labels
-at_position guid image labels is = go (ltb at (length labels)) refl is
-  where
-    at : ℕ
-    at = position_or_len (has_guid guid) labels
-
-    go : (b : Bool) → ltb at (length labels) ≡ b → cond b (Some at) None ≡ Some image → image < length labels
-    go true lt e = (let same : at ≡ image = some_same e in subst (λ (k : ℕ). k < length labels) same (ltb-true at (length labels) lt))
-    go false lt e = absurd cc
-
 pub has_image : (found : Found) (disk image : ℕ) → image_of disk found.db.records found.labels ≡ Some image → HasImage found disk image
 has_image found disk image is = go (disk_in (by_id 2 disk found.db.records)) refl is
   where
     go : (o : Option Disk) → disk_in (by_id 2 disk found.db.records) ≡ o → option_and_then (λ (d : Disk). image_with d.guid found.labels) o ≡ Some image → HasImage found disk image
     go None e h = absurd cc
     go (Some d) e h =
-        let lt = at_position d.guid image found.labels h in
         let some : Label = record { disk_guid = 0; minor = 0; data_start = 0; data_size = 0; config_start = 0; area_start = 0; area_sectors = 0; log_start = 0; log_sectors = 0 } in
+        let lt = (position-Some (has_guid d.guid) found.labels image some h).0 in
         let label : Label = get_or found.labels image some in
         let at : slice_get found.labels image ≡ Some label = slice_get-get_or found.labels image some lt in
         record {

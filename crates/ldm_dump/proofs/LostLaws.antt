@@ -4,7 +4,7 @@ use Rattle.std.specs.Prelude.{◌&&◌, ◌||◌, if◌then◌else◌}
 use Rattle.std.specs.List.{range_with_len, list_all}
 use Rattle.std.specs.Option.{option_map}
 use Rattle.std.proofs.Math.Nat.{mod-eq_of_lt, div-eq_of_lt, add-mod_right, mul-div-le}
-use Rattle.std.proofs.lemmas.Bool.{cases_lt, cases_eq, eq-eqb, eqb-true}
+use Rattle.std.proofs.lemmas.Bool.{cases_lt, eq-eqb, or_parts, ne_eqb, true≢false, false_from_ne_true}
 use Rattle.std.proofs.lemmas.Nat.{div-mul-add, mod_below, mul-le}
 use Rattle.ldm_layout.proofs.StretchLaws.{place_by}
 use Rattle.ldm_layout.specs.Places.{stripe_column, stripe_offset, raid5_offset}
@@ -162,15 +162,11 @@ module _ (found : Found) (l : Layout) (shape_is : l.shape ≡ Raid5) (columned :
     pub other_absent : is_column_here found cs other ≡ false
     pub apart : (other == own) ≡ false
 
-  not_beside : (a b : Bool) → (a || b) ≡ false → (a ≡ false) × (b ≡ false)
-  not_beside true b h = absurd cc
-  not_beside false b h = (refl, h)
-
   absent_of : (y : ℕ) → is_lost found l y ≡ true → (other : ℕ) × AreAbsent (own_column l y) other
   absent_of y is =
       let both = both_not (is_here found (place_in l y 0)) (can_rebuild found l y) (sym (lost_alone found l y raid5_alone) ∙ is) in
       let out = not_all (is_beside found l y) 0 (length cs) (sym (raid5_made y) ∙ both.1) in
-      let parts = not_beside (out.place == own_column l y) (is_here found (column_in l y out.place)) out.fails in (
+      let parts = or_parts (out.place == own_column l y) (is_here found (column_in l y out.place)) out.fails in (
         out.place,
         record {
           own_there = mod_below _ (length cs) (omega (arith, columned.many));
@@ -188,14 +184,7 @@ module _ (found : Found) (l : Layout) (shape_is : l.shape ≡ Raid5) (columned :
       (ap (λ (b : Bool). b || is_here found (column_in l x other)) (ap (λ o. other == o) is ∙ absent.apart) ∙ (raid5_beside x other ∙ absent.other_absent))))
 
   turned : (a b : ℕ) → (b == a) ≡ false → (a == b) ≡ false
-  turned a b h = elim (cases_eq a b) [
-    | inl e ↦ absurd (let t : (b == a) ≡ true = eq-eqb b a (sym e) in cc)
-    | inr ne ↦ go (a == b) refl ne
-  ]
-    where
-      go : (t : Bool) → (a == b) ≡ t → (a ≡ b → ⊥) → (a == b) ≡ false
-      go true is ne = absurd (ne (eqb-true a b is))
-      go false is ne = is
+  turned a b h = ne_eqb a b (λ e. true≢false (sym (eq-eqb b a (sym e)) ∙ h))
 
   -- the first row has its parity in the last column, so its chunks lie in the columns in their order
   own_first : (c : ℕ) → c + 1 < length cs → own_column l (l.chunk * c) ≡ c
@@ -268,28 +257,15 @@ early found l y tiled columned is = go l.shape refl tiled
 
 -- none is lost before the first chunk of a column, where those of the columns before it aren't
 pub none_before : (found : Found) (l : Layout) (n y : ℕ) → is_tiled l.shape ≡ false → IsColumned l → ((c : ℕ) → c < n → is_lost found l (l.chunk * c) ≡ false) → y < l.chunk * n → is_lost found l y ≡ false
-none_before found l n y tiled columned kept lt = go (is_lost found l y) refl
-  where
-    go : (b : Bool) → is_lost found l y ≡ b → is_lost found l y ≡ false
-    go false is = is
-    go true is =
-        let e = early found l y tiled columned is in
-        let less : e.column < n = chunk_below l.chunk e.column n y e.low lt in
-        let no = kept e.column less in
-        let yes = e.lost in
-        absurd cc
+none_before found l n y tiled columned kept lt =
+    false_from_ne_true (is_lost found l y) (λ is.
+    let e = early found l y tiled columned is in
+    true≢false (sym e.lost ∙ kept e.column (chunk_below l.chunk e.column n y e.low lt)))
 
 -- and none at all, where those of all columns aren't
 pub none_there : (found : Found) (l : Layout) (y : ℕ) → is_tiled l.shape ≡ false → IsColumned l → ((c : ℕ) → c < length (columns_of l) → is_lost found l (l.chunk * c) ≡ false) → is_lost found l y ≡ false
-none_there found l y tiled columned kept = go (is_lost found l y) refl
-  where
-    go : (b : Bool) → is_lost found l y ≡ b → is_lost found l y ≡ false
-    go false is = is
-    go true is =
-        let e = early found l y tiled columned is in
-        let no = kept e.column e.there in
-        let yes = e.lost in
-        absurd cc
+none_there found l y tiled columned kept =
+    false_from_ne_true (is_lost found l y) (λ is. let e = early found l y tiled columned is in true≢false (sym e.lost ∙ kept e.column e.there))
 
 pub chunk_is : (l : Layout) → is_tiled l.shape ≡ false → chunk_of l ≡ l.chunk
 chunk_is l tiled = ap (λ (b : Bool). if b then 0 else l.chunk) tiled

@@ -1,9 +1,9 @@
 -- What is read of a run.
-use Rattle.std.proofs.Common.{◌≡◌, ℕ, ◌+◌, ◌-◌, ◌*◌, ◌<◌, ◌≤◌, ◌==◌, if◌then◌else◌, not, Bool, true, false, List, [], ◌∷◌, ◌++◌, map, fold, bit_xor, slice_index, refl, ap, sym, subst, ◌∙◌, arith, add-one, Option, Some, None, is_some, is_none, Result, Ok, Err, OnOk, filter_map}
+use Rattle.std.proofs.Common.{◌≡◌, ℕ, ◌+◌, ◌-◌, ◌*◌, ◌<◌, ◌≤◌, ◌==◌, if◌then◌else◌, Bool, true, false, List, [], ◌∷◌, ◌++◌, map, fold, bit_xor, slice_index, refl, ap, sym, subst, ◌∙◌, arith, add-one, Option, Some, None, is_some, is_none, Result, Ok, Err, OnOk, filter_map}
 use Rattle.std.specs.List.{range_with_len}
 use Rattle.std.specs.Option.{option_map, option_to_list}
 use Rattle.ldm_layout.specs.Layouts.{Layout, copies_of, place_in}
-use Rattle.std.proofs.lemmas.Bool.{eqb-true}
+use Rattle.std.proofs.lemmas.Bool.{eqb-true, not-false}
 use Rattle.ldm_layout.specs.Columns.{own_column, column_in}
 use Rattle.ldm_layout.specs.declared.shape.Place.{Place}
 use Rattle.ldm_layout.specs.declared.shape.Shape.TheVariants.{Raid5}
@@ -49,11 +49,7 @@ copy_sources found l x c s is spot =
     sym (ap (λ (o : Option ℕ). sources_by found l x o (can_rebuild found l x)) is) ∙ ap make spot
 
 pub made_here : (found : Found) (l : Layout) (x : ℕ) → None ≡ first_copy found l x → is_lost found l x ≡ false → can_rebuild found l x ≡ true
-made_here found l x is kept = go (can_rebuild found l x) (sym (none_lost found l x is) ∙ kept)
-  where
-    go : (b : Bool) → not b ≡ false → b ≡ true
-    go true h = refl
-    go false h = absurd cc
+made_here found l x is kept = not-false (can_rebuild found l x) (sym (none_lost found l x is) ∙ kept)
 
 pub made_raid5 : (found : Found) (l : Layout) (x : ℕ) → None ≡ first_copy found l x → is_lost found l x ≡ false → l.shape ≡ Raid5
 made_raid5 found l x is kept = rebuilds_raid5 found l x (made_here found l x is kept)
@@ -64,13 +60,13 @@ made_sources found l x is kept =
     sym (ap (λ (o : Option ℕ). sources_by found l x o (can_rebuild found l x)) is)
     ∙ ap (λ (b : Bool). sources_by found l x None b) (made_here found l x is kept)
 
-same_list : {A : Type 0} {a b : A} → Some a ≡ Some b → a ≡ b
-same_list h = cc
+pub some_same : {A : Type 0} {a b : A} → Some a ≡ Some b → a ≡ b
+some_same h = cc
 
 -- the bytes of these sources are those of the sources that there are
 pub bytes_as : (images : List (List ℕ)) (found : Found) (l : Layout) (x : ℕ) (are spots : List Spot) (out : List ℕ) (n : ℕ) → sources_of found l x ≡ Some are → sources_of found l x ≡ Some spots
     → ((j : ℕ) → j < n → slice_index out j ≡ joined_byte images are j) → (j : ℕ) → j < n → slice_index out j ≡ joined_byte images spots j
-bytes_as images found l x are spots out n is one bytes j lt = bytes j lt ∙ ap (λ (s : List Spot). joined_byte images s j) (same_list (sym is ∙ one))
+bytes_as images found l x are spots out n is one bytes j lt = bytes j lt ∙ ap (λ (s : List Spot). joined_byte images s j) (some_same (sym is ∙ one))
 
 pub spot_by : (found : Found) (place : Place) (image : ℕ) → image_of place.disk found.db.records found.labels ≡ Some image → spot_of found place ≡ Some (record { image = image; sector = data_start found.labels image + place.sector })
 spot_by found place image is = ap (λ (o : Option ℕ). option_map {U = Spot} (λ image. record { image = image; sector = data_start found.labels image + place.sector }) o) is

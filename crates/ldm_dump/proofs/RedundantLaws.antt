@@ -4,7 +4,7 @@ use Rattle.std.specs.List.{range_with_len, cons_option}
 use Rattle.std.specs.Option.{option_map, option_to_list}
 use Rattle.std.specs.Int.Bits.{xor_assoc, xor_self, xor_zero_r}
 use Rattle.std.proofs.lemmas.Nat.{xor_comm, mod_below}
-use Rattle.std.proofs.lemmas.Bool.{cases_lt, eq-eqb, eqb-true}
+use Rattle.std.proofs.lemmas.Bool.{cases_lt, eq-eqb}
 use Rattle.ldm_group.specs.Database.{IsSameCore}
 use Rattle.ldm_host.specs.Seen.{image}
 use Rattle.ldm_layout.proofs.StretchLaws.{place_by}
@@ -23,7 +23,7 @@ use Rattle.ldm_dump.specs.Redundant.{without, IsComplete, IsRedundant}
 use Rattle.ldm_dump.specs.declared.spots.Spot.{Spot}
 use Rattle.ldm_dump.proofs.RangeLaws.{find_first}
 use Rattle.ldm_dump.proofs.RunLaws.{others_here}
-use Rattle.ldm_dump.proofs.ReadLaws.{copy_there, copy_sources, made_raid5, made_sources, made_here}
+use Rattle.ldm_dump.proofs.ReadLaws.{copy_there, copy_sources, made_raid5, made_sources, made_here, other_is}
 use Rattle.ldm_dump.proofs.FewerLaws.{left_image}
 
 -- ---- exclusive-or
@@ -84,6 +84,15 @@ bytes_by images j f acc (x ∷ xs) = go (f x) (λ n. bytes_by images j f n xs)
     go None rest = ap (λ (n : ℕ). fold bit_xor n (map (byte_at images j) (filter_map f xs))) (sym (xor_zero_r acc)) ∙ rest (bit_xor acc 0)
     go (Some s) rest = rest (bit_xor acc (byte_at images j s))
 
+-- what is there is a sector of an image
+there_is : (found : Found) (p : Option Place) → is_here found p ≡ true → (s : Spot) × (spot_at found p ≡ Some s)
+there_is found None here = absurd cc
+there_is found (Some place) here = go (image_of place.disk found.db.records found.labels) here
+  where
+    go : (o : Option ℕ) → is_some o ≡ true → (s : Spot) × (option_map {U = Spot} (λ image. record { image = image; sector = data_start found.labels image + place.sector }) o ≡ Some s)
+    go None h = absurd cc
+    go (Some k) h = (record { image = k; sector = data_start found.labels k + place.sector }, refl)
+
 -- ---- a group on fewer images
 
 module _ (images : List (List ℕ)) (i : ℕ) (found fewer : Found) (is : IsGroupIn images (Ok found)) (less : IsGroupIn (without i images) (Ok fewer)) (core : IsSameCore found.db fewer.db) where
@@ -110,22 +119,6 @@ module _ (images : List (List ℕ)) (i : ℕ) (found fewer : Found) (is : IsGrou
     unfolding first_copy
     first_found lt = sym (find_first (λ copy. is_here found (place_in l x copy)) 0 (copies_of l) 0 (omega arith) (omega (arith, lt)) (λ d _ low. absurd (omega (arith, low))) (whole.copies x 0 within lt))
 
-    there_is : (p : Option Place) → is_here found p ≡ true → (s : Spot) × (spot_at found p ≡ Some s)
-    there_is None here = absurd cc
-    there_is (Some place) here = go (image_of place.disk found.db.records found.labels) here
-      where
-        go : (o : Option ℕ) → is_some o ≡ true → (s : Spot) × (option_map {U = Spot} (λ image. record { image = image; sector = data_start found.labels image + place.sector }) o ≡ Some s)
-        go None h = absurd cc
-        go (Some k) h = (record { image = k; sector = data_start found.labels k + place.sector }, refl)
-
-    there_fewer : (p : Option Place) → is_here fewer p ≡ true → (s : Spot) × (spot_at fewer p ≡ Some s)
-    there_fewer None here = absurd cc
-    there_fewer (Some place) here = go (image_of place.disk fewer.db.records fewer.labels) here
-      where
-        go : (o : Option ℕ) → is_some o ≡ true → (s : Spot) × (option_map {U = Spot} (λ image. record { image = image; sector = data_start fewer.labels image + place.sector }) o ≡ Some s)
-        go None h = absurd cc
-        go (Some k) h = (record { image = k; sector = data_start fewer.labels k + place.sector }, refl)
-
     -- two lists of sectors with the same bytes make the same sector
     sectors_same : (a b : List Spot) → sources_of fewer l x ≡ Some a → sources_of found l x ≡ Some b → ((j : ℕ) → j < 512 → joined_byte some a j ≡ joined_byte images b j)
         → sector_of some fewer l x ≡ sector_of images found l x
@@ -139,8 +132,8 @@ module _ (images : List (List ℕ)) (i : ℕ) (found fewer : Found) (is : IsGrou
     by_copy c first =
         let there = copy_there fewer l x c first in
         let lt : 0 < copies_of l = omega (arith, there.0) in
-        let a = there_fewer (place_in l x c) there.1 in
-        let b = there_is (place_in l x 0) (whole.copies x 0 within lt) in
+        let a = there_is fewer (place_in l x c) there.1 in
+        let b = there_is found (place_in l x 0) (whole.copies x 0 within lt) in
         sectors_same (a.0 ∷ []) (b.0 ∷ []) (copy_sources fewer l x c a.0 first a.1) (copy_sources found l x 0 b.0 (first_found lt) b.1)
         (λ j low.
         sym (ap (λ (o : Option Spot). byte_of some j o) a.1)
@@ -157,7 +150,7 @@ module _ (images : List (List ℕ)) (i : ℕ) (found fewer : Found) (is : IsGrou
         let own = own_column l x in
         let lt : 0 < copies_of l = subst (λ (s : Shape). 0 < copies_by s (length l.plexes)) (sym raid5) (omega arith) in
         let own_there : own < k = mod_below _ k (omega (arith, has.many)) in
-        let b = there_is (place_in l x 0) (whole.copies x 0 within lt) in
+        let b = there_is found (place_in l x 0) (whole.copies x 0 within lt) in
         let own_place : place_in l x 0 ≡ column_in l x own =
         place_by l 0 x (columns_of l) has.first ∙ ap (λ (s : Shape). option_map place_sector (plex_spot s l.chunk (columns_of l) x)) raid5 in
         sectors_same (other_spots fewer l x) (b.0 ∷ []) (made_sources fewer l x first kept) (copy_sources found l x 0 b.0 (first_found lt) b.1)
@@ -175,11 +168,7 @@ module _ (images : List (List ℕ)) (i : ℕ) (found fewer : Found) (is : IsGrou
         own_none j = ap (λ (t : Bool). byte_of images j (if t then None else spot_at found (column_in l x (own_column l x)))) (eq-eqb (own_column l x) (own_column l x) refl)
 
         other_same : (c j : ℕ) → (c ≡ own_column l x → ⊥) → byte_of images j (spot_at found (column_in l x c)) ≡ byte_of images j (other_spot found l x c)
-        other_same c j apart = go (c == own_column l x) refl
-          where
-            go : (t : Bool) → (c == own_column l x) ≡ t → byte_of images j (spot_at found (column_in l x c)) ≡ byte_of images j (if t then None else spot_at found (column_in l x c))
-            go true e = absurd (apart (eqb-true c (own_column l x) e))
-            go false e = refl
+        other_same c j apart = ap (λ (o : Option Spot). byte_of images j o) (other_is found l x c apart)
 
         column_same : (c j : ℕ) → c < length (columns_of l) → byte_of some j (other_spot fewer l x c) ≡ byte_of images j (other_spot found l x c)
         column_same c j there = go (c == own_column l x) refl

@@ -1,9 +1,9 @@
 -- A run of sectors: where they can be read moves along with them.
-use Rattle.std.proofs.Common.{◌≡◌, ℕ, ◌+◌, ◌-◌, ◌<◌, ◌≤◌, ◌==◌, inl, inr, min, not, Bool, true, false, List, map, length, refl, ap, sym, subst, ◌∙◌, arith, add_assoc, Option, Some, None, if◌then◌else◌, is_none}
+use Rattle.std.proofs.Common.{◌≡◌, ℕ, ◌+◌, ◌<◌, ◌≤◌, ◌==◌, inl, inr, min, not, Bool, true, false, List, map, length, refl, ap, sym, subst, ◌∙◌, arith, add_assoc, Option, Some, None, if◌then◌else◌, is_none}
 use Rattle.std.specs.Prelude.{◌&&◌, ◌||◌}
 use Rattle.std.specs.List.{range_with_len, list_all}
 use Rattle.std.specs.Option.{option_map, option_to_list}
-use Rattle.std.proofs.lemmas.Bool.{cases_lt, and_parts, eqb-true, eq-eqb}
+use Rattle.std.proofs.lemmas.Bool.{cases_lt, and_parts, eqb-true, eq-eqb, or_from, or_left, or_right, ne_eqb, false_from_ne_true}
 use Rattle.ldm_layout.specs.Layouts.{Layout, copies_of, copies_by, place_in}
 use Rattle.ldm_layout.specs.Columns.{columns_of, own_column, column_in, moved, IsStretch}
 use Rattle.ldm_layout.specs.declared.shape.Place.{Place}
@@ -64,13 +64,7 @@ beside_moved found l x i column own place =
 pub rebuild_same : (found : Found) (l : Layout) (x y : ℕ) (s : Shape) → l.shape ≡ s → (s ≡ Raid5 → (c : ℕ) → is_beside found l y c ≡ is_beside found l x c) → can_rebuild found l y ≡ can_rebuild found l x
 unfolding can_rebuild
 rebuild_same found l x y Raid5 is same = ap (λ (b : Bool). is_raid5 l.shape && b) (all_same (is_beside found l y) (is_beside found l x) (range_with_len 0 (length (columns_of l))) (same refl))
-rebuild_same found l x y Span is same =
-    ap (λ (t : Shape). is_raid5 t && list_all (is_beside found l y) (range_with_len 0 (length (columns_of l)))) is
-    ∙ sym (ap (λ (t : Shape). is_raid5 t && list_all (is_beside found l x) (range_with_len 0 (length (columns_of l)))) is)
-rebuild_same found l x y Stripe is same =
-    ap (λ (t : Shape). is_raid5 t && list_all (is_beside found l y) (range_with_len 0 (length (columns_of l)))) is
-    ∙ sym (ap (λ (t : Shape). is_raid5 t && list_all (is_beside found l x) (range_with_len 0 (length (columns_of l)))) is)
-rebuild_same found l x y Mirror is same =
+rebuild_same found l x y s is same =
     ap (λ (t : Shape). is_raid5 t && list_all (is_beside found l y) (range_with_len 0 (length (columns_of l)))) is
     ∙ sym (ap (λ (t : Shape). is_raid5 t && list_all (is_beside found l x) (range_with_len 0 (length (columns_of l)))) is)
 
@@ -132,15 +126,6 @@ pub record Along (l : Layout) (x copy n : ℕ) : Type 0 where
 -- and none of them is on an image
 abbrev pub AllAbsent : Found → Layout → ℕ → ℕ → Type 0
 AllAbsent found l x copy = (c : ℕ) → c < copy → is_here found (place_in l x c) ≡ false
-
-pub along_first : (l : Layout) (x size : ℕ) → size ≡ l.size → x < l.size → Along l x 0 (size - x)
-along_first l x size is lt = record {
-  some = omega (arith, is, lt);
-  within = omega (arith, is, lt);
-  places = λ c i less _. absurd (omega (arith, less));
-  own = λ i less _ _. absurd (omega (arith, less));
-  columns = λ i column less _ _. absurd (omega (arith, less));
-}
 
 pub along_more : (l : Layout) (x copy s n : ℕ) → Along l x copy s → IsStretch l x copy n → Along l x (copy + 1) (min s n)
 along_more l x copy s n so st = record {
@@ -234,21 +219,13 @@ run_none found l x n so absent = record {
 -- ---- the other columns
 
 pub beside_false : (c own : ℕ) (h : Bool) → (c ≡ own → ⊥) → h ≡ false → ((c == own) || h) ≡ false
-beside_false c own h ne is = go (c == own) refl
-  where
-    go : (b : Bool) → (c == own) ≡ b → ((c == own) || h) ≡ false
-    go true e = absurd (ne (eqb-true c own e))
-    go false e = ap (λ (b : Bool). b || h) e ∙ is
+beside_false c own h ne is = or_from (c == own) h (ne_eqb c own ne) is
 
 pub beside_own : (c own : ℕ) (h : Bool) → c ≡ own → ((c == own) || h) ≡ true
-beside_own c own h is = ap (λ (b : Bool). b || h) (eq-eqb c own is)
-
-or_true : (b : Bool) → (b || true) ≡ true
-or_true true = refl
-or_true false = refl
+beside_own c own h is = or_left (c == own) h (eq-eqb c own is)
 
 pub beside_here : (c own : ℕ) (h : Bool) → h ≡ true → ((c == own) || h) ≡ true
-beside_here c own h is = ap (λ (b : Bool). (c == own) || b) is ∙ or_true (c == own)
+beside_here c own h is = or_right (c == own) h is
 
 pub others_in : (found : Found) (l : Layout) (x : ℕ) → l.shape ≡ Raid5 → ((c : ℕ) → c < length (columns_of l) → is_beside found l x c ≡ true) → can_rebuild found l x ≡ true
 unfolding can_rebuild
@@ -263,11 +240,7 @@ others_out found l x c raid5 lt out =
     ∙ all_but (is_beside found l x) 0 (length (columns_of l)) c (omega arith) (omega (arith, lt)) out
 
 pub not_rebuilt : (found : Found) (l : Layout) (x : ℕ) → (l.shape ≡ Raid5 → ⊥) → can_rebuild found l x ≡ false
-not_rebuilt found l x not_raid5 = go (can_rebuild found l x) refl
-  where
-    go : (b : Bool) → can_rebuild found l x ≡ b → can_rebuild found l x ≡ false
-    go true is = absurd (not_raid5 (rebuilds_raid5 found l x is))
-    go false is = is
+not_rebuilt found l x not_raid5 = false_from_ne_true (can_rebuild found l x) (λ is. not_raid5 (rebuilds_raid5 found l x is))
 
 -- what holds below a number, and there
 pub more_below : (P : ℕ → Type 0) (n : ℕ) → ((c : ℕ) → c < n → P c) → P n → (c : ℕ) → c < n + 1 → P c

@@ -1,10 +1,10 @@
 -- A new group, from disks that are empty to disks that hold it.
 use Rattle.std.proofs.Common.{◌≡◌, ◌∙◌, ◌*◌, ◌/◌, ◌<◌, ◌≤◌, inl, inr, ⊎_elim, List, ℕ, map, length, set, slice_get, slice_index, slice_range, true, All, Some, None, Result, Ok, Err, nat_lt, if◌then◌else◌, refl, ap, sym, subst, arith}
-use Rattle.std.specs.Prelude.{IfOk}
+use Rattle.std.specs.Prelude.{IfOk, IsErr}
 use Rattle.std.proofs.lemmas.Bool.{le-ltb}
 use Rattle.std.proofs.lemmas.Option.{slice_get_within, get_or_from_slice_get}
 use Rattle.ldm_host.specs.Seen.{Seen, Leaves, image}
-use Rattle.ldm_host.specs.Moves.{Still, Quiet}
+use Rattle.ldm_host.specs.Moves.{Still, Quiet, Works, AtEachMoment}
 use Rattle.ldm_host.specs.StoryLaws.{begins_both}
 use Rattle.ldm_host.specs.Moves.{Begins}
 use Rattle.ldm_label.specs.declared.Label.{Label}
@@ -21,11 +21,11 @@ use Rattle.ldm_found.specs.New.{HasOwnArea, NewIsEditable}
 use Rattle.ldm_found.specs.Opening.{IsGroupIn}
 use Rattle.ldm_found.proofs.NewLaws.{new_opens}
 use Rattle.ldm_words.specs.NewGroup as words
-use Rattle.ldm_init.specs.declared.faults.InitError.{InitError}
+use Rattle.ldm_host.proofs.Relations.{works_as}
 use Rattle.ldm_init.specs.Faults.{is_empty}
 use Rattle.ldm_init.specs.Bytes.{IsUnsignedImage}
 use Rattle.ldm_init.specs.Images.{IsNewBody, IsNewImage, AreNewImages, HoldNewGroup, IsInitMoment}
-use Rattle.ldm_init.specs.Moments.{AllOn, AllTake, CanTake, IsWhole, IsMaking, IsSigning, IsWriting, WritesGroup, before_of, new_found}
+use Rattle.ldm_init.specs.Moments.{Before, AllOn, AllTake, CanTake, IsWhole, IsMaking, IsSigning, IsWriting, WritesGroup, before_of, new_found}
 use Rattle.ldm_init.specs.NewGroup.{new_label, new_labels}
 use Rattle.ldm_init.proofs.GroupLaws.{is_new}
 use Rattle.ldm_init.proofs.LabelLaws.{labels_count, labels_guids, label_at, label_there, own_areas, new_takes}
@@ -42,19 +42,6 @@ pub quiet_moment : (old new : Seen) → Still old new → Quiet old new → (ima
 quiet_moment old new still quiet images text left =
     let m = still.moments images text left in
     (m.0, begins_both old.said text m.1 (subst (λ (l : List ℕ). Begins text l) quiet.said m.2))
-
--- what was read before changes nothing
-pub writing_still : (db : Database) (labels : List Label) (start old new : Seen) (n : ℕ) → Still old new → Quiet old new → IsWriting db labels (before_of start) n old → IsWriting db labels (before_of start) n new
-writing_still db labels start old new n still quiet so = record {
-  between = record {
-    sizes = still.later.sizes ∙ so.between.sizes;
-    said = quiet.said ∙ so.between.said;
-    untouched = λ disk c lt left. so.between.untouched disk c lt ((still.left disk c).0 left);
-  };
-  unsigned = λ disk c lt left. so.unsigned disk c (subst (λ (l : List ℕ). disk < length l) still.later.sizes lt) ((still.left disk c).0 left);
-  ready = λ disk label c at lt left. so.ready disk label c at lt ((still.left disk c).0 left);
-  few = subst (λ (l : List ℕ). length labels ≤ length l) (sym still.later.sizes) so.few;
-}
 
 module _ (name : List ℕ) (guid : ℕ) (guids sizes body : List ℕ) (keeps : words.IsNewGroup name guids) (one_each : length guids ≡ length sizes) (is : IsNewBody name guid guids body) where
   abbrev labels : List Label
@@ -119,7 +106,8 @@ module _ (name : List ℕ) (guid : ℕ) (guids sizes body : List ℕ) (keeps : w
           whole : (disk : ℕ) (label : Label) → slice_get labels disk ≡ Some label → IsWhole is.db label (image new.content disk)
           whole disk label at =
               let within = slice_get_within labels disk label at in
-              signed.whole disk label (image new.content disk) at within (stays disk (subst (λ (l : List ℕ). disk < length l) (sym same) (omega (arith, within, labels_count sizes guids, one_each))))
+              (signed.left disk (image new.content disk) (omega (arith, within, signed.few))
+              (stays disk (subst (λ (l : List ℕ). disk < length l) (sym same) (omega (arith, within, labels_count sizes guids, one_each))))).whole label at within
 
   -- ---- the images
 
@@ -166,9 +154,22 @@ each_writable {items} {labels} same all i label at =
 pub takes_then : (body : List ℕ) {items labels : List Label} {later sizes : List ℕ} → items ≡ labels → later ≡ sizes → AllTake labels body sizes → AllTake items body later
 takes_then body {items} {labels} {later} {sizes} same sized takes = subst (λ (l : List Label). AllTake l body later) (sym same) (subst (AllTake labels body) (sym sized) takes)
 
-pub writes_as : {tells : Type 0} (body : List ℕ) (old new : Seen) {result : Result (Unit {0}) InitError} {items labels : List Label} → items ≡ labels → WritesGroup tells items body old new result
-    → WritesGroup tells labels body old new result
-writes_as {tells} body old new {result} same writes = subst (λ (l : List Label). WritesGroup tells l body old new result) same writes
+pub writes_as : {E tells : Type 0} (old new : Seen) {result : Result (Unit {0}) E} {items labels : List Label} {bytes body : List ℕ} → items ≡ labels → bytes ≡ body
+    → WritesGroup tells result items bytes old new → WritesGroup tells result labels body old new
+writes_as {E} {tells} old new {result} {items} {labels} {bytes} {body} first second writes =
+    subst (λ (b : List ℕ). WritesGroup tells result labels b old new) second (subst (λ (l : List Label). WritesGroup tells result l bytes old new) first writes)
+
+-- where the writing stopped
+pub writes_stopped : {E P tells : Type 0} (result : Result (Unit {0}) E) (labels : List Label) (body : List ℕ) (old new : Seen) → IsErr result
+    → (tells → (db : Database) (start : Before) → AllOn db labels body → IsWriting db labels start 0 old → AtEachMoment old new (IsMaking db labels start))
+    → Works old new P → P → WritesGroup tells result labels body old new
+writes_stopped (Ok x) labels body old new failed moments works is = absurd cc
+writes_stopped (Err e) labels body old new failed moments works is = record { any_moment = moments; done = λ tells. tt; written = λ tells. tt; settled = tt; works = works_as works (λ _. is) }
+
+-- and where it came to its end, of a call with other errors
+pub writes_done : {E F tells : Type 0} {one other : Unit {0}} {labels : List Label} {body : List ℕ} {old new : Seen} → WritesGroup {E = E} tells (Ok one) labels body old new
+    → WritesGroup {E = F} tells (Ok other) labels body old new
+writes_done writes = record { any_moment = writes.any_moment; done = writes.done; written = writes.written; settled = writes.settled; works = works_as writes.works (λ is. is) }
 
 pub written_before : (body : List ℕ) (of : List Label) (old mid new : List (List ℕ)) → mid ≡ old
     → ((disk : ℕ) (label : Label) → slice_get of disk ≡ Some label → (front : List ℕ) × IsUnsignedImage label body (image mid disk) front × (image new disk ≡ set front 0x1FF 0xAA))

@@ -148,10 +148,14 @@ module _ (host : Seen) (guids : List ℕ) (counts : length host.content ≡ leng
 
     pub begins_writing : (db : Database) (labels : List Label) → length labels ≤ length host.sizes → IsWriting db labels (before_of host) 0 host
     begins_writing db labels few = record {
-      between = record { sizes = refl; said = refl; untouched = λ disk c lt left. same_still disk c lt left };
-      unsigned = λ disk c lt left. subst IsUnsigned (sym (nothing disk lt c left)) (unsigned disk lt);
-      ready = λ disk label c at lt left. absurd (omega (arith, lt));
+      sizes = refl;
+      said = refl;
       few = few;
+      left = λ disk c lt left. record {
+        untouched = same_still disk c lt left;
+        unsigned = subst IsUnsigned (sym (nothing disk lt c left)) (unsigned disk lt);
+        ready = λ label at none. absurd (omega (arith, none));
+      };
     }
 
     -- the images at a moment before the writing

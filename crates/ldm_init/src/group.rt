@@ -1,7 +1,7 @@
 //! A new group, made on disks that are empty.
 ghost use Rattle.std.specs.Prelude.{◌≡◌, ◌*◌, ◌<◌, ◌≤◌, ◌≢◌, ◌⊎◌, ℕ, length, slice_index, All, Some, None, Err, OnOk};
-ghost use Rattle.std.specs.Prelude.{IfOk, IfErr, IsErr, IsErrOf};
-ghost use Rattle.ldm_host.specs.Moves.{Still, DiskFailed, Looks, Works, AtEachMoment};
+ghost use Rattle.std.specs.Prelude.{IfOk, IfErr, IsErrOf};
+ghost use Rattle.ldm_host.specs.Moves.{Still, Looks, Works, AtEachMoment};
 ghost use Rattle.ldm_label.specs.Written.{IsWritable};
 ghost use Rattle.ldm_words.specs.NewGroup as words;
 ghost use Rattle.ldm_init.specs.declared.faults.InitFault.{InitFault};
@@ -87,8 +87,8 @@ fn write_plan<H: Host>(host: &mut H, plan: Plan) -> Result<(), InitError>
     requires count { length plan.labels.items ≡ length (H.seen host.old).sizes }
     requires takes { AllTake plan.labels.items plan.body (H.seen host.old).sizes }
     requires buffer { length plan.buffer.items ≡ 512 * 2048 }
-    ensures writes { WritesGroup H.tells_disks plan.labels.items plan.body (H.seen host.old) (H.seen host.new) result }
-    ensures cause { IsErr result → DiskFailed (H.seen host.old) (H.seen host.new) }
+    ensures writes { WritesGroup H.tells_disks result plan.labels.items plan.body (H.seen host.old) (H.seen host.new) }
+    ensures not_refused { MayHaveWritten result }
 {
     let Plan {
         labels,

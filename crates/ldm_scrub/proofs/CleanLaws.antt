@@ -1,12 +1,13 @@
 -- A volume of which no place is bad is redundant.
-use Rattle.std.proofs.Common.{◌≡◌, ℕ, zero, suc, ◌+◌, ◌-◌, ◌*◌, ◌/◌, ◌%◌, ◌<◌, ◌≤◌, ◌==◌, inl, inr, Bool, true, false, not, List, length, get_or, replicate, refl, ap, sym, ◌∙◌, arith, if◌then◌else◌, filter_map, slice_get}
-use Rattle.std.specs.Prelude.{◌||◌}
+use Rattle.std.proofs.Common.{◌≡◌, ℕ, zero, suc, ◌+◌, ◌-◌, ◌*◌, ◌/◌, ◌%◌, ◌<◌, ◌≤◌, ◌==◌, Bool, true, false, List, length, get_or, replicate, refl, ap, sym, ◌∙◌, arith, if◌then◌else◌, filter_map, slice_get}
+use Rattle.ldm_scrub.proofs.CompareLaws.{bad_copies, bad_row}
+use Rattle.std.proofs.lemmas.List.Folds.{list_any_at}
 use Rattle.std.specs.List.{list_any, range_with_len}
 use Rattle.std.specs.Option.{option_map, option_to_list}
 use Rattle.std.specs.Str.{bytes_eq}
-use Rattle.std.proofs.lemmas.Bool.{cases_lt, eq-eqb, eqb-true}
+use Rattle.std.proofs.lemmas.Bool.{eq-eqb, eqb-true, not-false, false_from_ne_true, true≢false}
 use Rattle.std.proofs.lemmas.List.{get_or-replicate}
-use Rattle.std.proofs.lemmas.List.FromFn.{get_or-map-range_with_len}
+use Rattle.std.proofs.lemmas.List.FromFn.{get_or-map-range_with_len, length-range_with_len, get_or-range_with_len}
 use Rattle.std.proofs.lemmas.Nat.{div-add-mod', div-mul-add, mod-mul-add, mod_below, mul-le}
 use Rattle.std.proofs.lemmas.Slice.Eq.{bytes_eq-Decides}
 use Rattle.ldm_layout.specs.Places.{raid5_offset}
@@ -18,26 +19,16 @@ use Rattle.ldm_layout.specs.declared.shape.Shape.TheVariants.{Raid5}
 use Rattle.ldm_found.specs.declared.found.Found.{Found}
 use Rattle.ldm_dump.specs.Sources.{is_raid5, spot_at, copy_spot}
 use Rattle.ldm_dump.specs.Bytes.{joined_byte, joined_sector}
-use Rattle.ldm_scrub.specs.Compare.{copy_sector, copy_differs, row_fails, is_bad, is_bad_at, sector_at}
+use Rattle.ldm_scrub.specs.Compare.{copy_sector, copy_differs, is_bad, is_bad_at, sector_at}
 use Rattle.ldm_scrub.proofs.RowLaws.{sector_raid5, sector_other, place_of_row}
 use Rattle.ldm_dump.specs.Redundant.{IsRedundant, row_spots}
 use Rattle.ldm_dump.specs.declared.spots.Spot.{Spot}
 use Rattle.ldm_dump.proofs.RunLaws.{raid5_is}
 
-not_true : (b : Bool) → not b ≡ false → b ≡ true
-not_true true h = refl
-not_true false h = absurd cc
-
 none_passes : (t : ℕ → Bool) (a n c : ℕ) → list_any t (range_with_len a n) ≡ false → a ≤ c → c < a + n → t c ≡ false
-none_passes t a zero c h low lt = absurd (omega arith)
-none_passes t a (suc n) c h low lt = go (t a) refl h (λ r. none_passes t (a + 1) n c r)
-  where
-    go : (b : Bool) → t a ≡ b → (b || list_any t (range_with_len (a + 1) n)) ≡ false → (list_any t (range_with_len (a + 1) n) ≡ false → a + 1 ≤ c → c < a + 1 + n → t c ≡ false) → t c ≡ false
-    go true is h rest = absurd cc
-    go false is h rest = elim (cases_lt a c) [
-      | inl less ↦ rest h (omega arith) (omega arith)
-      | inr ge ↦ (let e : c ≡ a = omega arith in ap t e ∙ is)
-    ]
+none_passes t a n c h low lt =
+    let at : get_or (range_with_len a n) (c - a) 0 ≡ c = get_or-range_with_len a n (c - a) 0 (omega (arith, low, lt)) ∙ (let e : a + (c - a) ≡ c = omega (arith, low) in e) in
+    false_from_ne_true (t c) (λ yes. true≢false (sym (list_any_at t (range_with_len a n) (c - a) 0 (omega (arith, low, lt, length-range_with_len a n)) (ap t at ∙ yes)) ∙ h))
 
 byte_in : (images : List (List ℕ)) (spots : List Spot) (j : ℕ) → j < 512 → get_or (joined_sector images spots) j 0 ≡ joined_byte images spots j
 byte_in images spots j lt = get_or-map-range_with_len (joined_byte images spots) 0 512 j j 0 lt (omega arith)
@@ -57,14 +48,12 @@ module _ (images : List (List ℕ)) (found : Found) (l : Layout) (columned : l.s
   -- each copy is the first
   as_first : (x c j : ℕ) → is_raid5 l.shape ≡ false → x < l.size → c < copies_of l → j < 512
       → joined_byte images (option_to_list (copy_spot found l x c)) j ≡ joined_byte images (option_to_list (copy_spot found l x 0)) j
-  unfolding is_bad
   as_first x zero j other within copied lt = refl
   as_first x (suc c) j other within copied lt =
       let place : is_place l x ≡ true = ap (λ (b : Bool). if b then (x / l.chunk % (length (columns_of l) - 1)) == 0 else true) other in
-      let none : list_any (copy_differs images found l x) (range_with_len 1 (copies_of l - 1)) ≡ false =
-      sym (ap (λ (b : Bool). if b then row_fails images found l x else list_any (copy_differs images found l x) (range_with_len 1 (copies_of l - 1))) other) ∙ clean x within place in
+      let none = bad_copies images found l x other ∙ clean x within place in
       let same : bytes_eq (copy_sector images found l x 0) (copy_sector images found l x (suc c)) ≡ true =
-      not_true (bytes_eq (copy_sector images found l x 0) (copy_sector images found l x (suc c))) (none_passes (copy_differs images found l x) 1 (copies_of l - 1) (suc c) none (omega arith) (omega (arith, copied))) in
+      not-false (bytes_eq (copy_sector images found l x 0) (copy_sector images found l x (suc c))) (none_passes (copy_differs images found l x) 1 (copies_of l - 1) (suc c) none (omega arith) (omega (arith, copied))) in
       let equal : copy_sector images found l x 0 ≡ copy_sector images found l x (suc c) = (bytes_eq-Decides (copy_sector images found l x 0) (copy_sector images found l x (suc c))).0 same in
       sym (byte_in images (option_to_list (copy_spot found l x (suc c))) j lt) ∙ (ap (λ (s : List ℕ). get_or s j 0) (sym equal) ∙ byte_in images (option_to_list (copy_spot found l x 0)) j lt)
 
@@ -130,14 +119,12 @@ module _ (images : List (List ℕ)) (found : Found) (l : Layout) (columned : l.s
     offset_at = ap (λ n. n * u + first % u) row_at ∙ ap (λ n. row * u + n) rest_at
 
   row_zero : (x j : ℕ) → x < l.size → l.shape ≡ Raid5 → j < 512 → joined_byte images (row_spots found l x) j ≡ 0
-  unfolding is_bad
   row_zero x j within raid5 lt =
       let at = first x raid5 in
       let ok : is_bad images found l at ≡ false = clean at (let low = first_low x raid5 in omega (arith, low, within)) (place_at x raid5) in
-      let fails : row_fails images found l at ≡ false =
-      sym (ap (λ (s : Shape). if is_raid5 s then row_fails images found l at else list_any (copy_differs images found l at) (range_with_len 1 (copies_of l - 1))) raid5) ∙ ok in
+      let fails = bad_row images found l at raid5 ∙ ok in
       let zero_byte : ℕ = 0 in
-      let equal : joined_sector images (row_spots found l at) ≡ replicate 512 zero_byte = (bytes_eq-Decides (joined_sector images (row_spots found l at)) (replicate 512 zero_byte)).0 (not_true (bytes_eq (joined_sector images (row_spots found l at)) (replicate 512 zero_byte)) fails) in
+      let equal : joined_sector images (row_spots found l at) ≡ replicate 512 zero_byte = (bytes_eq-Decides (joined_sector images (row_spots found l at)) (replicate 512 zero_byte)).0 (not-false (bytes_eq (joined_sector images (row_spots found l at)) (replicate 512 zero_byte)) fails) in
       row_same x raid5 j ∙ (sym (byte_in images (row_spots found l at) j lt) ∙ (ap (λ (s : List ℕ). get_or s j 0) equal ∙ get_or-replicate 512 j zero_byte zero_byte lt))
     where
       row_same : (y : ℕ) (is : l.shape ≡ Raid5) (i : ℕ) → joined_byte images (row_spots found l y) i ≡ joined_byte images (row_spots found l (first y is)) i

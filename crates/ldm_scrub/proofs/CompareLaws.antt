@@ -1,5 +1,6 @@
 -- Marks of sectors of which the copies differ.
 use Rattle.std.proofs.Common.{◌≡◌, ℕ, ◌+◌, ◌-◌, ◌*◌, ◌<◌, ◌≤◌, Bool, true, false, not, ◌||◌, List, [], ◌∷◌, ◌++◌, map, length, take, drop, slice_index, refl, ap, sym, ◌∙◌, arith, add-one, Option, Some, if◌then◌else◌}
+use Rattle.std.proofs.lemmas.List.Folds.{list_any-append}
 use Rattle.std.specs.List.{list_any, range_with_len}
 use Rattle.std.specs.Option.{option_map, option_to_list}
 use Rattle.std.proofs.lemmas.List.{ext_get_or, get_or-take, get_or-drop, length-take-le, length-drop}
@@ -52,16 +53,11 @@ marked_more false true = refl
 marked_more false false = refl
 
 any_push : (t : ℕ → Bool) (xs : List ℕ) (y : ℕ) → list_any t (xs ++ y ∷ []) ≡ (list_any t xs || t y)
-any_push t [] y = go (t y)
+any_push t xs y = list_any-append t xs (y ∷ []) ∙ ap (λ (b : Bool). list_any t xs || b) (go (t y))
   where
-    go : (b : Bool) → (b || false) ≡ (false || b)
+    go : (b : Bool) → (b || false) ≡ b
     go true = refl
     go false = refl
-any_push t (x ∷ xs) y = ap (λ (b : Bool). t x || b) (any_push t xs y) ∙ go (t x) (list_any t xs) (t y)
-  where
-    go : (a b c : Bool) → (a || (b || c)) ≡ ((a || b) || c)
-    go true b c = refl
-    go false b c = refl
 
 -- one copy more is compared
 pub marked_next : (t : ℕ → Bool) (copy : ℕ) (same : Bool) (m new : ℕ) → 1 ≤ copy → t copy ≡ not same → m ≡ mark (list_any t (range_with_len 1 (copy - 1))) → new ≡ marked same m

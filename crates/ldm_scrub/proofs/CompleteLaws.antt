@@ -37,10 +37,7 @@ use Rattle.ldm_scrub.specs.Missing.{is_on, has_part, is_missing, missing_of}
 
 at_disk : (id : ℕ) (r : Record) → is_at 2 id r ≡ true → (d : Disk) × (r ≡ kinds.Disk d) × (d.head.id ≡ id)
 at_disk id (kinds.Disk d) h = (d, refl, eqb-true d.head.id id h)
-at_disk id (kinds.Group g) h = absurd cc
-at_disk id (kinds.Volume g) h = absurd cc
-at_disk id (kinds.Component g) h = absurd cc
-at_disk id (kinds.Partition g) h = absurd cc
+at_disk id r h = absurd cc
 
 nothing_found : (o : Option Record) → option_map id_of o ≡ None → o ≡ None
 nothing_found None h = refl

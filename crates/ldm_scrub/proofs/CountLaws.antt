@@ -1,5 +1,5 @@
 -- How many places there are.
-use Rattle.std.proofs.Common.{◌≡◌, ℕ, zero, suc, ◌+◌, ◌-◌, ◌*◌, ◌/◌, ◌%◌, ◌<◌, ◌≤◌, inl, inr, min, Bool, true, false, cond, List, [], ◌∷◌, ◌++◌, length, refl, ap, sym, ◌∙◌, arith, nat_lt, filter, if◌then◌else◌}
+use Rattle.std.proofs.Common.{◌≡◌, ℕ, zero, suc, ◌+◌, ◌-◌, ◌*◌, ◌/◌, ◌%◌, ◌<◌, ◌≤◌, inl, inr, min, Bool, true, false, cond, List, [], ◌∷◌, ◌++◌, length, refl, ap, sym, ◌∙◌, arith, nat_lt, filter}
 use Rattle.std.specs.List.{range_with_len}
 use Rattle.std.proofs.lemmas.Bool.{cases_lt, lt-ltb, le-ltb}
 use Rattle.std.proofs.lemmas.List.{append-nil}
@@ -7,7 +7,7 @@ use Rattle.std.proofs.lemmas.List.Elements.{filter-append}
 use Rattle.std.proofs.lemmas.Nat.{div-add-mod', mod_below, mul-le}
 use Rattle.std.proofs.Math.Nat.{suc-mul, mul_assoc, mul_comm}
 use Rattle.ldm_layout.specs.Layouts.{Layout, is_tiled}
-use Rattle.ldm_layout.specs.Columns.{columns_of, chunk_of, IsColumned}
+use Rattle.ldm_layout.specs.Columns.{columns_of, IsColumned}
 use Rattle.ldm_layout.specs.declared.shape.Shape.TheVariants.{Raid5}
 use Rattle.ldm_dump.specs.Sources.{is_raid5}
 use Rattle.ldm_dump.proofs.RangeLaws.{range_append}
@@ -142,6 +142,3 @@ count_rows l raid5 columned =
 -- what a plan of a RAID-5 tells of its chunks
 pub untiled : (l : Layout) → l.shape ≡ Raid5 → is_tiled l.shape ≡ false
 untiled l raid5 = ap is_tiled raid5
-
-pub chunk_is : (l : Layout) → is_tiled l.shape ≡ false → chunk_of l ≡ l.chunk
-chunk_is l tiled = ap (λ (b : Bool). if b then 0 else l.chunk) tiled

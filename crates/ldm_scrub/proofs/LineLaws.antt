@@ -1,18 +1,20 @@
 -- The lines of some places, and how many are bad.
-use Rattle.std.proofs.Common.{◌≡◌, ℕ, ◌+◌, ◌-◌, ◌/◌, ◌%◌, ◌≤◌, Bool, true, false, cond, List, [], ◌∷◌, ◌++◌, length, flat_map, count_by, refl, ap, sym, ◌∙◌, arith, append_assoc, add-one, zero-add, if◌then◌else◌}
+use Rattle.std.proofs.Common.{◌≡◌, ℕ, ◌+◌, ◌/◌, ◌%◌, ◌<◌, ◌≤◌, Bool, true, false, cond, List, [], ◌∷◌, ◌++◌, length, take, slice_index, flat_map, count_by, refl, ap, sym, subst, ◌∙◌, arith, append_assoc, add-one, zero-add, if◌then◌else◌}
+use Rattle.ldm_dump.proofs.RunLaws.{raid5_is}
+use Rattle.std.proofs.lemmas.Bool.{false_from_ne_true}
 use Rattle.std.specs.List.{range_with_len}
-use Rattle.std.proofs.lemmas.List.{append-nil}
+use Rattle.std.proofs.lemmas.List.{append-nil, length-take-le, get_or-take}
 use Rattle.std.proofs.lemmas.List.Sums.{sum_by-append}
 use Rattle.std.proofs.lemmas.List.FromFn.{length-range_with_len}
 use Rattle.std.proofs.lemmas.Grind.{flat_map-append}
 use Rattle.ldm_host.specs.Moves.{Begins}
 use Rattle.ldm_layout.specs.Layouts.{Layout}
 use Rattle.ldm_layout.specs.declared.shape.Shape.{Shape}
-use Rattle.ldm_layout.specs.declared.shape.Shape.TheVariants.{Span, Stripe, Mirror, Raid5}
+use Rattle.ldm_layout.specs.declared.shape.Shape.TheVariants.{Raid5}
 use Rattle.ldm_found.specs.declared.found.Found.{Found}
 use Rattle.ldm_dump.specs.Sources.{is_raid5}
 use Rattle.ldm_dump.proofs.RangeLaws.{range_append, range_more}
-use Rattle.ldm_scrub.specs.Compare.{is_bad_at, places_of, IsCount}
+use Rattle.ldm_scrub.specs.Compare.{is_bad_at, mark, places_of, IsCount}
 use Rattle.ldm_scrub.specs.Lines.{text_of_differing, text_of_failing, line_of, line_at, lines_of, bad_of, text_of_end}
 
 -- ---- more places
@@ -79,32 +81,19 @@ bad_are images found l places = refl
 
 -- ---- what was said
 
--- what was said so far, and then the lines of more places, which are compared on the same images
-pub said_on : (images now : List (List ℕ)) (found : Found) (l : Layout) (old mid new : List ℕ) (p n : ℕ) → now ≡ images → mid ≡ old ++ lines_of images found l (range_with_len 0 p)
-    → new ≡ mid ++ lines_of now found l (range_with_len p n) → new ≡ old ++ lines_of images found l (range_with_len 0 (p + n))
-said_on images now found l old mid new p n same so is =
-    is ∙ (ap (λ (i : List (List ℕ)). mid ++ lines_of i found l (range_with_len p n)) same
-    ∙ (ap (λ (m : List ℕ). m ++ lines_of images found l (range_with_len p n)) so
-    ∙ (append_assoc old (lines_of images found l (range_with_len 0 p)) (lines_of images found l (range_with_len p n))
-    ∙ ap (λ (t : List ℕ). old ++ t) (sym (lines_more images found l p n)))))
-
--- the lines of the first places begin those of all
-front_of_all : (images : List (List ℕ)) (found : Found) (l : Layout) (p all : ℕ) → p ≤ all → (rest : List ℕ) × (lines_of images found l (range_with_len 0 all) ≡ lines_of images found l (range_with_len 0 p) ++ rest)
-front_of_all images found l p all le =
-    let e : all ≡ p + (all - p) = omega (arith, le) in
-    (lines_of images found l (range_with_len p (all - p)), ap (λ (n : ℕ). lines_of images found l (range_with_len 0 n)) e ∙ lines_more images found l p (all - p))
-
--- what was said in part begins the whole
-pub part_said : (images now : List (List ℕ)) (found : Found) (l : Layout) (old mid new : List ℕ) (p n all : ℕ) → now ≡ images → mid ≡ old ++ lines_of images found l (range_with_len 0 p) → p + n ≤ all
-    → Begins new (mid ++ lines_of now found l (range_with_len p n)) → Begins new (old ++ lines_of images found l (range_with_len 0 all))
-part_said images now found l old mid new p n all same so le part =
-    let whole = said_on images now found l old mid (mid ++ lines_of now found l (range_with_len p n)) p n same so refl in
-    let front = front_of_all images found l (p + n) all le in (
-      part.0 ++ front.0,
-      ap (λ (t : List ℕ). old ++ t) front.1
-          ∙ (sym (append_assoc old (lines_of images found l (range_with_len 0 (p + n))) front.0)
-          ∙ (ap (λ (m : List ℕ). m ++ front.0) (sym whole ∙ part.1)
-          ∙ append_assoc new part.0 front.0)),
+-- what begins the lines of places that were marked, before which nothing was said
+pub marked_front : (images : List (List ℕ)) (found : Found) (l : Layout) (place all n : ℕ) (marks old mid new : List ℕ) → n ≤ length marks → mid ≡ old → place + n ≤ all
+    → ((i : ℕ) → i < n → slice_index marks i ≡ mark (is_bad_at images found l (place + i)))
+    → (((i : ℕ) → i < length (take n marks) → slice_index (take n marks) i ≡ mark (is_bad_at images found l (place + i)))
+    → Begins new (mid ++ lines_of images found l (range_with_len place (length (take n marks)))))
+    → (m : ℕ) × (place + m ≤ all) × Begins new (old ++ lines_of images found l (range_with_len place m))
+marked_front images found l place all n marks old mid new few same fits marked front =
+    let size = length-take-le n marks few in
+    let part = front (λ i lt. get_or-take n marks i 0 (omega (arith, size, lt)) ∙ marked i (omega (arith, size, lt))) in (
+      n,
+      fits,
+      subst (λ (m : ℕ). Begins new (old ++ lines_of images found l (range_with_len place m))) size
+          (subst (λ (s : List ℕ). Begins new (s ++ lines_of images found l (range_with_len place (length (take n marks))))) same part),
     )
 
 -- what begins a text begins it with more behind
@@ -122,10 +111,7 @@ unfolding line_of
 line_other l p other = ap (λ (b : Bool). if b then text_of_failing (p / l.chunk) (p % l.chunk) else text_of_differing p) other
 
 pub other_shape : (s : Shape) → (s ≡ Raid5 → ⊥) → is_raid5 s ≡ false
-other_shape Span apart = refl
-other_shape Stripe apart = refl
-other_shape Mirror apart = refl
-other_shape Raid5 apart = absurd (apart refl)
+other_shape s apart = false_from_ne_true (is_raid5 s) (λ is. apart (raid5_is s is))
 
 -- the last line has both counts
 pub end_text : (images : List (List ℕ)) (found : Found) (l : Layout) (front : List ℕ) (all bad : ℕ) → IsCount l all → bad ≡ bad_of images found l (places_of l)

@@ -1,7 +1,7 @@
 -- Which partitions are of a volume.
 use Rattle.std.proofs.Common.{◌≡◌, ℕ, ◌==◌, Bool, true, false, List, refl, ap, sym, subst, ◌∙◌, Option, Some, None, get_or}
 use Rattle.std.specs.List.{list_any, Contains}
-use Rattle.std.proofs.lemmas.Bool.{and_parts, eqb-true, eq-eqb}
+use Rattle.std.proofs.lemmas.Bool.{and_parts, eqb-true, eq-eqb, ne_eqb}
 use Rattle.std.proofs.lemmas.List.Folds.{list_any_none, list_any_at}
 use Rattle.ldm_records.specs.declared.types.Record.{Record}
 use Rattle.ldm_records.specs.declared.types.Record.TheVariants as kinds
@@ -19,17 +19,10 @@ use Rattle.ldm_scrub.specs.Missing.{parent_in, owner_of}
 abbrev is_own : List Record → ℕ → ℕ → Bool
 is_own records volume parent = list_any (λ (plex : Plex). plex.id == parent) (plexes_of volume records)
 
-unlike : (a b : ℕ) → (a ≡ b → ⊥) → (a == b) ≡ false
-unlike a b apart = go (a == b) refl
-  where
-    go : (t : Bool) → (a == b) ≡ t → (a == b) ≡ false
-    go true e = absurd (apart (eqb-true a b e))
-    go false e = e
-
 not_own : (records : List Record) (volume parent : ℕ) → ((c : Component) → Contains records (kinds.Component c) → c.head.id ≡ parent → c.parent ≡ volume → ⊥) → is_own records volume parent ≡ false
 not_own records volume parent none = list_any_none (λ (plex : Plex). plex.id == parent) (plexes_of volume records) (λ k d lt.
     let plex = plexes_are records volume k d lt in
-    unlike (get_or (plexes_of volume records) k d).id parent (λ e. none plex.component plex.there (ap (λ (q : Plex). q.id) plex.is ∙ e) plex.parent))
+    ne_eqb (get_or (plexes_of volume records) k d).id parent (λ e. none plex.component plex.there (ap (λ (q : Plex). q.id) plex.is ∙ e) plex.parent))
 
 own : (records : List Record) (volume parent : ℕ) (c : Component) → Contains records (kinds.Component c) → c.head.id ≡ parent → c.parent ≡ volume → is_own records volume parent ≡ true
 own records volume parent c there id is =
@@ -65,9 +58,5 @@ owner_test records volume parent up = go (by_id 4 parent records) refl
             ∙ sym is
 
     go : (o : Option Record) → by_id 4 parent records ≡ o → is_own records volume parent ≡ is_some_of volume (parent_in (by_id 4 parent records))
-    go None e = none_has None e (λ c h. absurd cc) ∙ sym (ap (λ (p : Option Record). is_some_of volume (parent_in p)) e)
     go (Some (kinds.Component c)) e = of_component c e ∙ sym (ap (λ (p : Option Record). is_some_of volume (parent_in p)) e)
-    go (Some (kinds.Group r)) e = none_has (Some (kinds.Group r)) e (λ c h. absurd cc) ∙ sym (ap (λ (p : Option Record). is_some_of volume (parent_in p)) e)
-    go (Some (kinds.Disk r)) e = none_has (Some (kinds.Disk r)) e (λ c h. absurd cc) ∙ sym (ap (λ (p : Option Record). is_some_of volume (parent_in p)) e)
-    go (Some (kinds.Volume r)) e = none_has (Some (kinds.Volume r)) e (λ c h. absurd cc) ∙ sym (ap (λ (p : Option Record). is_some_of volume (parent_in p)) e)
-    go (Some (kinds.Partition r)) e = none_has (Some (kinds.Partition r)) e (λ c h. absurd cc) ∙ sym (ap (λ (p : Option Record). is_some_of volume (parent_in p)) e)
+    go o e = none_has o e (λ c h. absurd cc) ∙ sym (ap (λ (p : Option Record). is_some_of volume (parent_in p)) e)

@@ -36,8 +36,8 @@ returns-in_err-write_disk-clause-any_moment g c tells db start bodies begun =
     let at = slice_get-get_or c.args.labels.now c.disks.disk _ c.disks-test.true in
     let takes = c.requires.takes c.disks.disk _ at in
     moments_trans old mid new (λ images said. IsMaking db c.args.labels.now start images said) so.works.later c.write_disk.ensures.changes.later (so.moments tells db start bodies begun)
-    (λ images said left. writing_moments _ (kept_signature _ _ takes.fits) db c.args.labels.now start c.disks.disk (kept_beside _ c.args.body.now start.sizes old.sizes c.disks.disk (sym begun.between.sizes) takes) mid new
-    (so.so_far tells db start bodies begun) c.write_disk.ensures.changes images said left)
+    (writing_moments _ (kept_signature _ _ takes.fits) db c.args.labels.now start c.disks.disk (kept_beside _ c.args.body.now start.sizes old.sizes c.disks.disk (sym begun.sizes) takes) mid new
+    (so.so_far tells db start bodies begun) c.write_disk.ensures.changes)
 
 pub disks-preserved : goal.disks-preserved
 disks-preserved g c =
@@ -54,8 +54,8 @@ disks-preserved g c =
       works = works_then {Q = ⊥} so.works (record { later = changes.later; quiet = changes.quiet; cause = λ is. absurd is }) (λ is. is);
       size = c.write_disk.ensures.size;
       moments = λ tells db start bodies begun. moments_trans old mid new (λ images said. IsMaking db c.args.labels.now start images said) so.works.later changes.later (so.moments tells db start bodies begun)
-          (λ images said left. writing_moments _ kept db c.args.labels.now start n (kept_beside _ c.args.body.now start.sizes old.sizes n (sym begun.between.sizes) takes) mid new (so.so_far tells db start bodies begun) changes images said left);
-      so_far = λ tells db start bodies begun. writing_next _ kept db c.args.labels.now start n (kept_beside _ c.args.body.now start.sizes old.sizes n (sym begun.between.sizes) takes) mid new
+          (writing_moments _ kept db c.args.labels.now start n (kept_beside _ c.args.body.now start.sizes old.sizes n (sym begun.sizes) takes) mid new (so.so_far tells db start bodies begun) changes);
+      so_far = λ tells db start bodies begun. writing_next _ kept db c.args.labels.now start n (kept_beside _ c.args.body.now start.sizes old.sizes n (sym begun.sizes) takes) mid new
           (so.so_far tells db start bodies begun) changes c.in_ok-write_disk.ensures.settled
           (λ label here. (let same = sym at ∙ here in subst (λ l. IsReady db l (image new.content n)) (ap (λ o. unwrap_or o label) same) (c.in_ok-write_disk.ensures.ready tells db (bodies n _ at))));
       written = λ tells disk label here lt. ⊎_elim

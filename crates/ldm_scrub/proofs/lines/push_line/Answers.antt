@@ -1,6 +1,7 @@
 use Rattle.std.proofs.Common.{◌≡◌, ◌++◌, ◌/◌, ◌%◌, ℕ, List, take, ap, sym, ◌∙◌}
+use Rattle.ldm_dump.proofs.LostLaws.{chunk_is}
 use Rattle.ldm_scrub.specs.Lines.{text_of_failing}
-use Rattle.ldm_scrub.proofs.CountLaws.{untiled, chunk_is}
+use Rattle.ldm_scrub.proofs.CountLaws.{untiled}
 use Rattle.ldm_scrub.proofs.LineLaws.{line_row, line_other, other_shape}
 use Rattle.ldm_scrub.proofs.lines.push_line.Goals as goal
 

@@ -1,7 +1,8 @@
 use Rattle.std.proofs.Common.{◌≡◌, ◌+◌, ◌-◌, ◌*◌, ◌/◌, ℕ, length, ap, sym, subst, ◌∙◌}
+use Rattle.ldm_dump.proofs.LostLaws.{chunk_is}
 use Rattle.ldm_layout.specs.Columns.{columns_of}
 use Rattle.ldm_scrub.specs.Compare.{IsCount}
-use Rattle.ldm_scrub.proofs.CountLaws.{rows_in, count_rows, untiled, chunk_is}
+use Rattle.ldm_scrub.proofs.CountLaws.{rows_in, count_rows, untiled}
 use Rattle.ldm_scrub.proofs.places.count_rows.Goals as goal
 
 pub returns : goal.returns

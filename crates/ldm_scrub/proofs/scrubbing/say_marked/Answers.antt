@@ -1,9 +1,8 @@
-use Rattle.std.proofs.Common.{◌++◌, ℕ, List, length, take, ap, sym, ◌∙◌}
+use Rattle.std.proofs.Common.{◌++◌, ℕ, List, length, ap, sym, ◌∙◌}
 use Rattle.std.specs.List.{range_with_len}
 use Rattle.std.proofs.lemmas.List.{append-nil}
-use Rattle.ldm_dump.proofs.SayLaws.{begins_part}
+use Rattle.ldm_dump.proofs.SayLaws.{begins_of}
 use Rattle.ldm_scrub.specs.Compare.{is_bad_at}
-use Rattle.ldm_scrub.specs.Lines.{lines_of}
 use Rattle.ldm_scrub.proofs.LineLaws.{silent, lines_are, bad_are}
 use Rattle.ldm_scrub.proofs.scrubbing.say_marked.Goals as goal
 
@@ -20,11 +19,7 @@ returns-then-bad-eq0-clause-said g c tells images found marked =
 
 pub returns-in_err-say-clause-front : goal.returns-in_err-say-clause-front
 returns-in_err-say-clause-front g c images found marked =
-    let part = c.in_err-say.ensures.front in
-    let said = (g.H.Host.seen c.args.host.now).said in
-    let text = c.push_lines-end.ensures.is (is_bad_at images found c.args.plan.now) marked ∙ lines_are images found c.args.plan.now (range_with_len c.args.place (length c.args.marks.now)) in
-    begins_part said (lines_of images found c.args.plan.now (range_with_len c.args.place (length c.args.marks.now))) _ part.0
-    (part.1 ∙ ap (λ (t : List ℕ). said ++ take part.0 t) text)
+    begins_of _ _ _ _ (c.push_lines-end.ensures.is (is_bad_at images found c.args.plan.now) marked ∙ lines_are images found c.args.plan.now (range_with_len c.args.place (length c.args.marks.now))) c.in_err-say.ensures.front
 
 pub returns-clause-said : goal.returns-clause-said
 returns-clause-said g c tells images found marked =
@@ -39,8 +34,4 @@ returns-clause-count g c images found marked =
 
 pub returns-clause-front : goal.returns-clause-front
 returns-clause-front g c images found marked =
-    let part = c.in_ok-say.ensures.front in
-    let said = (g.H.Host.seen c.args.host.now).said in
-    let text = c.push_lines-end.ensures.is (is_bad_at images found c.args.plan.now) marked ∙ lines_are images found c.args.plan.now (range_with_len c.args.place (length c.args.marks.now)) in
-    begins_part said (lines_of images found c.args.plan.now (range_with_len c.args.place (length c.args.marks.now))) _ part.0
-    (part.1 ∙ ap (λ (t : List ℕ). said ++ take part.0 t) text)
+    begins_of _ _ _ _ (c.push_lines-end.ensures.is (is_bad_at images found c.args.plan.now) marked ∙ lines_are images found c.args.plan.now (range_with_len c.args.place (length c.args.marks.now))) c.in_ok-say.ensures.front

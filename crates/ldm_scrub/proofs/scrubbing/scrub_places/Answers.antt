@@ -4,8 +4,8 @@ use Rattle.std.specs.List.{range_with_len}
 use Rattle.ldm_host.specs.Moves.{Begins}
 use Rattle.ldm_host.proofs.Relations.{still_itself, still_trans}
 use Rattle.ldm_scrub.specs.Lines.{lines_of, bad_of}
-use Rattle.ldm_dump.proofs.SayLaws.{begins_all}
-use Rattle.ldm_scrub.proofs.LineLaws.{no_lines, none_bad, said_on, part_said, bad_more}
+use Rattle.ldm_dump.proofs.SayLaws.{begins_all, said_on, part_said}
+use Rattle.ldm_scrub.proofs.LineLaws.{no_lines, none_bad, lines_more, bad_more}
 use Rattle.ldm_scrub.proofs.scrubbing.scrub_places.Goals as goal
 
 pub pieces-init : goal.pieces-init
@@ -27,7 +27,7 @@ returns-in_err-some-clause-front g c tells =
     let new = g.H.Host.seen c.scrub_some.new.host in
     let part = c.in_err-some.ensures.front tells in
     subst (λ (r : List ℕ). Begins new.said (old.said ++ lines_of old.content c.args.found.now c.args.plan.now r)) (sym c.requires.counted.all)
-    (part_said old.content mid.content c.args.found.now c.args.plan.now old.said mid.said new.said c.pieces.place part.0 c.args.all
+    (part_said (λ i p n. lines_of i c.args.found.now c.args.plan.now (range_with_len p n)) (λ i. lines_more i c.args.found.now c.args.plan.now) old.content mid.content old.said mid.said new.said c.pieces.place part.0 c.args.all
     c.pieces.invariant.still.content (c.pieces.invariant.said tells) part.1 part.2)
 
 pub returns-in_err-some-clause-still : goal.returns-in_err-some-clause-still
@@ -45,7 +45,7 @@ pieces-preserved g c =
       input = record { input = next.input.input ∙ c.pieces.invariant.input.input; heard = next.input.heard ∙ c.pieces.invariant.input.heard };
       within = omega (arith, next.fits);
       few = omega (arith, next.few);
-      said = λ tells. said_on old.content mid.content c.args.found.now c.args.plan.now old.said mid.said new.said c.pieces.place n
+      said = λ tells. said_on (λ i p k. lines_of i c.args.found.now c.args.plan.now (range_with_len p k)) (λ i. lines_more i c.args.found.now c.args.plan.now) old.content mid.content old.said mid.said new.said c.pieces.place n
           c.pieces.invariant.still.content (c.pieces.invariant.said tells) (next.said tells);
       count = λ tells.
           let more = bad_more old.content c.args.found.now c.args.plan.now c.pieces.place n in

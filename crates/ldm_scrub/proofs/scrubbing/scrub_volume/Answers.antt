@@ -1,6 +1,7 @@
-use Rattle.std.proofs.Common.{◌++◌, ℕ, List, length, take, ap, sym, ◌∙◌, append_assoc}
+use Rattle.std.proofs.Common.{◌++◌, ℕ, List, length, ap, sym, ◌∙◌, append_assoc}
+use Rattle.ldm_host.specs.Moves.{Begins}
 use Rattle.ldm_host.proofs.Relations.{still_trans}
-use Rattle.ldm_dump.proofs.SayLaws.{begins_part, begins_all}
+use Rattle.ldm_dump.proofs.SayLaws.{begins_of, begins_all}
 use Rattle.ldm_scrub.specs.Compare.{places_of}
 use Rattle.ldm_scrub.specs.Lines.{lines_of, bad_of, text_of_end}
 use Rattle.ldm_scrub.proofs.LineLaws.{begins_more, end_text}
@@ -43,6 +44,5 @@ returns-in-Err-clause-front g c tells =
     let end = text_of_end c.args.front.now (length (places_of c.args.plan.now)) (bad_of old.content c.args.found.now c.args.plan.now (places_of c.args.plan.now)) in
     let text = c.push_end-end.ensures.is
     ∙ end_text old.content c.args.found.now c.args.plan.now c.args.front.now c.place_count-all.result c.in_ok-bad.bad c.place_count-all.ensures (c.in_ok-bad.ensures.count tells) in
-    let said = c.in-Err.ensures.front in
-    let part = begins_part mid end _ said.0 (said.1 ∙ ap (λ (t : List ℕ). mid ++ take said.0 t) text) in
+    let part : Begins (g.H.Host.seen c.say.new.self).said (mid ++ end) = begins_of _ _ _ _ text c.in-Err.ensures.front in
     (part.0, sym (append_assoc old.said lines end) ∙ (ap (λ (s : List ℕ). s ++ end) (sym (c.in_ok-bad.ensures.said tells)) ∙ part.1))
