@@ -104,8 +104,8 @@ module _ (found : Found) (on : List ℕ) (v : Volume) (l : Layout) (sound : IsSo
       spot_on found on (plex_at found.db.records v copy).id spot.part spot.offset s sound lies spot.has spot.within
       (sym (ap (λ (p : Option (Extent × ℕ)). spot_at found (option_map sector_of p)) spot.is) ∙ is)
 
-  pub rows_on : (x column : ℕ) (s : Spot) → x < l.size → l.shape ≡ Raid5 → spot_at found (column_in l x column) ≡ Some s → IsOn on s
-  rows_on x column s lt raid5 other =
+  pub rows_lie_on : RowsLieOn found l on
+  rows_lie_on x column s lt raid5 other =
       let copied : 0 < copies_of l = subst (λ (t : Shape). 0 < copies_by t (length l.plexes)) (sym raid5) (omega arith) in
       let facts = copy_facts found.db.records v l 0 has copied in
       let es = parts_at l 0 in
@@ -130,17 +130,11 @@ module _ (found : Found) (on : List ℕ) (v : Volume) (l : Layout) (sound : IsSo
       ]
 
   columns_on : (x column : ℕ) (s : Spot) → x < l.size → l.shape ≡ Raid5 → other_spot found l x column ≡ Some s → IsOn on s
-  columns_on x column s lt raid5 is = rows_on x column s lt raid5 (unless (column == own_column l x) (spot_at found (column_in l x column)) is)
+  columns_on x column s lt raid5 is = rows_lie_on x column s lt raid5 (unless (column == own_column l x) (spot_at found (column_in l x column)) is)
     where
       unless : (b : Bool) (o : Option Spot) → (if b then None else o) ≡ Some s → o ≡ Some s
       unless true o h = absurd cc
       unless false o h = h
 
-  pub volume_lies_on : LiesOn found l on
-  volume_lies_on = record { copies = copies_on; columns = columns_on }
-
-pub volumes_lie_on : (found : Found) (on : List ℕ) (v : Volume) (l : Layout) → IsSoundGroup found → LieOn found.labels on → HasLayout found.db.records v l → LiesOn found l on
-volumes_lie_on found on v l sound lies has = volume_lies_on found on v l sound lies has
-
-pub rows_lie_on : (found : Found) (on : List ℕ) (v : Volume) (l : Layout) → IsSoundGroup found → LieOn found.labels on → HasLayout found.db.records v l → RowsLieOn found l on
-rows_lie_on found on v l sound lies has = λ x column s lt raid5 is. rows_on found on v l sound lies has x column s lt raid5 is
+  pub volumes_lie_on : LiesOn found l on
+  volumes_lie_on = record { copies = copies_on; columns = columns_on }

@@ -1,5 +1,6 @@
 -- A run of sectors: where they can be read moves along with them.
 use Rattle.std.proofs.Common.{◌≡◌, ℕ, ◌+◌, ◌<◌, ◌≤◌, ◌==◌, inl, inr, min, not, Bool, true, false, List, map, length, refl, ap, sym, subst, ◌∙◌, arith, add_assoc, Option, Some, None, if◌then◌else◌, is_none}
+use borrow.Author.Count.{below_more}
 use Rattle.std.specs.Prelude.{◌&&◌, ◌||◌}
 use Rattle.std.specs.List.{range_with_len, list_all}
 use Rattle.std.specs.Option.{option_map, option_to_list}
@@ -141,10 +142,7 @@ along_more l x copy s n so st = record {
 }
 
 pub absent_more : (found : Found) (l : Layout) (x copy : ℕ) → AllAbsent found l x copy → is_here found (place_in l x copy) ≡ false → AllAbsent found l x (copy + 1)
-absent_more found l x copy all here c lt = elim (cases_lt c copy) [
-  | inl less ↦ all c less
-  | inr ge ↦ (let e : copy ≡ c = omega (arith, lt, ge) in subst (λ (d : ℕ). is_here found (place_in l x d) ≡ false) e here)
-]
+absent_more found l x copy all here = below_more (λ c. is_here found (place_in l x c) ≡ false) copy all here
 
 -- ---- the run
 
@@ -241,13 +239,6 @@ others_out found l x c raid5 lt out =
 
 pub not_rebuilt : (found : Found) (l : Layout) (x : ℕ) → (l.shape ≡ Raid5 → ⊥) → can_rebuild found l x ≡ false
 not_rebuilt found l x not_raid5 = false_from_ne_true (can_rebuild found l x) (λ is. not_raid5 (rebuilds_raid5 found l x is))
-
--- what holds below a number, and there
-pub more_below : (P : ℕ → Type 0) (n : ℕ) → ((c : ℕ) → c < n → P c) → P n → (c : ℕ) → c < n + 1 → P c
-more_below P n below here c lt = elim (cases_lt c n) [
-  | inl less ↦ below c less
-  | inr ge ↦ (let e : n ≡ c = omega (arith, lt, ge) in subst P e here)
-]
 
 -- where a sector can be made, each other column is there
 pub others_here : (found : Found) (l : Layout) (x c : ℕ) → can_rebuild found l x ≡ true → c < length (columns_of l) → (c ≡ own_column l x → ⊥) → is_here found (column_in l x c) ≡ true
