@@ -2,7 +2,7 @@
 use Rattle.std.proofs.Common.{◌≡◌, ◌≢◌, inl, inr, ⊎_elim, ℕ, List, ◌++◌, take, drop, refl, sym, ◌∙◌, ap, subst, append_assoc}
 use Rattle.std.proofs.lemmas.List.{take-append-drop}
 use Rattle.ldm_host.specs.Seen.{Seen}
-use Rattle.ldm_host.specs.Moves.{Begins, Later, Looks, Quiet, Rose, Still}
+use Rattle.ldm_host.specs.Moves.{Begins, Later, Looks, Rose, Still}
 use Rattle.ldm_host.specs.StoryLaws.{begins_itself}
 use Rattle.ldm_host.proofs.Relations.{rose_sooner, still_trans}
 use Rattle.ldm_edits.specs.declared.reply.Reply.{Reply}
