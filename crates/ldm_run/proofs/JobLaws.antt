@@ -1,29 +1,63 @@
 -- What a job does, and what is done of words.
-use Rattle.std.proofs.Common.{◌≡◌, inl, ℕ, ◌/◌, ◌<◌, false, List, [], ◌∷◌, length, slice_index, refl, sym, ap, subst, arith, Option, Some, None}
+use Rattle.std.proofs.Common.{◌≡◌, inl, ℕ, ◌/◌, ◌<◌, false, List, [], ◌∷◌, length, slice_index, refl, sym, ap, subst, arith, Option, Some, None, ◌∙◌, Ok}
 use Rattle.std.proofs.lemmas.List.{append-nil}
-use Rattle.ldm_host.specs.Seen.{Seen, image}
-use Rattle.ldm_host.specs.Moves.{Still}
+use Rattle.ldm_host.specs.Seen.{Seen, image, Leaves}
+use Rattle.ldm_host.specs.Moves.{Still, Begins}
+use Rattle.ldm_host.specs.StoryLaws.{begins_both}
 use Rattle.ldm_words.specs.declared.command.Command.{Command}
 use Rattle.ldm_words.specs.declared.job.Job.{Job}
 use Rattle.ldm_words.specs.declared.job.Job.TheVariants.{Edit, One, Init}
 use Rattle.ldm_words.specs.Jobs.{job_of, HasCount}
 use Rattle.ldm_words.proofs.JobLaws.{reading_counts}
+use Rattle.ldm_found.specs.declared.found.Found.{Found}
+use Rattle.ldm_found.specs.Opening.{IsGroupIn}
+use Rattle.ldm_found.proofs.FoundLaws.{holds_group, one_image}
+use Rattle.ldm_store.specs.Kept.{IsKept}
+use Rattle.ldm_store.specs.Healing.{OnlyStill}
+use Rattle.ldm_store.proofs.HealLaws.{still_kept}
 use Rattle.ldm_init.proofs.StartLaws.{still_moment}
 use Rattle.ldm_run.specs.declared.running.Status.{Status}
 use Rattle.ldm_run.specs.declared.running.Status.TheVariants.{DiskFault, NoMemory}
 use Rattle.ldm_run.specs.Answer.{IsJobAnswer}
-use Rattle.ldm_run.specs.Kinds.{Kind, Reads, Streams, Hears, Edits, Does, Makes, kind_of, writes, JobInput, JobSays, JobTalk}
-use Rattle.ldm_run.specs.Stops.{JobStops, JobSinceSyncs}
+use Rattle.ldm_run.specs.Kinds.{Kind, Reads, Streams, Hears, Edits, Does, Makes, kind_of, writes, JobInput, JobSays, JobTalk, NothingPending}
+use Rattle.ldm_run.specs.Stops.{JobStops, JobSinceSyncs, Reopens, EveryStopReopens}
 use Rattle.ldm_run.specs.Written.{JobDisks}
 use Rattle.ldm_run.specs.Editing.{DoesGroup}
 use Rattle.ldm_run.specs.Runs.{DoesJob, Ends, HasImages, OfJob, OnlyReads, Streams as Streaming}
 use Rattle.ldm_run.proofs.MakingLaws.{unmade, unmade_disks}
 use Rattle.ldm_run.proofs.Saying.{Failing, failing, ends_silent}
-use Rattle.ldm_run.proofs.StillLaws.{quiet_start, silent_reopens}
+use Rattle.ldm_run.proofs.GroupEnds.{settled_all}
+use Rattle.ldm_run.proofs.OpenLaws.{reopens_first}
 
 -- what is said of a job, where it is this one
 pub of_job : {tells talks : Type 0} {job one : Job} {old new : Seen} {status : Status} → job ≡ one → DoesJob tells talks one old new status → DoesJob tells talks job old new status
 of_job {tells} {talks} {job} {one} {old} {new} {status} is does = subst (λ (j : Job). DoesJob tells talks j old new status) (sym is) does
+
+-- ---- while no disk is changed
+
+-- a moment while no disk is changed and nothing is said
+pub quiet_start : {old mid : Seen} → Still old mid → mid.said ≡ old.said → OnlyStill old mid
+quiet_start {old} {mid} still silent images said left =
+    let m = still.moments images said left in
+    (m.0, begins_both old.said said m.1 (subst (λ (l : List ℕ). Begins said l) silent m.2))
+
+module _ {old mid : Seen} (still : Still old mid) (one_each : length old.content ≡ length old.sizes) where
+  -- what a stop leaves while no disk is changed, and nothing was pending
+  kept_still : NothingPending old → (found : Found) → IsGroupIn old.content (Ok found) → (images : List (List ℕ)) → Leaves old images → IsKept found.labels found.db found.db old images old.said
+  kept_still nothing found is images left =
+      still_kept found old (holds_group old.content found is) (sym one_each ∙ one_image old.content found (holds_group old.content found is)) (settled_all old found one_each is nothing) images old.said left refl
+
+  pub silent_reopens : mid.said ≡ old.said → (lines : List (Option Command)) → NothingPending old → EveryStopReopens lines old mid
+  silent_reopens silent lines nothing found is editable images said left =
+      let m = quiet_start still silent images said left in
+      subst (λ (l : List ℕ). Reopens found.labels found.db lines old images l) (sym m.1) (reopens_first old found lines images old.said is editable (kept_still nothing found is images m.0))
+
+  -- where there is no line, whatever was said
+  pub no_line_reopens : NothingPending old → EveryStopReopens [] old mid
+  no_line_reopens nothing found is editable images said left =
+      let m = still.moments images said left in
+      let first = reopens_first old found [] images old.said is editable (kept_still nothing found is images m.0) in
+      record { prefix = first.prefix; few = first.few; opens = first.opens; places = first.places; outside = first.outside; each_answered = let few = first.few in inl (omega (arith, few)) }
 
 -- ---- a job that writes nothing
 

@@ -2,7 +2,7 @@
 use Rattle.std.proofs.Common.{◌≡◌, ◌≢◌, inr, ⊎_elim, ℕ, ◌<◌, List, [], ◌++◌, map, length, Some, None, refl, sym, ap, subst, ◌∙◌, arith, length-append}
 use Rattle.std.proofs.lemmas.List.{same_lists, get_or_default}
 use Rattle.ldm_host.specs.Seen.{Seen, Leaves, image}
-use Rattle.ldm_host.specs.Moves.{Begins, Later, Quiet, Rose, Still}
+use Rattle.ldm_host.specs.Moves.{AtEachMoment, Begins, Later, Looks, Quiet, Rose, Still}
 use Rattle.ldm_host.proofs.Relations.{later_trans, moments_trans}
 use Rattle.ldm_label.specs.Fields.{sectors_of}
 use Rattle.ldm_words.specs.declared.job.Job.TheVariants.{Init}
@@ -38,8 +38,7 @@ two_faults guids images fault x y = (let e = one_fault guids (map sectors_of ima
 module _ (tells : Type 0) (name : List ℕ) (guid : ℕ) (guids : List ℕ) (old mid : Seen) where
   -- what a stop leaves until the reply
   abbrev Moments : Type 0
-  Moments = tells → NothingPending old → IsInitFault guids old.content None → (images : List (List ℕ)) (text : List ℕ) → mid.left_since old.clock images text
-      → IsInitMoment name guid guids old images text
+  Moments = tells → NothingPending old → IsInitFault guids old.content None → AtEachMoment old mid (IsInitMoment name guid guids old)
 
   -- a disk failed
   pub fails_making : Later old mid → Quiet old mid → Rose old.disk_faults mid.disk_faults → Moments → (tells → (fault : InitFault) → IsInitFault guids old.content (Some fault) → Still old mid)
@@ -77,7 +76,7 @@ module _ (tells : Type 0) (name : List ℕ) (guid : ℕ) (guids : List ℕ) (old
     }
       where
         reads : OnlyReads tells old new (IsInitAnswer guids old.content) status
-        reads = says_first last quiet still both (λ told answer e. (Some fault, is told, e))
+        reads = let looks : Looks old mid ⊥ = record { still = still; quiet = quiet; cause = λ never. absurd never } in says_first last looks both (λ told answer e. (Some fault, is told, e))
 
     -- the group was made, and that is said
     pub makes : Later old mid → Quiet old mid → (tells → IsInitFault guids old.content None) → Moments → NothingPending mid

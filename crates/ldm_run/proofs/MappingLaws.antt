@@ -1,16 +1,6 @@
 -- What `map` is asked.
-use Rattle.std.proofs.Common.{◌≡◌, ℕ, ◌+◌, ◌≤◌, ◌==◌, ◌||◌, nat_lt, Bool, true, false, List, refl, ap, sym, ◌∙◌, subst, Option, Some, Result, Ok, Err, IfOk, IfSome, Contains}
+use Rattle.std.proofs.Common.{◌≡◌, ℕ, ◌+◌, ◌≤◌, ◌==◌, ◌||◌, nat_lt, Bool, true, false, List, refl, subst}
 use Rattle.std.proofs.lemmas.Bool.{ltb-false}
-use Rattle.ldm_records.specs.declared.types.Record.{Record}
-use Rattle.ldm_records.specs.declared.types.Record.TheVariants as kinds
-use Rattle.ldm_records.specs.declared.types.Volume.{Volume}
-use Rattle.ldm_layout.specs.Answers.{PlansAs}
-use Rattle.ldm_layout.specs.Layouts.{Layout}
-use Rattle.ldm_layout.specs.Volumes.{layout_of, volume_with}
-use Rattle.ldm_layout.specs.declared.shape.LayoutError.{LayoutError}
-use Rattle.ldm_layout.specs.declared.shape.LayoutError.TheVariants.{Fault}
-use Rattle.ldm_layout.specs.declared.shape.LayoutFault.{LayoutFault}
-use Rattle.ldm_rules.specs.Disjoint.{AllLaidOut}
 use Rattle.ldm_found.specs.declared.found.Found.{Found}
 use Rattle.ldm_run.specs.Said.{Answer}
 use Rattle.ldm_run.specs.Mapping.{is_bad_range, map_answer}

@@ -1,5 +1,5 @@
 -- How a run ends, by what was done of its words.
-use Rattle.std.proofs.Common.{◌≡◌, ◌≢◌, ◌↔◌, inl, ℕ, List, [], refl, sym, subst, ◌∙◌, Option, Some, None}
+use Rattle.std.proofs.Common.{◌≡◌, ◌≢◌, ◌↔◌, inl, ℕ, List, [], refl, sym, ap, subst, ◌∙◌, Option, Some, None}
 use Rattle.std.proofs.lemmas.List.{append-nil}
 use Rattle.ldm_host.specs.Seen.{Seen}
 use Rattle.ldm_host.specs.Moves.{Begins}
@@ -27,31 +27,35 @@ unread_is Refused unread = absurd unread
 unread_is DiskFault unread = absurd unread
 unread_is TalkFault unread = absurd unread
 
--- What is done of words.
-abbrev pub IsDone : (tells talks : Type 0) → Seen → Seen → Status → Option (Job × ℕ) → Type 0
-IsDone tells talks old new status reading = OfJob reading (IsUnread status × (new.said ≡ old.said)) (λ job. DoesJob tells talks job old new status)
+module _ (tells talks : Type 0) {A : Type 0} (seen : A → Seen) (old new : A) (status : Status) where
+  -- What is done of words.
+  abbrev pub IsDone : Option (Job × ℕ) → Type 0
+  IsDone reading = OfJob reading (IsUnread status × (new ≡ old)) (λ job. DoesJob tells talks job (seen old) (seen new) status)
 
-module _ (tells talks : Type 0) (old new : Seen) (status : Status) where
-  pub usage_is : (reading : Option (Job × ℕ)) → IsDone tells talks old new status reading → status ≢ NoMemory → (status ≡ Usage) ↔ (reading ≡ None)
+  -- nothing is said where they have no reading
+  silent : new ≡ old → (seen new).said ≡ (seen old).said
+  silent same = ap (λ (host : A). (seen host).said) same
+
+  pub usage_is : (reading : Option (Job × ℕ)) → IsDone reading → status ≢ NoMemory → (status ≡ Usage) ↔ (reading ≡ None)
   usage_is None done memory = (λ is. refl, λ none. (unread_is status done.0).is_usage memory)
   usage_is (Some reading) done memory = (λ is. absurd (done.ends.no_usage is), λ none. absurd cc)
 
-  pub answers_to : (reading : Option (Job × ℕ)) → IsDone tells talks old new status reading → tells → Answers old new (IsReadingAnswer reading old.content old.input) status
+  pub answers_to : (reading : Option (Job × ℕ)) → IsDone reading → tells → Answers (seen old) (seen new) (IsReadingAnswer reading (seen old).content (seen old).input) status
   answers_to None done told = record {
     whole = λ has. absurd ((unread_is status done.0).none has);
-    since = subst (λ (said : List ℕ). Begins old.said said) (sym done.1) (begins_itself old.said);
-    front = inl done.1;
+    since = subst (λ (said : List ℕ). Begins (seen old).said said) (sym (silent done.1)) (begins_itself (seen old).said);
+    front = inl (silent done.1);
   }
   answers_to (Some reading) done told = done.ends.answers told
 
-  pub causes_of : (reading : Option (Job × ℕ)) → IsDone tells talks old new status reading → Causes old new status
+  pub causes_of : (reading : Option (Job × ℕ)) → IsDone reading → Causes (seen old) (seen new) status
   causes_of None done = (let unread = unread_is status done.0 in record { disk = λ is. absurd (unread.no_disk is); talk = λ is. absurd (unread.no_talk is) })
   causes_of (Some reading) done = done.ends.causes
 
-  usage_completes : (reading : Option (Job × ℕ)) → IsDone tells talks old new status reading → status ≡ Usage → Completes old new (IsReadingAnswer reading old.content old.input) status
-  usage_completes None done is = (([], Usage), refl, record { status_is = is; said = done.1 ∙ sym (append-nil old.said) })
+  usage_completes : (reading : Option (Job × ℕ)) → IsDone reading → status ≡ Usage → Completes (seen old) (seen new) (IsReadingAnswer reading (seen old).content (seen old).input) status
+  usage_completes None done is = (([], Usage), refl, record { status_is = is; said = silent done.1 ∙ sym (append-nil (seen old).said) })
   usage_completes (Some reading) done is = absurd (done.ends.no_usage is)
 
-  pub completes : (reading : Option (Job × ℕ)) → IsDone tells talks old new status reading → tells → NoFault old new → status ≢ NoMemory → Completes old new (IsReadingAnswer reading old.content old.input) status
+  pub completes : (reading : Option (Job × ℕ)) → IsDone reading → tells → NoFault (seen old) (seen new) → status ≢ NoMemory → Completes (seen old) (seen new) (IsReadingAnswer reading (seen old).content (seen old).input) status
   completes reading done told none memory =
-      complete old new (IsReadingAnswer reading old.content old.input) status (usage_completes reading done) (answers_to reading done told) (causes_of reading done) none memory
+      complete (seen old) (seen new) (IsReadingAnswer reading (seen old).content (seen old).input) status (usage_completes reading done) (answers_to reading done told) (causes_of reading done) none memory

@@ -1,10 +1,11 @@
 -- What a host in memory has been through that did the sample script, and its summary.
-use Rattle.std.proofs.Common.{not, ◌≡◌, ⊎_elim, ℕ, ◌+◌, ◌-◌, ◌≤◌, ◌<◌, Bool, true, false, List, [], ◌∷◌, ◌++◌, length, take, refl, sym, ap, subst, ◌∙◌, arith, Option, Ok}
+use Rattle.std.proofs.Common.{not, cond, ◌≡◌, ⊎_elim, ℕ, ◌+◌, ◌-◌, ◌≤◌, ◌<◌, Bool, true, false, List, [], ◌∷◌, ◌++◌, length, take, refl, sym, ap, subst, ◌∙◌, arith, Option, Ok}
 use Rattle.std.specs.Prelude.{⊤, count_by}
 use Rattle.std.proofs.Props.{props}
 use mathlib.Core.HLevel.{is_prop→PathP}
 use Rattle.std.proofs.lemmas.Bool.{le-ltb}
 use Rattle.std.proofs.lemmas.List.{append-nil}
+use Rattle.std.proofs.lemmas.List.Sums.{sum_by-cons}
 use Rattle.std.proofs.Math.Seq.{take-length}
 use Rattle.ldm_host.specs.declared.memory.MemoryHost.{MemoryHost}
 use Rattle.ldm_host.specs.Moves.{Settled}
@@ -12,7 +13,6 @@ use Rattle.ldm_host.specs.Memory.{memory_seen, counts_of}
 use Rattle.ldm_host.specs.Laws.{law_counts_now, law_one_each, law_may_stay}
 use Rattle.ldm_label.specs.declared.Label.{Label}
 use Rattle.ldm_group.specs.Database.{Database, Core, core_of, IsSameCore}
-use Rattle.ldm_group.proofs.Rise.{count_yes, count_no}
 use Rattle.ldm_group.specs.Room.{need_of, room_of}
 use Rattle.ldm_words.specs.declared.command.Command.{Command}
 use Rattle.ldm_words.specs.declared.job.Job.TheVariants.{Edit}
@@ -152,31 +152,21 @@ some_disk {seed} {host} is =
 
 -- ---- the summary
 
+one_or_other : (b : Bool) → cond b 1 0 + cond (not b) 1 0 ≡ 1
+one_or_other true = refl
+one_or_other false = refl
+
 done_or_undone : (all : List Reply) → count_by is_done all + count_by is_undone all ≡ length all
 done_or_undone [] = refl
-done_or_undone (reply ∷ all) = by (is_done reply) refl (done_or_undone all)
-  where
-    by : (b : Bool) → is_done reply ≡ b → count_by is_done all + count_by is_undone all ≡ length all → count_by is_done (reply ∷ all) + count_by is_undone (reply ∷ all) ≡ length (reply ∷ all)
-    by true e rest =
-        let one = count_yes is_done reply all e in
-        let none = count_no is_undone reply all (ap not e) in
-        omega (arith, rest, one, none)
-    by false e rest =
-        let one = count_yes is_undone reply all (ap not e) in
-        let none = count_no is_done reply all e in
-        omega (arith, rest, one, none)
+done_or_undone (reply ∷ all) =
+    let done = sum_by-cons (λ (r : Reply). cond (is_done r) 1 0) reply all in
+    let undone = sum_by-cons (λ (r : Reply). cond (is_undone r) 1 0) reply all in
+    let one = one_or_other (is_done reply) in
+    let rest = done_or_undone all in
+    omega (arith, done, undone, one, rest)
 
 module _ {seed : ℕ} {host : MemoryHost} {other : Found} (is : IsSampleHost seed host) (holds : IsGroupIn (memory_seen host).content (Ok other))
     (now : (memory_seen host).left_since 0 (memory_seen host).content (memory_seen host).said) (counts : SequenceCounts) where
-  lines : List (Option Command)
-  lines = sample_lines seed
-
-  all_replies : List Reply
-  all_replies = replies_to is.found.labels is.found.db (sample_lines seed)
-
-  last_group : Database
-  last_group = group_after is.found.labels is.found.db (sample_lines seed)
-
   pub lines_said : line_count (memory_seen host).said ≡ length (replies_to is.found.labels is.found.db (sample_lines seed))
   lines_said = ap line_count is.said ∙ reply_lines 1 (replies_to is.found.labels is.found.db (sample_lines seed))
 

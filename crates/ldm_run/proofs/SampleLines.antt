@@ -6,7 +6,6 @@ use Rattle.std.proofs.lemmas.Bool.{and_parts}
 use Rattle.std.proofs.lemmas.Bool.Decides.{nat_tests}
 use Rattle.ldm_label.specs.declared.Label.{Label}
 use Rattle.ldm_group.specs.Database.{Database}
-use Rattle.ldm_group.proofs.Rise.{count_yes, count_no}
 use Rattle.ldm_words.specs.declared.command.Command.{Command}
 use Rattle.ldm_words.specs.declared.command.Command.TheVariants.{Create, Extend, Delete, Begin, Commit, Cancel}
 use Rattle.ldm_words.specs.Commands.{command_of, alone, line_of}
@@ -16,6 +15,7 @@ use Rattle.ldm_words.proofs.LimitLaws.{is_change, one_of}
 use Rattle.ldm_words.proofs.LineLaws.{front_at}
 use Rattle.std.proofs.Math.Seq.{take-append_seam, drop-append_seam}
 use Rattle.std.proofs.lemmas.List.{append-nil, length-append}
+use Rattle.std.proofs.lemmas.List.Sums.{sum_by-cons}
 use Rattle.std.proofs.lemmas.Option.{IfSome_then}
 use Rattle.ldm_edits.specs.declared.reply.Refusal.{Refusal}
 use Rattle.ldm_edits.specs.declared.reply.Reply.{Reply}
@@ -209,17 +209,8 @@ line_plain labels db (Some (Extend name pieces)) free = once_plain db (next_of d
 line_plain labels db (Some (Delete name)) free = once_plain db (next_of db labels (Delete name))
 
 count_plain : (reply : Reply) (all : List Reply) → is_undone reply ≡ is_refused reply → count_by is_undone all ≡ count_by is_refused all → count_by is_undone (reply ∷ all) ≡ count_by is_refused (reply ∷ all)
-count_plain reply all same rest = go (is_refused reply) refl
-  where
-    go : (b : Bool) → is_refused reply ≡ b → count_by is_undone (reply ∷ all) ≡ count_by is_refused (reply ∷ all)
-    go true e =
-        let one = count_yes is_undone reply all (same ∙ e) in
-        let two = count_yes is_refused reply all e in
-        omega (arith, one, two, rest)
-    go false e =
-        let one = count_no is_undone reply all (same ∙ e) in
-        let two = count_no is_refused reply all e in
-        omega (arith, one, two, rest)
+count_plain reply all same rest =
+    sum_by-cons (λ (r : Reply). cond (is_undone r) 1 0) reply all ∙ (λ i. cond (same i) 1 0 + rest i) ∙ sym (sum_by-cons (λ (r : Reply). cond (is_refused r) 1 0) reply all)
 
 all_plain : (labels : List Label) (db : Database) (lines : List (Option Command)) → AllNoBegin lines
     → count_by is_undone (replies_in labels (fresh db) lines) ≡ count_by is_refused (replies_in labels (fresh db) lines)

@@ -2,12 +2,14 @@
 use Rattle.std.proofs.Common.{◌≡◌, ◌≢◌, inl, inr, ⊎_elim, ℕ, List, ◌++◌, take, drop, refl, sym, ◌∙◌, ap, subst, append_assoc}
 use Rattle.std.proofs.lemmas.List.{take-append-drop}
 use Rattle.ldm_host.specs.Seen.{Seen}
-use Rattle.ldm_host.specs.Moves.{Begins, Later, Quiet, Rose, Still}
+use Rattle.ldm_host.specs.Moves.{Begins, Later, Looks, Rose, Still}
 use Rattle.ldm_host.specs.StoryLaws.{begins_itself}
 use Rattle.ldm_host.proofs.Relations.{rose_sooner, still_trans}
+use Rattle.ldm_edits.specs.declared.reply.Reply.{Reply}
+use Rattle.ldm_group_text.specs.Reply.{text_of_reply}
 use Rattle.ldm_run.specs.declared.running.Status.{Status}
 use Rattle.ldm_run.specs.declared.running.Status.TheVariants.{Done, Refused, Usage, DiskFault, NoMemory, TalkFault}
-use Rattle.ldm_run.specs.Said.{Answer, HasAnswer, SaysNothing}
+use Rattle.ldm_run.specs.Said.{Answer, HasAnswer, SaysNothing, SaysReply}
 use Rattle.ldm_run.specs.Heard.{TalkFails}
 use Rattle.ldm_run.specs.Kinds.{SameInput}
 use Rattle.ldm_run.specs.Editing.{EditFails}
@@ -126,14 +128,14 @@ complete old new IsOne TalkFault usage a c n m = absurd (n.talk (c.talk refl))
 
 -- ---- what only says an answer
 
--- what is quiet and changes no disk may come before
-pub says_first : {talks tells : Type 0} {IsSilent : Status → Type 0} {old mid new : Seen} {IsOne IsOther : Answer → Type 0} {status : Status} → Says talks IsSilent mid new IsOne status → Quiet old mid → Still old mid
+-- a call that only looks may come before
+pub says_first : {talks tells P : Type 0} {IsSilent : Status → Type 0} {old mid new : Seen} {IsOne IsOther : Answer → Type 0} {status : Status} → Says talks IsSilent mid new IsOne status → Looks old mid P
     → (tells → talks) → (tells → (answer : Answer) → IsOne answer → IsOther answer) → Says tells IsSilent old new IsOther status
-says_first {talks} {tells} {IsSilent} {old} {mid} {new} {IsOne} {IsOther} {status} last quiet still both turn = record {
-  ends = ends_first last.ends still.later quiet.said both turn;
-  silent = λ is. last.silent is ∙ quiet.said;
-  still = still_trans old mid new still last.still;
-  input = record { input = last.input.input ∙ quiet.input; heard = last.input.heard ∙ quiet.heard };
+says_first {talks} {tells} {P} {IsSilent} {old} {mid} {new} {IsOne} {IsOther} {status} last looks both turn = record {
+  ends = ends_first last.ends looks.still.later looks.quiet.said both turn;
+  silent = λ is. last.silent is ∙ looks.quiet.said;
+  still = still_trans old mid new looks.still last.still;
+  input = record { input = last.input.input ∙ looks.quiet.input; heard = last.input.heard ∙ looks.quiet.heard };
 }
 
 -- what is an answer of one kind may be one of another
@@ -172,12 +174,12 @@ says_part loud fails front still input = record {
 }
 
 -- something failed before anything was said
-pub says_nothing : {tells : Type 0} {IsSilent : Status → Type 0} {old new : Seen} {IsOne : Answer → Type 0} {status : Status} → Failing old new status → Quiet old new → Still old new → Says tells IsSilent old new IsOne status
-says_nothing fails quiet still = record {
-  ends = ends_silent fails quiet.said still.later.said;
-  silent = λ is. quiet.said;
-  still = still;
-  input = record { input = quiet.input; heard = quiet.heard };
+pub says_nothing : {tells P : Type 0} {IsSilent : Status → Type 0} {old new : Seen} {IsOne : Answer → Type 0} {status : Status} → Failing old new status → Looks old new P → Says tells IsSilent old new IsOne status
+says_nothing fails looks = record {
+  ends = ends_silent fails looks.quiet.said looks.still.later.said;
+  silent = λ is. looks.quiet.said;
+  still = looks.still;
+  input = record { input = looks.quiet.input; heard = looks.quiet.heard };
 }
 
 -- a part of a text begins it
@@ -186,6 +188,15 @@ part_begins said text new n is = (
   drop n text,
   ap (λ (l : List ℕ). said ++ l) (sym (take-append-drop n text)) ∙ sym (append_assoc said (take n text) (drop n text)) ∙ ap (λ (l : List ℕ). l ++ drop n text) (sym is),
 )
+
+-- a part of the text of a reply was said, or all
+pub reply_part : {old new : Seen} (number : ℕ) (reply : Reply) {bytes : List ℕ} (n : ℕ) → bytes ≡ text_of_reply (number, reply) → new.said ≡ old.said ++ take n bytes → Still old new → SameInput old new
+    → SaysReply number reply old new
+reply_part {old} {new} number reply n is said still input = record {
+  front = part_begins old.said (text_of_reply (number, reply)) new.said n (said ∙ ap (λ (l : List ℕ). old.said ++ take n l) is);
+  still = still;
+  input = input;
+}
 
 -- the talk failed in the middle of the text
 pub talk_failed : {tells : Type 0} {old new : Seen} {text : List ℕ} {wanted : Status} (n : ℕ) → new.said ≡ old.said ++ take n text → Rose old.talk_faults new.talk_faults → Still old new

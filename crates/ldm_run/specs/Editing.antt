@@ -1,16 +1,17 @@
 -- What becomes of the host while lines are done to a group, each on all disks and then answered.
-use Rattle.std.specs.Prelude.{◌≡◌, ◌⊎◌, ℕ, false, List, ◌++◌, Option}
+use Rattle.std.specs.Prelude.{◌≡◌, ◌⊎◌, ℕ, false, List, ◌++◌, Option, Result, IfOk, IfErr, OnOk}
 use Rattle.ldm_host.specs.Seen.{Seen}
-use Rattle.ldm_host.specs.Moves.{Rose, Begins, Later}
+use Rattle.ldm_host.specs.Moves.{Rose, Begins, Later, Quiet, AtEachMoment}
 use Rattle.ldm_label.specs.declared.Label.{Label}
 use Rattle.ldm_group.specs.Database.{Database}
 use Rattle.ldm_copy.specs.declared.answer.CopyState.TheVariants.{Valid}
 use Rattle.ldm_words.specs.declared.command.Command.{Command}
+use Rattle.ldm_edits.specs.declared.reply.Reply.{Reply}
 use Rattle.ldm_edits.specs.Steps.{Turn, turn_of, group_after, replies_to}
 use Rattle.ldm_found.specs.Labels.{AreSameOutside}
 use Rattle.ldm_store.specs.Kept.{IsCurrent, Opens}
 use Rattle.ldm_store.specs.Turning.{AllSettled, AllHave}
-use Rattle.ldm_store.specs.Sessions.{Opened, state_in}
+use Rattle.ldm_store.specs.Sessions.{Opened, Edited, RestsOn, HoldsSession, IsTurnOf, state_in}
 use Rattle.ldm_group_text.specs.Reply.{text_of_reply}
 use Rattle.ldm_run.specs.declared.running.Status.{Status}
 use Rattle.ldm_run.specs.declared.running.Status.TheVariants.{DiskFault, NoMemory, TalkFault}
@@ -48,12 +49,38 @@ pub record IsAnswering (session : Opened) (line : Option Command) (number : ℕ)
   pub since : Begins start.said said
   pub front : Begins said (start.said ++ text_of_reply (number, (turn_on session line).reply))
 
--- ---- all lines
-
 -- What lines do to the copies: each is just that of the group after them, or this is the group before them and no disk is
 -- changed.
 abbrev pub AreWritten : (labels : List Label) (before after : Database) (old new : List (List ℕ)) → Type 0
 AreWritten labels before after old new = AllHave labels new (λ copy. copy ≡ Valid after) ⊎ ((after ≡ before) × (new ≡ old))
+
+-- A line makes of a session this one, which the disks hold, and this reply.
+pub record IsLineDone (tells : Type 0) (session : Edited) (line : Option Command) (after : Edited) (reply : Reply) (old new : Seen) : Type 0 where
+  pub turn : IsTurnOf (turn_on session.group line) session.group.labels after.group reply
+  pub rests : RestsOn after.group new
+  pub holds : tells → HoldsSession after new.content
+  pub written : tells → AreWritten session.group.labels session.group.db after.group.db old.content new.content
+
+-- What becomes of the host while a line is done on all disks.
+pub record DoesLine (tells : Type 0) (session : Edited) (line : Option Command) (old new : Seen) (result : Result (Edited × Reply) Status) : Type 0 where
+  pub moments : tells → AtEachMoment old new (IsDoing session.group line old)
+  pub done : IfOk result (λ answer. IsLineDone tells session line answer.0 answer.1 old new)
+  pub failed : IfErr result (EditFails old new)
+  pub later : Later old new
+  pub quiet : Quiet old new
+
+-- And then answered. Before a disk fails nothing of the reply was said.
+pub record AnswersLine (tells : Type 0) (session : Edited) (line : Option Command) (number : ℕ) (old new : Seen) (result : Result (Edited × Reply) Status) : Type 0 where
+  pub moments : tells → AtEachMoment old new (λ images said. IsDoing session.group line old images said ⊎ IsAnswering session.group line number old images said)
+  pub done : IfOk result (λ answer. IsLineDone tells session line answer.0 answer.1 old new)
+  pub said : tells → OnOk result (new.said ≡ old.said ++ text_of_reply (number, (turn_on session.group line).reply))
+  pub front : tells → Begins new.said (old.said ++ text_of_reply (number, (turn_on session.group line).reply))
+  pub silent : IfErr result (λ status. status ≡ DiskFault → new.said ≡ old.said)
+  pub failed : IfErr result (EditFails old new)
+  pub later : Later old new
+  pub input : SameInput old new
+
+-- ---- all lines
 
 -- What is done to the group of a session whose copies are open and that has no batch open, with these lines.
 pub record DoesLines (tells : Type 0) (session : Opened) (lines : List (Option Command)) (old new : Seen) (status : Status) : Type 0 where
@@ -62,7 +89,7 @@ pub record DoesLines (tells : Type 0) (session : Opened) (lines : List (Option C
   pub input : SameInput old new
   -- what was said before a disk fails is whole lines
   pub whole_lines : tells → status ≡ DiskFault → SaysLines old new
-  pub stops : tells → (images : List (List ℕ)) (said : List ℕ) → new.left_since old.clock images said → Reopens session.labels session.db lines old images said
+  pub stops : tells → AtEachMoment old new (Reopens session.labels session.db lines old)
   pub current : tells → HasAnswer status → AllHave session.labels new.content (IsCurrent (group_after session.labels session.db lines))
   pub written : tells → HasAnswer status → AreWritten session.labels session.db (group_after session.labels session.db lines) old.content new.content
   pub settled : HasAnswer status → AllSettled session.labels new

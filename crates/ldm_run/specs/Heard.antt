@@ -1,7 +1,7 @@
 -- What is heard of a script.
 use Rattle.std.specs.Prelude.{◌≡◌, ◌≢◌, ◌⊎◌, ℕ, ◌<◌, ◌≤◌, List, [], ◌++◌, length, Option, Some, None}
 use Rattle.ldm_host.specs.Seen.{Seen}
-use Rattle.ldm_host.specs.Moves.{Rose}
+use Rattle.ldm_host.specs.Moves.{Rose, Still}
 use Rattle.ldm_run.specs.Said.{HasAnswer}
 use Rattle.ldm_run.specs.declared.running.Status.{Status}
 use Rattle.ldm_run.specs.declared.running.Status.TheVariants.{DiskFault, NoMemory, TalkFault}
@@ -11,6 +11,12 @@ pub record Takes (old new : Seen) (taken : List ℕ) : Type 0 where
   pub input : old.input ≡ taken ++ new.input
   pub heard : new.heard ≡ old.heard ++ taken
   pub few : length taken ≤ 1048577
+
+-- These bytes are heard. No disk is changed, and nothing is said.
+pub record Hears (talks : Type 0) (old new : Seen) (taken : List ℕ) : Type 0 where
+  pub takes : talks → Takes old new taken
+  pub silent : new.said ≡ old.said
+  pub still : Still old new
 
 -- The script that was heard is all that was left of the input; there is none where that is too long.
 abbrev pub IsScript : Option (List ℕ) → Seen → Seen → Type 0

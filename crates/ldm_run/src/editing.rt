@@ -1,23 +1,17 @@
 //! Does lines to the group of the disks, each on all disks and then answered.
-ghost use Rattle.std.specs.Prelude.{if◌then◌else◌, ◌≡◌, ◌≤◌, ◌<◌, ◌⊎◌, ◌++◌, List, ℕ, length, IfOk, IfErr, IfSome};
-ghost use Rattle.std.specs.Prelude.{OnOk, ◌∷◌, [], Option, Some, None, Ok};
-ghost use Rattle.ldm_host.specs.Moves.{Later, Quiet, Begins};
+ghost use Rattle.std.specs.Prelude.{◌≡◌, ◌≤◌, ◌<◌, List, length, IfOk, IfErr, IfSome};
+ghost use Rattle.std.specs.Prelude.{OnOk, ◌∷◌, [], Option, Some, None};
+ghost use Rattle.ldm_host.specs.Moves.{Works};
 ghost use Rattle.ldm_words.specs.declared.command.Command.{Command as Line};
 ghost use Rattle.ldm_words.specs.declared.job.Job.TheVariants as jobs;
 ghost use Rattle.ldm_words.specs.Limits.{IsCommand};
-ghost use Rattle.ldm_found.specs.declared.found.Found.{Found};
-ghost use Rattle.ldm_found.specs.Opening.{IsGroupIn};
-ghost use Rattle.ldm_store.specs.Kept.{AlwaysKept};
-ghost use Rattle.ldm_store.specs.Turning.{AreRewritten};
-ghost use Rattle.ldm_store.specs.Healing.{OneGroup};
-ghost use Rattle.ldm_store.specs.Sessions.{RestsOn, HoldsSession, IsTurnOf, IsOpenedFrom};
-ghost use Rattle.ldm_group_text.specs.Reply.{text_of_reply};
-ghost use Rattle.ldm_run.specs.Kinds.{SameInput, NothingPending};
+ghost use Rattle.ldm_store.specs.Settling.{KeepsOneGroup, IsSettled};
+ghost use Rattle.ldm_store.specs.Sessions.{RestsOn, HoldsSession};
 ghost use Rattle.ldm_run.specs.Scripts.{command_in, commands_in};
 ghost use Rattle.ldm_run.specs.Runs.{DoesJob};
-ghost use Rattle.ldm_run.specs.Editing.{EditFails, turn_on, IsDoing, IsAnswering, AreWritten, DoesLines, DoesGroup};
+ghost use Rattle.ldm_run.specs.Editing.{DoesLine, AnswersLine, DoesLines, DoesGroup};
 
-use crate::replying::{is_refused, say_reply};
+use crate::replying::{is_refused, say_reply, status_of};
 use crate::running::{Status, refuse_opening};
 use ldm_bytes::NoMemory;
 use ldm_edits::{Refusal, Reply};
@@ -26,35 +20,6 @@ use ldm_host::Host;
 use ldm_store::{ApplyError, Session, settle};
 use ldm_words::{Command, LineError, front_line, read_line};
 use std::alloc::Global;
-
-// Does a command on all disks.
-fn apply_command<H: Host>(
-    alloc: Global,
-    host: &mut H,
-    session: Session,
-    command: &Command,
-) -> Result<(Session, Reply), Status>
-    requires rests { RestsOn session.group (H.seen host.old) }
-    requires holds { H.tells_disks → HoldsSession session (H.seen host.old).content }
-    requires limits { IsCommand command.now }
-    ensures any_moment { H.tells_disks → (images : List (List ℕ)) (said : List ℕ)
-        → (H.seen host.new).left_since (H.seen host.old).clock images said
-        → IsDoing session.group (Some command.now) (H.seen host.old) images said }
-    ensures turn { IfOk result (λ answer. IsTurnOf (turn_on session.group (Some command.now)) session.group.labels answer.0.group answer.1) }
-    ensures rests { IfOk result (λ answer. RestsOn answer.0.group (H.seen host.new)) }
-    ensures holds { H.tells_disks → IfOk result (λ answer. HoldsSession answer.0 (H.seen host.new).content) }
-    ensures written { H.tells_disks
-        → IfOk result (λ answer. AreWritten session.group.labels session.group.db answer.0.group.db (H.seen host.old).content (H.seen host.new).content) }
-    ensures fault { IfErr result (EditFails (H.seen host.old) (H.seen host.new)) }
-    ensures later { Later (H.seen host.old) (H.seen host.new) }
-    ensures quiet { Quiet (H.seen host.old) (H.seen host.new) }
-{
-    match session.apply(alloc, host, command) {
-        Ok(answer) => Ok(answer),
-        Err(ApplyError::Disk) => Err(Status::DiskFault),
-        Err(ApplyError::NoMemory(_)) => Err(Status::NoMemory),
-    }
-}
 
 // Does a line on all disks. A line without a reading changes nothing.
 fn apply_line<H: Host>(
@@ -66,21 +31,15 @@ fn apply_line<H: Host>(
     requires rests { RestsOn session.group (H.seen host.old) }
     requires holds { H.tells_disks → HoldsSession session (H.seen host.old).content }
     requires limits { IfSome line IsCommand }
-    ensures any_moment { H.tells_disks → (images : List (List ℕ)) (said : List ℕ)
-        → (H.seen host.new).left_since (H.seen host.old).clock images said
-        → IsDoing session.group line (H.seen host.old) images said }
-    ensures turn { IfOk result (λ answer. IsTurnOf (turn_on session.group line) session.group.labels answer.0.group answer.1) }
-    ensures rests { IfOk result (λ answer. RestsOn answer.0.group (H.seen host.new)) }
-    ensures holds { H.tells_disks → IfOk result (λ answer. HoldsSession answer.0 (H.seen host.new).content) }
-    ensures written { H.tells_disks
-        → IfOk result (λ answer. AreWritten session.group.labels session.group.db answer.0.group.db (H.seen host.old).content (H.seen host.new).content) }
-    ensures fault { IfErr result (EditFails (H.seen host.old) (H.seen host.new)) }
-    ensures later { Later (H.seen host.old) (H.seen host.new) }
-    ensures quiet { Quiet (H.seen host.old) (H.seen host.new) }
+    ensures { DoesLine H.tells_disks session line (H.seen host.old) (H.seen host.new) result }
 {
     match line {
-        Some(command) => apply_command(alloc, host, session, &command),
         None => Ok((session, Reply::Refused(Refusal::BadLine))),
+        Some(command) => match session.apply(alloc, host, &command) {
+            Ok(answer) => Ok(answer),
+            Err(ApplyError::Disk) => Err(Status::DiskFault),
+            Err(ApplyError::NoMemory(_)) => Err(Status::NoMemory),
+        },
     }
 }
 
@@ -95,38 +54,12 @@ fn edit_line<H: Host>(
     requires rests { RestsOn session.group (H.seen host.old) }
     requires holds { H.tells_disks → HoldsSession session (H.seen host.old).content }
     requires limits { IfSome line IsCommand }
-    ensures any_moment { H.tells_disks → (images : List (List ℕ)) (said : List ℕ)
-        → (H.seen host.new).left_since (H.seen host.old).clock images said
-        → IsDoing session.group line (H.seen host.old) images said ⊎ IsAnswering session.group line number (H.seen host.old) images said }
-    ensures turn { IfOk result (λ answer. IsTurnOf (turn_on session.group line) session.group.labels answer.0.group answer.1) }
-    ensures rests { IfOk result (λ answer. RestsOn answer.0.group (H.seen host.new)) }
-    ensures holds { H.tells_disks → IfOk result (λ answer. HoldsSession answer.0 (H.seen host.new).content) }
-    ensures written { H.tells_disks
-        → IfOk result (λ answer. AreWritten session.group.labels session.group.db answer.0.group.db (H.seen host.old).content (H.seen host.new).content) }
-    ensures said { H.tells_disks → OnOk result ((H.seen host.new).said ≡ (H.seen host.old).said
-        ++ text_of_reply (number, (turn_on session.group line).reply)) }
-    ensures front { H.tells_disks → Begins (H.seen host.new).said ((H.seen host.old).said
-        ++ text_of_reply (number, (turn_on session.group line).reply)) }
-    ensures silent { IfErr result (λ status. status ≡ Status.DiskFault → (H.seen host.new).said ≡ (H.seen host.old).said) }
-    ensures fault { IfErr result (EditFails (H.seen host.old) (H.seen host.new)) }
-    ensures later { Later (H.seen host.old) (H.seen host.new) }
-    ensures input { SameInput (H.seen host.old) (H.seen host.new) }
+    ensures { AnswersLine H.tells_disks session line number (H.seen host.old) (H.seen host.new) result }
 {
     let (session, reply) = apply_line(alloc, host, session, line)?;
     match say_reply(alloc, host, number, &reply) {
         Ok(()) => Ok((session, reply)),
         Err(status) => Err(status),
-    }
-}
-
-// Done where no line was refused.
-fn status_of(refused: bool) -> Status
-    ensures { result ≡ if refused then Status.Refused else Status.Done }
-{
-    if refused {
-        Status::Refused
-    } else {
-        Status::Done
     }
 }
 
@@ -173,19 +106,9 @@ fn edit_each<H: Host>(alloc: Global, host: &mut H, first: Session, script: &[u8]
 // The group that the disks hold, made ready to be edited; or how the run ends where there is none.
 fn open_session<H: Host>(alloc: Global, host: &mut H) -> Result<Session, Status>
     requires { 0 < length (H.seen host.old).sizes }
-    ensures opened { H.tells_disks → IfOk result (λ session. IsOpenedFrom (H.seen host.old).content session.group) }
-    ensures fresh { IfOk result (λ session. session.group.draft ≡ None) }
-    ensures kept { H.tells_disks → OnOk result ((found : Found) → IsGroupIn (H.seen host.old).content (Ok found)
-        → found.blocked ≡ None
-        → NothingPending (H.seen host.old) → AlwaysKept found.labels found.db found.db (H.seen host.old) (H.seen host.new)) }
-    ensures one_group { H.tells_disks
-        → OnOk result ((found : Found) → IsGroupIn (H.seen host.old).content (Ok found) → found.blocked ≡ None
-        → OneGroup (H.seen host.old) (H.seen host.new)) }
-    ensures rests { IfOk result (λ session. RestsOn session.group (H.seen host.new)) }
-    ensures holds { H.tells_disks → IfOk result (λ session. HoldsSession session (H.seen host.new).content) }
-    ensures each { H.tells_disks → IfOk result (λ session. AreRewritten session.group.labels session.group.db (H.seen host.old).content (H.seen host.new).content) }
-    ensures later { OnOk result (Later (H.seen host.old) (H.seen host.new)) }
-    ensures quiet { OnOk result (Quiet (H.seen host.old) (H.seen host.new)) }
+    ensures session { IfOk result (λ session. IsSettled H.tells_disks (H.seen host.old).content session (H.seen host.new)) }
+    ensures keeps { H.tells_disks → OnOk result (KeepsOneGroup (H.seen host.old) (H.seen host.new) ⊥) }
+    ensures works { OnOk result (Works (H.seen host.old) (H.seen host.new) ⊥) }
     ensures silent { IfErr result (λ status. status ≡ Status.DiskFault → (H.seen host.new).said ≡ (H.seen host.old).said) }
     ensures fault { IfErr result (λ status. (lines : List (Option Line))
         → DoesGroup H.tells_disks lines (H.seen host.old) (H.seen host.new) status) }

@@ -2,7 +2,7 @@
 ghost use Rattle.std.specs.Prelude.{◌≡◌, ◌≢◌, ◌↔◌, ◌<◌, ◌≤◌, List, ℕ, length, slice_index, IfOk, IfErr, OnOk, None, Ok};
 ghost use Rattle.ldm_host.specs.Seen.{image};
 ghost use Rattle.ldm_label.specs.LabelOf.{label_of, Fits};
-ghost use Rattle.ldm_host.specs.Moves.{Still, Quiet};
+ghost use Rattle.ldm_host.specs.Moves.{Looks};
 ghost use Rattle.ldm_words.specs.Jobs.{texts, job_of, HasCount, KeepsLimits};
 ghost use Rattle.ldm_words.specs.declared.job.Job.TheVariants as jobs;
 ghost use Rattle.ldm_text.specs.Texts.{text_of_label_fault, text_of_image_fault, text_of_refusal};
@@ -179,8 +179,7 @@ pub(crate) fn open_group<H: Host>(alloc: Global, host: &mut H) -> Result<Found, 
     ensures found { H.tells_disks → IfOk result (λ found. IsGroupIn (H.seen host.old).content (Ok found)) }
     ensures sound { IfOk result (λ found. IsSoundGroup found) }
     ensures lies { IfOk result (λ found. LieOn found.labels (H.seen host.new).sizes) }
-    ensures quiet { OnOk result (Quiet (H.seen host.old) (H.seen host.new)) }
-    ensures still { OnOk result (Still (H.seen host.old) (H.seen host.new)) }
+    ensures looks { OnOk result (Looks (H.seen host.old) (H.seen host.new) ⊥) }
     ensures fault { IfErr result (λ status. (answer_of : Found → Answer)
         → OnlyReads H.tells_disks (H.seen host.old) (H.seen host.new)
         (IsGroupAnswer answer_of (H.seen host.old).content) status) }

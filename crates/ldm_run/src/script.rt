@@ -1,7 +1,6 @@
 //! Hearing a script.
-ghost use Rattle.std.specs.Prelude.{◌≡◌, ◌≤◌, List, ℕ, length, IfOk, IfSome, IfErr};
-ghost use Rattle.ldm_host.specs.Moves.{Still};
-ghost use Rattle.ldm_run.specs.Heard.{Takes, IsScript, TalkFails};
+ghost use Rattle.std.specs.Prelude.{◌≤◌, List, ℕ, length, IfOk, IfSome, IfErr};
+ghost use Rattle.ldm_run.specs.Heard.{Hears, IsScript, TalkFails};
 
 use crate::running::Status;
 use ldm_bytes::{Bytes, NoMemory};
@@ -17,9 +16,7 @@ pub(crate) fn hear_script<H: Host>(alloc: Global, host: &mut H) -> Result<Option
     ensures script { H.tells_talk → IfOk result (λ script. IsScript script (H.seen host.old) (H.seen host.new)) }
     ensures short { IfOk result (λ script. IfSome script (λ bytes. length bytes ≤ 1048576)) }
     ensures fault { IfErr result (TalkFails (H.seen host.old) (H.seen host.new)) }
-    ensures takes { H.tells_talk → (taken : List ℕ) × Takes (H.seen host.old) (H.seen host.new) taken }
-    ensures silent { (H.seen host.new).said ≡ (H.seen host.old).said }
-    ensures still { Still (H.seen host.old) (H.seen host.new) }
+    ensures hears { (taken : List ℕ) × Hears H.tells_talk (H.seen host.old) (H.seen host.new) taken }
 {
     let mut script = Vec::new(alloc);
     let mut buf = [0u8; 512];

@@ -11,11 +11,11 @@ returns-in-Err g c = streams_job (Dump c.args.name.now) refl (says_at_once tt (c
 pub returns-in-Ok : goal.returns-in-Ok
 returns-in-Ok g c =
     let found = c.in-Ok.found in
-    streams_job (Dump c.args.name.now) refl (says_first c.dump_found.ensures c.in-Ok.ensures.quiet c.in-Ok.ensures.still (λ tells. tells)
+    streams_job (Dump c.args.name.now) refl (says_first c.dump_found.ensures c.in-Ok.ensures.looks (λ tells. tells)
     (λ tells answer e. (
       Ok found,
       c.in-Ok.ensures.found tells,
       e
           ∙ (ap (λ (n : List ℕ). dump_answer n (g.H.Host.seen c.open_group.new.host).content found) c.as_slice.ensures
-          ∙ ap (λ (images : List (List ℕ)). dump_answer c.args.name.now images found) c.in-Ok.ensures.still.content),
+          ∙ ap (λ (images : List (List ℕ)). dump_answer c.args.name.now images found) c.in-Ok.ensures.looks.still.content),
     )))

@@ -11,5 +11,5 @@ returns-in-Err g c = reads_job Check refl (c.in-Err.ensures.fault check_answer)
 
 pub returns-in-Ok : goal.returns-in-Ok
 returns-in-Ok g c =
-    reads_job Check refl (says_first (c.say_made.ensures.says (text_of_check c.in-Ok.found) c.check_text.ensures) c.in-Ok.ensures.quiet c.in-Ok.ensures.still g.met.H.Host.tells_both
+    reads_job Check refl (says_first (c.say_made.ensures.says (text_of_check c.in-Ok.found) c.check_text.ensures) c.in-Ok.ensures.looks g.met.H.Host.tells_both
     (λ tells answer e. (Ok c.in-Ok.found, c.in-Ok.ensures.found tells, e)))

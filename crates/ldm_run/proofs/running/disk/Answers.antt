@@ -8,10 +8,10 @@ use Rattle.ldm_run.proofs.running.disk.Goals as goal
 
 pub returns-in-Err-Fault : goal.returns-in-Err-Fault
 returns-in-Err-Fault g c =
-    reads_job Disk refl (says_first c.refuse_label.ensures c.read_label.ensures.looks.quiet c.read_label.ensures.looks.still g.met.H.Host.tells_both
+    reads_job Disk refl (says_first c.refuse_label.ensures c.read_label.ensures.looks g.met.H.Host.tells_both
     (λ tells answer e. let is = rw c.in-Err-Fault.field-0-is at (c.in-Err-Fault.ensures.is tells) in e ∙ ap disk_answer (sym is)))
 
 pub returns-in-Ok : goal.returns-in-Ok
 returns-in-Ok g c =
-    reads_job Disk refl (says_first (c.say_made.ensures.says (text_of_label c.in-Ok.label) c.label_text.ensures) c.read_label.ensures.looks.quiet c.read_label.ensures.looks.still g.met.H.Host.tells_both
+    reads_job Disk refl (says_first (c.say_made.ensures.says (text_of_label c.in-Ok.label) c.label_text.ensures) c.read_label.ensures.looks g.met.H.Host.tells_both
     (λ tells answer e. e ∙ ap disk_answer (sym (c.in-Ok.ensures.is tells))))

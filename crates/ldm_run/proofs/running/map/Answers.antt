@@ -13,5 +13,5 @@ pub returns : goal.returns
 returns g c =
     let found = c.in-Ok.found in
     let is = same_name _ _ c.args.first c.args.count found _ c.as_slice.ensures c.in-Ok-mapped.ensures.is in
-    reads_job (Map c.args.name.now c.args.first c.args.count) refl (says_first (c.say_made.ensures.says c.in-Ok-mapped.text refl) c.in-Ok.ensures.quiet c.in-Ok.ensures.still g.met.H.Host.tells_both
+    reads_job (Map c.args.name.now c.args.first c.args.count) refl (says_first (c.say_made.ensures.says c.in-Ok-mapped.text refl) c.in-Ok.ensures.looks g.met.H.Host.tells_both
     (λ tells answer e. (Ok found, c.in-Ok.ensures.found tells, e ∙ is)))

@@ -1,4 +1,3 @@
-use Rattle.std.proofs.Common.{ap}
 use Rattle.ldm_words.specs.Jobs.{texts, job_of}
 use Rattle.ldm_run.proofs.JobLaws.{each_job}
 use Rattle.ldm_run.proofs.RunLaws.{usage_is, answers_to, causes_of, completes}
@@ -6,27 +5,19 @@ use Rattle.ldm_run.proofs.running.run.Goals as goal
 
 pub returns-clause-usage : goal.returns-clause-usage
 returns-clause-usage g c =
-    let reading = job_of (texts c.args.words.now) in
-    usage_is g.H.Host.tells_disks g.H.Host.tells_talk (g.H.Host.seen c.args.host.now) (g.H.Host.seen c.do_words.new.host) c.do_words.result reading
-    (each_job reading _ _ _ _ (λ unread. (unread.0, ap (λ h. (g.H.Host.seen h).said) unread.1)) (λ job does. does) c.do_words.ensures)
+    usage_is g.H.Host.tells_disks g.H.Host.tells_talk g.H.Host.seen c.args.host.now c.do_words.new.host c.do_words.result (job_of (texts c.args.words.now)) c.do_words.ensures
 
 pub returns-clause-answers : goal.returns-clause-answers
 returns-clause-answers g c =
-    let reading = job_of (texts c.args.words.now) in
-    answers_to g.H.Host.tells_disks g.H.Host.tells_talk (g.H.Host.seen c.args.host.now) (g.H.Host.seen c.do_words.new.host) c.do_words.result reading
-    (each_job reading _ _ _ _ (λ unread. (unread.0, ap (λ h. (g.H.Host.seen h).said) unread.1)) (λ job does. does) c.do_words.ensures)
+    answers_to g.H.Host.tells_disks g.H.Host.tells_talk g.H.Host.seen c.args.host.now c.do_words.new.host c.do_words.result (job_of (texts c.args.words.now)) c.do_words.ensures
 
 pub returns-clause-causes : goal.returns-clause-causes
 returns-clause-causes g c =
-    let reading = job_of (texts c.args.words.now) in
-    causes_of g.H.Host.tells_disks g.H.Host.tells_talk (g.H.Host.seen c.args.host.now) (g.H.Host.seen c.do_words.new.host) c.do_words.result reading
-    (each_job reading _ _ _ _ (λ unread. (unread.0, ap (λ h. (g.H.Host.seen h).said) unread.1)) (λ job does. does) c.do_words.ensures)
+    causes_of g.H.Host.tells_disks g.H.Host.tells_talk g.H.Host.seen c.args.host.now c.do_words.new.host c.do_words.result (job_of (texts c.args.words.now)) c.do_words.ensures
 
 pub returns-clause-complete : goal.returns-clause-complete
 returns-clause-complete g c =
-    let reading = job_of (texts c.args.words.now) in
-    completes g.H.Host.tells_disks g.H.Host.tells_talk (g.H.Host.seen c.args.host.now) (g.H.Host.seen c.do_words.new.host) c.do_words.result reading
-    (each_job reading _ _ _ _ (λ unread. (unread.0, ap (λ h. (g.H.Host.seen h).said) unread.1)) (λ job does. does) c.do_words.ensures)
+    completes g.H.Host.tells_disks g.H.Host.tells_talk g.H.Host.seen c.args.host.now c.do_words.new.host c.do_words.result (job_of (texts c.args.words.now)) c.do_words.ensures
 
 pub returns-clause-disks : goal.returns-clause-disks
 returns-clause-disks g c = each_job (job_of (texts c.args.words.now)) _ _ _ _ (λ unread. unread.1) (λ job does. does.disks) c.do_words.ensures

@@ -16,7 +16,7 @@ pub returns-in-Some : goal.returns-in-Some
 returns-in-Some g c =
     let found = c.in-Ok.found in
     let answer = replies_from 1 (replies_to found.labels found.db (commands_in c.args.script.now)) in
-    says_at_once tt (says_first c.refuse_opening.ensures c.in-Ok.ensures.quiet c.in-Ok.ensures.still g.met.H.Host.tells_both
+    says_at_once tt (says_first c.refuse_opening.ensures c.in-Ok.ensures.looks g.met.H.Host.tells_both
     (λ tells a e. (Ok found, c.in-Ok.ensures.found tells, e ∙ ap (λ (o : Option OpenFault). unless_blocked o answer) (sym c.in-Some.is))))
 
 pub returns : goal.returns
@@ -24,5 +24,5 @@ returns g c =
     let found = c.in-Ok.found in
     let answer = replies_from 1 (replies_to found.labels found.db (commands_in c.args.script.now)) in
     let free : found.blocked ≡ None = search rules in
-    says_first c.reply_each.ensures c.in-Ok.ensures.quiet c.in-Ok.ensures.still g.met.H.Host.tells_both
+    says_first c.reply_each.ensures c.in-Ok.ensures.looks g.met.H.Host.tells_both
     (λ tells a e. (Ok found, c.in-Ok.ensures.found tells, e ∙ ap (λ (o : Option OpenFault). unless_blocked o answer) (sym free)))

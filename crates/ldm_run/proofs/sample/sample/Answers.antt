@@ -1,5 +1,5 @@
 use Rattle.std.proofs.Common.{refl, sym, subst}
-use Rattle.ldm_host.proofs.Relations.{still_itself}
+use Rattle.ldm_host.proofs.Relations.{looks_itself}
 use Rattle.ldm_words.specs.declared.job.Job.TheVariants.{Sample}
 use Rattle.ldm_run.specs.declared.running.Status.TheVariants.{NoMemory}
 use Rattle.ldm_run.specs.Said.{Answer}
@@ -11,8 +11,7 @@ use Rattle.ldm_run.proofs.sample.sample.Goals as goal
 pub returns-in-Err : goal.returns-in-Err
 returns-in-Err g c =
     let host = c.args.host.now in
-    reads_job (Sample c.args.seed) refl (says_nothing (failing (g.H.Host.seen host) (g.H.Host.seen host) NoMemory tt) (record { said = refl; heard = refl; input = refl })
-    (still_itself (g.H.Host.seen host) (g.met.H.Host.counts_now host) (g.met.H.Host.only_now host)))
+    reads_job (Sample c.args.seed) refl (says_nothing (failing (g.H.Host.seen host) (g.H.Host.seen host) NoMemory tt) (looks_itself (g.H.Host.seen host) (g.met.H.Host.counts_now host) (g.met.H.Host.only_now host)))
 
 pub returns-in-Ok : goal.returns-in-Ok
 returns-in-Ok g c =

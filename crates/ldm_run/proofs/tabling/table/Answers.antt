@@ -12,5 +12,5 @@ pub returns : goal.returns
 returns g c =
     let found = c.in-Ok.found in
     let is = c.in-Ok-tabled.ensures.is ∙ ap (λ (n : List ℕ). table_answer n c.args.words.now found) c.as_slice.ensures in
-    reads_job (Table c.args.name.now c.args.words.now) refl (says_first (c.say_made.ensures.says c.in-Ok-tabled.text refl) c.in-Ok.ensures.quiet c.in-Ok.ensures.still g.met.H.Host.tells_both
+    reads_job (Table c.args.name.now c.args.words.now) refl (says_first (c.say_made.ensures.says c.in-Ok-tabled.text refl) c.in-Ok.ensures.looks g.met.H.Host.tells_both
     (λ tells answer e. (Ok found, c.in-Ok.ensures.found tells, e ∙ is)))
