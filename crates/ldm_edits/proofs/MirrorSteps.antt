@@ -1,5 +1,5 @@
 -- extend of a mirror: what lengths that nothing stands against are.
-use Rattle.std.proofs.Common.{◌≡◌, ℕ, ◌+◌, ◌-◌, ◌<◌, ◌==◌, ◌||◌, not, false, List, [], ◌∷◌, length, get_or, arith}
+use Rattle.std.proofs.Common.{◌≡◌, ℕ, ◌+◌, ◌<◌, ◌==◌, ◌||◌, not, false, List, [], ◌∷◌, length, get_or, arith}
 use Rattle.std.specs.List.{All}
 use Rattle.std.proofs.lemmas.Bool.{not-false, or_parts, eqb-true, eqb-false}
 use Rattle.ldm_records.specs.declared.types.Record.{Record}
