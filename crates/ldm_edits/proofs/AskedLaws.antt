@@ -1,5 +1,5 @@
 -- What the disks that a command names are: each is a disk of the group, and is asked for what its word says.
-use Rattle.std.proofs.Common.{◌≡◌, refl, subst, ℕ, ◌+◌, [], ◌∷◌, arith, Some, None, List, Option, Result, Ok, Err, find}
+use Rattle.std.proofs.Common.{◌≡◌, refl, subst, ℕ, ◌+◌, [], ◌∷◌, map, arith, Some, None, List, Option, Result, Ok, Err, find}
 use Rattle.std.specs.List.{All, Contains}
 use Rattle.std.proofs.lemmas.List.Elements.{All-nil, All-cons, All-tail}
 use Rattle.ldm_records.specs.declared.types.Disk.{Disk}
@@ -59,3 +59,10 @@ found_all P Q sectors records [] (w ∷ wanted) is h all = absurd h
 found_all P Q sectors records (word ∷ words) [] is h all = absurd h
 found_all P Q sectors records (word ∷ words) (w ∷ wanted) is h all =
     All-cons P w wanted (is word.1 w h.0 (all 0 word (omega arith))) (found_all P Q sectors records words wanted is h.1 (All-tail (λ (x : List ℕ × ℕ). Q x.1) word words all))
+
+-- what is asked for is as long as the words say
+pub found_sizes : (sectors : ℕ → ℕ) (records : List Record) (words : List (List ℕ × ℕ)) (wanted : List Wanted) → AreFound sectors records words wanted → map (λ w. w.size) wanted ≡ map (λ (word : List ℕ × ℕ). word.1) words
+found_sizes sectors records [] [] is = refl
+found_sizes sectors records [] (w ∷ wanted) is = absurd is
+found_sizes sectors records (word ∷ words) [] is = absurd is
+found_sizes sectors records (word ∷ words) (w ∷ wanted) is = (let rest = found_sizes sectors records words wanted is.1 in let here = is.0.size_is in λ i. here i ∷ rest i)

@@ -1,11 +1,10 @@
 -- New volumes are laid out as they are made.
-use Rattle.std.proofs.Common.{◌≡◌, ◌≢◌, ℕ, suc, ◌+◌, ◌-◌, ◌*◌, ◌/◌, ◌%◌, ◌^◌, ◌≤◌, ◌==◌, ◌&&◌, not, List, [], ◌∷◌, length, map, refl, sym, ap, ◌∙◌, arith, Bool, true, false, Option, Some, None, Ok}
+use Rattle.std.proofs.Common.{◌≡◌, ◌≢◌, ℕ, ◌+◌, ◌-◌, ◌*◌, ◌/◌, ◌%◌, ◌^◌, ◌≤◌, ◌==◌, ◌&&◌, not, List, [], ◌∷◌, length, map, refl, sym, ap, ◌∙◌, arith, Bool, true, false, Option, Some, None, Ok}
 use Rattle.std.specs.Prelude.{sum_by, if◌then◌else◌, nat_le}
-use Rattle.std.specs.List.{All, list_all}
+use Rattle.std.specs.List.{All, Contains, list_all}
 use Rattle.std.proofs.Math.Nat.{mul_assoc}
 use Rattle.std.proofs.lemmas.List.{length-map}
-use Rattle.std.proofs.lemmas.List.Sums.{sum_by-cons}
-use Rattle.std.proofs.lemmas.List.Elements.{All-tail, All-cons, All-nil}
+use Rattle.std.proofs.lemmas.List.Elements.{All-tail, All-cons, All-nil, All-map}
 use Rattle.std.proofs.lemmas.Bool.{and_from, eq-eqb, ne_eqb, le-leb, le-ltb}
 use Rattle.std.specs.Option.{option_map}
 use Rattle.ldm_records.specs.declared.types.Record.{Record}
@@ -15,29 +14,15 @@ use Rattle.ldm_layout.specs.declared.parts.Extent.{Extent}
 use Rattle.ldm_layout.specs.declared.shape.Shape.{Shape}
 use Rattle.ldm_layout.specs.declared.shape.Shape.TheVariants.{Span, Stripe, Mirror, Raid5}
 use Rattle.ldm_layout.specs.Places.{stripe_capacity, raid5_capacity}
-use Rattle.ldm_layout.specs.Parts.{plexes_of, extents_of, in_rising, by_offset, by_index, tile_key, tiles, rises_from, least}
+use Rattle.ldm_layout.specs.Parts.{plex_of, plexes_of, extent_of, extents_of, in_rising, by_offset, by_index, tile_key, tiles, rises_from, least}
 use Rattle.ldm_layout.specs.Layouts.{Layout, has_gap, lacks_chunk, lacks_columns, is_tiled, fewest, plex_capacity}
 use Rattle.ldm_layout.specs.Volumes.{layout_of, draft_of, shape_of, is_basic, laid_out, checked}
 use Rattle.ldm_layout.proofs.SortLaws.{AtLeast, Climbs, climbs_rises, stable_is}
 use Rattle.ldm_space.specs.declared.taken.Taken.{Taken}
 use Rattle.ldm_edits.specs.Mirroring.{held_in}
-use Rattle.ldm_edits.proofs.TiledLayouts.{copies_in, faultless, tiled_laid}
+use Rattle.ldm_edits.proofs.TiledLayouts.{copies_in, faultless, tiled_laid, map_map, map_same, all_pass}
+use Rattle.ldm_edits.proofs.Longer.{Share}
 use Rattle.ldm_edits.proofs.TakenExtents.{tile_extents, column_extents, tiles_whole, tiles_sum, columns_rise, columns_count}
-
--- the components of a mirror, from an id on: each is followed by its partition
-abbrev pub mirror_plexes : ℕ → ℕ → List Taken → List Plex
-mirror_plexes volume id [] = []
-mirror_plexes volume id (t ∷ more) = record { volume = volume; id = id; layout = 2; striping = None } ∷ mirror_plexes volume (id + 2) more
-
--- and their partitions
-abbrev pub mirror_extents : ℕ → List Taken → List (List Extent)
-mirror_extents id [] = []
-mirror_extents id (t ∷ more) = tile_extents id 0 (t ∷ []) ∷ mirror_extents (id + 2) more
-
--- each component of a mirror has its partition
-abbrev pub HasCopies : List Record → ℕ → List Taken → Type 0
-HasCopies records id [] = Unit {0}
-HasCopies records id (t ∷ more) = (extents_of id records ≡ tile_extents id 0 (t ∷ [])) × HasCopies records (id + 2) more
 
 -- all are of one size
 abbrev pub AllSized : ℕ → List Taken → Type 0
@@ -157,42 +142,28 @@ raid5_layout records v c u len ts plexes extents enough same some whole size =
 
 -- ---- mirrors
 
-mirror_basic : (q id : ℕ) (ts : List Taken) → list_all is_basic (mirror_plexes q id ts) ≡ true
-mirror_basic q id [] = refl
-mirror_basic q id (t ∷ ts) = mirror_basic q (id + 2) ts
+-- a component of a mirror with what it holds, from its first sector on
+pub record IsCopy (len : ℕ) (s : Share) : Type 0 where
+  pub basic : is_basic (plex_of s.d) ≡ true
+  pub sorted : by_offset (map extent_of s.parts) ≡ map extent_of s.parts
+  pub tiled : tiles (map extent_of s.parts) ≡ true
+  pub holds : held_in (map extent_of s.parts) ≡ len
 
-mirror_shape : (q id : ℕ) (ts : List Taken) → 2 ≤ length ts → shape_of (mirror_plexes q id ts) ≡ Some Mirror
-mirror_shape q id [] many = absurd (omega arith)
-mirror_shape q id (t ∷ []) many = absurd (omega arith)
-mirror_shape q id (t ∷ (u ∷ ts)) many = ap (λ (b : Bool). if b then Some Mirror else None) (mirror_basic q id (t ∷ (u ∷ ts)))
-
-mirror_laid : (records : List Record) (q id : ℕ) (ts : List Taken) → HasCopies records id ts → map (λ (p : Plex). by_offset (extents_of p.id records)) (mirror_plexes q id ts) ≡ mirror_extents id ts
-mirror_laid records q id [] has = refl
-mirror_laid records q id (t ∷ ts) has =
-    let here : by_offset (extents_of id records) ≡ tile_extents id 0 (t ∷ []) = ap by_offset has.0 in
-    let rest = mirror_laid records q (id + 2) ts has.1 in
-    λ i. here i ∷ rest i
-
-mirror_tiled : (id : ℕ) (ts : List Taken) → list_all tiles (mirror_extents id ts) ≡ true
-mirror_tiled id [] = refl
-mirror_tiled id (t ∷ ts) = mirror_tiled (id + 2) ts
-
-mirror_many : (id : ℕ) (ts : List Taken) → length (map (λ (es : List Extent). sum_by (λ e. e.size) es) (mirror_extents id ts)) ≡ length ts
-mirror_many id [] = refl
-mirror_many id (t ∷ ts) = ap suc (mirror_many (id + 2) ts)
-
-mirror_sizes : (id len : ℕ) (ts : List Taken) → AllSized len ts → All (λ n. n ≡ len) (map (λ (es : List Extent). sum_by (λ e. e.size) es) (mirror_extents id ts))
-mirror_sizes id len [] same = All-nil (λ (n : ℕ). n ≡ len)
-mirror_sizes id len (t ∷ ts) same =
-    All-cons (λ (n : ℕ). n ≡ len) (sum_by (λ (e : Extent). e.size) (tile_extents id 0 (t ∷ []))) (map (λ (es : List Extent). sum_by (λ e. e.size) es) (mirror_extents (id + 2) ts))
-    (tiles_sum id 0 (t ∷ []) ∙ sum_by-cons (λ (u : Taken). u.size) t [] ∙ (let here : t.size ≡ len = same 0 t (omega arith) in omega arith))
-    (mirror_sizes (id + 2) len ts (All-tail (λ (u : Taken). u.size ≡ len) t ts same))
+mirror_shape : (ss : List Share) → 2 ≤ length ss → list_all is_basic (map (λ (s : Share). plex_of s.d) ss) ≡ true → shape_of (map (λ (s : Share). plex_of s.d) ss) ≡ Some Mirror
+mirror_shape [] many basic = absurd (omega arith)
+mirror_shape (s ∷ []) many basic = absurd (omega arith)
+mirror_shape (s ∷ (t ∷ ss)) many basic = ap (λ (b : Bool). if b then Some Mirror else None) basic
 
 -- a mirror of equal copies
-pub mirror_layout : (records : List Record) (v : Volume) (id len : ℕ) (ts : List Taken)
-    → plexes_of v.head.id records ≡ mirror_plexes v.head.id id ts → HasCopies records id ts → 2 ≤ length ts → AllSized len ts → v.size ≡ len → (l : Layout) × (layout_of records v ≡ Ok l)
-mirror_layout records v id len ts plexes has many same size =
-    let copies = mirror_laid records v.head.id id ts has in
-    let holds : least (map held_in (copies_in records (mirror_plexes v.head.id id ts))) ≡ len =
-    ap (λ (es : List (List Extent)). least (map held_in es)) copies ∙ least_one _ len (omega (arith, mirror_many id ts)) (mirror_sizes id len ts same) in
-    tiled_laid records v (mirror_plexes v.head.id id ts) Mirror plexes (mirror_shape v.head.id id ts many) refl (ap (list_all tiles) copies ∙ mirror_tiled id ts) (omega (arith, holds))
+pub mirror_layout : (records : List Record) (v : Volume) (len : ℕ) (ss : List Share) → plexes_of v.head.id records ≡ map (λ (s : Share). plex_of s.d) ss
+    → ((s : Share) → Contains ss s → extents_of s.d.head.id records ≡ map extent_of s.parts) → ((s : Share) → Contains ss s → IsCopy len s) → 2 ≤ length ss → v.size ≡ len → (l : Layout) × (layout_of records v ≡ Ok l)
+mirror_layout records v len ss plexes read each many size =
+    let ps : List Plex = map (λ (s : Share). plex_of s.d) ss in
+    let parts : Share → List Extent = λ s. map extent_of s.parts in
+    let copies : copies_in records ps ≡ map parts ss = map_map (λ (p : Plex). by_offset (extents_of p.id records)) (λ (s : Share). plex_of s.d) ss
+    ∙ map_same (λ (s : Share). by_offset (extents_of s.d.head.id records)) parts ss (λ s at. ap by_offset (read s at) ∙ (each s at).sorted) in
+    let sizes : map held_in (map parts ss) ≡ map (λ s. len) ss = map_map held_in parts ss ∙ map_same (λ (s : Share). held_in (parts s)) (λ s. len) ss (λ s at. (each s at).holds) in
+    let holds : least (map held_in (copies_in records ps)) ≡ len = ap (λ (es : List (List Extent)). least (map held_in es)) copies ∙ ap least sizes
+    ∙ least_one (map (λ (s : Share). len) ss) len (omega (arith, length-map ss (λ (s : Share). len))) (All-map (λ (n : ℕ). n ≡ len) (λ (s : Share). len) ss (λ k d lt. refl)) in
+    tiled_laid records v ps Mirror plexes (mirror_shape ss many (all_pass is_basic (λ (s : Share). plex_of s.d) ss (λ s at. (each s at).basic))) refl
+    (ap (list_all tiles) copies ∙ all_pass tiles parts ss (λ s at. (each s at).tiled)) (omega (arith, holds))

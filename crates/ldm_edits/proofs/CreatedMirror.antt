@@ -1,9 +1,10 @@
 -- The records that are made for a mirror keep the rules of the next group.
 use Rattle.std.proofs.Common.{◌≡◌, ◌≢◌, ◌∙◌, ap, sym, refl, subst, ℕ, zero, suc, ◌+◌, ◌*◌, ◌≤◌, ◌<◌, ◌^◌, [], ◌∷◌, length, get_or, map, arith, None, List, false}
 use Rattle.std.specs.Prelude.{unwrap_or}
-use Rattle.std.specs.List.{All, cons_option, Contains}
+use Rattle.std.specs.List.{cons_option, Contains}
 use Rattle.std.proofs.lemmas.List.{length-map}
 use Rattle.std.proofs.lemmas.List.Elements.{All-tail}
+use Rattle.std.proofs.lemmas.List.Sums.{sum_by-cons}
 use Rattle.ldm_records.specs.declared.types.Volume.{Volume}
 use Rattle.ldm_records.specs.declared.types.Component.{Component}
 use Rattle.ldm_records.specs.declared.types.Partition.{Partition}
@@ -11,8 +12,8 @@ use Rattle.ldm_records.specs.declared.types.Record.{Record}
 use Rattle.ldm_made.proofs.MadeLaws.{MakesVolume, makes_volume, MakesComponent, makes_component, MakesPartition, makes_partition}
 use Rattle.ldm_records.specs.declared.types.Record.TheVariants as kinds
 use Rattle.ldm_group.specs.Order.{Rising, place_of}
-use Rattle.ldm_group.specs.Looks.{max_id}
-use Rattle.ldm_layout.specs.Parts.{extent_of, extents_of, plex_of, plexes_of}
+use Rattle.ldm_layout.specs.Parts.{extent_of, plex_of, tiles}
+use Rattle.ldm_layout.specs.Volumes.{is_basic}
 use Rattle.ldm_layout.specs.declared.parts.Extent.{Extent}
 use Rattle.ldm_layout.specs.declared.parts.Plex.{Plex}
 use Rattle.ldm_space.specs.declared.taken.Taken.{Taken}
@@ -21,13 +22,12 @@ use Rattle.ldm_edits.proofs.CreatedNext.{alone_rises}
 use Rattle.ldm_edits.proofs.Longer.{Share, news, parts_of, IsMade}
 use Rattle.ldm_edits.proofs.SingleLists.{only_one}
 use Rattle.ldm_volumes.specs.Volumes.{there, mirror_parts, mirror_made}
-use Rattle.ldm_edits.proofs.CreatedLayouts.{mirror_plexes, HasCopies, AllSized, mirror_layout}
-use Rattle.ldm_edits.proofs.CreatedIds.{IdsFollow}
-use Rattle.ldm_edits.proofs.MadeParts.{AreNumbers, numbers_head, numbers_tail}
-use Rattle.ldm_edits.proofs.CreatedRules.{IsCreated, IsSomeOn, MayCreate, IsNewShare, IsNewVolume, plexes_are, extents_are, made_keeps, plex_is}
+use Rattle.ldm_edits.proofs.CreatedLayouts.{AllSized, IsCopy, mirror_layout}
+use Rattle.ldm_edits.proofs.MadeParts.{AreNumbers, IdsFollow, numbers_head, numbers_tail}
+use Rattle.ldm_edits.proofs.CreatedRules.{MakesNew, IsNewShare, plex_is}
 
 -- a component of a mirror and its partition
-pub record IsCopy (volume id : ℕ) (c : Component) (p : Partition) : Type 0 where
+pub record IsPair (volume id : ℕ) (c : Component) (p : Partition) : Type 0 where
   pub plex : plex_of c ≡ record { volume = volume; id = id; layout = 2; striping = None }
   pub children : c.children ≡ 1
   pub extent : extent_of p ≡ record { component = id; disk = p.disk; start = p.start; size = p.size; offset = 0; index = 0 }
@@ -35,7 +35,7 @@ pub record IsCopy (volume id : ℕ) (c : Component) (p : Partition) : Type 0 whe
 
 abbrev pub AreCopies : ℕ → ℕ → List (Component × Partition) → Type 0
 AreCopies volume id [] = Unit {0}
-AreCopies volume id (x ∷ xs) = IsCopy volume id x.0 x.1 × AreCopies volume (id + 2) xs
+AreCopies volume id (x ∷ xs) = IsPair volume id x.0 x.1 × AreCopies volume (id + 2) xs
 
 abbrev share_of : Component × Partition → Share
 share_of x = record { c = x.0; d = x.0; parts = x.1 ∷ [] }
@@ -119,14 +119,6 @@ made_copy v xs (kinds.Volume w) m = (0, omega arith, ap kinds.Volume (sym m))
 made_copy v xs (kinds.Component c) (s, at, e) = subst (λ (d : Component). Contains (kinds.Volume v ∷ copy_records xs) (kinds.Component d)) (sym e) (behind v (copy_records xs) (kinds.Component s.d) (copy_both xs s at).0)
 made_copy v xs (kinds.Partition p) (s, at, in') = behind v (copy_records xs) (kinds.Partition p) ((copy_both xs s at).1 p in')
 
-copy_plexes : (volume id : ℕ) (xs : List (Component × Partition)) → AreCopies volume id xs
-    → map (λ (s : Share). plex_of s.d) (shares_of xs) ≡ mirror_plexes volume id (takens xs)
-copy_plexes volume id [] h = refl
-copy_plexes volume id (x ∷ xs) h =
-    let here = h.0.plex in
-    let rest = copy_plexes volume (id + 2) xs h.1 in
-    λ i. here i ∷ rest i
-
 copies_many : (xs : List (Component × Partition)) → length (takens xs) ≡ length xs
 copies_many [] = refl
 copies_many (x ∷ xs) = ap suc (copies_many xs)
@@ -145,30 +137,33 @@ components_rise volume id xs h i j d low within =
     let b = components_at volume id xs j d h (omega arith) in
     omega arith
 
-copies_read : (next : List Record) (volume id : ℕ) (xs : List (Component × Partition)) → AreCopies volume id xs
-    → ((s : Share) → Contains (shares_of xs) s → extents_of s.d.head.id next ≡ map extent_of s.parts) → HasCopies next id (takens xs)
-copies_read next volume id [] h read = tt
-copies_read next volume id (x ∷ xs) h read = (
-  ap (λ (q : Plex). extents_of q.id next) (sym h.0.plex) ∙ read (share_of x) (0, omega arith, refl) ∙ ap (λ (e : Extent). e ∷ []) h.0.extent,
-  copies_read next volume (id + 2) xs h.1 (λ s at. read s (suc at.0, (let lt = at.1 in omega arith), at.2)),
-)
+-- each holds what its partition does
+copies_hold : (len volume id : ℕ) (xs : List (Component × Partition)) → AreCopies volume id xs → AllSized len (takens xs) → (s : Share) → Contains (shares_of xs) s → IsCopy len s
+copies_hold len volume id [] h same s (k, lt, is) = absurd (omega arith)
+copies_hold len volume id (x ∷ xs) h same s (zero, lt, is) = subst (IsCopy len) is (record {
+  basic = ap is_basic h.0.plex;
+  sorted = refl;
+  tiled = ap (λ (e : Extent). tiles (e ∷ [])) h.0.extent;
+  holds = (let one = sum_by-cons (λ (e : Extent). e.size) (extent_of x.1) [] in let size : x.1.size ≡ len = same 0 (taken_of x.1) (omega arith) in omega arith);
+})
+copies_hold len volume id (x ∷ xs) h same s (suc k, lt, is) =
+    copies_hold len volume (id + 2) xs h.1 (All-tail (λ (u : Taken). u.size ≡ len) (taken_of x.1) (takens xs) same) s (k, omega arith, is)
 
 -- each is new
-copies_new : (old next : List Record) (v : Volume) (id : ℕ) (xs : List (Component × Partition)) → max_id old < id
-    → AreCopies v.head.id id xs → All (IsSomeOn next) (takens xs) → (s : Share) → Contains (shares_of xs) s → IsNewShare old next v s
-copies_new old next v id [] new h on s (k, lt, is) = absurd (omega arith)
-copies_new old next v id (x ∷ xs) new h on s (zero, lt, is) =
+copies_new : (first : ℕ) (v : Volume) (id : ℕ) (xs : List (Component × Partition)) → first < id
+    → AreCopies v.head.id id xs → (s : Share) → Contains (shares_of xs) s → IsNewShare first v s
+copies_new first v id [] new h s (k, lt, is) = absurd (omega arith)
+copies_new first v id (x ∷ xs) new h s (zero, lt, is) =
     let c_id : x.0.head.id ≡ id = ap (λ (q : Plex). q.id) h.0.plex in
     let parent : x.1.parent ≡ id = ap (λ (e : Extent). e.component) h.0.extent in
-    subst (IsNewShare old next v) is (record {
-      new = omega arith;
+    subst (IsNewShare first v) is (record {
+      above = omega arith;
       parent = ap (λ (q : Plex). q.volume) h.0.plex;
       children = h.0.children;
-      each = λ p at. subst (λ (q : Partition). (q.parent ≡ x.0.head.id) × IsSomeOn next (taken_of q)) (only_one x.1 p at) (parent ∙ sym c_id, on 0 (taken_of x.1) (omega arith));
+      own = λ p at. ap (λ (q : Partition). q.parent) (sym (only_one x.1 p at)) ∙ parent ∙ sym c_id;
       rise = alone_rises (kinds.Partition x.1);
     })
-copies_new old next v id (x ∷ xs) new h on s (suc k, lt, is) =
-    copies_new old next v (id + 2) xs (omega arith) h.1 (All-tail (IsSomeOn next) (taken_of x.1) (takens xs) on) s (k, omega arith, is)
+copies_new first v id (x ∷ xs) new h s (suc k, lt, is) = copies_new first v (id + 2) xs (omega arith) h.1 s (k, omega arith, is)
 
 -- ---- ids
 
@@ -186,52 +181,32 @@ copies_length : (xs : List (Component × Partition)) → length (copy_records xs
 copies_length [] = refl
 copies_length (x ∷ xs) = let rest = copies_length xs in omega arith
 
-pub mirror_ids : (id : ℕ) (name : List ℕ) (guid len : ℕ) (ts : List Taken) → id + 1 + 2 * length ts ≤ 2 ^ 64
-    → length name ≤ 255 → len < 2 ^ 64 → AreNumbers ts
-    → IdsFollow id (mirror_made id name guid len ts) × (length (mirror_made id name guid len ts) ≡ 1 + 2 * length ts)
-mirror_ids id name guid len ts few short low numbers =
+-- ---- what is made
+
+pub mirror_new : (id : ℕ) (name : List ℕ) (guid len : ℕ) (ts : List Taken) → id + 1 + 2 * length ts ≤ 2 ^ 64 → length name ≤ 255
+    → 2 ≤ length ts → AllSized len ts → len < 2 ^ 64 → len ≢ 0 → AreNumbers ts → MakesNew id name (mirror_made id name guid len ts) ts
+mirror_new id name guid len ts few short enough same low some numbers =
     let mv : MakesVolume id name guid false (length ts) len = makes_volume id name guid false (length ts) len (omega arith) short (omega arith) low in
-    let has : MakesCopies id (id + 1) ts = makes_copies id (id + 1) ts (omega arith) (omega arith) numbers in
-    let made_are : mirror_made id name guid len ts ≡ kinds.Volume mv.volume ∷ copy_records has.copies = λ i. cons_option (mv.made i) (has.made_are i) in
-    let many = sym (copies_many has.copies) ∙ ap (λ (l : List Taken). length l) has.taken_are in (
-      subst (IdsFollow id) (sym made_are) (mv.id_is, copies_follow id (id + 1) has.copies has.are),
-      ap (λ (l : List Record). length l) made_are ∙ (let l = copies_length has.copies in omega arith),
-    )
-
--- ---- the rules
-
-pub mirror_created : (old next : List Record) (id : ℕ) (name : List ℕ) (guid len : ℕ) (ts : List Taken)
-    → MayCreate old next (mirror_made id name guid len ts) id (id + 1 + 2 * length ts) name ts
-    → 2 ≤ length ts → AllSized len ts → len < 2 ^ 64 → len ≢ 0 → IsCreated old next (mirror_made id name guid len ts) name ts
-mirror_created old next id name guid len ts may enough same low some =
-    let few = may.few in
-    let n = may.new in
-    let mv : MakesVolume id name guid false (length ts) len = makes_volume id name guid false (length ts) len (omega arith) may.short (omega arith) low in
     let v : Volume = mv.volume in
-    let has : MakesCopies id (id + 1) ts = makes_copies id (id + 1) ts (omega arith) (omega arith) may.numbers in
+    let has : MakesCopies id (id + 1) ts = makes_copies id (id + 1) ts (omega arith) (omega arith) numbers in
     let xs : List (Component × Partition) = has.copies in
     let made_are : mirror_made id name guid len ts ≡ kinds.Volume v ∷ copy_records xs = λ i. cons_option (mv.made i) (has.made_are i) in
     let are : AreCopies v.head.id (id + 1) xs = subst (λ (q : ℕ). AreCopies q (id + 1) xs) (sym mv.id_is) has.are in
     let long = ap (λ (l : List Taken). length l) has.taken_are in
-    let v_id = mv.id_is in
-    let new : IsNewVolume old (mirror_made id name guid len ts) next v (shares_of xs) = record {
-      adds = may.adds;
-      listed = λ r at. listed v xs r (subst (λ (l : List Record). Contains l r) made_are at);
-      lists = λ r m. subst (λ (l : List Record). Contains l r) (sym made_are) (made_copy v xs r m);
-      volumes = may.volumes;
-      components = may.components;
-      new = omega arith;
-      each = copies_new old next v (id + 1) xs (omega arith) are (subst (All (IsSomeOn next)) (sym has.taken_are) may.on_disks);
-      rise = components_rise v.head.id (id + 1) xs are;
-    } in
-    let plexes : plexes_of v.head.id next ≡ mirror_plexes v.head.id (id + 1) (takens xs) = plexes_are new ∙ copy_plexes v.head.id (id + 1) xs are in
     record {
       volume = v;
       ss = shares_of xs;
-      new = new;
+      first = mv.id_is;
       named = mv.name_is;
+      count = mv.children_is ∙ sym long ∙ copies_many xs ∙ sym (length-map xs share_of);
+      some = λ e. some (sym mv.size_is ∙ e);
+      listed = λ r at. listed v xs r (subst (λ (l : List Record). Contains l r) made_are at);
+      lists = λ r m. subst (λ (l : List Record). Contains l r) (sym made_are) (made_copy v xs r m);
+      follow = subst (IdsFollow id) (sym made_are) (mv.id_is, copies_follow id (id + 1) xs has.are);
+      few = (let whole = ap (λ (l : List Record). length l) made_are in let pairs = copies_length xs in let many = copies_many xs in omega arith);
+      each = copies_new id v (id + 1) xs (omega arith) are;
+      rise = components_rise v.head.id (id + 1) xs are;
       taken_are = has.taken_are;
-      keeps = made_keeps new (mv.children_is ∙ sym long ∙ copies_many xs ∙ sym (length-map xs share_of)) (λ e. some (sym mv.size_is ∙ e))
-          (mirror_layout next v (id + 1) len (takens xs) plexes (copies_read next v.head.id (id + 1) xs are (extents_are new)) (omega arith)
-          (subst (AllSized len) (sym has.taken_are) same) mv.size_is);
+      laid = λ next plexes read. mirror_layout next v len (shares_of xs) plexes read (copies_hold len id (id + 1) xs has.are (subst (AllSized len) (sym has.taken_are) same))
+          (let many = copies_many xs in omega (arith, length-map xs share_of)) mv.size_is;
     }

@@ -1,6 +1,6 @@
 -- The records that are made for a volume keep the rules of the next group.
-use Rattle.std.proofs.Common.{◌≡◌, ◌≢◌, ◌∙◌, inl, inr, ap, sym, refl, subst, ℕ, ◌+◌, ◌-◌, ◌*◌, ◌%◌, ◌≤◌, ◌<◌, ◌^◌, ◌==◌, ◌||◌, [], ◌∷◌, length, map, arith, Some, None, List, Option, Bool, true, false, Ok}
-use Rattle.std.specs.Prelude.{count_by, sum_by, filter}
+use Rattle.std.proofs.Common.{◌≡◌, ◌≢◌, ◌∙◌, inl, inr, ap, sym, refl, subst, ℕ, ◌+◌, ◌≤◌, ◌<◌, ◌^◌, ◌==◌, ◌||◌, [], ◌∷◌, length, map, arith, None, List, Option, Bool, true, false, Ok}
+use Rattle.std.specs.Prelude.{count_by, filter}
 use Rattle.std.specs.List.{All, cons_option, filter_map, Contains}
 use Rattle.std.proofs.lemmas.Bool.{eq-eqb, ne_eqb, false≢true}
 use Rattle.std.proofs.lemmas.List.{length-map, append-nil}
@@ -27,113 +27,118 @@ use Rattle.ldm_rules.specs.Rules.{first_broken, lacks_volume, lacks_component}
 use Rattle.ldm_rules.proofs.CarryLaws.{disk_there, KeepsVolume, KeepsComponent, KeepsRules}
 use Rattle.ldm_space.specs.declared.taken.Taken.{Taken}
 use Rattle.ldm_space.specs.Free.{taken_of}
-use Rattle.ldm_volumes.specs.Volumes.{there, span_parts, column_parts, span_made, stripe_made, raid5_made}
+use Rattle.ldm_volumes.specs.Volumes.{there}
 use Rattle.ldm_edits.proofs.PlacedRules.{map_there, all_from_map}
-use Rattle.ldm_edits.proofs.SingleLists.{records_of, mapped, only_one, part_extents}
-use Rattle.ldm_edits.proofs.TakenExtents.{tile_extents, column_extents, AreExtentsOf, tiles_of, columns_of, parts_taken}
-use Rattle.ldm_edits.proofs.MadeParts.{AreNumbers, MakesParts, makes_span_parts, makes_column_parts, parts_rise}
-use Rattle.ldm_edits.proofs.CreatedLayouts.{AllSized, span_layout, stripe_layout, raid5_layout}
+use Rattle.ldm_edits.proofs.SingleLists.{records_of, single_records, mapped, only_one, part_extents}
+use Rattle.ldm_edits.proofs.TakenExtents.{AreExtentsOf, parts_taken}
+use Rattle.ldm_edits.proofs.MadeParts.{IdsFollow, MakesParts, parts_rise}
 use Rattle.ldm_edits.proofs.CreatedNext.{AddsTo, no_component, no_partition, alone_rises}
 use Rattle.ldm_edits.proofs.Longer.{Share, news, parts_of, longer_records, IsMade}
-use Rattle.ldm_edits.proofs.LongerFrom.{listed_made, made_listed, one_share}
+use Rattle.ldm_edits.proofs.LongerFrom.{part_listed, listed_made, made_listed, one_share}
 use Rattle.ldm_edits.proofs.LongerRules.{new_plexes}
 
 -- the disk of what is taken is there, and it isn't empty
 abbrev pub IsSomeOn : List Record → Taken → Type 0
 IsSomeOn next t = (t.size ≢ 0) × ((count_by (is_at 2 t.disk) next == 0) ≡ false)
 
--- a new component of the volume, and its partitions
-pub record IsNewShare (old next : List Record) (v : Volume) (s : Share) : Type 0 where
-  pub new : max_id old < s.d.head.id
+-- a new component of a volume, and its partitions, with ids above this
+pub record IsNewShare (id : ℕ) (v : Volume) (s : Share) : Type 0 where
+  pub above : id < s.d.head.id
   pub parent : s.d.parent ≡ v.head.id
   pub children : s.d.children ≡ length s.parts
-  pub each : (p : Partition) → Contains s.parts p → (p.parent ≡ s.d.head.id) × IsSomeOn next (taken_of p)
+  pub own : (p : Partition) → Contains s.parts p → p.parent ≡ s.d.head.id
   pub rise : Rising (records_of s.parts)
 
--- what is made: a new volume, its components, and their partitions
-pub record IsNewVolume (old made next : List Record) (v : Volume) (ss : List Share) : Type 0 where
-  pub adds : AddsTo old made next
-  pub listed : (r : Record) → Contains made r → IsMade v ss r
-  pub lists : (r : Record) → IsMade v ss r → Contains made r
-  pub volumes : first_broken (lacks_volume (λ q. count_by (is_at 3 q) old)) old ≡ None
-  pub components : first_broken (lacks_component (λ q. count_by (is_at 4 q) old)) old ≡ None
-  pub new : max_id old < v.head.id
-  pub each : (s : Share) → Contains ss s → IsNewShare old next v s
-  pub rise : Rising (news ss)
-
-module _ {old made next : List Record} {v : Volume} {ss : List Share} (is : IsNewVolume old made next v ss) where
-  in_next : (r : Record) → IsMade v ss r → Contains next r
-  in_next r m = is.adds.has r (is.lists r m)
-
-  components_are : filter (is_child 3 v.head.id) next ≡ news ss
-  components_are = kin_are (is_child 3 v.head.id) next (news ss) is.adds.rising is.rise
-      (λ r at. let s = mapped (λ (t : Share). kinds.Component t.d) ss r at in
-      subst (λ (y : Record). Contains next y × (is_child 3 v.head.id y ≡ true)) (sym s.2) (in_next (kinds.Component s.0.d) (s.0, s.1, refl), eq-eqb s.0.d.parent v.head.id (is.each s.0 s.1).parent))
-      (λ r h at. elim (is.adds.from r at) [
-        | inl o ↦ absurd (false≢true (sym (no_component old v.head.id is.volumes is.new r o) ∙ h))
-        | inr m ↦ (let c = child_component v.head.id r h in
-            let s = is.listed (kinds.Component c.0) (subst (λ (y : Record). Contains made y) c.1 m) in
-            subst (λ (y : Record). Contains (news ss) y) (sym (c.1 ∙ ap kinds.Component s.2)) (map_there (λ (t : Share). kinds.Component t.d) ss s.0 s.1))
-      ])
-
-  partitions_are : (s : Share) → Contains ss s → filter (is_child 4 s.d.head.id) next ≡ records_of s.parts
-  partitions_are s here = kin_are (is_child 4 s.d.head.id) next (records_of s.parts) is.adds.rising (is.each s here).rise
-      (λ r at. let p = mapped kinds.Partition s.parts r at in
-      subst (λ (y : Record). Contains next y × (is_child 4 s.d.head.id y ≡ true)) (sym p.2)
-      (in_next (kinds.Partition p.0) (s, here, p.1), ap (λ (b : Bool). b || false) (eq-eqb p.0.parent s.d.head.id ((is.each s here).each p.0 p.1).0)))
-      (λ r h at. elim (is.adds.from r at) [
-        | inl o ↦ absurd (false≢true (sym (no_partition old s.d.head.id is.components (is.each s here).new r o) ∙ h))
-        | inr m ↦ (let p = child_partition s.d.head.id r h in
-            let x = is.listed (kinds.Partition p.0) (subst (λ (y : Record). Contains made y) p.1 m) in
-            let same : x.0 ≡ s = one_share (λ t. t.d) ss is.rise x.0 s x.1 here (sym ((is.each x.0 x.1).each p.0 x.2).0 ∙ p.2) in
-            subst (λ (y : Record). Contains (records_of s.parts) y) (sym p.1) (map_there kinds.Partition s.parts p.0 (subst (λ (y : Share). Contains y.parts p.0) same x.2)))
-      ])
-
-  -- what the layout reads
-  pub plexes_are : plexes_of v.head.id next ≡ map (λ (s : Share). plex_of s.d) ss
-  plexes_are = plexes_by v.head.id next ∙ ap (filter_map plex_in) components_are ∙ new_plexes ss
-
-  pub extents_are : (s : Share) → Contains ss s → extents_of s.d.head.id next ≡ map extent_of s.parts
-  extents_are s here = extents_by s.d.head.id next ∙ ap (filter_map extent_in) (partitions_are s here) ∙ part_extents s.parts
-
-  pub made_keeps : v.children ≡ length ss → v.size ≢ 0 → (l : Layout) × (layout_of next v ≡ Ok l) → (r : Record)
-      → IsMade v ss r → KeepsRules next r
-  made_keeps count some laid (kinds.Group g) m = absurd m
-  made_keeps count some laid (kinds.Disk d) m = absurd m
-  made_keeps count some laid (kinds.Volume w) m = subst (KeepsVolume next) (sym m) (record {
-    counted = count ∙ sym (length-map ss (λ (s : Share). kinds.Component s.d)) ∙ ap (λ (l : List Record). length l) (sym components_are) ∙ length-filter (is_child 3 v.head.id) next;
-    some = ne_eqb v.size 0 some;
-    layout = laid;
-  })
-  made_keeps count some laid (kinds.Component c) (s, at, e) = subst (KeepsComponent next) (sym e) (record {
-    parent = (v, in_next (kinds.Volume v) refl, sym (is.each s at).parent);
-    counted = (is.each s at).children ∙ sym (length-map s.parts kinds.Partition) ∙ ap (λ (l : List Record). length l) (sym (partitions_are s at)) ∙ length-filter (is_child 4 s.d.head.id) next;
-  })
-  made_keeps count some laid (kinds.Partition p) (s, at, in') = (let own = (is.each s at).each p in' in record {
-    parent = (s.d, in_next (kinds.Component s.d) (s, at, refl), sym own.0);
-    disk = disk_there next (kinds.Partition p) p.disk own.1.1;
-    some = ne_eqb p.size 0 own.1.0;
-  })
-
--- what is made keeps the rules, and its partitions take these sectors
-pub record IsCreated (old next made : List Record) (name : List ℕ) (taken : List Taken) : Type 0 where
+-- what is made: a new volume of this name with its components and their partitions, which take these sectors. The ids follow one
+-- another, and where a layout reads just these it has no fault
+pub record MakesNew (id : ℕ) (name : List ℕ) (made : List Record) (taken : List Taken) : Type 0 where
   pub volume : Volume
   pub ss : List Share
-  pub new : IsNewVolume old made next volume ss
+  pub first : volume.head.id ≡ id
   pub named : volume.head.name ≡ name
+  pub count : volume.children ≡ length ss
+  pub some : volume.size ≢ 0
+  pub listed : (r : Record) → Contains made r → IsMade volume ss r
+  pub lists : (r : Record) → IsMade volume ss r → Contains made r
+  pub follow : IdsFollow id made
+  pub few : id + length made ≤ 2 ^ 64
+  pub each : (s : Share) → Contains ss s → IsNewShare id volume s
+  pub rise : Rising (news ss)
   pub taken_are : map taken_of (parts_of ss) ≡ taken
-  pub keeps : (r : Record) → IsMade volume ss r → KeepsRules next r
+  pub laid : (next : List Record) → plexes_of volume.head.id next ≡ map (λ (s : Share). plex_of s.d) ss
+      → ((s : Share) → Contains ss s → extents_of s.d.head.id next ≡ map extent_of s.parts) → (l : Layout) × (layout_of next volume ≡ Ok l)
 
--- a volume of this name may be made, from an id on, whose partitions take these sectors
-pub record MayCreate (old next made : List Record) (id last : ℕ) (name : List ℕ) (taken : List Taken) : Type 0 where
+-- it is made beside what there was, from a new id on, on disks of the group
+pub record MayCreate (old next made : List Record) (id : ℕ) (taken : List Taken) : Type 0 where
   pub adds : AddsTo old made next
   pub volumes : first_broken (lacks_volume (λ q. count_by (is_at 3 q) old)) old ≡ None
   pub components : first_broken (lacks_component (λ q. count_by (is_at 4 q) old)) old ≡ None
   pub new : max_id old < id
-  pub few : last ≤ 2 ^ 64
-  pub short : length name ≤ 255
-  pub numbers : AreNumbers taken
   pub on_disks : All (IsSomeOn next) taken
+
+module _ {old made next : List Record} {id : ℕ} {name : List ℕ} {taken : List Taken} (new : MakesNew id name made taken) (may : MayCreate old next made id taken) where
+  in_next : (r : Record) → IsMade new.volume new.ss r → Contains next r
+  in_next r m = may.adds.has r (new.lists r m)
+
+  pub volume_above : max_id old < new.volume.head.id
+  volume_above = (let first = new.first in let above = may.new in omega arith)
+
+  pub component_above : (s : Share) → Contains new.ss s → max_id old < s.d.head.id
+  component_above s at = (let first = (new.each s at).above in let above = may.new in omega arith)
+
+  components_are : filter (is_child 3 new.volume.head.id) next ≡ news new.ss
+  components_are = kin_are (is_child 3 new.volume.head.id) next (news new.ss) may.adds.rising new.rise
+      (λ r at. let s = mapped (λ (t : Share). kinds.Component t.d) new.ss r at in
+      subst (λ (y : Record). Contains next y × (is_child 3 new.volume.head.id y ≡ true)) (sym s.2)
+      (in_next (kinds.Component s.0.d) (s.0, s.1, refl), eq-eqb s.0.d.parent new.volume.head.id (new.each s.0 s.1).parent))
+      (λ r h at. elim (may.adds.from r at) [
+        | inl o ↦ absurd (false≢true (sym (no_component old new.volume.head.id may.volumes volume_above r o) ∙ h))
+        | inr m ↦ (let c = child_component new.volume.head.id r h in
+            let s = new.listed (kinds.Component c.0) (subst (λ (y : Record). Contains made y) c.1 m) in
+            subst (λ (y : Record). Contains (news new.ss) y) (sym (c.1 ∙ ap kinds.Component s.2)) (map_there (λ (t : Share). kinds.Component t.d) new.ss s.0 s.1))
+      ])
+
+  partitions_are : (s : Share) → Contains new.ss s → filter (is_child 4 s.d.head.id) next ≡ records_of s.parts
+  partitions_are s here = kin_are (is_child 4 s.d.head.id) next (records_of s.parts) may.adds.rising (new.each s here).rise
+      (λ r at. let p = mapped kinds.Partition s.parts r at in
+      subst (λ (y : Record). Contains next y × (is_child 4 s.d.head.id y ≡ true)) (sym p.2)
+      (in_next (kinds.Partition p.0) (s, here, p.1), ap (λ (b : Bool). b || false) (eq-eqb p.0.parent s.d.head.id ((new.each s here).own p.0 p.1))))
+      (λ r h at. elim (may.adds.from r at) [
+        | inl o ↦ absurd (false≢true (sym (no_partition old s.d.head.id may.components (component_above s here) r o) ∙ h))
+        | inr m ↦ (let p = child_partition s.d.head.id r h in
+            let x = new.listed (kinds.Partition p.0) (subst (λ (y : Record). Contains made y) p.1 m) in
+            let same : x.0 ≡ s = one_share (λ t. t.d) new.ss new.rise x.0 s x.1 here (sym ((new.each x.0 x.1).own p.0 x.2) ∙ p.2) in
+            subst (λ (y : Record). Contains (records_of s.parts) y) (sym p.1) (map_there kinds.Partition s.parts p.0 (subst (λ (y : Share). Contains y.parts p.0) same x.2)))
+      ])
+
+  -- what the layout reads
+  plexes_are : plexes_of new.volume.head.id next ≡ map (λ (s : Share). plex_of s.d) new.ss
+  plexes_are = plexes_by new.volume.head.id next ∙ ap (filter_map plex_in) components_are ∙ new_plexes new.ss
+
+  extents_are : (s : Share) → Contains new.ss s → extents_of s.d.head.id next ≡ map extent_of s.parts
+  extents_are s here = extents_by s.d.head.id next ∙ ap (filter_map extent_in) (partitions_are s here) ∙ part_extents s.parts
+
+  on : (s : Share) (p : Partition) → Contains new.ss s → Contains s.parts p → IsSomeOn next (taken_of p)
+  on s p at in' = All-contains (IsSomeOn next) taken (taken_of p) may.on_disks
+      (subst (λ (l : List Taken). Contains l (taken_of p)) new.taken_are (map_there taken_of (parts_of new.ss) p (part_listed new.ss s p at in')))
+
+  pub made_keeps : (r : Record) → IsMade new.volume new.ss r → KeepsRules next r
+  made_keeps (kinds.Group g) m = absurd m
+  made_keeps (kinds.Disk d) m = absurd m
+  made_keeps (kinds.Volume w) m = subst (KeepsVolume next) (sym m) (record {
+    counted = new.count ∙ sym (length-map new.ss (λ (s : Share). kinds.Component s.d)) ∙ ap (λ (l : List Record). length l) (sym components_are) ∙ length-filter (is_child 3 new.volume.head.id) next;
+    some = ne_eqb new.volume.size 0 new.some;
+    layout = new.laid next plexes_are extents_are;
+  })
+  made_keeps (kinds.Component c) (s, at, e) = subst (KeepsComponent next) (sym e) (record {
+    parent = (new.volume, in_next (kinds.Volume new.volume) refl, sym (new.each s at).parent);
+    counted = (new.each s at).children ∙ sym (length-map s.parts kinds.Partition) ∙ ap (λ (l : List Record). length l) (sym (partitions_are s at)) ∙ length-filter (is_child 4 s.d.head.id) next;
+  })
+  made_keeps (kinds.Partition p) (s, at, in') = record {
+    parent = (s.d, in_next (kinds.Component s.d) (s, at, refl), sym ((new.each s at).own p in'));
+    disk = disk_there next (kinds.Partition p) p.disk (on s p at in').1;
+    some = ne_eqb p.size 0 (on s p at in').0;
+  }
 
 -- ---- a volume of one component
 
@@ -142,85 +147,48 @@ pub plex_is : {id parent layout children : ℕ} {striping : Option Striping} (ma
     → plex_of made.component ≡ record { volume = parent; id = id; layout = layout; striping = striping }
 plex_is made = λ i. record { volume = made.parent_is i; id = made.id_is i; layout = made.layout_is i; striping = made.striping_is i }
 
-pub single_created : (old next : List Record) (id : ℕ) (name : List ℕ) (guid : ℕ) (raid : Bool) (size layout : ℕ) (striping : Option Striping) (parts : List (Option Record)) (es : List Extent) (ts : List Taken)
-    → MayCreate old next (there (new_volume id name guid raid 1 size ∷ (new_component (id + 1) id layout (length ts) striping ∷ parts))) id (id + 2 + length ts) name ts
-    → size < 2 ^ 64 → size ≢ 0 → IsStriping striping → MakesParts (id + 2) parts es → AreExtentsOf (id + 1) es ts
-    → ((v : Volume) → v.size ≡ size → plexes_of v.head.id next ≡ record { volume = v.head.id; id = id + 1; layout = layout; striping = striping } ∷ [] → extents_of (id + 1) next ≡ es → (l : Layout) × (layout_of next v ≡ Ok l))
-    → IsCreated old next (there (new_volume id name guid raid 1 size ∷ (new_component (id + 1) id layout (length ts) striping ∷ parts))) name ts
-single_created old next id name guid raid size layout striping parts es ts may low some fits has extents lay =
-    let few = may.few in
-    let n = may.new in
-    let mv : MakesVolume id name guid raid 1 size = makes_volume id name guid raid 1 size (omega arith) may.short (omega arith) low in
+pub single_new : (id : ℕ) (name : List ℕ) (guid : ℕ) (raid : Bool) (size layout : ℕ) (striping : Option Striping) (parts : List (Option Record)) (es : List Extent) (ts : List Taken)
+    → id + 2 + length ts ≤ 2 ^ 64 → length name ≤ 255 → size < 2 ^ 64 → size ≢ 0 → IsStriping striping → MakesParts (id + 2) parts es → AreExtentsOf (id + 1) es ts
+    → ((next : List Record) (v : Volume) → v.size ≡ size → plexes_of v.head.id next ≡ record { volume = v.head.id; id = id + 1; layout = layout; striping = striping } ∷ [] → extents_of (id + 1) next ≡ es
+    → (l : Layout) × (layout_of next v ≡ Ok l))
+    → MakesNew id name (there (new_volume id name guid raid 1 size ∷ (new_component (id + 1) id layout (length ts) striping ∷ parts))) ts
+single_new id name guid raid size layout striping parts es ts few short low some fits has extents lay =
+    let mv : MakesVolume id name guid raid 1 size = makes_volume id name guid raid 1 size (omega arith) short (omega arith) low in
     let mc : MakesComponent (id + 1) id layout (length ts) striping = makes_component (id + 1) id layout (length ts) striping (omega arith) (omega arith) (omega arith) fits in
     let v : Volume = mv.volume in
     let ps : List Partition = has.parts in
     let s : Share = record { c = mc.component; d = mc.component; parts = has.parts } in
     let made : List Record = there (new_volume id name guid raid 1 size ∷ (new_component (id + 1) id layout (length ts) striping ∷ parts)) in
-    let made_are : made ≡ longer_records v (s ∷ []) = (λ i. cons_option (mv.made i) (cons_option (mc.made i) (has.made_are i)))
-    ∙ ap (λ (l : List Partition). kinds.Volume v ∷ (kinds.Component mc.component ∷ records_of l)) (sym (append-nil ps)) in
+    let made_are : made ≡ single_records v mc.component ps = (λ i. cons_option (mv.made i) (cons_option (mc.made i) (has.made_are i))) in
+    let shared : made ≡ longer_records v (s ∷ []) = made_are ∙ ap (λ (l : List Partition). kinds.Volume v ∷ (kinds.Component mc.component ∷ records_of l)) (sym (append-nil ps)) in
     let c_id : mc.component.head.id ≡ id + 1 = mc.id_is in
-    let v_id = mv.id_is in
     let own : All (λ (p : Partition). p.parent ≡ id + 1) ps =
     all_from_map extent_of (λ e. e.component ≡ id + 1) ps (subst (λ (l : List Extent). All (λ (e : Extent). e.component ≡ id + 1) l) (sym has.extents_are) extents.own) in
     let taken_are : map taken_of ps ≡ ts = parts_taken (id + 1) es ts ps extents has.extents_are in
-    let on : All (λ (p : Partition). IsSomeOn next (taken_of p)) ps = all_from_map taken_of (IsSomeOn next) ps (subst (λ (l : List Taken). All (IsSomeOn next) l) (sym taken_are) may.on_disks) in
-    let share : IsNewShare old next v s = record {
-      new = omega arith;
+    let many : length ps ≡ length ts = sym (length-map ps taken_of) ∙ ap (λ (l : List Taken). length l) taken_are in
+    let share : IsNewShare id v s = record {
+      above = omega arith;
       parent = mc.parent_is ∙ sym mv.id_is;
-      children = mc.children_is ∙ ap (λ (l : List Taken). length l) (sym taken_are) ∙ length-map ps taken_of;
-      each = λ p at. (All-contains (λ (q : Partition). q.parent ≡ id + 1) ps p own at ∙ sym c_id, All-contains (λ (q : Partition). IsSomeOn next (taken_of q)) ps p on at);
+      children = mc.children_is ∙ sym many;
+      own = λ p at. All-contains (λ (q : Partition). q.parent ≡ id + 1) ps p own at ∙ sym c_id;
       rise = parts_rise (id + 2) ps has.ids;
     } in
-    let new : IsNewVolume old made next v (s ∷ []) = record {
-      adds = may.adds;
-      listed = λ r at. listed_made v (s ∷ []) r (subst (λ (l : List Record). Contains l r) made_are at);
-      lists = λ r m. subst (λ (l : List Record). Contains l r) (sym made_are) (made_listed v (s ∷ []) r m);
-      volumes = may.volumes;
-      components = may.components;
-      new = omega arith;
-      each = λ x at. subst (IsNewShare old next v) (only_one s x at) share;
-      rise = alone_rises (kinds.Component mc.component);
-    } in
-    let plexes : plexes_of v.head.id next ≡ record { volume = v.head.id; id = id + 1; layout = layout; striping = striping } ∷ [] =
-    plexes_are new ∙ ap (λ (x : Plex). x ∷ []) (plex_is mc ∙ ap (λ k. record { volume = k; id = id + 1; layout = layout; striping = striping }) (sym mv.id_is)) in
-    let read : extents_of (id + 1) next ≡ es = ap (λ k. extents_of k next) (sym c_id) ∙ extents_are new s (0, omega arith, refl) ∙ has.extents_are in
     record {
       volume = v;
       ss = s ∷ [];
-      new = new;
+      first = mv.id_is;
       named = mv.name_is;
+      count = mv.children_is;
+      some = λ e. some (sym mv.size_is ∙ e);
+      listed = λ r at. listed_made v (s ∷ []) r (subst (λ (l : List Record). Contains l r) shared at);
+      lists = λ r m. subst (λ (l : List Record). Contains l r) (sym shared) (made_listed v (s ∷ []) r m);
+      follow = subst (IdsFollow id) (sym made_are)
+          (mv.id_is, (c_id, subst (λ (n : ℕ). IdsFollow n (records_of ps)) (let e : id + 2 ≡ id + 1 + 1 = omega arith in e) has.ids));
+      few = (let whole = ap (λ (l : List Record). length l) made_are in let long = length-map ps (λ (p : Partition). kinds.Partition p) in omega arith);
+      each = λ x at. subst (IsNewShare id v) (only_one s x at) share;
+      rise = alone_rises (kinds.Component mc.component);
       taken_are = ap (map taken_of) (append-nil ps) ∙ taken_are;
-      keeps = made_keeps new mv.children_is (λ e. some (sym mv.size_is ∙ e)) (lay v mv.size_is plexes read);
+      laid = λ next plexes read. lay next v mv.size_is
+          (plexes ∙ ap (λ (x : Plex). x ∷ []) (plex_is mc ∙ ap (λ k. record { volume = k; id = id + 1; layout = layout; striping = striping }) (sym mv.id_is)))
+          (ap (λ k. extents_of k next) (sym c_id) ∙ read s (0, omega arith, refl) ∙ has.extents_are);
     }
-
--- ---- the three forms
-
-pub span_created : (old next : List Record) (id : ℕ) (name : List ℕ) (guid : ℕ) (ts : List Taken)
-    → MayCreate old next (span_made id name guid ts) id (id + 2 + length ts) name ts
-    → 1 ≤ length ts → sum_by (λ t. t.size) ts < 2 ^ 64 → sum_by (λ t. t.size) ts ≢ 0
-    → IsCreated old next (span_made id name guid ts) name ts
-span_created old next id name guid ts may some low sum =
-    let few = may.few in
-    single_created old next id name guid false (sum_by (λ t. t.size) ts) 2 None (span_parts (id + 2) (id + 1) 0 ts) (tile_extents (id + 1) 0 ts) ts may low sum tt
-    (makes_span_parts (id + 2) (id + 1) 0 ts few (omega arith) may.numbers) (tiles_of (id + 1) 0 ts)
-    (λ v size plexes extents. span_layout next v (id + 1) ts plexes extents some size)
-
-pub stripe_created : (old next : List Record) (id : ℕ) (name : List ℕ) (guid chunk len : ℕ) (ts : List Taken)
-    → MayCreate old next (stripe_made id name guid chunk len ts) id (id + 2 + length ts) name ts
-    → 2 ≤ length ts → AllSized len ts → chunk ≢ 0 → chunk < 2 ^ 64 → len % chunk ≡ 0 → length ts * len < 2 ^ 64
-    → length ts * len ≢ 0 → IsCreated old next (stripe_made id name guid chunk len ts) name ts
-stripe_created old next id name guid chunk len ts may enough same some few_chunk whole low sum =
-    let few = may.few in
-    single_created old next id name guid false (length ts * len) 1 (Some (record { chunk = chunk; columns = length ts })) (column_parts (id + 2) (id + 1) 0 ts) (column_extents (id + 1) 0 ts) ts may low sum (few_chunk, omega arith)
-    (makes_column_parts (id + 2) (id + 1) 0 ts few (omega arith) (omega arith) may.numbers) (columns_of (id + 1) 0 ts)
-    (λ v size plexes extents. stripe_layout next v (id + 1) chunk len ts plexes extents enough same some whole size)
-
-pub raid5_created : (old next : List Record) (id : ℕ) (name : List ℕ) (guid chunk len : ℕ) (ts : List Taken)
-    → MayCreate old next (raid5_made id name guid chunk len ts) id (id + 2 + length ts) name ts
-    → 3 ≤ length ts → AllSized len ts → chunk ≢ 0 → chunk < 2 ^ 64 → len % chunk ≡ 0 → (length ts - 1) * len < 2 ^ 64
-    → (length ts - 1) * len ≢ 0 → IsCreated old next (raid5_made id name guid chunk len ts) name ts
-raid5_created old next id name guid chunk len ts may enough same some few_chunk whole low sum =
-    let few = may.few in
-    single_created old next id name guid true ((length ts - 1) * len) 3 (Some (record { chunk = chunk; columns = length ts })) (column_parts (id + 2) (id + 1) 0 ts) (column_extents (id + 1) 0 ts) ts may low sum (few_chunk, omega arith)
-    (makes_column_parts (id + 2) (id + 1) 0 ts few (omega arith) (omega arith) may.numbers) (columns_of (id + 1) 0 ts)
-    (λ v size plexes extents. raid5_layout next v (id + 1) chunk len ts plexes extents enough same some whole size)

@@ -1,7 +1,8 @@
 -- Pieces on disks of other components, record by record.
-use Rattle.std.proofs.Common.{◌≡◌, ℕ, ◌==◌, ◌||◌, ◌&&◌, not, Bool, true, false, List, [], ◌∷◌, inl, inr, refl, ap, sym, ◌∙◌}
+use Rattle.std.proofs.Common.{◌≡◌, ℕ, ◌+◌, ◌<◌, ◌==◌, ◌||◌, ◌&&◌, not, Bool, true, false, List, [], ◌∷◌, length, get_or, drop, inl, inr, refl, ap, sym, ◌∙◌}
 use Rattle.std.specs.List.{list_any}
 use Rattle.std.proofs.lemmas.Bool.{eqb-true, eq-eqb, ne_eqb}
+use Rattle.std.proofs.lemmas.List.{at_drop_more}
 use Rattle.ldm_records.specs.declared.types.Record.{Record}
 use Rattle.ldm_records.specs.declared.types.Record.TheVariants as kinds
 use Rattle.ldm_records.specs.declared.types.Component.{Component}
@@ -33,7 +34,7 @@ another_more r rs (c ∷ cs) own disk =
     let q = list_any (is_part_on c.head.id disk) rs in
     ap (λ b. (x && (p || q)) || b) (another_more r rs cs own disk) ∙ apart x p q (on_another (r ∷ []) cs own disk) (on_another rs cs own disk)
 
-pub others_more : (r : Record) (rs : List Record) (all cs : List Component) (ws : List Wanted) → on_others (r ∷ rs) all cs ws ≡ (on_others (r ∷ []) all cs ws || on_others rs all cs ws)
+others_more : (r : Record) (rs : List Record) (all cs : List Component) (ws : List Wanted) → on_others (r ∷ rs) all cs ws ≡ (on_others (r ∷ []) all cs ws || on_others rs all cs ws)
 others_more r rs all [] ws = refl
 others_more r rs all (c ∷ cs) [] = refl
 others_more r rs all (c ∷ cs) (w ∷ ws) =
@@ -55,6 +56,13 @@ pub others_none : (all cs : List Component) (ws : List Wanted) → on_others [] 
 others_none all [] ws = refl
 others_none all (c ∷ cs) [] = refl
 others_none all (c ∷ cs) (w ∷ ws) = ap (λ b. b || on_others [] all cs ws) (none_another all c.head.id w.disk) ∙ others_none all cs ws
+
+-- one record of a walk
+pub others_at : (rs : List Record) (at : ℕ) (r : Record) (cs : List Component) (ws : List Wanted) (met : Bool) → at < length rs → r ≡ get_or rs at r → on_others (r ∷ []) cs cs ws ≡ met
+    → on_others (drop at rs) cs cs ws ≡ (met || on_others (drop (at + 1) rs) cs cs ws)
+others_at rs at r cs ws met lt is meets =
+    at_drop_more (λ (l : List Record). on_others l cs cs ws) rs at r lt ∙ ap (λ (s : Record). on_others (s ∷ drop (at + 1) rs) cs cs ws) (sym is)
+    ∙ others_more r (drop (at + 1) rs) cs cs ws ∙ ap (λ b. b || on_others (drop (at + 1) rs) cs cs ws) meets
 
 -- ---- one record
 

@@ -1,5 +1,5 @@
 -- Delete: what it keeps of a group.
-use Rattle.std.proofs.Common.{◌≡◌, ℕ, ◌+◌, ◌<◌, ◌≤◌, ◌==◌, ◌⊎◌, not, List, [], ◌++◌, Option, Some, Ok, get_or, refl, sym, ap, subst, ◌∙◌, inl, inr, arith, true, false, None, Contains}
+use Rattle.std.proofs.Common.{◌≡◌, ℕ, ◌+◌, ◌<◌, ◌≤◌, ◌==◌, ◌⊎◌, not, List, [], ◌++◌, Option, Some, Ok, get_or, refl, sym, ap, ◌∙◌, inl, inr, arith, true, false, None, Contains}
 use Rattle.std.specs.Prelude.{filter}
 use Rattle.std.proofs.lemmas.Bool.{not-true, eqb-true, eq-eqb}
 use Rattle.std.proofs.lemmas.List.Elements.{All-nil, All-filter, All-contains, Contains-get_or}
@@ -23,13 +23,12 @@ use Rattle.ldm_rules.proofs.CarryLaws.{SameComponents, SamePartitions, HasSameKi
 use Rattle.ldm_rules.proofs.HeadLaws.{names_kept}
 use Rattle.ldm_rules.proofs.SoundLaws.{EachRule, sound_from, sound_parts}
 use Rattle.ldm_rules.specs.Ends.{data_size}
-use Rattle.ldm_rules.specs.Facts.{IsSoundOn}
 use Rattle.ldm_space.specs.declared.taken.Taken.{Taken}
 use Rattle.ldm_edits.specs.Changes.{limits, changed}
 use Rattle.ldm_edits.specs.Deleting.{goes, without, deleted}
 use Rattle.ldm_edits.specs.Steps.{Keeps}
-use Rattle.ldm_edits.proofs.KeepLaws.{next_keeps}
-use Rattle.ldm_edits.proofs.LimitLaws.{when_ok, within_limits}
+use Rattle.ldm_edits.proofs.KeepLaws.{next_keeps, IsGiven, IsDone, done_by}
+use Rattle.ldm_edits.proofs.LimitLaws.{within_limits}
 use Rattle.ldm_edits.proofs.PlacedRules.{placed_carried}
 use Rattle.ldm_edits.proofs.StayLaws.{own_any, any_own}
 
@@ -122,24 +121,19 @@ pub deleted_rises : (v : Volume) (old : List Record) → Rising old → Rising (
 deleted_rises v old up = (without_next v old up).vp
 
 -- a group without a volume is as sound as with it
-without_keeps : (db : Database) (labels : List Label) (v : Volume) → Rising db.records → IsSoundOn db labels
-    → first_of (limits db labels 0 (without v db.records)) ≡ None
-    → Rising (changed db (without v db.records)).records × Keeps labels db (changed db (without v db.records))
-without_keeps db labels v up old within =
+without_keeps : (db : Database) (labels : List Label) (v : Volume) → first_of (limits db labels 0 (without v db.records)) ≡ None
+    → IsGiven db labels → Keeps labels db (changed db (without v db.records))
+without_keeps db labels v within given =
     let next : List Record = (changed db (without v db.records)).records in
-    let is : IsWithout v db.records next = without_next v db.records up in (
-      is.vp,
-      next_keeps db labels 0 (without v db.records) old
-          (All-filter (λ r. not (goes v.head.id db.records r)) IsFitting db.records old.room.each)
-          (within_limits db labels 0 (without v db.records) within) (heads (carries v db.records next is))
-          (sound_from next labels (without_each v db.records next is labels (sound_parts db.records labels old.sound)))
-          (λ k d lt. All-contains EndsInRange db.records (get_or next k d) old.ends (is.back (get_or next k d) (Contains-get_or next k d lt)).0),
-    )
+    let is : IsWithout v db.records next = without_next v db.records given.up in
+    next_keeps db labels 0 (without v db.records) given.sound
+    (All-filter (λ r. not (goes v.head.id db.records r)) IsFitting db.records given.sound.room.each)
+    (within_limits db labels 0 (without v db.records) within) (heads (carries v db.records next is))
+    (sound_from next labels (without_each v db.records next is labels (sound_parts db.records labels given.sound.sound)))
+    (λ k d lt. All-contains EndsInRange db.records (get_or next k d) given.sound.ends (is.back (get_or next k d) (Contains-get_or next k d lt)).0)
 
 -- what delete makes of a sound group is as sound
-pub deleted_keeps : (db : Database) (labels : List Label) (o : Option Volume) (next : Database) → Rising db.records
-    → IsSoundOn db labels → deleted db labels o ≡ Ok next → Rising next.records × Keeps labels db next
-deleted_keeps db labels None next up old h = absurd cc
-deleted_keeps db labels (Some v) next up old h =
-    let done = when_ok (first_of (limits db labels 0 (without v db.records))) (changed db (without v db.records)) next h in
-    subst (λ (d : Database). Rising d.records × Keeps labels db d) done.1 (without_keeps db labels v up old done.0)
+pub deleted_done : {Grammar : Type 0} (db : Database) (labels : List Label) (o : Option Volume) (next : Database) → deleted db labels o ≡ Ok next
+    → IsDone db labels next Grammar
+deleted_done db labels None next h = absurd cc
+deleted_done db labels (Some v) next h = done_by db labels 0 (without v db.records) next h (λ within given grammar. without_keeps db labels v within given)

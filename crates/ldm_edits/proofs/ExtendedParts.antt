@@ -1,12 +1,11 @@
 -- Extend: the longer span, its component and the new partitions are made where no word refuses them.
-use Rattle.std.proofs.Common.{◌≡◌, ℕ, ◌+◌, ◌-◌, ◌^◌, ◌<◌, ◌≤◌, ◌==◌, ◌||◌, List, [], ◌∷◌, length, map, get_or, refl, sym, ap, subst, ◌∙◌, inl, inr, arith, Bool, true, false, Option, Some, None, Contains, sum_by, find}
-use Rattle.std.specs.Prelude.{filter, if◌then◌else◌}
+use Rattle.std.proofs.Common.{◌≡◌, ℕ, ◌+◌, ◌-◌, ◌^◌, ◌<◌, ◌≤◌, ◌==◌, ◌||◌, List, [], ◌∷◌, length, map, get_or, refl, sym, ap, subst, ◌∙◌, inl, inr, arith, Bool, true, false, Option, Some, None, Contains, sum_by, find, ◌++◌}
+use Rattle.std.specs.Prelude.{filter, if◌then◌else◌, is_some, sum_by}
 use Rattle.std.specs.List.{list_any, list_all, cons_option}
 use Rattle.std.specs.Option.{option_map}
 use Rattle.std.proofs.lemmas.Bool.{eqb-true, eq-eqb, eqb-false, or_parts, ltb-false}
 use Rattle.std.proofs.lemmas.List.{length-map, append-nil}
 use Rattle.std.proofs.lemmas.List.Elements.{All-contains, Contains-get_or}
-use Rattle.std.proofs.lemmas.List.Folds.{list_any_at}
 use Rattle.std.proofs.lemmas.List.Sums.{length-filter, get_or-le-sum_by}
 use Rattle.ldm_records.specs.declared.types.Record.{Record}
 use Rattle.ldm_records.specs.declared.types.Record.TheVariants as kinds
@@ -43,18 +42,20 @@ use Rattle.ldm_space.specs.Placed.{AreFirstFits, AllEndWithin, AreApart}
 use Rattle.ldm_space.proofs.PlacedLaws.{placed_fit, as_many, fits_apart, fits_within}
 use Rattle.ldm_edits.specs.Asked.{is_much}
 use Rattle.ldm_edits.specs.Changes.{changed}
-use Rattle.ldm_edits.specs.Extending.{changes, lengthened, held, component_in, component_of, MayExtend}
-use Rattle.ldm_volumes.specs.Volumes.{span_parts}
+use Rattle.ldm_edits.specs.Extending.{changes, lengthened, held, component_in, component_of, MayExtend, longer_parts}
+use Rattle.ldm_volumes.specs.Volumes.{span_parts, there}
 use Rattle.ldm_edits.proofs.AskedLaws.{are_found}
 use Rattle.ldm_edits.proofs.CreatedNext.{alone_rises}
 use Rattle.ldm_edits.proofs.LimitLaws.{spelled_by}
 use Rattle.ldm_edits.proofs.Longer.{Share, parts_of, IsNewPart, IsShare, IsOther}
-use Rattle.ldm_edits.proofs.LongerMade.{IsOnDisk, wanted_there, taken_sum, IsTaken, taken_is, ids_least, Lengthens, longer_rises}
+use Rattle.ldm_edits.proofs.LongerMade.{IsOnDisk, wanted_there, IsTaken, taken_is, ids_least, Lengthens, longer_rises}
+use Rattle.ldm_edits.proofs.SizeLists.{none_any, taken_sum}
 use Rattle.ldm_edits.proofs.LongerRules.{held_shared}
 use Rattle.ldm_edits.proofs.MadeParts.{IdsFrom, MakesParts, makes_span_parts, parts_rise}
 use Rattle.ldm_edits.proofs.PlacedRules.{map_there}
 use Rattle.ldm_edits.proofs.SingleLists.{records_of, only_one}
 use Rattle.ldm_edits.proofs.TakenExtents.{tile_extents, tiles_on, tiles_sum, tiles_of, parts_taken}
+use Rattle.ldm_made.specs.Made.{resized, with_children}
 
 -- ---- the component
 
@@ -113,12 +114,6 @@ plex_is more = λ i. record { volume = more.parent_is i; id = (more.head_is i).i
 
 -- ---- what is made
 
-each_some : (wanted : List Wanted) → list_any (λ w. w.size == 0) wanted ≡ false → (w : Wanted) → Contains wanted w → (w.size == 0) ≡ false
-each_some wanted none w at = elim (tested (w.size == 0)) [
-  | inr some ↦ some
-  | inl empty ↦ (let any : list_any (λ (w : Wanted). w.size == 0) wanted ≡ true = list_any_at (λ (w : Wanted). w.size == 0) wanted at.0 w at.1 (ap (λ (x : Wanted). x.size == 0) at.2 ∙ empty) in absurd cc)
-]
-
 -- the volume, its component and the partitions that take these sectors are made
 pub record MakesLonger (db : Database) (v : Volume) (c : Component) (capacity : ℕ) (taken : List Taken) : Type 0 where
   pub volume : MakesSize v (capacity + sum_by (λ (t : Taken). t.size) taken)
@@ -127,6 +122,15 @@ pub record MakesLonger (db : Database) (v : Volume) (c : Component) (capacity : 
   pub size_low : capacity + sum_by (λ (t : Taken). t.size) taken < 2 ^ 64
   pub children_low : c.children + length taken < 2 ^ 64
 
+-- what the records of a longer span of this capacity ask for
+pub record AsksLonger (db : Database) (v : Volume) (c : Component) (wanted : List Wanted) (spots : List Taken) (capacity : ℕ) : Type 0 where
+  pub many : length spots ≡ length wanted
+  pub size : capacity + sum_by (λ t. t.size) spots < 2 ^ 64
+  pub children : c.children + length spots < 2 ^ 64
+  pub volume_there : is_some (resized v (capacity + sum_by (λ t. t.size) spots)) ≡ true
+  pub component_there : is_some (with_children c (c.children + length spots)) ≡ true
+  pub rising : Rising (changed db (lengthened db.records v c capacity spots)).records
+
 module _ {db : Database} {labels : List Label} {v : Volume} {c : Component} {wanted : List Wanted} {spots : List Taken} (up : Rising db.records) (sound : IsSoundOn db labels) (may : MayExtend db labels v c wanted spots) where
   abbrev capacity : ℕ
   capacity = held (layout_of db.records v)
@@ -134,7 +138,7 @@ module _ {db : Database} {labels : List Label} {v : Volume} {c : Component} {wan
   abbrev taken : List Taken
   taken = spots
 
-  pub fits : AreFirstFits (taken_in db.records) wanted spots
+  fits : AreFirstFits (taken_in db.records) wanted spots
   fits = placed_fit wanted (taken_in db.records) 0 spots may.places
 
   on_disks : (w : Wanted) → Contains wanted w → IsOnDisk labels db.records w
@@ -165,7 +169,7 @@ module _ {db : Database} {labels : List Label} {v : Volume} {c : Component} {wan
       let most : capacity + sum_by (λ (w : Wanted). w.size) wanted ≤ 2 ^ 64 - 1 = ltb-false (2 ^ 64 - 1) _ parts.1 in
       let sum : sum_by (λ (t : Taken). t.size) taken ≡ sum_by (λ (w : Wanted). w.size) wanted = taken_sum wanted (taken_in db.records) spots fits in (
         λ w at. (
-          each_some wanted parts.0 w at,
+          All-contains (λ (x : Wanted). (x.size == 0) ≡ false) wanted w (none_any (λ (x : Wanted). x.size == 0) wanted parts.0) at,
           (let part = get_or-le-sum_by (λ (x : Wanted). x.size) wanted at.0 w at.1 in let same = ap (λ (x : Wanted). x.size) at.2 in omega arith),
         ),
         omega arith,
@@ -262,21 +266,40 @@ module _ {db : Database} {labels : List Label} {v : Volume} {c : Component} {wan
         made = (λ i. cons_option (option_map kinds.Volume (makes_longer.volume.made i)) (cons_option (option_map kinds.Component (makes_longer.component.made i)) (makes_longer.parts.made_are i)))
             ∙ ap (λ (l : List Partition). kinds.Volume makes_longer.volume.volume ∷ (kinds.Component makes_longer.component.component ∷ records_of l)) all;
         low = (let ids = may.ids in omega arith);
-        volume = may.there;
-        shape = Span;
-        shape_is = may.span;
-        tiled = refl;
-        components = components;
-        same_head = makes_longer.volume.head_is;
-        same_children = makes_longer.volume.children_is;
-        size = makes_longer.volume.size_is;
-        each = λ s at. subst (IsShare db.records v (sum_by (λ (t : Taken). t.size) taken)) (only_one share s at) is_share;
         ids = subst (IdsFrom (max_id db.records + 1)) all makes_longer.parts.ids;
-        within = subst (λ (l : List Taken). AllEndWithin (data_size labels db.records) l) {x = taken} (sym takes_all)
-            (fits_within (data_size labels db.records) wanted (taken_in db.records) spots (λ k e lt. (on_disks (get_or wanted k e) (Contains-get_or wanted k e lt)).limit) fits);
-        free = subst (λ (l : List Taken). AreApart (taken_in db.records) l) {x = taken} (sym takes_all) (fits_apart wanted (taken_in db.records) spots fits);
+        wider = record {
+          volume = may.there;
+          shape = Span;
+          shape_is = may.span;
+          tiled = refl;
+          components = components;
+          same_head = makes_longer.volume.head_is;
+          same_children = makes_longer.volume.children_is;
+          size = makes_longer.volume.size_is;
+          each = λ s at. subst (IsShare db.records v (sum_by (λ (t : Taken). t.size) taken)) (only_one share s at) is_share;
+          within = subst (λ (l : List Taken). AllEndWithin (data_size labels db.records) l) {x = taken} (sym takes_all)
+              (fits_within (data_size labels db.records) wanted (taken_in db.records) spots (λ k e lt. (on_disks (get_or wanted k e) (Contains-get_or wanted k e lt)).limit) fits);
+          free = subst (λ (l : List Taken). AreApart (taken_in db.records) l) {x = taken} (sym takes_all) (fits_apart wanted (taken_in db.records) spots fits);
+        };
       }
 
-  -- so the next group has its order
-  pub extended_rises : Rising (changed db (lengthened db.records v c capacity taken)).records
-  extended_rises = longer_rises up lengthens
+  pub asks_longer : {n : ℕ} → n ≡ held (layout_of db.records v) → AsksLonger db v c wanted spots n
+  asks_longer held_is = subst (AsksLonger db v c wanted spots) (sym held_is) (record {
+    many = as_many wanted (taken_in db.records) spots fits;
+    size = makes_longer.size_low;
+    children = makes_longer.children_low;
+    volume_there = ap (λ (o : Option Volume). is_some o) makes_longer.volume.made;
+    component_there = ap (λ (o : Option Component). is_some o) makes_longer.component.made;
+    rising = longer_rises up lengthens;
+  })
+
+-- the records of a longer span, pushed one after the other
+pub longer_are : (v longer : Volume) (c fuller : Component) (capacity id size : ℕ) (taken : List Taken) (none one two : List Record) → size ≡ capacity + sum_by (λ t. t.size) taken
+    → resized v size ≡ Some longer → with_children c (c.children + length taken) ≡ Some fuller → none ≡ [] → one ≡ none ++ kinds.Volume longer ∷ [] → two ≡ one ++ kinds.Component fuller ∷ []
+    → two ++ there (span_parts id c.head.id capacity taken) ≡ longer_parts v c capacity id taken
+longer_are v longer c fuller capacity id size taken none one two size_is longer_is fuller_is none_is one_is two_is =
+    let heads : two ≡ kinds.Volume longer ∷ (kinds.Component fuller ∷ []) =
+    two_is ∙ ap (λ (l : List Record). l ++ kinds.Component fuller ∷ []) (one_is ∙ ap (λ (l : List Record). l ++ kinds.Volume longer ∷ []) none_is) in
+    let volume : Some longer ≡ resized v (capacity + sum_by (λ t. t.size) taken) = sym longer_is ∙ ap (resized v) size_is in
+    ap (λ (l : List Record). l ++ there (span_parts id c.head.id capacity taken)) heads
+    ∙ (λ i. there (option_map kinds.Volume (volume i) ∷ (option_map kinds.Component (sym fuller_is i) ∷ span_parts id c.head.id capacity taken)))

@@ -1,16 +1,14 @@
--- extend of a mirror: what it keeps of a group.
-use Rattle.std.proofs.Common.{◌≡◌, ℕ, ◌+◌, ◌^◌, ◌<◌, ◌≤◌, ◌==◌, ◌||◌, List, [], ◌∷◌, length, get_or, refl, sym, ap, subst, ◌∙◌, arith, Bool, true, false, None, Contains}
-use Rattle.std.specs.Prelude.{filter, if◌then◌else◌}
-use Rattle.std.specs.List.{All}
+-- extend of a mirror: what its records ask for, and that they lengthen it.
+use Rattle.std.proofs.Common.{◌≡◌, ℕ, ◌+◌, ◌≤◌, ◌==◌, ◌||◌, List, [], ◌∷◌, length, get_or, refl, sym, ap, subst, ◌∙◌, arith, Bool, true, false, Contains, ◌^◌, ◌<◌, Option}
+use Rattle.std.specs.Prelude.{filter, if◌then◌else◌, is_some}
 use Rattle.std.proofs.lemmas.Bool.{eqb-true, or_parts}
 use Rattle.std.proofs.lemmas.List.Elements.{All-contains, Contains-get_or}
 use Rattle.std.proofs.lemmas.List.Sums.{length-filter, sum_by-cons}
-use Rattle.ldm_bytes.specs.Tables.{first_of}
 use Rattle.ldm_records.specs.declared.types.Record.{Record}
 use Rattle.ldm_records.specs.declared.types.Record.TheVariants as kinds
 use Rattle.ldm_records.specs.declared.types.Volume.{Volume}
 use Rattle.ldm_records.specs.declared.types.Component.{Component}
-use Rattle.ldm_made.proofs.MadeLaws.{MakesSize, makes_size}
+use Rattle.ldm_made.proofs.MadeLaws.{MakesSize, makes_size, makes_children}
 use Rattle.ldm_records.specs.Plain.{Plain, own_spelling}
 use Rattle.ldm_records.specs.Views.{plain_of}
 use Rattle.ldm_frags.specs.Written.{parts_of as parts_for}
@@ -32,16 +30,18 @@ use Rattle.ldm_space.specs.Free.{taken_in}
 use Rattle.ldm_space.specs.declared.placed.Wanted.{Wanted}
 use Rattle.ldm_space.specs.Placed.{AllEndWithin, AreApart, AreFirstFits}
 use Rattle.ldm_space.proofs.PlacedLaws.{placed_fit, as_many, fits_apart, fits_within}
-use Rattle.ldm_edits.specs.Changes.{Change, limits, changed}
+use Rattle.ldm_edits.specs.Changes.{Change, changed}
 use Rattle.ldm_edits.specs.Extending.{held}
 use Rattle.ldm_edits.specs.Mirroring.{changes, components_of, grown, MayGrow}
-use Rattle.ldm_edits.specs.Steps.{Keeps}
 use Rattle.ldm_edits.proofs.AskedLaws.{are_found}
 use Rattle.ldm_edits.proofs.GrownMade.{IsReady, MakesShares, makes_shares, made_are, named_components, olds_are}
 use Rattle.ldm_edits.proofs.LimitLaws.{spelled_by}
 use Rattle.ldm_edits.proofs.Longer.{IsOther}
-use Rattle.ldm_edits.proofs.LongerMade.{IsOnDisk, wanted_there, taken_from, IsTaken, taken_is, Lengthens, longer_rises, longer_keeps}
+use Rattle.ldm_edits.proofs.LongerMade.{IsOnDisk, wanted_there, IsTaken, taken_is, Lengthens, longer_rises}
+use Rattle.ldm_edits.proofs.SizeLists.{taken_from}
 use Rattle.ldm_edits.proofs.PlacedRules.{map_there}
+use Rattle.std.specs.List.{All}
+use Rattle.ldm_made.specs.Made.{resized, with_children}
 
 -- ---- there are few records
 
@@ -72,6 +72,14 @@ component_is records v c at =
     let has = filter_has (is_child 3 v.head.id) records (kinds.Component c) listed in
     (has.0, eqb-true c.parent v.head.id has.1)
 
+-- what the records of the longer mirror ask for
+pub record Grows (db : Database) (v : Volume) (len : ℕ) (wanted : List Wanted) (spots : List Taken) : Type 0 where
+  pub many : length spots ≡ length wanted
+  pub volume_there : is_some (resized v (held (layout_of db.records v) + len)) ≡ true
+  pub few : All (λ c. c.children + 1 < 2 ^ 64) (components_of v db.records)
+  pub made : All (λ c. is_some (with_children c (c.children + 1)) ≡ true) (components_of v db.records)
+  pub rising : Rising (changed db (grown db.records v (held (layout_of db.records v) + len) spots)).records
+
 module _ {db : Database} {labels : List Label} {v : Volume} {len : ℕ} {wanted : List Wanted} {spots : List Taken} (up : Rising db.records) (old : IsSoundOn db labels) (may : MayGrow db labels v len wanted spots) where
   abbrev taken : List Taken
   taken = spots
@@ -82,13 +90,13 @@ module _ {db : Database} {labels : List Label} {v : Volume} {len : ℕ} {wanted 
   abbrev change : Change
   change = grown db.records v (held (layout_of db.records v) + len) spots
 
-  pub fits : AreFirstFits (taken_in db.records) wanted spots
+  fits : AreFirstFits (taken_in db.records) wanted spots
   fits = placed_fit wanted (taken_in db.records) 0 spots may.places
 
   on_disks : (w : Wanted) → Contains wanted w → IsOnDisk labels db.records w
   on_disks = wanted_there labels db.records may.words wanted (are_found (data_size labels db.records) db.records 0 may.words wanted may.asked)
 
-  pub ready : (c : Component) → Contains (components_of v db.records) c → IsReady c
+  ready : (c : Component) → Contains (components_of v db.records) c → IsReady c
   ready c at =
       let is = component_is db.records v c at in
       let counted = (component_kept db.records labels (sound_parts db.records labels old.sound) c is.0).counted in
@@ -120,7 +128,7 @@ module _ {db : Database} {labels : List Label} {v : Volume} {len : ℕ} {wanted 
   pub volume : MakesSize v (capacity + len)
   volume = makes_size v (capacity + len) (let room = may.fits in omega arith) (spelled_by (kinds.Volume v) (All-contains IsFitting db.records (kinds.Volume v) old.room.each may.there))
 
-  shares : MakesShares db.records v len (max_id db.records + 1) (components_of v db.records) taken
+  pub shares : MakesShares db.records v len (max_id db.records + 1) (components_of v db.records) taken
   shares =
       let many : length taken ≡ length wanted = as_many wanted (taken_in db.records) spots fits in
       let each = may.one_each in
@@ -142,7 +150,7 @@ module _ {db : Database} {labels : List Label} {v : Volume} {len : ℕ} {wanted 
   stays (kinds.Volume x) off = ap (λ (b : Bool). b || false) off
   stays (kinds.Component x) off = off
 
-  lengthens : Lengthens labels db.records change v volume.volume len shares.ss
+  pub lengthens : Lengthens labels db.records change v volume.volume len shares.ss
   lengthens = record {
     t = changes v;
     stay = refl;
@@ -150,25 +158,30 @@ module _ {db : Database} {labels : List Label} {v : Volume} {len : ℕ} {wanted 
     stays = λ r at is. stays r is;
     made = made_are db.records v volume.volume (capacity + len) len (max_id db.records + 1) taken shares volume.made;
     low = (let ids = may.ids in omega arith);
-    volume = may.there;
-    shape = Mirror;
-    shape_is = may.shape;
-    tiled = refl;
-    components = olds_are db.records v shares.ss shares.components_are;
-    same_head = volume.head_is;
-    same_children = volume.children_is;
-    size = volume.size_is;
-    each = shares.each;
     ids = shares.ids;
-    within = subst (λ (l : List Taken). AllEndWithin (data_size labels db.records) l) (sym shares.taken_are)
-        (fits_within (data_size labels db.records) wanted (taken_in db.records) spots (λ k e lt. (on_disks (get_or wanted k e) (Contains-get_or wanted k e lt)).limit) fits);
-    free = subst (λ (l : List Taken). AreApart (taken_in db.records) l) (sym shares.taken_are) (fits_apart wanted (taken_in db.records) spots fits);
+    wider = record {
+      volume = may.there;
+      shape = Mirror;
+      shape_is = may.shape;
+      tiled = refl;
+      components = olds_are db.records v shares.ss shares.components_are;
+      same_head = volume.head_is;
+      same_children = volume.children_is;
+      size = volume.size_is;
+      each = shares.each;
+      within = subst (λ (l : List Taken). AllEndWithin (data_size labels db.records) l) (sym shares.taken_are)
+          (fits_within (data_size labels db.records) wanted (taken_in db.records) spots (λ k e lt. (on_disks (get_or wanted k e) (Contains-get_or wanted k e lt)).limit) fits);
+      free = subst (λ (l : List Taken). AreApart (taken_in db.records) l) (sym shares.taken_are) (fits_apart wanted (taken_in db.records) spots fits);
+    };
   }
 
-  pub rises : Rising (changed db change).records
-  rises = longer_rises up lengthens
-
-  -- a group whose mirror is longer is as sound
-  pub grown_keeps : All (λ l. l.data_size < 2 ^ 64) labels → first_of (limits db labels (length wanted) (grown db.records v (held (layout_of db.records v) + len) spots)) ≡ None
-      → Rising (changed db (grown db.records v (held (layout_of db.records v) + len) spots)).records × Keeps labels db (changed db (grown db.records v (held (layout_of db.records v) + len) spots))
-  grown_keeps low within = longer_keeps up old low (length wanted) lengthens within
+  pub grows : Grows db v len wanted spots
+  grows = record {
+    many = as_many wanted (taken_in db.records) spots fits;
+    volume_there = ap (λ (o : Option Volume). is_some o) volume.made;
+    few = λ k d lt. (ready (get_or (components_of v db.records) k d) (Contains-get_or (components_of v db.records) k d lt)).few;
+    made = λ k d lt. (let c : Component = get_or (components_of v db.records) k d in
+        let is = ready c (Contains-get_or (components_of v db.records) k d lt) in
+        ap (λ (o : Option Component). is_some o) (makes_children c (c.children + 1) is.few is.spelled).made);
+    rising = longer_rises up lengthens;
+  }

@@ -1,5 +1,5 @@
 -- The table of the limits, row by row.
-use Rattle.std.proofs.Common.{◌≡◌, ℕ, ◌+◌, ◌-◌, ◌^◌, ◌<◌, ◌≤◌, ◌==◌, ◌++◌, List, [], ◌∷◌, sym, ap, ◌∙◌, arith, Bool, true, false, Option, Some, None, Err}
+use Rattle.std.proofs.Common.{◌≡◌, ℕ, ◌+◌, ◌-◌, ◌^◌, ◌<◌, ◌≤◌, ◌==◌, ◌++◌, List, [], ◌∷◌, refl, sym, ap, ◌∙◌, arith, Bool, true, false, Option, Some, None, Err}
 use Rattle.std.specs.Prelude.{nat_lt}
 use Rattle.std.specs.Option.{option_map}
 use Rattle.std.proofs.lemmas.Bool.{lt-ltb, le-ltb, eq-eqb, ne_eqb}
@@ -15,49 +15,35 @@ use Rattle.ldm_edits.specs.declared.reply.Refusal.{Refusal}
 use Rattle.ldm_edits.specs.declared.reply.Refusal.TheVariants as refusals
 use Rattle.ldm_edits.specs.Changes.{Change, need_in, most_blocks, when, long_id, limits, later_limits, changed, change_to}
 
+-- the rows, by what is known of them
+rows : (db : Database) (labels : List Label) (change : Change) (long : Option ℕ) (full last : Bool) → long ≡ long_id change.made → nat_lt (most_blocks labels) (need_in change) ≡ full → (db.header.seq == 2 ^ 64 - 1) ≡ last
+    → first_of (option_map refusals.TooLong long ∷ (when full (refusals.NoRoom (need_in change) (most_blocks labels)) ∷ (when last refusals.SequenceSpent ∷ []))) ≡ first_of (later_limits db labels change)
+rows db labels change long full last one two three =
+    λ i. first_of (option_map refusals.TooLong (one i) ∷ (when (sym two i) (refusals.NoRoom (need_in change) (most_blocks labels)) ∷ (when (sym three i) refusals.SequenceSpent ∷ [])))
+
 -- a record is too long
 pub too_long : (db : Database) (labels : List Label) (change : Change) (id : ℕ) → Some id ≡ long_id change.made → Some (refusals.TooLong id) ≡ first_of (later_limits db labels change)
-too_long db labels change id h =
-    let need : ℕ = need_in change in
-    ap (λ (o : Option ℕ). first_of (option_map refusals.TooLong o ∷ (when (nat_lt (most_blocks labels) need) (refusals.NoRoom need (most_blocks labels)) ∷ (when (db.header.seq == 2 ^ 64 - 1) refusals.SequenceSpent ∷ [])))) h
-
-none_long : (db : Database) (labels : List Label) (change : Change) → None ≡ long_id change.made
-    → first_of (when (nat_lt (most_blocks labels) (need_in change)) (refusals.NoRoom (need_in change) (most_blocks labels)) ∷ (when (db.header.seq == 2 ^ 64 - 1) refusals.SequenceSpent ∷ []))
-    ≡ first_of (later_limits db labels change)
-none_long db labels change h =
-    let need : ℕ = need_in change in
-    ap (λ (o : Option ℕ). first_of (option_map refusals.TooLong o ∷ (when (nat_lt (most_blocks labels) need) (refusals.NoRoom need (most_blocks labels)) ∷ (when (db.header.seq == 2 ^ 64 - 1) refusals.SequenceSpent ∷ [])))) h
+too_long db labels change id h = rows db labels change (Some id) _ _ h refl refl
 
 pub need_both : (stay made : List Record) (a b : ℕ) → a ≡ need_of stay → b ≡ need_of made → a + b ≡ need_of (stay ++ made)
 need_both stay made a b one two = (let both = sum_by-append (λ (r : Record). parts_of (own_len r)) stay made in omega arith)
 
--- they take more blocks than there are
-pub no_room : (db : Database) (labels : List Label) (change : Change) (need have : ℕ) → None ≡ long_id change.made → need ≡ need_in change → have ≡ most_blocks labels → have < need
-    → Some (refusals.NoRoom need have) ≡ first_of (later_limits db labels change)
-no_room db labels change need have short needs has more =
-    let less : nat_lt (most_blocks labels) (need_in change) ≡ true = (λ i. nat_lt (sym has i) (sym needs i)) ∙ lt-ltb have need more in
-    (λ i. Some (refusals.NoRoom (needs i) (has i)))
-    ∙ ap (λ (b : Bool). first_of (when b (refusals.NoRoom (need_in change) (most_blocks labels)) ∷ (when (db.header.seq == 2 ^ 64 - 1) refusals.SequenceSpent ∷ []))) (sym less)
-    ∙ none_long db labels change short
+-- none is
+module _ (db : Database) (labels : List Label) (change : Change) (need have : ℕ) (short : None ≡ long_id change.made) (needs : need ≡ need_in change) (has : have ≡ most_blocks labels) where
+  room : (full : Bool) → nat_lt have need ≡ full → nat_lt (most_blocks labels) (need_in change) ≡ full
+  room full is = (λ i. nat_lt (sym has i) (sym needs i)) ∙ is
 
-enough : (db : Database) (labels : List Label) (change : Change) (need have : ℕ) → None ≡ long_id change.made → need ≡ need_in change → have ≡ most_blocks labels → need ≤ have
-    → first_of (when (db.header.seq == 2 ^ 64 - 1) refusals.SequenceSpent ∷ []) ≡ first_of (later_limits db labels change)
-enough db labels change need have short needs has few =
-    let less : nat_lt (most_blocks labels) (need_in change) ≡ false = (λ i. nat_lt (sym has i) (sym needs i)) ∙ le-ltb have need few in
-    ap (λ (b : Bool). first_of (when b (refusals.NoRoom (need_in change) (most_blocks labels)) ∷ (when (db.header.seq == 2 ^ 64 - 1) refusals.SequenceSpent ∷ []))) (sym less)
-    ∙ none_long db labels change short
+  -- they take more blocks than there are
+  pub no_room : have < need → Some (refusals.NoRoom need have) ≡ first_of (later_limits db labels change)
+  no_room more = (λ i. Some (refusals.NoRoom (needs i) (has i))) ∙ rows db labels change None true _ short (room true (lt-ltb have need more)) refl
 
--- the sequence is the last
-pub spent : (db : Database) (labels : List Label) (change : Change) (need have : ℕ) → None ≡ long_id change.made → need ≡ need_in change → have ≡ most_blocks labels → need ≤ have
-    → db.header.seq ≡ 2 ^ 64 - 1 → Some refusals.SequenceSpent ≡ first_of (later_limits db labels change)
-spent db labels change need have short needs has few last =
-    ap (λ (b : Bool). first_of (when b refusals.SequenceSpent ∷ [])) (sym (eq-eqb db.header.seq (2 ^ 64 - 1) last)) ∙ enough db labels change need have short needs has few
+  -- the sequence is the last
+  pub spent : need ≤ have → db.header.seq ≡ 2 ^ 64 - 1 → Some refusals.SequenceSpent ≡ first_of (later_limits db labels change)
+  spent few last = rows db labels change None false true short (room false (le-ltb have need few)) (eq-eqb db.header.seq (2 ^ 64 - 1) last)
 
--- no limit is passed
-pub within : (db : Database) (labels : List Label) (change : Change) (need have : ℕ) → None ≡ long_id change.made → need ≡ need_in change → have ≡ most_blocks labels → need ≤ have
-    → (db.header.seq ≡ 2 ^ 64 - 1 → ⊥) → None ≡ first_of (later_limits db labels change)
-within db labels change need have short needs has few more =
-    ap (λ (b : Bool). first_of (when b refusals.SequenceSpent ∷ [])) (sym (ne_eqb db.header.seq (2 ^ 64 - 1) more)) ∙ enough db labels change need have short needs has few
+  -- no limit is passed
+  pub within : need ≤ have → (db.header.seq ≡ 2 ^ 64 - 1 → ⊥) → None ≡ first_of (later_limits db labels change)
+  within few more = rows db labels change None false false short (room false (le-ltb have need few)) (ne_eqb db.header.seq (2 ^ 64 - 1) more)
 
 -- the ids are spent, or not
 pub ids_spent : (db : Database) (labels : List Label) (fresh : ℕ) (change : Change) → 2 ^ 64 - 1 < max_id db.records + fresh → Some refusals.IdsSpent ≡ first_of (limits db labels fresh change)

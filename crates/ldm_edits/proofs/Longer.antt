@@ -78,13 +78,8 @@ IsMade w ss (kinds.Component x) = (s : Share) × Contains ss s × (x ≡ s.d)
 IsMade w ss (kinds.Partition x) = (s : Share) × Contains ss s × Contains s.parts x
 IsMade w ss _ = ⊥
 
--- the next records: a span or mirror and its components, changed, and new partitions for each component
-pub record IsLonger (labels : List Label) (old next : List Record) (v w : Volume) (len : ℕ) (ss : List Share) : Type 0 where
-  pub up : Rising old
-  pub vp : Rising next
-  pub back : (r : Record) → Contains next r → (Contains old r × IsOther v r) ⊎ IsMade w ss r
-  pub there : (r : Record) → Contains old r → IsOther v r → Contains next r
-  pub made : (r : Record) → IsMade w ss r → Contains next r
+-- a span or mirror whose components have more partitions, each so many sectors more, where none were taken
+pub record IsWider (labels : List Label) (old : List Record) (v w : Volume) (len : ℕ) (ss : List Share) : Type 0 where
   pub volume : Contains old (kinds.Volume v)
   pub shape : Shape
   pub shape_is : shape_of (plexes_of v.head.id old) ≡ Some shape
@@ -96,3 +91,12 @@ pub record IsLonger (labels : List Label) (old next : List Record) (v w : Volume
   pub each : (s : Share) → Contains ss s → IsShare old v len s
   pub within : AllEndWithin (data_size labels old) (map taken_of (parts_of ss))
   pub free : AreApart (taken_in old) (map taken_of (parts_of ss))
+
+-- the next records: the volume and its components, changed, and the new partitions
+pub record IsLonger (labels : List Label) (old next : List Record) (v w : Volume) (len : ℕ) (ss : List Share) : Type 0 where
+  pub up : Rising old
+  pub vp : Rising next
+  pub back : (r : Record) → Contains next r → (Contains old r × IsOther v r) ⊎ IsMade w ss r
+  pub there : (r : Record) → Contains old r → IsOther v r → Contains next r
+  pub made : (r : Record) → IsMade w ss r → Contains next r
+  pub wider : IsWider labels old v w len ss

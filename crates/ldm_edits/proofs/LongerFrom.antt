@@ -111,26 +111,26 @@ module _ {labels : List Label} {old next : List Record} {v w : Volume} {len : �
   d_there s at = is.made (kinds.Component s.d) (s, at, refl)
 
   pub w_id : w.head.id ≡ v.head.id
-  w_id = ap (λ h. h.id) is.same_head
+  w_id = ap (λ h. h.id) is.wider.same_head
 
   pub d_id : (s : Share) → Contains ss s → s.d.head.id ≡ s.c.head.id
-  d_id s at = ap (λ (x : Plex). x.id) (is.each s at).same_plex
+  d_id s at = ap (λ (x : Plex). x.id) (is.wider.each s at).same_plex
 
   pub d_parent : (s : Share) → Contains ss s → s.d.parent ≡ v.head.id
-  d_parent s at = ap (λ (x : Plex). x.volume) (is.each s at).same_plex ∙ (is.each s at).parent
+  d_parent s at = ap (λ (x : Plex). x.volume) (is.wider.each s at).same_plex ∙ (is.wider.each s at).parent
 
   pub c_there : (s : Share) → Contains ss s → Contains old (kinds.Component s.c)
-  c_there = share_there old v ss is.components
+  c_there = share_there old v ss is.wider.components
 
   -- a component of the volume is that of a share
   share_of : (x : Component) → Contains old (kinds.Component x) → x.parent ≡ v.head.id → (s : Share) × Contains ss s × (s.c ≡ x)
   share_of x there parent =
-      let at = subst (λ (l : List Record). Contains l (kinds.Component x)) is.components (filter_keeps (is_child 3 v.head.id) old (kinds.Component x) there (eq-eqb x.parent v.head.id parent)) in
+      let at = subst (λ (l : List Record). Contains l (kinds.Component x)) is.wider.components (filter_keeps (is_child 3 v.head.id) old (kinds.Component x) there (eq-eqb x.parent v.head.id parent)) in
       let s = mapped (λ (t : Share). kinds.Component t.c) ss (kinds.Component x) at in
       (s.0, s.1, (let e = s.2 in cc))
 
   olds_rise : Rising (olds ss)
-  olds_rise = subst Rising is.components (AllPairs-filter (λ a b. place_of a < place_of b) (is_child 3 v.head.id) old is.up)
+  olds_rise = subst Rising is.wider.components (AllPairs-filter (λ a b. place_of a < place_of b) (is_child 3 v.head.id) old is.up)
 
   -- a component of another volume is another
   pub other_component : (x : Component) → (x.parent == v.head.id) ≡ false → Contains old (kinds.Component x) → (s : Share)
@@ -138,7 +138,7 @@ module _ {labels : List Label} {old next : List Record} {v w : Volume} {len : �
   other_component x other there s at = elim (tested (x.head.id == s.c.head.id)) [
     | inr fails ↦ fails
     | inl same ↦ (let e : x ≡ s.c = one_component old x s.c is.up there (c_there s at) (eqb-true x.head.id s.c.head.id same) in
-        let own : (x.parent == v.head.id) ≡ true = eq-eqb x.parent v.head.id (ap (λ (y : Component). y.parent) e ∙ (is.each s at).parent) in absurd cc)
+        let own : (x.parent == v.head.id) ≡ true = eq-eqb x.parent v.head.id (ap (λ (y : Component). y.parent) e ∙ (is.wider.each s at).parent) in absurd cc)
   ]
 
   -- ---- what was there is there
@@ -171,7 +171,7 @@ module _ {labels : List Label} {old next : List Record} {v w : Volume} {len : �
     stay = λ x parent at. is.there (kinds.Partition x) at tt;
     back = λ x parent at. elim (is.back (kinds.Partition x) at) [
       | inl h ↦ h.0
-      | inr s ↦ (let own : (q == s.0.c.head.id) ≡ true = eq-eqb q s.0.c.head.id (sym parent ∙ ((is.each s.0 s.1).each x s.2).parent) in
+      | inr s ↦ (let own : (q == s.0.c.head.id) ≡ true = eq-eqb q s.0.c.head.id (sym parent ∙ ((is.wider.each s.0 s.1).each x s.2).parent) in
           let off = other s.0 s.1 in absurd cc)
     ];
   }
@@ -192,7 +192,7 @@ module _ {labels : List Label} {old next : List Record} {v w : Volume} {len : �
       → filter (is_child 4 s.c.head.id) next ≡ filter (is_child 4 s.c.head.id) old ++ records_of s.parts
   unfolding place_of
   partitions_are s here = kin_are t next (filter t old ++ records_of s.parts) is.vp
-      (pairs_append (λ a b. place_of a < place_of b) (filter t old) (records_of s.parts) (AllPairs-filter (λ a b. place_of a < place_of b) t old is.up) (is.each s here).rise
+      (pairs_append (λ a b. place_of a < place_of b) (filter t old) (records_of s.parts) (AllPairs-filter (λ a b. place_of a < place_of b) t old is.up) (is.wider.each s here).rise
       (λ r q at_r at_q. below r q (filter_has t old r at_r) (mapped kinds.Partition s.parts q at_q)))
       (λ r at. are r (Contains-append_cases (filter t old) (records_of s.parts) r at))
       (λ r h at. all r h (child_partition s.c.head.id r h) at)
@@ -205,7 +205,7 @@ module _ {labels : List Label} {old next : List Record} {v w : Volume} {len : �
       below r q at (p, new, e) =
           let x = child_partition s.c.head.id r at.1 in
           let low : id_of r ≤ max_id old = max_above old r at.0 in
-          let high : max_id old < p.head.id = ((is.each s here).each p new).above in
+          let high : max_id old < p.head.id = ((is.wider.each s here).each p new).above in
           let id : id_of r ≡ x.0.head.id = ap id_of x.1 in
           let one : place_of r ≡ 5 * 2 ^ 64 + x.0.head.id = ap place_of x.1 in
           let two : place_of q ≡ 5 * 2 ^ 64 + p.head.id = ap place_of e in
@@ -217,13 +217,13 @@ module _ {labels : List Label} {old next : List Record} {v w : Volume} {len : �
           (subst (λ (y : Record). Contains next y) (sym x.1) (is.there (kinds.Partition x.0) (subst (λ (y : Record). Contains old y) x.1 at.0) tt), at.1))
       are r (inr h) = (let x = mapped kinds.Partition s.parts r h in
           subst (λ (y : Record). Contains next y × (t y ≡ true)) (sym x.2)
-          (is.made (kinds.Partition x.0) (s, here, x.1), ap (λ (b : Bool). b || false) (eq-eqb x.0.parent s.c.head.id ((is.each s here).each x.0 x.1).parent)))
+          (is.made (kinds.Partition x.0) (s, here, x.1), ap (λ (b : Bool). b || false) (eq-eqb x.0.parent s.c.head.id ((is.wider.each s here).each x.0 x.1).parent)))
 
       all : (r : Record) → t r ≡ true → (x : Partition) × (r ≡ kinds.Partition x) × (x.parent ≡ s.c.head.id) → Contains next r
           → Contains (filter t old ++ records_of s.parts) r
       all r h (x, e, parent) at = elim (is.back (kinds.Partition x) (subst (λ (y : Record). Contains next y) e at)) [
         | inl old_there ↦ Contains-append_left (filter t old) (records_of s.parts) r (filter_keeps t old r (subst (λ (y : Record). Contains old y) (sym e) old_there.0) h)
-        | inr new ↦ (let same : new.0 ≡ s = one_share (λ t. t.c) ss olds_rise new.0 s new.1 here (sym ((is.each new.0 new.1).each x new.2).parent ∙ parent) in
+        | inr new ↦ (let same : new.0 ≡ s = one_share (λ t. t.c) ss olds_rise new.0 s new.1 here (sym ((is.wider.each new.0 new.1).each x new.2).parent ∙ parent) in
             Contains-append_right (filter t old) (records_of s.parts) r
             (subst (λ (y : Record). Contains (records_of s.parts) y) (sym e) (map_there kinds.Partition s.parts x (subst (λ (y : Share). Contains y.parts x) same new.2))))
       ]

@@ -1,11 +1,10 @@
 -- Extend: what a change makes that gives each component of a volume more partitions, and what it keeps of a group.
-use Rattle.std.proofs.Common.{◌≡◌, ◌≢◌, ℕ, zero, suc, ◌+◌, ◌*◌, ◌^◌, ◌<◌, ◌≤◌, ◌==◌, not, List, [], ◌∷◌, ◌++◌, map, get_or, refl, sym, ap, subst, ◌∙◌, inl, inr, arith, Bool, true, false, Some, None, Contains, sum_by}
+use Rattle.std.proofs.Common.{◌≡◌, ◌≢◌, ℕ, zero, suc, ◌+◌, ◌*◌, ◌^◌, ◌<◌, ◌≤◌, ◌==◌, not, List, [], ◌∷◌, ◌++◌, get_or, refl, sym, ap, subst, ◌∙◌, inl, inr, arith, Bool, false, None, Contains}
 use Rattle.std.specs.Prelude.{filter}
 use Rattle.std.specs.List.{All}
 use Rattle.std.proofs.lemmas.Bool.{not-true, eq-eqb}
-use Rattle.std.proofs.lemmas.List.Elements.{All-filter, Contains-get_or, Contains-append_cases}
+use Rattle.std.proofs.lemmas.List.Elements.{All-contains, All-filter, Contains-get_or, Contains-append_cases}
 use Rattle.std.proofs.lemmas.List.Kept.{AllPairs-cons, AllPairs-filter}
-use Rattle.std.proofs.lemmas.List.Sums.{sum_by-cons}
 use Rattle.ldm_bytes.specs.Tables.{first_of}
 use Rattle.ldm_records.specs.declared.types.Record.{Record}
 use Rattle.ldm_records.specs.declared.types.Record.TheVariants as kinds
@@ -22,25 +21,19 @@ use Rattle.ldm_group.proofs.KinLaws.{filter_has, filter_keeps}
 use Rattle.ldm_group.proofs.LookLaws.{one_record}
 use Rattle.ldm_label.specs.declared.Label.{Label}
 use Rattle.ldm_layout.specs.declared.parts.Plex.{Plex}
-use Rattle.ldm_layout.specs.declared.shape.Shape.{Shape}
-use Rattle.ldm_layout.specs.Layouts.{is_tiled}
-use Rattle.ldm_layout.specs.Parts.{plexes_of}
-use Rattle.ldm_layout.specs.Volumes.{layout_of, shape_of}
 use Rattle.ldm_rules.proofs.CarryLaws.{HasDisk, heads}
 use Rattle.ldm_rules.proofs.SoundLaws.{sound_from, sound_parts, ends_in_range}
 use Rattle.ldm_rules.specs.Ends.{data_size}
-use Rattle.ldm_rules.specs.Facts.{IsSoundOn}
 use Rattle.ldm_space.specs.declared.taken.Taken.{Taken}
-use Rattle.ldm_space.specs.Free.{taken_of, taken_in}
 use Rattle.ldm_space.specs.declared.placed.Wanted.{Wanted}
-use Rattle.ldm_space.specs.Placed.{AreFirstFits, AllEndWithin, AreApart}
+use Rattle.ldm_space.specs.Placed.{AreFirstFits}
 use Rattle.ldm_edits.specs.Changes.{Change, limits, changed}
-use Rattle.ldm_edits.specs.Extending.{held}
 use Rattle.ldm_edits.specs.Steps.{Keeps}
-use Rattle.ldm_edits.proofs.AskedLaws.{AreFound}
-use Rattle.ldm_edits.proofs.KeepLaws.{next_keeps}
+use Rattle.ldm_edits.proofs.AskedLaws.{AreFound, found_all}
+use Rattle.ldm_edits.proofs.SizeLists.{taken_from}
+use Rattle.ldm_edits.proofs.KeepLaws.{next_keeps, IsGiven}
 use Rattle.ldm_edits.proofs.LimitLaws.{within_limits}
-use Rattle.ldm_edits.proofs.Longer.{Share, olds, news, parts_of, longer_records, IsShare, IsOther, IsMade, IsLonger}
+use Rattle.ldm_edits.proofs.Longer.{Share, news, parts_of, longer_records, IsWider, IsOther, IsMade, IsLonger}
 use Rattle.ldm_edits.proofs.LongerFrom.{listed_made, made_listed, news_rise, share_there}
 use Rattle.ldm_edits.proofs.LongerRules.{longer_carries, longer_each}
 use Rattle.ldm_edits.proofs.MadeParts.{IdsFrom, parts_rise}
@@ -56,33 +49,12 @@ pub record IsOnDisk (labels : List Label) (records : List Record) (w : Wanted) :
 
 pub wanted_there : (labels : List Label) (records : List Record) (words : List (List ℕ × ℕ)) (wanted : List Wanted)
     → AreFound (data_size labels records) records words wanted → (w : Wanted) → Contains wanted w → IsOnDisk labels records w
-wanted_there labels records [] [] found w (k, lt, is) = absurd (omega arith)
-wanted_there labels records [] (x ∷ wanted) found w at = absurd found
-wanted_there labels records (word ∷ words) [] found w at = absurd found
-wanted_there labels records (word ∷ words) (x ∷ wanted) found w (zero, lt, is) =
-    let on = found.0 in
-    let low = max_above records (kinds.Disk on.disk) on.there in
-    let same = on.disk_is in
-    subst (λ (y : Wanted). IsOnDisk labels records y) is (record { disk = (on.disk, on.there, sym on.disk_is); low = omega arith; limit = on.limit_is })
-wanted_there labels records (word ∷ words) (x ∷ wanted) found w (suc k, lt, is) = wanted_there labels records words wanted found.1 w (k, omega arith, is)
+wanted_there labels records words wanted found w at =
+    All-contains (IsOnDisk labels records) wanted w (found_all (IsOnDisk labels records) (λ n. Unit {0}) (data_size labels records) records words wanted
+    (λ size w on h. let low = max_above records (kinds.Disk on.disk) on.there in let same = on.disk_is in
+    record { disk = (on.disk, on.there, sym on.disk_is); low = omega arith; limit = on.limit_is }) found (λ k d lt. tt)) at
 
 -- ---- what is taken
-
-pub taken_from : (wanted : List Wanted) (taken spots : List Taken) (t : Taken) → AreFirstFits taken wanted spots → Contains spots t
-    → (w : Wanted) × Contains wanted w × (w.disk ≡ t.disk) × (w.size ≡ t.size)
-taken_from wanted taken [] t h (k, lt, is) = absurd (omega arith)
-taken_from [] taken (s ∷ spots) t h at = absurd h
-taken_from (w ∷ more) taken (s ∷ spots) t h (zero, lt, is) = (w, (0, omega arith, refl), h.0.disk ∙ ap (λ (x : Taken). x.disk) is, h.0.size ∙ ap (λ (x : Taken). x.size) is)
-taken_from (w ∷ more) taken (s ∷ spots) t h (suc k, lt, is) = (let rest = taken_from more (s ∷ taken) spots t h.1 (k, omega arith, is) in (rest.0, (suc rest.1.0, (let in' = rest.1.1 in omega arith), rest.1.2), rest.2, rest.3))
-
-pub taken_sum : (wanted : List Wanted) (taken spots : List Taken) → AreFirstFits taken wanted spots → sum_by (λ (t : Taken). t.size) spots ≡ sum_by (λ (w : Wanted). w.size) wanted
-taken_sum [] taken [] h = refl
-taken_sum [] taken (s ∷ spots) h = absurd h
-taken_sum (w ∷ more) taken [] h = absurd h
-taken_sum (w ∷ more) taken (s ∷ spots) h =
-    sum_by-cons (λ (t : Taken). t.size) s spots
-    ∙ (λ i. sym h.0.size i + taken_sum more (s ∷ taken) spots h.1 i)
-    ∙ sym (sum_by-cons (λ (x : Wanted). x.size) w more)
 
 -- what a piece takes: some sectors of a disk of the group
 pub record IsTaken (records : List Record) (t : Taken) : Type 0 where
@@ -139,18 +111,8 @@ pub record Lengthens (labels : List Label) (old : List Record) (change : Change)
   pub stays : (r : Record) → Contains old r → IsOther v r → t r ≡ false
   pub made : change.made ≡ longer_records w ss
   pub low : max_id old < 2 ^ 64
-  pub volume : Contains old (kinds.Volume v)
-  pub shape : Shape
-  pub shape_is : shape_of (plexes_of v.head.id old) ≡ Some shape
-  pub tiled : is_tiled shape ≡ true
-  pub components : filter (is_child 3 v.head.id) old ≡ olds ss
-  pub same_head : w.head ≡ v.head
-  pub same_children : w.children ≡ v.children
-  pub size : w.size ≡ held (layout_of old v) + len
-  pub each : (s : Share) → Contains ss s → IsShare old v len s
   pub ids : IdsFrom (max_id old + 1) (parts_of ss)
-  pub within : AllEndWithin (data_size labels old) (map taken_of (parts_of ss))
-  pub free : AreApart (taken_in old) (map taken_of (parts_of ss))
+  pub wider : IsWider labels old v w len ss
 
 module _ {labels : List Label} {old : List Record} {change : Change} {v w : Volume} {len : ℕ} {ss : List Share} (up : Rising old) (is : Lengthens labels old change v w len ss) where
   stay_has : (r : Record) → Contains change.stay r → Contains old r × IsOther v r
@@ -162,13 +124,13 @@ module _ {labels : List Label} {old : List Record} {change : Change} {v w : Volu
   made_has r at = listed_made w ss r (subst (λ (l : List Record). Contains l r) is.made at)
 
   w_id : w.head.id ≡ v.head.id
-  w_id = ap (λ (h : Head). h.id) is.same_head
+  w_id = ap (λ (h : Head). h.id) is.wider.same_head
 
   c_there : (s : Share) → Contains ss s → Contains old (kinds.Component s.c)
-  c_there = share_there old v ss is.components
+  c_there = share_there old v ss is.wider.components
 
   d_id : (s : Share) → Contains ss s → s.d.head.id ≡ s.c.head.id
-  d_id s at = ap (λ (x : Plex). x.id) (is.each s at).same_plex
+  d_id s at = ap (λ (x : Plex). x.id) (is.wider.each s at).same_plex
 
   -- a changed component stands behind the volumes and in front of the partitions
   between : (r : Record) → Contains (news ss) r → (4 * 2 ^ 64 ≤ place_of r) × (place_of r < 5 * 2 ^ 64)
@@ -193,7 +155,7 @@ module _ {labels : List Label} {old : List Record} {change : Change} {v w : Volu
   rise =
       let rest : List Record = news ss ++ records_of (parts_of ss) in
       let id = w_id in
-      let top = max_above old (kinds.Volume v) is.volume in
+      let top = max_above old (kinds.Volume v) is.wider.volume in
       let low = is.low in
       AllPairs-cons Below (kinds.Volume w) rest
       (λ k e lt. elim (Contains-append_cases (news ss) (records_of (parts_of ss)) (get_or rest k e) (Contains-get_or rest k e lt)) [
@@ -201,7 +163,7 @@ module _ {labels : List Label} {old : List Record} {change : Change} {v w : Volu
         | inr p ↦ (let above = last (get_or rest k e) p in omega arith)
       ])
       (pairs_append Below (news ss) (records_of (parts_of ss))
-      (news_rise ss d_id (subst Rising is.components (AllPairs-filter Below (is_child 3 v.head.id) old up))) (parts_rise (max_id old + 1) (parts_of ss) is.ids)
+      (news_rise ss d_id (subst Rising is.wider.components (AllPairs-filter Below (is_child 3 v.head.id) old up))) (parts_rise (max_id old + 1) (parts_of ss) is.ids)
       (λ r q at_r at_q. let a = (between r at_r).1 in let b = last q at_q in omega arith))
 
   -- no record that stays stands at the place of one that changes
@@ -213,11 +175,11 @@ module _ {labels : List Label} {old : List Record} {change : Change} {v w : Volu
   unfolding place_of
   cross r (kinds.Group g) at made = absurd made
   cross r (kinds.Disk d) at made = absurd made
-  cross r (kinds.Volume x) at made = apart r (kinds.Volume v) (kinds.Volume x) at is.volume (λ other. let own = eq-eqb v.head.id v.head.id refl in cc)
+  cross r (kinds.Volume x) at made = apart r (kinds.Volume v) (kinds.Volume x) at is.wider.volume (λ other. let own = eq-eqb v.head.id v.head.id refl in cc)
       (ap (λ (n : ℕ). 3 * 2 ^ 64 + n) (ap (λ (y : Volume). y.head.id) made ∙ w_id))
-  cross r (kinds.Component x) at (s, here, made) = apart r (kinds.Component s.c) (kinds.Component x) at (c_there s here) (λ other. let own = eq-eqb s.c.parent v.head.id (is.each s here).parent in cc)
+  cross r (kinds.Component x) at (s, here, made) = apart r (kinds.Component s.c) (kinds.Component x) at (c_there s here) (λ other. let own = eq-eqb s.c.parent v.head.id (is.wider.each s here).parent in cc)
       (ap (λ (n : ℕ). 4 * 2 ^ 64 + n) (ap (λ (y : Component). y.head.id) made ∙ d_id s here))
-  cross r (kinds.Partition x) at (s, here, made) = place_below r x (max_id old) (max_above old r at.0) is.low ((is.each s here).each x made).above
+  cross r (kinds.Partition x) at (s, here, made) = place_below r x (max_id old) (max_above old r at.0) is.low ((is.wider.each s here).each x made).above
 
   -- so the next group has its order
   pub longer_rises : Rising (in_order (change.stay ++ change.made))
@@ -232,30 +194,17 @@ module _ {labels : List Label} {old : List Record} {change : Change} {v w : Volu
     back = λ r at. elim (member_next change.stay change.made r at) [ inl stays ↦ inl (stay_has r stays) | inr new ↦ inr (made_has r new) ];
     there = λ r at other. stays_next change.stay change.made r (subst (λ (l : List Record). Contains l r) (sym is.stay) (filter_keeps (λ r. not (is.t r)) old r at (ap not (is.stays r at other))));
     made = λ r new. made_next change.stay change.made r (subst (λ (l : List Record). Contains l r) (sym is.made) (made_listed w ss r new));
-    volume = is.volume;
-    shape = is.shape;
-    shape_is = is.shape_is;
-    tiled = is.tiled;
-    components = is.components;
-    same_head = is.same_head;
-    same_children = is.same_children;
-    size = is.size;
-    each = is.each;
-    within = is.within;
-    free = is.free;
+    wider = is.wider;
   }
 
 -- a group whose span or mirror is longer is as sound
 pub longer_keeps : {db : Database} {labels : List Label} {change : Change} {v w : Volume} {len : ℕ} {ss : List Share}
-    → Rising db.records → IsSoundOn db labels → All (λ l. l.data_size < 2 ^ 64) labels
-    → (fresh : ℕ) → Lengthens labels db.records change v w len ss → first_of (limits db labels fresh change) ≡ None
-    → Rising (changed db change).records × Keeps labels db (changed db change)
-longer_keeps {db} {labels} {change} up old low fresh is within =
+    → IsGiven db labels → (fresh : ℕ) → Lengthens labels db.records change v w len ss → first_of (limits db labels fresh change) ≡ None
+    → Keeps labels db (changed db change)
+longer_keeps {db} {labels} {change} given fresh is within =
     let next : List Record = (changed db change).records in
-    let longer = is_longer up is in
-    let rules = sound_parts db.records labels old.sound in
-    let sound = sound_from next labels (longer_each longer rules) in (
-      longer_rises up is,
-      next_keeps db labels fresh change old (subst (All IsFitting) (sym is.stay) (All-filter (λ r. not (is.t r)) IsFitting db.records old.room.each))
-          (within_limits db labels fresh change within) (heads (longer_carries longer rules)) sound (ends_in_range next labels low sound),
-    )
+    let longer = is_longer given.up is in
+    let rules = sound_parts db.records labels given.sound.sound in
+    let sound = sound_from next labels (longer_each longer rules) in
+    next_keeps db labels fresh change given.sound (subst (All IsFitting) (sym is.stay) (All-filter (λ r. not (is.t r)) IsFitting db.records given.sound.room.each))
+    (within_limits db labels fresh change within) (heads (longer_carries longer rules)) sound (ends_in_range next labels given.low sound)

@@ -62,24 +62,24 @@ held_shared old v l shape ss components shape_is tiled layout =
 
 module _ {labels : List Label} {old next : List Record} {v w : Volume} {len : ℕ} {ss : List Share} (is : IsLonger labels old next v w len ss) (each : EachRule old labels) where
   was : KeepsVolume old v
-  was = volume_kept old labels each v is.volume
+  was = volume_kept old labels each v is.wider.volume
 
   -- ---- layouts
 
   -- the components that the layout reads are those that it read
   plexes_old : plexes_of v.head.id old ≡ plexes_in ss
-  plexes_old = plexes_by v.head.id old ∙ ap (filter_map plex_in) is.components ∙ old_plexes ss
+  plexes_old = plexes_by v.head.id old ∙ ap (filter_map plex_in) is.wider.components ∙ old_plexes ss
 
   plexes_next : plexes_of w.head.id next ≡ plexes_in ss
   plexes_next =
-      ap (λ (h : Head). plexes_of h.id next) is.same_head ∙ plexes_by v.head.id next ∙ ap (filter_map plex_in) (components_are is) ∙ new_plexes ss
-      ∙ map_same (λ (s : Share). plex_of s.d) (λ (s : Share). plex_of s.c) ss (λ s at. (is.each s at).same_plex)
+      ap (λ (h : Head). plexes_of h.id next) is.wider.same_head ∙ plexes_by v.head.id next ∙ ap (filter_map plex_in) (components_are is) ∙ new_plexes ss
+      ∙ map_same (λ (s : Share). plex_of s.d) (λ (s : Share). plex_of s.c) ss (λ s at. (is.wider.each s at).same_plex)
 
-  shape : shape_of (plexes_in ss) ≡ Some is.shape
-  shape = ap shape_of (sym plexes_old) ∙ is.shape_is
+  shape : shape_of (plexes_in ss) ≡ Some is.wider.shape
+  shape = ap shape_of (sym plexes_old) ∙ is.wider.shape_is
 
   holds : HoldsTiled old v (plexes_in ss) was.layout.0
-  holds = tiled_holds old v (plexes_in ss) is.shape was.layout.0 plexes_old shape is.tiled was.layout.1
+  holds = tiled_holds old v (plexes_in ss) is.wider.shape was.layout.0 plexes_old shape is.wider.tiled was.layout.1
 
   tiled_old : (s : Share) → Contains ss s → tiles (tiles_in old s) ≡ true
   tiled_old s at = one_passes tiles (tiles_in old) ss s (ap (list_all tiles) (sym (copies_are ss old)) ∙ holds.tiled) at
@@ -88,7 +88,7 @@ module _ {labels : List Label} {old next : List Record} {v w : Volume} {len : �
   tiled_all : (s : Share) → Contains ss s → tiles_from 0 (tiles_in old s ++ map extent_of s.parts) ≡ true
   tiled_all s at =
       tiles_append 0 (tiles_in old s) (map extent_of s.parts) (tiles_zero (tiles_in old s) (tiled_old s at))
-      (subst (λ (n : ℕ). tiles_from n (map extent_of s.parts) ≡ true) (sym (zero-add _)) (is.each s at).tiled)
+      (subst (λ (n : ℕ). tiles_from n (map extent_of s.parts) ≡ true) (sym (zero-add _)) (is.wider.each s at).tiled)
 
   tiles_next : (s : Share) → Contains ss s → tiles_in next s ≡ tiles_in old s ++ map extent_of s.parts
   tiles_next s at =
@@ -100,13 +100,13 @@ module _ {labels : List Label} {old next : List Record} {v w : Volume} {len : �
   holds_more : (s : Share) → Contains ss s → share_holds next s ≡ share_holds old s + len
   holds_more s at =
       let sum = sum_by-append (λ (e : Extent). e.size) (tiles_in old s) (map extent_of s.parts) in
-      let size = (is.each s at).size in
+      let size = (is.wider.each s at).size in
       ap held_in (tiles_next s at) ∙ omega arith
 
   some : 1 ≤ length ss
   some = by ss shape
     where
-      by : (ss : List Share) → shape_of (plexes_in ss) ≡ Some is.shape → 1 ≤ length ss
+      by : (ss : List Share) → shape_of (plexes_in ss) ≡ Some is.wider.shape → 1 ≤ length ss
       by [] h = absurd cc
       by (s ∷ ss) h = omega arith
 
@@ -118,10 +118,10 @@ module _ {labels : List Label} {old next : List Record} {v w : Volume} {len : �
 
   own_laid : (l : Layout) × (layout_of next w ≡ Ok l)
   own_laid =
-      let size = is.size in
-      let held = held_shared old v was.layout.0 is.shape ss is.components is.shape_is is.tiled was.layout.1 in
+      let size = is.wider.size in
+      let held = held_shared old v was.layout.0 is.wider.shape ss is.wider.components is.wider.shape_is is.wider.tiled was.layout.1 in
       let whole = least_next in
-      tiled_laid next w (plexes_in ss) is.shape plexes_next shape is.tiled
+      tiled_laid next w (plexes_in ss) is.wider.shape plexes_next shape is.wider.tiled
       (ap (list_all tiles) (copies_are ss next) ∙ all_pass tiles (tiles_in next) ss
       (λ s at. ap tiles (tiles_next s at) ∙ some_tiles (tiles_in old s) (map extent_of s.parts) (tiled_old s at) (tiled_all s at)))
       (omega arith)
@@ -133,7 +133,7 @@ module _ {labels : List Label} {old next : List Record} {v w : Volume} {len : �
   own_some = elim (tested (w.size == 0)) [
     | inr some ↦ some
     | inl none ↦ (let empty : w.size ≡ 0 = eqb-true w.size 0 none in
-        let size = is.size in
+        let size = is.wider.size in
         let fits = holds.fits in
         let capacity = ap held was.layout.1 ∙ holds.capacity in
         let bad : (v.size == 0) ≡ true = eq-eqb v.size 0 (omega arith) in
@@ -144,10 +144,10 @@ module _ {labels : List Label} {old next : List Record} {v w : Volume} {len : �
   volume_keeps : KeepsVolume next w
   volume_keeps = record {
     counted =
-        is.same_children ∙ was.counted
-        ∙ sym (length-filter (is_child 3 v.head.id) old) ∙ ap (λ (l : List Record). length l) is.components ∙ length-map ss (λ (s : Share). kinds.Component s.c)
+        is.wider.same_children ∙ was.counted
+        ∙ sym (length-filter (is_child 3 v.head.id) old) ∙ ap (λ (l : List Record). length l) is.wider.components ∙ length-map ss (λ (s : Share). kinds.Component s.c)
         ∙ sym (length-map ss (λ (s : Share). kinds.Component s.d)) ∙ ap (λ (l : List Record). length l) (sym (components_are is)) ∙ length-filter (is_child 3 v.head.id) next
-        ∙ ap (λ (h : Head). children_of 3 h.id next) (sym is.same_head);
+        ∙ ap (λ (h : Head). children_of 3 h.id next) (sym is.wider.same_head);
     some = own_some;
     layout = own_laid;
   }
@@ -159,7 +159,7 @@ module _ {labels : List Label} {old next : List Record} {v w : Volume} {len : �
         let many = length-map s.parts kinds.Partition in
         let before = length-filter (is_child 4 s.c.head.id) old in
         let counted = (component_kept old labels each s.c (c_there is s at)).counted in
-        let children = (is.each s at).children in
+        let children = (is.wider.each s at).children in
         let after = ap (λ (l : List Record). length l) (partitions_are is s at) in
         let now = length-filter (is_child 4 s.c.head.id) next in
         let all : s.d.children ≡ children_of 4 s.c.head.id next = omega arith in
@@ -168,7 +168,7 @@ module _ {labels : List Label} {old next : List Record} {v w : Volume} {len : �
 
   partition_keeps : (s : Share) (p : Partition) → Contains ss s → Contains s.parts p → KeepsPartition next p
   partition_keeps s p at in' =
-      let new = (is.each s at).each p in' in
+      let new = (is.wider.each s at).each p in' in
       record {
         parent = (s.d, d_there is s at, d_id is s at ∙ sym new.parent);
         disk = (new.disk.0, is.there (kinds.Disk new.disk.0) new.disk.1 tt, new.disk.2);
@@ -215,10 +215,10 @@ module _ {labels : List Label} {old next : List Record} {v w : Volume} {len : �
   longer_each = placed_carried labels old next (parts_of ss) longer_carries each
       (record {
         members = λ p at. elim (is.back (kinds.Partition p) at) [ inl h ↦ inl h.0 | inr s ↦ inr (part_listed ss s.0 p s.1 s.2) ];
-        within = is.within;
-        free = is.free;
+        within = is.wider.within;
+        free = is.wider.free;
       })
       (names_kept old next is.vp (λ x at. elim (is.back (kinds.Volume x) at) [
         | inl h ↦ (x, h.0, refl)
-        | inr e ↦ (v, is.volume, sym is.same_head ∙ ap (λ (y : Volume). y.head) (sym e))
+        | inr e ↦ (v, is.wider.volume, sym is.wider.same_head ∙ ap (λ (y : Volume). y.head) (sym e))
       ]) each.names)

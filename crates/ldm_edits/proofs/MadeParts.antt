@@ -9,7 +9,7 @@ use Rattle.ldm_records.specs.declared.types.Record.{Record}
 use Rattle.ldm_records.specs.declared.types.Record.TheVariants as kinds
 use Rattle.ldm_made.specs.Made.{new_partition}
 use Rattle.ldm_made.proofs.MadeLaws.{MakesPartition, makes_partition}
-use Rattle.ldm_group.specs.Order.{Rising, place_of}
+use Rattle.ldm_group.specs.Order.{Rising, id_of, place_of}
 use Rattle.ldm_layout.specs.Parts.{extent_of}
 use Rattle.ldm_layout.specs.declared.parts.Extent.{Extent}
 use Rattle.ldm_space.specs.declared.taken.Taken.{Taken}
@@ -27,9 +27,12 @@ pub numbers_tail : (t : Taken) (ts : List Taken) → AreNumbers (t ∷ ts) → A
 numbers_tail t ts fits = All-tail (λ (u : Taken). (u.disk < 2 ^ 64) × (u.size < 2 ^ 64)) t ts fits
 
 -- their ids follow one another
+abbrev pub IdsFollow : ℕ → List Record → Type 0
+IdsFollow id [] = Unit {0}
+IdsFollow id (r ∷ rs) = (id_of r ≡ id) × IdsFollow (id + 1) rs
+
 abbrev pub IdsFrom : ℕ → List Partition → Type 0
-IdsFrom id [] = Unit {0}
-IdsFrom id (p ∷ more) = (p.head.id ≡ id) × IdsFrom (id + 1) more
+IdsFrom id parts = IdsFollow id (map (λ p. kinds.Partition p) parts)
 
 -- partitions are made that are these extents
 pub record MakesParts (id : ℕ) (made : List (Option Record)) (extents : List Extent) : Type 0 where

@@ -1,7 +1,6 @@
 -- A walk that looks for two that are asked of one disk.
-use Rattle.std.proofs.Common.{◌≡◌, ℕ, suc, ◌+◌, ◌<◌, ◌≤◌, ◌==◌, ◌||◌, Bool, true, false, List, length, get_or, drop, ap, ◌∙◌, arith, drop-cons}
+use Rattle.std.proofs.Common.{◌≡◌, ℕ, suc, ◌+◌, ◌<◌, ◌==◌, ◌||◌, Bool, false, List, length, get_or, drop, ap, ◌∙◌, arith, drop-cons}
 use Rattle.std.specs.List.{list_any}
-use Rattle.std.proofs.lemmas.List.{drop_all}
 use Rattle.ldm_space.specs.declared.placed.Wanted.{Wanted}
 use Rattle.ldm_edits.specs.Asked.{has_twins}
 
@@ -14,11 +13,5 @@ step_is wanted at d lt =
     let one : suc at ≡ at + 1 = omega arith in
     ap has_twins (drop-cons wanted at d lt) ∙ (λ i. list_any (λ w. w.disk == (get_or wanted at d).disk) (drop (one i) wanted) || has_twins (drop (one i) wanted))
 
-pub twin_found : (wanted : List Wanted) (at : ℕ) (d : Wanted) → at < length wanted → has_twin wanted at (get_or wanted at d).disk ≡ true → has_twins wanted ≡ has_twins (drop at wanted) → has_twins wanted ≡ true
-twin_found wanted at d lt twin so_far = so_far ∙ step_is wanted at d lt ∙ ap (λ (b : Bool). b || has_twins (drop (at + 1) wanted)) twin
-
 pub no_twin : (wanted : List Wanted) (at : ℕ) (d : Wanted) → at < length wanted → has_twin wanted at (get_or wanted at d).disk ≡ false → has_twins wanted ≡ has_twins (drop at wanted) → has_twins wanted ≡ has_twins (drop (at + 1) wanted)
 no_twin wanted at d lt none so_far = so_far ∙ step_is wanted at d lt ∙ ap (λ (b : Bool). b || has_twins (drop (at + 1) wanted)) none
-
-pub twins_all : (wanted : List Wanted) (at : ℕ) → length wanted ≤ at → has_twins wanted ≡ has_twins (drop at wanted) → has_twins wanted ≡ false
-twins_all wanted at past so_far = so_far ∙ ap has_twins (drop_all at wanted past)

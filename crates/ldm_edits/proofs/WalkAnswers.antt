@@ -1,5 +1,5 @@
 -- What the calls say that ask for sectors.
-use Rattle.std.proofs.Common.{◌≡◌, ◌<◌, ◌∙◌, ℕ, refl, arith, List, [], ◌∷◌, length, map, Bor, false, Option, Some, None, Ok}
+use Rattle.std.proofs.Common.{◌≡◌, ◌<◌, ◌∙◌, ℕ, refl, arith, List, length, map, Bor, false, Option, Some, None, Ok}
 use Rattle.std.specs.Prelude.{is_some, option_copied}
 use Rattle.std.specs.List.{All}
 use Rattle.std.proofs.lemmas.List.{length-map}
@@ -15,7 +15,7 @@ use Rattle.ldm_space.specs.declared.placed.Wanted.{Wanted}
 use Rattle.ldm_edits.specs.Asked.{words_by, asked_for}
 use Rattle.ldm_edits.specs.Creating.{words_of, is_bad_size}
 use Rattle.ldm_edits.specs.Spots.{wanted_by}
-use Rattle.ldm_edits.proofs.AskedLaws.{AreFound, are_found, found_all}
+use Rattle.ldm_edits.proofs.AskedLaws.{are_found, found_sizes, found_all}
 use Rattle.ldm_edits.proofs.CreatedSizes.{IsSize, word_sizes}
 use Rattle.ldm_edits.proofs.SizeLists.{sizes_many}
 use Rattle.ldm_edits.proofs.SpotLaws.{place_ok}
@@ -25,12 +25,6 @@ copied_some None = refl
 copied_some (Some x) = refl
 
 -- what is asked for is as long as the words say
-found_sizes : (sectors : ℕ → ℕ) (records : List Record) (words : List (List ℕ × ℕ)) (wanted : List Wanted) → AreFound sectors records words wanted → map (λ w. w.size) wanted ≡ map (λ (word : List ℕ × ℕ). word.1) words
-found_sizes sectors records [] [] is = refl
-found_sizes sectors records [] (w ∷ wanted) is = absurd is
-found_sizes sectors records (word ∷ words) [] is = absurd is
-found_sizes sectors records (word ∷ words) (w ∷ wanted) is = (let rest = found_sizes sectors records words wanted is.1 in let here = is.0.size_is in λ i. here i ∷ rest i)
-
 pub asked_sizes : (sectors : ℕ → ℕ) (records : List Record) (words : List (List ℕ × ℕ)) (wanted : List Wanted) → asked_for sectors records 0 words ≡ Ok wanted → map (λ w. w.size) wanted ≡ map (λ (word : List ℕ × ℕ). word.1) words
 asked_sizes sectors records words wanted h = found_sizes sectors records words wanted (are_found sectors records 0 words wanted h)
 

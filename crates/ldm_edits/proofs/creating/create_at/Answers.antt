@@ -1,18 +1,14 @@
-use Rattle.std.proofs.Common.{◌≡◌, ◌∙◌, ◌<◌, ◌+◌, ◌-◌, ◌^◌, ◌++◌, ℕ, ap, sym, subst, arith, false, List}
+use Rattle.std.proofs.Common.{◌≡◌, ◌∙◌, ◌<◌, ◌+◌, ◌-◌, ◌^◌, ◌++◌, ℕ, ap, sym, subst, arith, List}
 use Rattle.ldm_records.specs.declared.types.Record.{Record}
 use Rattle.ldm_group.specs.Order.{Rising, in_order}
 use Rattle.ldm_group.specs.Looks.{max_id}
-use Rattle.ldm_rules.specs.Ends.{data_size}
 use Rattle.ldm_edits.specs.declared.leaving.Leaving.TheVariants as leavings
-use Rattle.ldm_edits.specs.declared.reply.Refusal.TheVariants as refusals
 use Rattle.ldm_edits.specs.Answers.{StepsTo}
 use Rattle.ldm_edits.specs.Changes.{change_to}
-use Rattle.ldm_edits.specs.Creating.{is_same_disk, is_bad_size, made_for, fresh_for, change_for}
+use Rattle.ldm_edits.specs.Creating.{made_for, fresh_for, change_for}
 use Rattle.ldm_edits.specs.Staying.{change_of}
-use Rattle.ldm_edits.proofs.CreatedForms.{created_rises}
-use Rattle.ldm_edits.proofs.CreatedSizes.{taken_for}
+use Rattle.ldm_edits.proofs.CreatedForms.{good_size, placed_taken, placed_new, made_adds}
 use Rattle.ldm_edits.proofs.CreateSteps.{all_stay}
-use Rattle.ldm_edits.proofs.LimitLaws.{two_open}
 use Rattle.ldm_edits.proofs.LimitTable.{change_spent}
 use Rattle.ldm_edits.proofs.creating.create_at.Goals as goal
 
@@ -22,24 +18,18 @@ returns-in_default c =
     (subst (λ (n : ℕ). 2 ^ 64 - 1 < max_id c.args.db.now.records + n) c.fresh_for-fresh.ensures c.in_default.ensures)
 
 pub made_for-requires-clause-size : goal.made_for-requires-clause-size
-made_for-requires-clause-size c =
-    (two_open (is_same_disk c.args.layout.now c.requires.placed.0) (is_bad_size c.args.layout.now) refusals.SameDisk refusals.BadSize c.requires.placed.1.free).1
+made_for-requires-clause-size c = good_size c.args.layout.now c.requires.placed.0 c.requires.placed.1.free
 
 pub made_for-requires-clause-sizes : goal.made_for-requires-clause-sizes
-made_for-requires-clause-sizes c =
-    let is = c.requires.placed.1 in
-    let good : is_bad_size c.args.layout.now ≡ false = (two_open (is_same_disk c.args.layout.now c.requires.placed.0) (is_bad_size c.args.layout.now) refusals.SameDisk refusals.BadSize is.free).1 in
-    let ids = c.in-Some.ensures.1 in
-    (taken_for c.args.layout.now (data_size c.args.labels.now c.args.db.now.records) c.args.db.now.records c.requires.placed.0 c.args.spots.now c.requires.limits.layout_is good (omega arith) is.asked is.places).sizes
+made_for-requires-clause-sizes c = (let ids = c.in-Some.ensures.1 in (placed_taken c.args.layout.now c.requires.limits.layout_is c.requires.placed.1 (omega arith)).sizes)
 
 pub change-requires-clause-rising : goal.change-requires-clause-rising
 change-requires-clause-rising c up =
-    let is = c.requires.placed.1 in
-    let good : is_bad_size c.args.layout.now ≡ false = (two_open (is_same_disk c.args.layout.now c.requires.placed.0) (is_bad_size c.args.layout.now) refusals.SameDisk refusals.BadSize is.free).1 in
     let made_is = c.in_ok-made.ensures ∙ ap (λ (id : ℕ). made_for c.args.layout.now id c.args.name.now c.args.guid c.args.spots.now) c.in-Some.ensures.0 in
-    let few : max_id c.args.db.now.records + fresh_for c.args.layout.now < 2 ^ 64 = (let ids = c.in-Some.ensures.1 in let fresh = c.fresh_for-fresh.ensures in omega arith) in
+    let ids = c.in-Some.ensures.1 in
+    let fresh = c.fresh_for-fresh.ensures in
     subst (λ (l : List Record). Rising (in_order l)) (λ i. sym (all_stay c.args.db.now.records) i ++ sym made_is i)
-    (created_rises c.args.db.now.records c.args.layout.now c.args.name.now c.args.guid (data_size c.args.labels.now c.args.db.now.records) c.requires.placed.0 c.args.spots.now up c.requires.limits good is.asked is.places few)
+    (made_adds up (placed_new c.args.guid c.requires.limits c.requires.placed.1 (omega arith))).rising
 
 pub returns : goal.returns
 returns c =

@@ -7,7 +7,7 @@ use Rattle.ldm_edits.specs.Answers.{StepsTo}
 use Rattle.ldm_edits.specs.Changes.{change_to}
 use Rattle.ldm_edits.specs.Extending.{held, longer_parts, lengthened}
 use Rattle.ldm_edits.specs.Staying.{staying, change_of}
-use Rattle.ldm_edits.proofs.ExtendSteps.{asks_longer}
+use Rattle.ldm_edits.proofs.ExtendedParts.{asks_longer}
 use Rattle.ldm_edits.proofs.LimitTable.{change_spent}
 use Rattle.ldm_edits.proofs.extending.lengthen_at.Goals as goal
 
@@ -15,29 +15,22 @@ pub returns-in_default : goal.returns-in_default
 returns-in_default c =
     change_spent c.args.db.now c.args.labels.now (length c.args.wanted.now) (lengthened c.args.db.now.records c.args.volume.now c.args.component.now (held (layout_of c.args.db.now.records c.args.volume.now)) c.args.spots.now) c.in_default.ensures
 
-pub lengthened-requires-clause-size : goal.lengthened-requires-clause-size
-lengthened-requires-clause-size c = (asks_longer c.requires.rising c.requires.sound c.requires.held (c.requires.may c.in-Some.ensures.1)).size
-
-pub lengthened-requires-clause-children : goal.lengthened-requires-clause-children
-lengthened-requires-clause-children c = (asks_longer c.requires.rising c.requires.sound c.requires.held (c.requires.may c.in-Some.ensures.1)).children
-
-pub lengthened-requires-clause-volume_there : goal.lengthened-requires-clause-volume_there
-lengthened-requires-clause-volume_there c = (asks_longer c.requires.rising c.requires.sound c.requires.held (c.requires.may c.in-Some.ensures.1)).volume_there
-
-pub lengthened-requires-clause-component_there : goal.lengthened-requires-clause-component_there
-lengthened-requires-clause-component_there c = (asks_longer c.requires.rising c.requires.sound c.requires.held (c.requires.may c.in-Some.ensures.1)).component_there
-
-pub lengthened-requires-clause-ids : goal.lengthened-requires-clause-ids
-lengthened-requires-clause-ids c =
-    let many = (asks_longer c.requires.rising c.requires.sound c.requires.held (c.requires.may c.in-Some.ensures.1)).many in
-    let first = c.in-Some.ensures.0 in
-    let most = c.in-Some.ensures.1 in omega arith
+pub lengthened-requires : goal.lengthened-requires
+lengthened-requires c =
+    let asks = asks_longer c.requires.rising c.requires.sound (c.requires.may c.in-Some.ensures.1) c.requires.held in
+    record {
+      size = asks.size;
+      children = asks.children;
+      volume_there = asks.volume_there;
+      component_there = asks.component_there;
+      ids = (let many = asks.many in let first = c.in-Some.ensures.0 in let most = c.in-Some.ensures.1 in omega arith);
+    }
 
 pub change-requires-clause-rising : goal.change-requires-clause-rising
 change-requires-clause-rising c up =
     let made = c.in_ok-made.ensures ∙ (λ i. longer_parts c.args.volume.now c.args.component.now c.args.capacity (c.in-Some.ensures.0 i) c.args.spots.now) in
     subst (λ (l : List Record). Rising (in_order (staying (leavings.Changed c.args.volume.now.head.id c.args.component.now.head.id) c.args.db.now.records ++ l))) (sym made)
-    (asks_longer up c.requires.sound c.requires.held (c.requires.may c.in-Some.ensures.1)).rising
+    (asks_longer up c.requires.sound (c.requires.may c.in-Some.ensures.1) c.requires.held).rising
 
 pub returns : goal.returns
 returns c =

@@ -14,7 +14,9 @@ use Rattle.ldm_edits.specs.Extending.{held}
 use Rattle.ldm_edits.specs.Staying.{staying, change_of}
 use Rattle.ldm_edits.specs.Mirroring.{component_holds, grown_made, grown}
 use Rattle.ldm_edits.specs.Extended.{len_of}
-use Rattle.ldm_edits.proofs.GrowSteps.{grows, all_map, made_by}
+use Rattle.ldm_edits.proofs.GrowLaws.{grows}
+use Rattle.ldm_edits.proofs.GrownMade.{made_by}
+use Rattle.ldm_edits.proofs.PlacedRules.{all_from_map}
 use Rattle.ldm_edits.proofs.LimitTable.{change_spent}
 use Rattle.ldm_edits.proofs.mirroring.grow.Goals as goal
 
@@ -22,34 +24,21 @@ pub returns-in_default : goal.returns-in_default
 returns-in_default c =
     change_spent c.args.db.now c.args.labels.now (length c.args.wanted.now) (grown c.args.db.now.records c.args.volume.now (held (layout_of c.args.db.now.records c.args.volume.now) + len_of c.args.wanted.now) c.args.spots.now) c.in_default.ensures
 
-pub grown-requires-clause-volume_there : goal.grown-requires-clause-volume_there
-grown-requires-clause-volume_there c =
-    ap (λ (n : ℕ). is_some (resized c.args.volume.now n)) (λ i. c.requires.held i + c.len_of.ensures i) ∙ (grows c.requires.rising c.requires.sound (c.requires.may c.in-Some.ensures.1)).volume_there
-
-pub grown-requires-clause-few : goal.grown-requires-clause-few
-grown-requires-clause-few c =
-    all_map (λ (x : Bor Component). x.now) (λ (x : Component). x.children + 1 < 2 ^ 64) c.args.components.now
-    (subst (λ (l : List Component). All (λ x. x.children + 1 < 2 ^ 64) l) (sym c.requires.components) (grows c.requires.rising c.requires.sound (c.requires.may c.in-Some.ensures.1)).few)
-
-pub grown-requires-clause-made : goal.grown-requires-clause-made
-grown-requires-clause-made c =
-    all_map (λ (x : Bor Component). x.now) (λ (x : Component). is_some (with_children x (x.children + 1)) ≡ true) c.args.components.now
-    (subst (λ (l : List Component). All (λ x. is_some (with_children x (x.children + 1)) ≡ true) l) (sym c.requires.components) (grows c.requires.rising c.requires.sound (c.requires.may c.in-Some.ensures.1)).made)
-
-pub grown-requires-clause-one_each : goal.grown-requires-clause-one_each
-grown-requires-clause-one_each c = sym ((grows c.requires.rising c.requires.sound (c.requires.may c.in-Some.ensures.1)).many ∙ c.requires.one_each)
-
-pub grown-requires-clause-ids : goal.grown-requires-clause-ids
-grown-requires-clause-ids c =
-    let many = (grows c.requires.rising c.requires.sound (c.requires.may c.in-Some.ensures.1)).many in
-    let first = c.in-Some.ensures.0 in
-    let most = c.in-Some.ensures.1 in omega arith
-
-pub grown-requires-clause-low : goal.grown-requires-clause-low
-grown-requires-clause-low c =
+pub grown-requires : goal.grown-requires
+grown-requires c =
     let records : List Record = c.args.db.now.records in
-    all_map (λ (x : Bor Component). x.now) (λ (x : Component). component_holds records x < 2 ^ 64) c.args.components.now
-    (subst (λ (l : List Component). All (λ x. component_holds records x < 2 ^ 64) l) (sym c.requires.components) c.requires.even.low)
+    let g = grows c.requires.rising c.requires.sound (c.requires.may c.in-Some.ensures.1) in
+    let same = sym c.requires.components in
+    let now : Bor Component → Component = λ x. x.now in
+    record {
+      volume_there = ap (λ (n : ℕ). is_some (resized c.args.volume.now n)) (λ i. c.requires.held i + c.len_of.ensures i) ∙ g.volume_there;
+      few = all_from_map now (λ (x : Component). x.children + 1 < 2 ^ 64) c.args.components.now (subst (λ (l : List Component). All (λ x. x.children + 1 < 2 ^ 64) l) same g.few);
+      made = all_from_map now (λ (x : Component). is_some (with_children x (x.children + 1)) ≡ true) c.args.components.now
+          (subst (λ (l : List Component). All (λ x. is_some (with_children x (x.children + 1)) ≡ true) l) same g.made);
+      one_each = sym (g.many ∙ c.requires.one_each);
+      ids = (let many = g.many in let first = c.in-Some.ensures.0 in let most = c.in-Some.ensures.1 in omega arith);
+      low = all_from_map now (λ (x : Component). component_holds records x < 2 ^ 64) c.args.components.now (subst (λ (l : List Component). All (λ x. component_holds records x < 2 ^ 64) l) same c.requires.even.low);
+    }
 
 pub change-requires-clause-rising : goal.change-requires-clause-rising
 change-requires-clause-rising c up =
