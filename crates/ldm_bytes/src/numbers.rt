@@ -1,7 +1,9 @@
 //! Variable numbers and texts, which a length byte begins.
-ghost use Rattle.std.specs.Prelude.{◌≡◌, ℕ, ◌+◌, ◌≤◌, ◌++◌, ◌<◌, ◌^◌, List, length, drop, Some, IfSome};
+ghost use Rattle.std.specs.Prelude.{◌≡◌, ℕ, ◌+◌, ◌≤◌, ◌++◌, ◌<◌, ◌^◌, List, length, drop, Some};
+ghost use Rattle.std.specs.Prelude.{IfSome};
 ghost use Rattle.byteorder.specs.Endian.{big_bytes};
-ghost use Rattle.ldm_bytes.specs.Numbers.{IsBytes, IsNumber, IsText, width, own_number, number_at, text_at, Reads};
+ghost use Rattle.ldm_bytes.specs.Numbers.{IsBytes, IsNumber, IsText, width, own_number, number_at};
+ghost use Rattle.ldm_bytes.specs.Numbers.{text_at, Reads};
 ghost use Rattle.ldm_bytes.specs.Places.{put};
 
 use byteorder::{BigEndian, ByteOrder};
@@ -46,8 +48,10 @@ pub fn front_text(bytes: &[u8]) -> Option<(&[u8], &[u8])>
 
 /// The variable number at a place, and the next place. None exactly where none begins there.
 pub fn take_number(bytes: &[u8], at: usize) -> Option<(u64, usize)>
-    ensures found { IfSome result (λ x. (w : List ℕ) × IsNumber x.0 w × (x.1 ≡ at + length w) × (drop at bytes.now ≡ w ++ drop x.1 bytes.now)) }
-    ensures only { (v : ℕ) (w z : List ℕ) → IsNumber v w → drop at bytes.now ≡ w ++ z → result ≡ Some (v, at + length w) }
+    ensures found { IfSome result (λ x. (w : List ℕ) × IsNumber x.0 w × (x.1 ≡ at + length w)
+        × (drop at bytes.now ≡ w ++ drop x.1 bytes.now)) }
+    ensures only { (v : ℕ) (w z : List ℕ) → IsNumber v w → drop at bytes.now ≡ w ++ z
+        → result ≡ Some (v, at + length w) }
 {
     if at >= bytes.len() {
         return None;
@@ -59,8 +63,10 @@ pub fn take_number(bytes: &[u8], at: usize) -> Option<(u64, usize)>
 /// The first place of the variable text at a place, and the next place. None exactly where none
 /// begins there.
 pub fn take_text(bytes: &[u8], at: usize) -> Option<(usize, usize)>
-    ensures found { IfSome result (λ x. (t : List ℕ) × (w : List ℕ) × IsText t w × (x.0 ≡ at + 1) × (x.1 ≡ at + length w) × (drop at bytes.now ≡ w ++ drop x.1 bytes.now)) }
-    ensures only { (t w z : List ℕ) → IsText t w → drop at bytes.now ≡ w ++ z → result ≡ Some (at + 1, at + length w) }
+    ensures found { IfSome result (λ x. (t : List ℕ) × (w : List ℕ) × IsText t w × (x.0 ≡ at + 1)
+        × (x.1 ≡ at + length w) × (drop at bytes.now ≡ w ++ drop x.1 bytes.now)) }
+    ensures only { (t w z : List ℕ) → IsText t w → drop at bytes.now ≡ w ++ z
+        → result ≡ Some (at + 1, at + length w) }
 {
     if at >= bytes.len() {
         return None;

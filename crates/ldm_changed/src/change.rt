@@ -1,5 +1,6 @@
 //! A change of a body: the new body, and the numbers of the blocks that differ.
-ghost use Rattle.std.specs.Prelude.{◌≡◌, ◌≢◌, ◌↔◌, ℕ, ◌+◌, ◌-◌, ◌*◌, ◌≤◌, ◌<◌, ◌++◌, IsTrue, length, drop, map};
+ghost use Rattle.std.specs.Prelude.{◌≡◌, ◌≢◌, ◌↔◌, ℕ, ◌+◌, ◌-◌, ◌*◌, ◌≤◌, ◌<◌, ◌++◌, IsTrue};
+ghost use Rattle.std.specs.Prelude.{length, drop, map};
 ghost use Rattle.std.specs.Prelude.{count_by, IfOk, OnOk, All, AllPairs, Contains};
 ghost use Rattle.ldm_vmdb.specs.Sectors.{last_of};
 ghost use Rattle.ldm_vmdb.specs.Headers.{written};
@@ -61,8 +62,8 @@ impl Change {
     }
 }
 
-// The blocks of the new database, so many in all, where a record that both databases have keeps its blocks, the
-// numbers of those that differ, and the slots of the records.
+// The blocks of the new database, so many in all, where a record that both databases have keeps its
+// blocks, the numbers of those that differ, and the slots of the records.
 fn next_blocks(
     alloc: Global,
     blocks: &[u8],
@@ -84,7 +85,8 @@ fn next_blocks(
     ensures few { IfOk result (λ next. length next.1
         ≤ touched_blocks old.now.records new.now.records + (room - count blocks.now)) }
     ensures one_each { IfOk result (λ next. length next.2.items ≡ length new.now.records) }
-    ensures holds { IfOk result (λ next. Holds next.0 (map placed_of (stored_at new.now.records next.2.items))) }
+    ensures holds { IfOk result (λ next. Holds next.0
+        (map placed_of (stored_at new.now.records next.2.items))) }
 {
     let mut out = with_unused(alloc, blocks, room)?;
     let (kept, made) = rewrite_blocks(alloc, &mut out, table, old, new)?;
@@ -93,7 +95,8 @@ fn next_blocks(
     Ok((Bytes::from_vec(out), Slots::from_vec(numbers), next))
 }
 
-// The bytes of the next body, the numbers of the blocks in which it differs, and the slots of its records.
+// The bytes of the next body, the numbers of the blocks in which it differs, and the slots of its
+// records.
 fn next_bytes(
     alloc: Global,
     body: &Body,
@@ -106,7 +109,8 @@ fn next_bytes(
     requires room { FitsHeader new.now }
     ensures next { IfOk result (λ next. IsNext body.now new.now next.0 next.1 next.2.items) }
     ensures few { IfOk result (λ next. length next.1
-        ≤ touched_blocks old.now.records new.now.records + added_blocks (last_of (header_sector body.now)) new.now.header.last) }
+        ≤ touched_blocks old.now.records new.now.records
+        + added_blocks (last_of (header_sector body.now)) new.now.header.last) }
 {
     let bytes = body.as_slice();
     let slots = body.table();
@@ -122,8 +126,8 @@ fn next_bytes(
 }
 
 /// The body of the new database that has the records which both databases have where the old body
-/// has them, and the numbers of the blocks in which it differs. Where the new database has more blocks, those
-/// that the old one doesn't have are among these.
+/// has them, and the numbers of the blocks in which it differs. Where the new database has more
+/// blocks, those that the old one doesn't have are among these.
 pub fn next_body(alloc: Global, body: &Body, old: &Db, new: &Db) -> Result<Change, NoMemory>
     requires holds { Store (drop 512 body.now) old.now.records }
     requires last { last_of (header_sector body.now) ≤ new.now.header.last }
@@ -134,13 +138,17 @@ pub fn next_body(alloc: Global, body: &Body, old: &Db, new: &Db) -> Result<Chang
         ≡ written new.now.header new.now.header.seq (counts_of new.now.records)) }
     ensures from { IfOk result (λ change. ChangesFrom body.now change) }
     ensures apart { IfOk result (λ change. AllPairs (λ a b. a ≢ b) change.numbers) }
-    ensures within { IfOk result (λ change. All (λ n. (4 ≤ n) × (128 * n + 128 ≤ length change.body)) change.numbers) }
-    ensures added { IfOk result (λ change. (n : ℕ) → length body.now ≤ 128 * n → 128 * n + 128 ≤ length change.body
+    ensures within { IfOk result (λ change. All (λ n. (4 ≤ n)
+        × (128 * n + 128 ≤ length change.body)) change.numbers) }
+    ensures added { IfOk result (λ change. (n : ℕ) → length body.now ≤ 128 * n
+        → 128 * n + 128 ≤ length change.body
         → Contains change.numbers n) }
     ensures few { IfOk result (λ change. length change.numbers
-        ≤ touched_blocks old.now.records new.now.records + added_blocks (last_of (header_sector body.now)) new.now.header.last) }
+        ≤ touched_blocks old.now.records new.now.records
+        + added_blocks (last_of (header_sector body.now)) new.now.header.last) }
     // So writing them takes no more bytes than writing the whole body.
-    ensures most { IfOk result (λ change. 513 + 128 * length change.numbers ≤ length change.body + 1) }
+    ensures most { IfOk result (λ change. 513 + 128 * length change.numbers
+        ≤ length change.body + 1) }
 {
     let (bytes, numbers, table) = next_bytes(alloc, body, old, new)?;
     Ok(Change {

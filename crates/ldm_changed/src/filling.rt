@@ -1,5 +1,6 @@
 //! Writes the changed blocks of a body behind a closed gate.
-ghost use Rattle.std.specs.Prelude.{◌≡◌, ◌≢◌, ℕ, ◌+◌, ◌-◌, ◌*◌, ◌^◌, ◌<◌, ◌≤◌, List, length, slice_index, OnOk, IsErr};
+ghost use Rattle.std.specs.Prelude.{◌≡◌, ◌≢◌, ℕ, ◌+◌, ◌-◌, ◌*◌, ◌^◌, ◌<◌, ◌≤◌, List, length};
+ghost use Rattle.std.specs.Prelude.{slice_index, OnOk, IsErr};
 ghost use Rattle.ldm_host.specs.Moves.{Settled, Writes, Changes, DiskFailed};
 ghost use Rattle.ldm_host.specs.Seen.{image};
 ghost use Rattle.ldm_label.specs.LabelOf.{Fits};
@@ -39,7 +40,8 @@ fn run_from(numbers: &[u32], k: usize) -> usize
     requires { k < length numbers.now }
     ensures some { 1 ≤ result }
     ensures within { k + result ≤ length numbers.now }
-    ensures run { (i : ℕ) → i < result → slice_index numbers.now (k + i) ≡ slice_index numbers.now k + i }
+    ensures run { (i : ℕ) → i < result → slice_index numbers.now (k + i)
+        ≡ slice_index numbers.now k + i }
 {
     for n in 1..numbers.len() - k {
         if u64::from(numbers[k + n]) != u64::from(numbers[k]) + n as u64 {
@@ -69,7 +71,8 @@ pub fn fill_changed<H: Host>(
     ensures filled { H.tells_disks → OnOk result ((c : List ℕ) → (H.seen host.new).may_leave disk c
         → HasBody label.now change.now.body c) }
     ensures settled { OnOk result (Settled (H.seen host.new) disk) }
-    ensures changes { Changes disk (gate_at label.now + 1) (length change.now.body - 1) (H.seen host.old) (H.seen host.new) }
+    ensures changes { Changes disk (gate_at label.now + 1) (length change.now.body - 1)
+        (H.seen host.old) (H.seen host.new) }
     ensures wrote { slice_index (H.seen host.new).wrote disk
         ≤ slice_index (H.seen host.old).wrote disk + (511 + 128 * length change.now.numbers) }
     ensures cause { IsErr result → DiskFailed (H.seen host.old) (H.seen host.new) }

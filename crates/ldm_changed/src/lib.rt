@@ -1,7 +1,8 @@
 //! A body that takes the place of another on the disks: records that both databases have keep their
 //! blocks, and only the blocks that differ are written.
 //!
-//! What changes of the blocks is in `specs/Plan.antt`, and what a change of a body is in `specs/Change.antt`.
+//! What changes of the blocks is in `specs/Plan.antt`, and what a change of a body is in
+//! `specs/Change.antt`.
 #![tactic(auto)]
 
 mod change;

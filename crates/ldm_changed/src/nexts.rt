@@ -51,10 +51,13 @@ pub fn rewrite_next<H: Host>(
     requires fits { Fits label.now (slice_index (H.seen host.old).sizes disk) }
     requires body { (db : Database) × IsBodyOn db label.now (bytes_in next.now) }
     requires settled { Settled (H.seen host.old) disk }
-    requires opened { H.tells_disks → IsOpen (config_area label.now (image (H.seen host.old).content disk)) }
+    requires opened { H.tells_disks → IsOpen (config_area label.now
+        (image (H.seen host.old).content disk)) }
     requires before { H.tells_disks → (change : Changed) → next.now ≡ nexts.Changed change
-        → (old : List ℕ) × ChangesFrom old change × HasBody label.now old (image (H.seen host.old).content disk) }
-    ensures { Rewrites H.tells_disks result disk label.now (bytes_in next.now) (most_in next.now) (H.seen host.old) (H.seen host.new) }
+        → (old : List ℕ) × ChangesFrom old change × HasBody label.now old
+        (image (H.seen host.old).content disk) }
+    ensures { Rewrites H.tells_disks result disk label.now (bytes_in next.now) (most_in next.now)
+        (H.seen host.old) (H.seen host.new) }
 {
     match next {
         Next::Whole(body) => rewrite(host, disk, label, body),

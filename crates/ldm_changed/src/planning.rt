@@ -1,14 +1,18 @@
 //! The next body from the one that is there: which blocks are freed and which are taken.
-ghost use Rattle.std.specs.Prelude.{◌≡◌, ◌≢◌, ◌↔◌, ℕ, ◌+◌, ◌*◌, ◌≤◌, ◌<◌, ◌++◌, ◌∷◌, [], List, length, take, map};
-ghost use Rattle.std.specs.Prelude.{filter, bytes_eq, if◌then◌else◌, IsTrue, IfOk, OnOk, All, AllPairs, Contains};
+ghost use Rattle.std.specs.Prelude.{◌≡◌, ◌≢◌, ◌↔◌, ℕ, ◌+◌, ◌*◌, ◌≤◌, ◌<◌, ◌++◌, ◌∷◌, [], List};
+ghost use Rattle.std.specs.Prelude.{length, take, map};
+ghost use Rattle.std.specs.Prelude.{filter, bytes_eq, if◌then◌else◌, IsTrue, IfOk, OnOk, All};
+ghost use Rattle.std.specs.Prelude.{AllPairs, Contains};
 ghost use Rattle.ldm_frags.specs.Blocks.{count};
 ghost use Rattle.ldm_frags.specs.Written.{parts_of, block_at, IsInUse, IsPlaced, Holds};
 ghost use Rattle.ldm_records.specs.Plain.{own_spelling, IsRecord};
 ghost use Rattle.ldm_records.specs.Views.{plain_of};
 ghost use Rattle.ldm_group.specs.Room.{own_len, IsFitting, need_of};
 ghost use Rattle.ldm_copy.specs.Body.{Stored, placed_of, Store};
-ghost use Rattle.ldm_changed.specs.Plan.{has_record, lacks, touched_blocks, stays, goes, Avoids, AreFreed};
-ghost use Rattle.ldm_changed.specs.Plan.{KeepsOrFrees, slots_from, IsAdded, LeavesOrAdds, differs, changed_numbers};
+ghost use Rattle.ldm_changed.specs.Plan.{has_record, lacks, touched_blocks, stays, goes, Avoids};
+ghost use Rattle.ldm_changed.specs.Plan.{AreFreed};
+ghost use Rattle.ldm_changed.specs.Plan.{KeepsOrFrees, slots_from, IsAdded, LeavesOrAdds, differs};
+ghost use Rattle.ldm_changed.specs.Plan.{changed_numbers};
 ghost use Rattle.ldm_copy.specs.Body.{stored_at};
 ghost use Rattle.ldm_frags.specs.Free.{is_free, free_numbers};
 
@@ -21,7 +25,8 @@ use std::alloc::Global;
 // Whether both records are equal, that is, have one own spelling.
 fn is_same(a: &Record, b: &Record) -> bool
     ensures is { IsTrue result ↔ (a.now ≡ b.now) }
-    ensures spelled { result ≡ bytes_eq (own_spelling (plain_of a.now)) (own_spelling (plain_of b.now)) }
+    ensures spelled { result ≡ bytes_eq (own_spelling (plain_of a.now))
+        (own_spelling (plain_of b.now)) }
 {
     let _len = spelled_len(a);
     let _other = spelled_len(b);
@@ -59,7 +64,8 @@ fn keep_or_free(
     kept: &mut Vec<Slots>,
 ) -> Result<(), NoMemory>
     requires within { All (IsInUse out.old) slots.now }
-    ensures { OnOk result (KeepsOrFrees stays slots.now kept.old.items kept.new.items out.old out.new) }
+    ensures { OnOk result (KeepsOrFrees stays slots.now kept.old.items kept.new.items
+        out.old out.new) }
 {
     if stays {
         kept.push(slots.clone_in(alloc)?)?;
@@ -83,11 +89,13 @@ pub fn free_gone(
     requires holds { Holds out.old (map placed_of (stored_at records.now table.now)) }
     ensures kept { IfOk result (λ kept. kept.items
         ≡ map (λ s. s.slots) (filter (stays new.now.records) (stored_at records.now table.now))) }
-    ensures holds { OnOk result (Holds out.new (map placed_of (filter (stays new.now.records) (stored_at records.now table.now)))) }
+    ensures holds { OnOk result (Holds out.new (map placed_of
+        (filter (stays new.now.records) (stored_at records.now table.now)))) }
     ensures others { OnOk result ((b : ℕ) → 4 ≤ b
         → All (Avoids b) (filter (goes new.now.records) (stored_at records.now table.now))
         → block_at out.new b ≡ block_at out.old b) }
-    ensures there { OnOk result (All (λ s. Contains new.now.records s.record_is) (filter (stays new.now.records) (stored_at records.now table.now))) }
+    ensures there { OnOk result (All (λ s. Contains new.now.records s.record_is)
+        (filter (stays new.now.records) (stored_at records.now table.now))) }
 {
     let mut kept = Vec::new(alloc);
     for i in 0..records.len() {
@@ -99,7 +107,8 @@ pub fn free_gone(
 
 // Adds a number where it passes.
 fn push_if(numbers: &mut Vec<u32>, number: u32, passes: bool) -> Result<(), NoMemory>
-    ensures { OnOk result (numbers.new.items ≡ numbers.old.items ++ (if passes then number ∷ [] else [])) }
+    ensures { OnOk result (numbers.new.items ≡ numbers.old.items
+        ++ (if passes then number ∷ [] else [])) }
 {
     if passes {
         numbers.push(number)?;
@@ -141,7 +150,8 @@ fn add(
     requires room { at + parts_of (own_len r.now) ≤ length free.now }
     requires apart { AllPairs (λ a b. a ≢ b) free.now }
     requires within { All (IsInUse out.old) free.now }
-    ensures { IfOk result (λ next. IsAdded r.now free.now at next made.old.items made.new.items out.old out.new) }
+    ensures { IfOk result (λ next. IsAdded r.now free.now at next made.old.items made.new.items
+        out.old out.new) }
 {
     let _len = spelled_len(r);
     let payload = spelling(alloc, r)?;
@@ -153,7 +163,8 @@ fn add(
     Ok(next)
 }
 
-// Writes a record that the old database doesn't have into free blocks, from this place of their list on.
+// Writes a record that the old database doesn't have into free blocks, from this place of their
+// list on.
 fn add_if_new(
     alloc: Global,
     out: &mut [u8],
@@ -164,10 +175,13 @@ fn add_if_new(
     made: &mut Vec<Slots>,
 ) -> Result<usize, NoMemory>
     requires fits { IsFitting r.now }
-    requires room { at + (if has_record old.now.records r.now then 0 else parts_of (own_len r.now)) ≤ length free.now }
+    requires room { at + (if has_record old.now.records r.now then 0 else parts_of (own_len r.now))
+        ≤ length free.now }
     requires apart { AllPairs (λ a b. a ≢ b) free.now }
     requires within { All (IsInUse out.old) free.now }
-    ensures adds { IfOk result (λ next. LeavesOrAdds (has_record old.now.records r.now) r.now free.now at next made.old.items made.new.items out.old out.new) }
+    ensures adds { IfOk result (λ next. LeavesOrAdds
+        (has_record old.now.records r.now) r.now free.now at next made.old.items made.new.items
+        out.old out.new) }
     ensures there { IsTrue (has_record old.now.records r.now) → Contains old.now.records r.now }
 {
     if has(old, r) {
@@ -176,7 +190,8 @@ fn add_if_new(
     add(alloc, out, r, free, at, made)
 }
 
-// Writes the records that the old database doesn't have into free blocks, and answers their slots, in their order.
+// Writes the records that the old database doesn't have into free blocks, and answers their slots,
+// in their order.
 pub fn write_made(
     alloc: Global,
     out: &mut [u8],
@@ -190,14 +205,18 @@ pub fn write_made(
     requires apart { AllPairs (λ a b. a ≢ b) free.now }
     requires within { All (IsInUse out.old) free.now }
     requires free { All (λ b. IsTrue (is_free out.old b)) free.now }
-    ensures one_each { IfOk result (λ made. length made.items ≡ length (filter (lacks old.now.records) records.now)) }
+    ensures one_each { IfOk result (λ made. length made.items
+        ≡ length (filter (lacks old.now.records) records.now)) }
     ensures holds { IfOk result (λ made. (rest : List Stored) → Holds out.old (map placed_of rest)
-        → Holds out.new (map placed_of (stored_at (filter (lacks old.now.records) records.now) made.items ++ rest))) }
+        → Holds out.new (map placed_of (stored_at (filter (lacks old.now.records) records.now)
+        made.items ++ rest))) }
     ensures others { OnOk result ((b : ℕ) → 4 ≤ b
         → All (λ n. n ≢ b) (take (need_of (filter (lacks old.now.records) records.now)) free.now)
         → block_at out.new b ≡ block_at out.old b) }
-    ensures sound { OnOk result (All (λ r. IsRecord (plain_of r)) (filter (lacks old.now.records) records.now)) }
-    ensures there { OnOk result (All (Contains old.now.records) (filter (has_record old.now.records) records.now)) }
+    ensures sound { OnOk result (All (λ r. IsRecord (plain_of r))
+        (filter (lacks old.now.records) records.now)) }
+    ensures there { OnOk result (All (Contains old.now.records)
+        (filter (has_record old.now.records) records.now)) }
 {
     let mut made = Vec::new(alloc);
     let mut at = 0;
@@ -245,14 +264,18 @@ pub fn rewrite_blocks(
     requires fits { All IsFitting new.now.records }
     requires room { need_of new.now.records ≤ count out.old }
     ensures kept { IfOk result (λ slots. slots.0.items
-        ≡ map (λ s. s.slots) (filter (stays new.now.records) (stored_at old.now.records table.now))) }
-    ensures made { IfOk result (λ slots. length slots.1.items ≡ length (filter (lacks old.now.records) new.now.records)) }
-    ensures holds { IfOk result (λ slots. Holds out.new (map placed_of (stored_at (filter (lacks old.now.records) new.now.records) slots.1.items
+        ≡ map (λ s. s.slots) (filter (stays new.now.records)
+        (stored_at old.now.records table.now))) }
+    ensures made { IfOk result (λ slots. length slots.1.items
+        ≡ length (filter (lacks old.now.records) new.now.records)) }
+    ensures holds { IfOk result (λ slots. Holds out.new
+        (map placed_of (stored_at (filter (lacks old.now.records) new.now.records) slots.1.items
         ++ filter (stays new.now.records) (stored_at old.now.records table.now)))) }
     ensures same { OnOk result (filter (has_record new.now.records) old.now.records
         ≡ filter (has_record old.now.records) new.now.records) }
     ensures store { OnOk result (Store out.new new.now.records) }
-    ensures touched { OnOk result ((numbers : List ℕ) × (length numbers ≤ touched_blocks old.now.records new.now.records)
+    ensures touched { OnOk result ((numbers : List ℕ)
+        × (length numbers ≤ touched_blocks old.now.records new.now.records)
         × ((b : ℕ) → 4 ≤ b → All (λ n. n ≢ b) numbers → block_at out.new b ≡ block_at out.old b)) }
 {
     let records = old.as_slice();

@@ -30,7 +30,8 @@ pub fn refill_changed<H: Host>(
     requires closed { H.tells_disks → IsShut label.now (image (H.seen host.old).content disk) }
     requires before { H.tells_disks → (old : List ℕ) × ChangesFrom old change.now
         × HasBody label.now old (image (H.seen host.old).content disk) }
-    ensures { Rewrites H.tells_disks result disk label.now change.now.body (512 + 128 * length change.now.numbers) (H.seen host.old) (H.seen host.new) }
+    ensures { Rewrites H.tells_disks result disk label.now change.now.body
+        (512 + 128 * length change.now.numbers) (H.seen host.old) (H.seen host.new) }
 {
     fill_changed(host, disk, label, change)?;
     unseal(host, disk, label)
@@ -49,10 +50,12 @@ pub fn rewrite_changed<H: Host>(
     requires fits { Fits label.now (slice_index (H.seen host.old).sizes disk) }
     requires body { (db : Database) × IsBodyOn db label.now change.now.body }
     requires settled { Settled (H.seen host.old) disk }
-    requires opened { H.tells_disks → IsOpen (config_area label.now (image (H.seen host.old).content disk)) }
+    requires opened { H.tells_disks → IsOpen (config_area label.now
+        (image (H.seen host.old).content disk)) }
     requires before { H.tells_disks → (old : List ℕ) × ChangesFrom old change.now
         × HasBody label.now old (image (H.seen host.old).content disk) }
-    ensures { Rewrites H.tells_disks result disk label.now change.now.body (513 + 128 * length change.now.numbers) (H.seen host.old) (H.seen host.new) }
+    ensures { Rewrites H.tells_disks result disk label.now change.now.body
+        (513 + 128 * length change.now.numbers) (H.seen host.old) (H.seen host.new) }
 {
     close(host, disk, label)?;
     refill_changed(host, disk, label, change)

@@ -20,7 +20,8 @@ fn weave_one(
     table: &mut Vec<Slots>,
 ) -> Result<(usize, usize), NoMemory>
     requires within { one_of there taken < length (one_of there (kept.now, made.now)) }
-    ensures { IfOk result (λ next. Weaves there kept.now made.now taken next table.old.items table.new.items) }
+    ensures { IfOk result (λ next. Weaves there kept.now made.now taken next table.old.items
+        table.new.items) }
 {
     if there {
         table.push(kept[taken.0].clone_in(alloc)?)?;
@@ -43,7 +44,8 @@ pub fn weave(
     requires made { length made.now ≡ length (filter (lacks old.now.records) records.now) }
     ensures one_each { IfOk result (λ table. length table.items ≡ length records.now) }
     ensures same { IfOk result (λ table. IsPermutation (stored_at records.now table.items)
-        (stored_at (filter (lacks old.now.records) records.now) made.now ++ stored_at (filter (has_record old.now.records) records.now) kept.now)) }
+        (stored_at (filter (lacks old.now.records) records.now) made.now
+        ++ stored_at (filter (has_record old.now.records) records.now) kept.now)) }
 {
     let mut table = Vec::new(alloc);
     let mut taken = (0, 0);

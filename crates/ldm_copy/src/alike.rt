@@ -1,5 +1,6 @@
 //! Whether the areas of two disks have the same bytes in use.
-ghost use Rattle.std.specs.Prelude.{◌≡◌, ◌↔◌, ◌+◌, ◌*◌, ◌^◌, ◌<◌, ◌≤◌, IsTrue, length, slice_index, slice_range, IfOk, IsErr};
+ghost use Rattle.std.specs.Prelude.{◌≡◌, ◌↔◌, ◌+◌, ◌*◌, ◌^◌, ◌<◌, ◌≤◌, IsTrue, length, slice_index};
+ghost use Rattle.std.specs.Prelude.{slice_range, IfOk, IsErr};
 ghost use Rattle.ldm_host.specs.Moves.{Looks};
 ghost use Rattle.ldm_host.specs.Seen.{image};
 ghost use Rattle.ldm_label.specs.LabelOf.{Fits};
@@ -40,11 +41,13 @@ fn is_chunk_same<H: Host>(
     requires disk { disk < length (H.seen host.old).sizes }
     requires inside { at + length bytes.old ≤ 512 * slice_index (H.seen host.old).sizes disk }
     requires other { other < length (H.seen host.old).sizes }
-    requires other_inside { other_at + length bytes.old ≤ 512 * slice_index (H.seen host.old).sizes other }
+    requires other_inside { other_at + length bytes.old
+        ≤ 512 * slice_index (H.seen host.old).sizes other }
     requires one_size { length other_bytes.old ≡ length bytes.old }
     ensures is { H.tells_disks → IfOk result (λ same. IsTrue same
         ↔ (slice_range (image (H.seen host.old).content disk) at (at + length bytes.old)
-        ≡ slice_range (image (H.seen host.old).content other) other_at (other_at + length bytes.old))) }
+        ≡ slice_range (image (H.seen host.old).content other) other_at
+        (other_at + length bytes.old))) }
     ensures looks { Looks (H.seen host.old) (H.seen host.new) (IsErr result) }
 {
     host.read_at(disk, at, bytes)?;
@@ -119,10 +122,11 @@ fn is_same<H: Host>(
     Ok(true)
 }
 
-/// Whether the config areas of two disks have room for this last VBLK sequence, and the same header sector
-/// and blocks in use. Then a valid copy with that sequence in one is the copy in the other.
+/// Whether the config areas of two disks have room for this last VBLK sequence, and the same header
+/// sector and blocks in use. Then a valid copy with that sequence in one is the copy in the other.
 ///
-/// It reads a few sectors of each disk at a time, up to the first that differ, and takes no memory for them.
+/// It reads a few sectors of each disk at a time, up to the first that differ, and takes no memory
+/// for them.
 pub fn is_alike<H: Host>(
     host: &mut H,
     disk: usize,
@@ -136,9 +140,11 @@ pub fn is_alike<H: Host>(
     requires other { other < length (H.seen host.old).sizes }
     requires other_fits { Fits other_label.now (slice_index (H.seen host.old).sizes other) }
     ensures is { H.tells_disks → IfOk result (λ alike. IsTrue alike ↔ AreAlike last
-        (label.now, image (H.seen host.old).content disk) (other_label.now, image (H.seen host.old).content other)) }
+        (label.now, image (H.seen host.old).content disk)
+        (other_label.now, image (H.seen host.old).content other)) }
     // A valid copy with that sequence on the other disk is the copy on this disk.
-    ensures copy { H.tells_disks → IfOk result (λ alike. IsTrue alike → (db : Database) → db.header.last ≡ last
+    ensures copy { H.tells_disks → IfOk result (λ alike. IsTrue alike → (db : Database)
+        → db.header.last ≡ last
         → IsWritten other_label.now db (image (H.seen host.old).content other)
         → IsWritten label.now db (image (H.seen host.old).content disk)) }
     ensures looks { Looks (H.seen host.old) (H.seen host.new) (IsErr result) }

@@ -1,5 +1,6 @@
 //! A body with the blocks of each of its records, made or read from a disk.
-ghost use Rattle.std.specs.Prelude.{◌≡◌, ◌+◌, ◌*◌, ◌/◌, ◌<◌, ◌≤◌, IsTrue, false, None, length, slice_index};
+ghost use Rattle.std.specs.Prelude.{◌≡◌, ◌+◌, ◌*◌, ◌/◌, ◌<◌, ◌≤◌, IsTrue, false, None, length};
+ghost use Rattle.std.specs.Prelude.{slice_index};
 ghost use Rattle.std.specs.Prelude.{slice_range, drop, IfOk, IfSome, IsErrOf};
 ghost use Rattle.ldm_host.specs.Moves.{Looks};
 ghost use Rattle.ldm_host.specs.Seen.{image};
@@ -30,9 +31,11 @@ fn reads_as(
     area_sectors: u64,
 ) -> Result<bool, NoMemory>
     ensures yes { IfOk result (λ same. IsTrue same
-        → (h : Header) × (vmdb_fault sector.now area_sectors ≡ None) × IsHeaderOf h sector.now × IsSameHeader h header.now) }
+        → (h : Header) × (vmdb_fault sector.now area_sectors ≡ None) × IsHeaderOf h sector.now
+        × IsSameHeader h header.now) }
     ensures no { IfOk result (λ same. same ≡ false
-        → (h : Header) → vmdb_fault sector.now area_sectors ≡ None → IsHeaderOf h sector.now → IsSameHeader h header.now → ⊥) }
+        → (h : Header) → vmdb_fault sector.now area_sectors ≡ None → IsHeaderOf h sector.now
+        → IsSameHeader h header.now → ⊥) }
 {
     match read_header(alloc, sector, area_sectors) {
         Ok(h) => Ok(is_same_header(&h, header)),
@@ -51,8 +54,9 @@ fn first_sector(bytes: &[u8]) -> [u8; 512]
     sector
 }
 
-// The bytes as a body of the database, where they have a header that reads as that of the database but for the carried bytes,
-// and written blocks that hold its records, each in its own spelling. Else None.
+// The bytes as a body of the database, where they have a header that reads as that of the database
+// but for the carried bytes, and written blocks that hold its records, each in its own spelling.
+// Else None.
 fn body_in(
     alloc: Global,
     bytes: &[u8],
@@ -64,8 +68,10 @@ fn body_in(
     requires high { db.now.header.last ≤ 8192 }
     ensures same { IfOk result (λ found. IfSome found (λ body. body ≡ bytes.now)) }
     ensures core { IfOk result (λ found. IfSome found (λ body. IsCoreBody db.now body)) }
-    ensures none { IfOk result (λ found. found ≡ None → (h : Header) → vmdb_fault (header_sector bytes.now) area_sectors ≡ None
-        → IsHeaderOf h (header_sector bytes.now) → IsSameHeader h db.now.header → Store (drop 512 bytes.now) db.now.records → ⊥) }
+    ensures none { IfOk result (λ found. found ≡ None → (h : Header)
+        → vmdb_fault (header_sector bytes.now) area_sectors ≡ None
+        → IsHeaderOf h (header_sector bytes.now) → IsSameHeader h db.now.header
+        → Store (drop 512 bytes.now) db.now.records → ⊥) }
 {
     let sector = first_sector(bytes);
     if !reads_as(alloc, &sector, db.header(), area_sectors)? {
@@ -131,7 +137,8 @@ fn copy_bytes<H: Host>(
     requires fits { Fits label.now (slice_index (H.seen host.old).sizes disk) }
     requires within { len ≤ 512 * label.now.area_sectors }
     ensures bytes { H.tells_disks → IfOk result (λ b. b.items
-        ≡ slice_range (image (H.seen host.old).content disk) (gate_at label.now) (gate_at label.now + len)) }
+        ≡ slice_range (image (H.seen host.old).content disk) (gate_at label.now)
+        (gate_at label.now + len)) }
     ensures size { IfOk result (λ b. length b.items ≡ len) }
     ensures looks { Looks (H.seen host.old) (H.seen host.new) (IsErrOf result BodyError.Disk) }
 {
@@ -160,7 +167,8 @@ pub fn read_body<H: Host>(
     ensures core { IfOk result (λ found. IfSome found (λ body. IsCoreBody db.now body)) }
     // Where there is one, it is found.
     ensures none { H.tells_disks → IfOk result (λ found. found ≡ None
-        → IsNoBody db.now label.now.area_sectors (body_bytes db.now label.now (image (H.seen host.old).content disk))) }
+        → IsNoBody db.now label.now.area_sectors (body_bytes db.now label.now
+        (image (H.seen host.old).content disk))) }
     ensures looks { Looks (H.seen host.old) (H.seen host.new) (IsErrOf result BodyError.Disk) }
 {
     // The area has 2048 sectors at most.

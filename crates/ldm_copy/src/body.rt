@@ -17,8 +17,8 @@ use ldm_vmdb::{Counts, write_header};
 use std::alloc::Global;
 use std::marker::Model;
 
-/// The bytes of a written copy, from its gate on up to the last block in use. Contracts see them as that
-/// list. It also keeps the numbers of the blocks that hold each record.
+/// The bytes of a written copy, from its gate on up to the last block in use. Contracts see them as
+/// that list. It also keeps the numbers of the blocks that hold each record.
 #[derive(Drop)]
 pub struct Body {
     bytes: Bytes,
@@ -41,8 +41,8 @@ impl Body {
     ghost use Rattle.ldm_copy.specs.Body.{IsSomeBody};
     ghost use Rattle.ldm_copy.specs.Table.{IsTabled};
 
-    /// The body of these bytes, with the numbers of the blocks that hold each record, in the order of the
-    /// records.
+    /// The body of these bytes, with the numbers of the blocks that hold each record, in the order
+    /// of the records.
     pub fn new(bytes: Bytes, table: Vec<Slots>) -> Body
         requires { IsTabled bytes table.items }
         ensures { result ≡ bytes }
@@ -120,7 +120,8 @@ fn blocks_of(alloc: Global, payloads: &[Bytes], blocks: u32) -> Result<Bytes, No
     }
 }
 
-// So many blocks that hold the records one after the other, each in its own spelling, which they have room for.
+// So many blocks that hold the records one after the other, each in its own spelling, which they
+// have room for.
 fn blocks_with(alloc: Global, records: &[Record], blocks: u32) -> Result<Bytes, NoMemory>
     requires each { All IsFitting records.now }
     requires few { blocks ≤ 8192 }
@@ -143,8 +144,8 @@ pub fn joined(alloc: Global, sector: &[u8; 512], blocks: &[u8]) -> Result<Bytes,
     Ok(Bytes::from_vec(bytes))
 }
 
-/// The body of the database, with its own sequence: its header, the records in their order without gaps,
-/// and then unused blocks.
+/// The body of the database, with its own sequence: its header, the records in their order without
+/// gaps, and then unused blocks.
 pub fn body_of(alloc: Global, db: &Db) -> Result<Body, NoMemory>
     requires room { FitsHeader db.now }
     requires low { 4 ≤ db.now.header.last }

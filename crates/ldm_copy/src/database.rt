@@ -16,8 +16,8 @@ use std::alloc::Global;
 // The letter V, the first byte of an open copy.
 const OPEN: u8 = 0x56;
 
-// The header of the copy that begins with this sector, in an area of so many sectors. None where the
-// copy is closed.
+// The header of the copy that begins with this sector, in an area of so many sectors. None where
+// the copy is closed.
 pub fn open_header(
     alloc: Global,
     first: &[u8; 512],
@@ -68,7 +68,8 @@ fn same_id(kind: u8, id: u64) -> CopyFault
 // The database of this header whose records these payloads spell.
 pub fn database_of(alloc: Global, header: Header, list: &[Joined]) -> Result<Db, CopyError>
     ensures makes { (blocks : List ℕ) → Joins blocks list.now → MakesDatabase header blocks result }
-    ensures room { (blocks : List ℕ) → Joins blocks list.now → IfOk result (λ db. HasRoom (count blocks) db.records) }
+    ensures room { (blocks : List ℕ) → Joins blocks list.now
+        → IfOk result (λ db. HasRoom (count blocks) db.records) }
 {
     let records = records_of(alloc, list)?;
     match Db::new(alloc, header, records) {

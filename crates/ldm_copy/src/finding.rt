@@ -1,10 +1,12 @@
 //! Which blocks hold each record of a body.
-ghost use Rattle.std.specs.Prelude.{◌≡◌, ◌↔◌, ◌+◌, ◌-◌, ◌*◌, ◌<◌, ◌≤◌, IsTrue, length, map, IfOk, IfSome, None, All};
+ghost use Rattle.std.specs.Prelude.{◌≡◌, ◌↔◌, ◌+◌, ◌-◌, ◌*◌, ◌<◌, ◌≤◌, IsTrue, length, map, IfOk};
+ghost use Rattle.std.specs.Prelude.{IfSome, None, All};
 ghost use Rattle.ldm_frags.specs.Blocks.{count, parts};
 ghost use Rattle.ldm_frags.specs.Written.{IsInUse};
 ghost use Rattle.ldm_group.specs.Order.{place_of, Rising};
 ghost use Rattle.ldm_copy.specs.Body.{Store};
-ghost use Rattle.ldm_copy.specs.Finding.{HoldsTable, place_in, HasPlaces, slots_in, payloads, IsFirst, IsLater};
+ghost use Rattle.ldm_copy.specs.Finding.{HoldsTable, place_in, HasPlaces, slots_in, payloads};
+ghost use Rattle.ldm_copy.specs.Finding.{IsFirst, IsLater};
 ghost use Rattle.ldm_copy.specs.Finding.{IsFoundAt, HoldNone, Looks, AreFound, stored_of};
 
 use ldm_bytes::{Bytes, NoMemory, get_u16, get_u32};
@@ -26,7 +28,8 @@ pub struct Found {
 pub enum Look {
     /// No record begins here.
     Nothing,
-    /// Neither an unused block nor a part of a record in its own spelling stands here, as they are written.
+    /// Neither an unused block nor a part of a record in its own spelling stands here, as they are
+    /// written.
     Wrong,
     /// This record begins here.
     Record(Found),
@@ -203,11 +206,12 @@ fn look_at(alloc: Global, blocks: &[u8], places: &[u32], k: usize) -> Result<Loo
     Ok(Look::Wrong)
 }
 
-// All records that the blocks hold, in rising number of their first blocks. None where the blocks aren't written blocks that hold
-// records, each in its own spelling.
+// All records that the blocks hold, in rising number of their first blocks. None where the blocks
+// aren't written blocks that hold records, each in its own spelling.
 fn find_all(alloc: Global, blocks: &[u8]) -> Result<Option<Vec<Found>>, NoMemory>
     requires small { length blocks.now ≤ 1048576 }
-    ensures held { IfOk result (λ found. IfSome found (λ list. AreFound blocks.now (map stored_of list.items))) }
+    ensures held { IfOk result (λ found. IfSome found
+        (λ list. AreFound blocks.now (map stored_of list.items))) }
     ensures none { IfOk result (λ found. found ≡ None → HoldNone blocks.now) }
 {
     let places = places_of(alloc, blocks)?;
@@ -256,8 +260,8 @@ fn slots_of(alloc: Global, found: &[Found]) -> Result<Vec<Slots>, NoMemory>
     Ok(table)
 }
 
-/// The slots of a database's records in their order, where the blocks are written blocks that hold these records and no others,
-/// each in its own spelling. Else None.
+/// The slots of a database's records in their order, where the blocks are written blocks that hold
+/// these records and no others, each in its own spelling. Else None.
 pub fn table_of(
     alloc: Global,
     blocks: &[u8],
@@ -265,7 +269,8 @@ pub fn table_of(
 ) -> Result<Option<Vec<Slots>>, NoMemory>
     requires small { length blocks.now ≤ 1048576 }
     requires rising { Rising records.now }
-    ensures held { IfOk result (λ table. IfSome table (λ t. HoldsTable blocks.now records.now t.items)) }
+    ensures held { IfOk result (λ table. IfSome table
+        (λ t. HoldsTable blocks.now records.now t.items)) }
     ensures none { IfOk result (λ table. table ≡ None → Store blocks.now records.now → ⊥) }
 {
     let Some(found) = find_all(alloc, blocks)? else {

@@ -1,5 +1,6 @@
 //! The gate of a copy, and what is written behind it.
-ghost use Rattle.std.specs.Prelude.{◌≡◌, ◌≢◌, ◌+◌, ◌-◌, ◌*◌, ◌^◌, ◌<◌, ◌≤◌, List, ℕ, length, slice_index, OnOk, IsErr};
+ghost use Rattle.std.specs.Prelude.{◌≡◌, ◌≢◌, ◌+◌, ◌-◌, ◌*◌, ◌^◌, ◌<◌, ◌≤◌, List, ℕ, length};
+ghost use Rattle.std.specs.Prelude.{slice_index, OnOk, IsErr};
 ghost use Rattle.ldm_host.specs.Moves.{Settled, Writes, DiskFailed};
 ghost use Rattle.ldm_host.specs.Seen.{image};
 ghost use Rattle.ldm_label.specs.LabelOf.{Fits};
@@ -29,7 +30,8 @@ pub fn gate_at<H: Host>(host: &H, disk: usize, label: &Label) -> u64
 fn put_gate<H: Host>(host: &mut H, disk: usize, label: &Label, byte: u8) -> Result<(), Failed>
     requires disk { disk < length (H.seen host.old).sizes }
     requires fits { Fits label.now (slice_index (H.seen host.old).sizes disk) }
-    ensures { PutsGate H.tells_disks result disk label.now byte (H.seen host.old) (H.seen host.new) }
+    ensures { PutsGate H.tells_disks result disk label.now byte (H.seen host.old)
+        (H.seen host.new) }
 {
     let at = gate_at(host, disk, label);
     host.write_at(disk, at, &[byte])?;
@@ -41,7 +43,8 @@ pub fn close<H: Host>(host: &mut H, disk: usize, label: &Label) -> Result<(), Fa
     requires disk { disk < length (H.seen host.old).sizes }
     requires fits { Fits label.now (slice_index (H.seen host.old).sizes disk) }
     requires settled { Settled (H.seen host.old) disk }
-    requires opened { H.tells_disks → IsOpen (config_area label.now (image (H.seen host.old).content disk)) }
+    requires opened { H.tells_disks → IsOpen (config_area label.now
+        (image (H.seen host.old).content disk)) }
     ensures { PutsGate H.tells_disks result disk label.now 0 (H.seen host.old) (H.seen host.new) }
 {
     put_gate(host, disk, label, 0)
@@ -57,7 +60,8 @@ pub fn fill<H: Host>(host: &mut H, disk: usize, label: &Label, body: &Body) -> R
     ensures filled { H.tells_disks → OnOk result ((c : List ℕ) → (H.seen host.new).may_leave disk c
         → HasBody label.now body.now c) }
     ensures settled { OnOk result (Settled (H.seen host.new) disk) }
-    ensures writes { Writes disk (gate_at label.now + 1) (length body.now - 1) (H.seen host.old) (H.seen host.new) }
+    ensures writes { Writes disk (gate_at label.now + 1) (length body.now - 1) (H.seen host.old)
+        (H.seen host.new) }
     ensures cause { IsErr result → DiskFailed (H.seen host.old) (H.seen host.new) }
 {
     let at = gate_at(host, disk, label);
@@ -73,7 +77,8 @@ pub fn unseal<H: Host>(host: &mut H, disk: usize, label: &Label) -> Result<(), F
     requires closed { H.tells_disks → IsShut label.now (image (H.seen host.old).content disk) }
     requires filled { H.tells_disks → (db : Database) × (body : List ℕ) × IsBodyOn db label.now body
         × HasBody label.now body (image (H.seen host.old).content disk) }
-    ensures { PutsGate H.tells_disks result disk label.now 0x56 (H.seen host.old) (H.seen host.new) }
+    ensures { PutsGate H.tells_disks result disk label.now 0x56 (H.seen host.old)
+        (H.seen host.new) }
 {
     put_gate(host, disk, label, 0x56)
 }

@@ -1,5 +1,5 @@
-//! One copy of a group's database, read from the config area of a disk: its header sector, and where it
-//! is open the blocks in use.
+//! One copy of a group's database, read from the config area of a disk: its header sector, and
+//! where it is open the blocks in use.
 //!
 //! Sectors have 512 bytes, blocks 128. What a copy is, and its faults in their order, is in
 //! `specs/Copy.antt`.

@@ -1,5 +1,6 @@
 //! Reads the copy on a disk.
-ghost use Rattle.std.specs.Prelude.{◌≡◌, ◌+◌, ◌-◌, ◌*◌, ◌/◌, ◌^◌, ◌<◌, ◌≤◌, ◌++◌, ℕ, List, [], Result, Err, length};
+ghost use Rattle.std.specs.Prelude.{◌≡◌, ◌+◌, ◌-◌, ◌*◌, ◌/◌, ◌^◌, ◌<◌, ◌≤◌, ◌++◌, ℕ, List, []};
+ghost use Rattle.std.specs.Prelude.{Result, Err, length};
 ghost use Rattle.std.specs.Prelude.{slice_index, IfOk, IfErr, IfSome, OnOk, IsErrOf};
 ghost use Rattle.ldm_host.specs.Moves.{Looks};
 ghost use Rattle.ldm_host.specs.Seen.{image};
@@ -38,9 +39,11 @@ fn feed_few<H: Host>(
     requires small { from < 2 ^ 55 }
     requires room { count joiner.old.blocks + 4 * sectors ≤ joiner.old.limit }
     ensures read { (fed : List ℕ) → IsFed joiner.old fed → OnOk result
-        (IsRead H.tells_disks (image (H.seen host.old).content disk) from sectors (λ bytes. IsFed joiner.new (fed ++ bytes))) }
+        (IsRead H.tells_disks (image (H.seen host.old).content disk) from sectors
+        (λ bytes. IsFed joiner.new (fed ++ bytes))) }
     ensures fault { H.tells_disks → IfErr result (λ e. (fed rest : List ℕ) → IsFed joiner.old fed
-        → JoinsBlocks (fed ++ sectors_from from sectors (image (H.seen host.old).content disk) ++ rest) (Err e)) }
+        → JoinsBlocks (fed ++ sectors_from from sectors (image (H.seen host.old).content disk)
+        ++ rest) (Err e)) }
     ensures limit { joiner.new.limit ≡ joiner.old.limit }
     ensures looks { Looks (H.seen host.old) (H.seen host.new) (IsErrOf result CopyError.Disk) }
 {
@@ -64,8 +67,10 @@ fn feed_sectors<H: Host>(
     requires few { from + sectors < 2 ^ 55 }
     requires fresh { IsFed joiner.old [] }
     requires room { 4 * sectors ≤ joiner.old.limit }
-    ensures read { OnOk result (IsRead H.tells_disks (image (H.seen host.old).content disk) from sectors (IsFed joiner.new)) }
-    ensures fault { H.tells_disks → IfErr result (λ e. JoinsBlocks (sectors_from from sectors (image (H.seen host.old).content disk)) (Err e)) }
+    ensures read { OnOk result (IsRead H.tells_disks
+        (image (H.seen host.old).content disk) from sectors (IsFed joiner.new)) }
+    ensures fault { H.tells_disks → IfErr result (λ e. JoinsBlocks
+        (sectors_from from sectors (image (H.seen host.old).content disk)) (Err e)) }
     ensures looks { Looks (H.seen host.old) (H.seen host.new) (IsErrOf result CopyError.Disk) }
 {
     for chunk in 0..sectors.div_ceil(CHUNK) {
@@ -88,8 +93,10 @@ fn join_sectors<H: Host>(
     requires inside { from + sectors ≤ slice_index (H.seen host.old).sizes disk }
     requires few { from + sectors < 2 ^ 55 }
     requires small { sectors ≤ 2048 }
-    ensures read { IfOk result (λ list. IsRead H.tells_disks (image (H.seen host.old).content disk) from sectors (λ blocks. Joins blocks list.items)) }
-    ensures fault { H.tells_disks → IfErr result (λ e. JoinsBlocks (sectors_from from sectors (image (H.seen host.old).content disk)) (Err e)) }
+    ensures read { IfOk result (λ list. IsRead H.tells_disks
+        (image (H.seen host.old).content disk) from sectors (λ blocks. Joins blocks list.items)) }
+    ensures fault { H.tells_disks → IfErr result (λ e. JoinsBlocks
+        (sectors_from from sectors (image (H.seen host.old).content disk)) (Err e)) }
     ensures looks { Looks (H.seen host.old) (H.seen host.new) (IsErrOf result CopyError.Disk) }
 {
     let mut joiner = Joiner::new(alloc, 4 * sectors as u32)?;
@@ -97,7 +104,8 @@ fn join_sectors<H: Host>(
     Ok(joiner.finish()?)
 }
 
-// The header of the copy whose area begins with this sector of the disk. None where the copy is closed.
+// The header of the copy whose area begins with this sector of the disk. None where the copy is
+// closed.
 fn header_at<H: Host>(
     alloc: Global,
     host: &mut H,
@@ -108,7 +116,8 @@ fn header_at<H: Host>(
     requires disk { disk < length (H.seen host.old).sizes }
     requires inside { start < slice_index (H.seen host.old).sizes disk }
     requires few { start < 2 ^ 55 }
-    ensures opens { H.tells_disks → ReadsHeader (sectors_from start 1 (image (H.seen host.old).content disk)) area_sectors result }
+    ensures opens { H.tells_disks → ReadsHeader (sectors_from start 1
+        (image (H.seen host.old).content disk)) area_sectors result }
     ensures last { IfOk result (λ header. IfSome header (λ h. h.last ≤ 4 * area_sectors)) }
     ensures looks { Looks (H.seen host.old) (H.seen host.new) (IsErrOf result CopyError.Disk) }
 {
@@ -128,8 +137,10 @@ fn database_at<H: Host>(
     requires inside { from + (header.last / 4 - 1) ≤ slice_index (H.seen host.old).sizes disk }
     requires few { from + (header.last / 4 - 1) < 2 ^ 55 }
     requires small { header.last ≤ 8192 }
-    ensures reads { H.tells_disks → ReadsDatabase header (sectors_from from (header.last / 4 - 1) (image (H.seen host.old).content disk)) result }
-    ensures fits { (sectors : ℕ) → header.last ≤ 4 * sectors → IfOk result (λ db. FitsArea db sectors) }
+    ensures reads { H.tells_disks → ReadsDatabase header
+        (sectors_from from (header.last / 4 - 1) (image (H.seen host.old).content disk)) result }
+    ensures fits { (sectors : ℕ) → header.last ≤ 4 * sectors
+        → IfOk result (λ db. FitsArea db sectors) }
     ensures looks { Looks (H.seen host.old) (H.seen host.new) (IsErrOf result CopyError.Disk) }
 {
     let sectors = (u64::from(header.last) / 4).saturating_sub(1);
@@ -147,7 +158,8 @@ fn copy_at<H: Host>(
     requires disk { disk < length (H.seen host.old).sizes }
     requires fits { Fits label.now (slice_index (H.seen host.old).sizes disk) }
     ensures found { H.tells_disks → IsAnswer
-        (config_area label.now (image (H.seen host.old).content disk)) label.now.area_sectors result }
+        (config_area label.now (image (H.seen host.old).content disk))
+        label.now.area_sectors result }
     ensures sound { IfOk result (λ state. IsSoundState label.now.area_sectors state) }
     ensures looks { Looks (H.seen host.old) (H.seen host.new) (IsErrOf result CopyError.Disk) }
 {
@@ -161,12 +173,13 @@ fn copy_at<H: Host>(
     }
 }
 
-/// The copy in the config area of a disk, or its first fault. `Disk` comes only where a call of the disk
-/// failed.
+/// The copy in the config area of a disk, or its first fault. `Disk` comes only where a call of the
+/// disk failed.
 ///
-/// It reads the first sector of the area, and where the copy is open the blocks in use, eight sectors at a time. So of
-/// blocks that have a fault, no piece of eight sectors behind the first fault is read. It takes memory for the heads of
-/// these blocks, for their payloads and for the records.
+/// It reads the first sector of the area, and where the copy is open the blocks in use, eight
+/// sectors at a time. So of blocks that have a fault, no piece of eight sectors behind the first
+/// fault is read. It takes memory for the heads of these blocks, for their payloads and for the
+/// records.
 pub fn read_copy<H: Host>(
     alloc: Global,
     host: &mut H,
@@ -177,7 +190,8 @@ pub fn read_copy<H: Host>(
     requires fits { Fits label.now (slice_index (H.seen host.old).sizes disk) }
     // What is answered is the copy.
     ensures found { H.tells_disks → IsAnswer
-        (config_area label.now (image (H.seen host.old).content disk)) label.now.area_sectors result }
+        (config_area label.now (image (H.seen host.old).content disk))
+        label.now.area_sectors result }
     // What is the copy is answered, unless memory ran out or a call of the disk failed.
     ensures only { H.tells_disks → (copy : Result CopyState CopyFault)
         → IsCopyOf
@@ -185,8 +199,10 @@ pub fn read_copy<H: Host>(
         → Answers result copy }
     // There is one copy at most.
     ensures one { (a b : Result CopyState CopyFault)
-        → IsCopyOf (config_area label.now (image (H.seen host.old).content disk)) label.now.area_sectors a
-        → IsCopyOf (config_area label.now (image (H.seen host.old).content disk)) label.now.area_sectors b
+        → IsCopyOf (config_area label.now (image (H.seen host.old).content disk))
+        label.now.area_sectors a
+        → IsCopyOf (config_area label.now (image (H.seen host.old).content disk))
+        label.now.area_sectors b
         → a ≡ b }
     // For every host, the database of a valid copy fits the area.
     ensures sound { IfOk result (λ state. IsSoundState label.now.area_sectors state) }

@@ -1,5 +1,6 @@
 //! The bytes of a volume, said.
-ghost use Rattle.std.specs.Prelude.{◌≡◌, ◌+◌, ◌*◌, ◌++◌, ◌<◌, ◌≤◌, ℕ, length, take, false, IfOk, OnOk, IsErr, IsErrOf};
+ghost use Rattle.std.specs.Prelude.{◌≡◌, ◌+◌, ◌*◌, ◌++◌, ◌<◌, ◌≤◌, ℕ, length, take, false, IfOk};
+ghost use Rattle.std.specs.Prelude.{OnOk, IsErr, IsErrOf};
 ghost use Rattle.ldm_host.specs.Moves.{Still, Begins, DiskFailed, TalkFailed, Looks};
 ghost use Rattle.ldm_dump.specs.Sources.{is_lost};
 ghost use Rattle.ldm_dump.specs.Bytes.{text_of_sectors, text_of_volume};
@@ -21,7 +22,8 @@ pub enum DumpError {
     Talk,
 }
 
-// Reads the sectors from this one on that lie together, as many as there is room for, and answers how many.
+// Reads the sectors from this one on that lie together, as many as there is room for, and answers
+// how many.
 fn read_some<H: Host>(
     host: &mut H,
     found: &Found,
@@ -57,7 +59,8 @@ fn read_some<H: Host>(
     Ok(count)
 }
 
-// Reads the sectors from this one on, as many as there is room for, to the end of the volume, and answers how many.
+// Reads the sectors from this one on, as many as there is room for, to the end of the volume, and
+// answers how many.
 fn read_many<H: Host>(
     host: &mut H,
     found: &Found,
@@ -94,7 +97,8 @@ fn read_many<H: Host>(
     Ok(count)
 }
 
-// Reads and says sectors from this one on, as many as the buffer has room for, and answers how many.
+// Reads and says sectors from this one on, as many as the buffer has room for, and answers how
+// many.
 fn say_many<H: Host>(
     host: &mut H,
     found: &Found,
@@ -111,9 +115,12 @@ fn say_many<H: Host>(
     ensures some { IfOk result (λ n. 0 < n) }
     ensures fits { IfOk result (λ n. sector + n ≤ plan.now.size) }
     ensures said { H.tells_disks → IfOk result (λ n. (H.seen host.new).said
-        ≡ (H.seen host.old).said ++ text_of_sectors (H.seen host.old).content found.now plan.now sector n) }
-    ensures front { H.tells_disks → (n : ℕ) × (sector + n ≤ plan.now.size) × Begins (H.seen host.new).said
-        ((H.seen host.old).said ++ text_of_sectors (H.seen host.old).content found.now plan.now sector n) }
+        ≡ (H.seen host.old).said ++ text_of_sectors (H.seen host.old).content found.now
+        plan.now sector n) }
+    ensures front { H.tells_disks → (n : ℕ) × (sector + n ≤ plan.now.size)
+        × Begins (H.seen host.new).said
+        ((H.seen host.old).said ++ text_of_sectors (H.seen host.old).content found.now
+        plan.now sector n) }
     ensures still { Still (H.seen host.old) (H.seen host.new) }
     ensures input { SameInput (H.seen host.old) (H.seen host.new) }
     ensures disk { IsErrOf result DumpError.Disk → DiskFailed (H.seen host.old) (H.seen host.new) }
@@ -128,7 +135,8 @@ fn say_many<H: Host>(
     }
 }
 
-/// Says the bytes of a volume of which no sector is lost, in pieces as large as the buffer. It takes no memory.
+/// Says the bytes of a volume of which no sector is lost, in pieces as large as the buffer. It
+/// takes no memory.
 pub fn dump_volume<H: Host>(
     host: &mut H,
     found: &Found,

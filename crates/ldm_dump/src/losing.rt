@@ -31,8 +31,8 @@ fn lost_run(found: &Found, plan: &Plan) -> Option<u64>
     None
 }
 
-// The least sector that is lost in a stripe or a RAID-5, by one test for each column: all chunks of a column are lost or
-// none is, and the first chunks of the columns are the first of the volume.
+// The least sector that is lost in a stripe or a RAID-5, by one test for each column: all chunks of
+// a column are lost or none is, and the first chunks of the columns are the first of the volume.
 fn lost_chunk(found: &Found, plan: &Plan) -> Option<u64>
     requires { is_tiled plan.now.shape ≡ false }
     ensures { IsLeastLost found.now plan.now result }
@@ -50,7 +50,8 @@ fn lost_chunk(found: &Found, plan: &Plan) -> Option<u64>
     None
 }
 
-/// The least sector of the volume that is lost. It takes the time of the volume's partitions and not of its sectors.
+/// The least sector of the volume that is lost. It takes the time of the volume's partitions and
+/// not of its sectors.
 pub fn lost(found: &Found, plan: &Plan) -> Option<u64>
     ensures { IsLeastLost found.now plan.now result }
 {

@@ -1,5 +1,6 @@
 //! Bytes of a volume, read from the images.
-ghost use Rattle.std.specs.Prelude.{◌≡◌, ◌*◌, ◌<◌, ◌≤◌, ℕ, List, length, map, fold, bit_xor, slice_index, false};
+ghost use Rattle.std.specs.Prelude.{◌≡◌, ◌*◌, ◌<◌, ◌≤◌, ℕ, List, length, map, fold, bit_xor};
+ghost use Rattle.std.specs.Prelude.{slice_index, false};
 ghost use Rattle.std.specs.Prelude.{OnOk, IsErr, Some};
 ghost use Rattle.std.specs.Option.{option_to_list};
 ghost use Rattle.ldm_host.specs.Moves.{Looks};
@@ -40,14 +41,16 @@ pub fn clear(out: &mut [u8])
 // Makes of each byte its exclusive-or with the other byte at its place.
 fn xor_into(out: &mut [u8], other: &[u8])
     requires { length other.now ≡ length out.old }
-    ensures { (j : ℕ) → j < length out.old → slice_index out.new j ≡ bit_xor (slice_index out.old j) (slice_index other.now j) }
+    ensures { (j : ℕ) → j < length out.old → slice_index out.new j
+        ≡ bit_xor (slice_index out.old j) (slice_index other.now j) }
 {
     for i in 0..out.len() {
         out[i] ^= other[i];
     }
 }
 
-/// Makes of each byte its exclusive-or with the byte at its place from the start of a sector of an image on.
+/// Makes of each byte its exclusive-or with the byte at its place from the start of a sector of an
+/// image on.
 pub fn join_spot<H: Host>(
     host: &mut H,
     spot: Spot,
@@ -57,7 +60,8 @@ pub fn join_spot<H: Host>(
     requires has { HasBytes (H.seen host.old).sizes spot (length out.old) }
     requires same { length scratch.old ≡ length out.old }
     ensures bytes { H.tells_disks → OnOk result ((j : ℕ) → j < length out.old
-        → slice_index out.new j ≡ bit_xor (slice_index out.old j) (byte_at (H.seen host.old).content j spot)) }
+        → slice_index out.new j ≡ bit_xor (slice_index out.old j)
+        (byte_at (H.seen host.old).content j spot)) }
     ensures looks { Looks (H.seen host.old) (H.seen host.new) (IsErr result) }
 {
     read_spot(host, spot, scratch)?;
@@ -86,7 +90,8 @@ fn other_spot<H: Host>(
     }
 }
 
-// Makes of each byte its exclusive-or with what is beside a sector in a column, if that is another than its own.
+// Makes of each byte its exclusive-or with what is beside a sector in a column, if that is another
+// than its own.
 fn join_other<H: Host>(
     host: &mut H,
     found: &Found,
@@ -103,8 +108,10 @@ fn join_other<H: Host>(
         → HasBytes (H.seen host.old).sizes s (length out.old) }
     requires lies { LiesOn found.now plan.now (H.seen host.old).sizes }
     requires same { length scratch.old ≡ length out.old }
-    ensures bytes { H.tells_disks → OnOk result ((j : ℕ) → j < length out.old → slice_index out.new j
-        ≡ fold bit_xor (slice_index out.old j) (map (byte_at (H.seen host.old).content j) (option_to_list (other_spot found.now plan.now sector column)))) }
+    ensures bytes { H.tells_disks → OnOk result ((j : ℕ) → j < length out.old
+        → slice_index out.new j
+        ≡ fold bit_xor (slice_index out.old j) (map (byte_at (H.seen host.old).content j)
+        (option_to_list (other_spot found.now plan.now sector column)))) }
     ensures looks { Looks (H.seen host.old) (H.seen host.new) (IsErr result) }
 {
     match other_spot(host, found, plan, sector, column) {
@@ -129,7 +136,8 @@ fn rebuild<H: Host>(
     requires lies { LiesOn found.now plan.now (H.seen host.old).sizes }
     requires same { length scratch.old ≡ length out.old }
     ensures bytes { H.tells_disks → OnOk result ((j : ℕ) → j < length out.old
-        → slice_index out.new j ≡ joined_byte (H.seen host.old).content (other_spots found.now plan.now sector) j) }
+        → slice_index out.new j ≡ joined_byte (H.seen host.old).content
+        (other_spots found.now plan.now sector) j) }
     ensures looks { Looks (H.seen host.old) (H.seen host.new) (IsErr result) }
 {
     clear(out);
@@ -139,8 +147,8 @@ fn rebuild<H: Host>(
     Ok(())
 }
 
-/// Reads whole sectors of a volume that lie in one run, from this one on. The scratch holds what is read of
-/// other columns.
+/// Reads whole sectors of a volume that lie in one run, from this one on. The scratch holds what is
+/// read of other columns.
 pub(crate) fn read_run<H: Host>(
     host: &mut H,
     found: &Found,
@@ -156,8 +164,10 @@ pub(crate) fn read_run<H: Host>(
     requires same { length scratch.old ≡ length out.old }
     requires kept { is_lost found.now plan.now sector ≡ false }
     requires lies { LiesOn found.now plan.now (H.seen host.old).sizes }
-    ensures bytes { H.tells_disks → OnOk result ((spots : List Place) → sources_of found.now plan.now sector ≡ Some spots
-        → (j : ℕ) → j < length out.old → slice_index out.new j ≡ joined_byte (H.seen host.old).content spots j) }
+    ensures bytes { H.tells_disks → OnOk result ((spots : List Place)
+        → sources_of found.now plan.now sector ≡ Some spots
+        → (j : ℕ) → j < length out.old → slice_index out.new j
+        ≡ joined_byte (H.seen host.old).content spots j) }
     ensures looks { Looks (H.seen host.old) (H.seen host.new) (IsErr result) }
 {
     match run.copy {
@@ -180,7 +190,8 @@ pub fn read_sector<H: Host>(
     requires within { sector < plan.now.size }
     requires kept { is_lost found.now plan.now sector ≡ false }
     requires lies { LiesOn found.now plan.now (H.seen host.old).sizes }
-    ensures bytes { H.tells_disks → OnOk result (sector_of (H.seen host.old).content found.now plan.now sector ≡ Some out.new) }
+    ensures bytes { H.tells_disks → OnOk result (sector_of
+        (H.seen host.old).content found.now plan.now sector ≡ Some out.new) }
     ensures looks { Looks (H.seen host.old) (H.seen host.new) (IsErr result) }
 {
     let mut scratch = [0u8; 512];

@@ -8,7 +8,8 @@ use crate::spots::is_here;
 use ldm_found::Found;
 use ldm_layout::{Plan, Shape};
 
-/// Sectors of a volume that lie side by side wherever they are read, and the copy that they are read from.
+/// Sectors of a volume that lie side by side wherever they are read, and the copy that they are
+/// read from.
 /// `None`: they are made of the other columns of a RAID-5, or lost.
 #[derive(Clone, Copy)]
 pub struct Run {

@@ -45,8 +45,13 @@ pub fn spot_of<H: Host>(host: &H, found: &Found, place: Place) -> Option<Spot>
 
 // The place, as a sector of this image of its disk.
 fn spot_on<H: Host>(host: &H, found: &Found, place: Place, image: usize) -> Spot
-    requires { IsOn (H.seen host.now).sizes (record { image = image; sector = data_start found.now.labels image + place.sector }) }
-    ensures { result ≡ record { image = image; sector = data_start found.now.labels image + place.sector } }
+    requires { IsOn (H.seen host.now).sizes (record
+        { image = image; sector = data_start found.now.labels image + place.sector }) }
+    ensures { result ≡ record {
+      image = image;
+      sector = data_start found.now.labels image
+          + place.sector;
+    } }
 {
     let sectors = host.sectors(image);
     let start = data_start(found.labels.as_slice(), image);

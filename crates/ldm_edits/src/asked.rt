@@ -22,7 +22,12 @@ use std::alloc::Global;
 
 // So many sectors of the disk of this name.
 fn wanted_of(db: &Db, labels: &Labels, name: &[u8], size: u64) -> Option<Wanted>
-    ensures is { result ≡ option_map (λ d. record { disk = d.head.id; limit = data_size labels.now db.now.records d.head.id; size = size }) (disk_named name.now db.now.records) }
+    ensures is { result ≡ option_map (λ d. record {
+      disk = d.head.id;
+      limit = data_size labels.now db.now.records d.head.id;
+      size = size;
+    })
+        (disk_named name.now db.now.records) }
     ensures low { IfSome result (λ w. w.limit < 2 ^ 64) }
 {
     let disk = db.disk_named(name)?;
@@ -33,7 +38,8 @@ fn wanted_of(db: &Db, labels: &Labels, name: &[u8], size: u64) -> Option<Wanted>
     })
 }
 
-/// What the pieces of a command ask of their disks, or the refusal of the first whose disk isn't there.
+/// What the pieces of a command ask of their disks, or the refusal of the first whose disk isn't
+/// there.
 pub fn asked_pieces(
     alloc: Global,
     db: &Db,
@@ -62,7 +68,8 @@ pub fn asked_disks(
     disks: &[Bytes],
     size: u64,
 ) -> Result<Vec<Wanted>, StepError>
-    ensures is { FindsAs result (wanted_by db.now labels.now (map (λ name. (name, size)) disks.now)) }
+    ensures is { FindsAs result (wanted_by db.now labels.now
+        (map (λ name. (name, size)) disks.now)) }
     ensures low { IfOk result (λ v. All (λ w. w.limit < 2 ^ 64) v.items) }
 {
     let mut wanted = Vec::new(alloc);
@@ -95,7 +102,8 @@ pub fn has_twins(wanted: &[Wanted]) -> bool
     false
 }
 
-/// Whether one has length 0, or all of them together with a capacity are more than a number of the format says.
+/// Whether one has length 0, or all of them together with a capacity are more than a number of the
+/// format says.
 pub fn is_bad_length(capacity: u64, wanted: &[Wanted]) -> bool
     requires { length wanted.now ≤ 64 }
     ensures { result ≡ is_bad_length capacity wanted.now }

@@ -5,7 +5,8 @@ use ldm_group::Db;
 /// A batch that is open.
 #[derive(Drop)]
 pub struct Draft {
-    /// The group with what the batch holds, but for its sequence, which is that of the group before.
+    /// The group with what the batch holds, but for its sequence, which is that of the group
+    /// before.
     pub db: Db,
     /// Whether it has held a command.
     pub filled: bool,

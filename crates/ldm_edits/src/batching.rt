@@ -8,7 +8,8 @@ ghost use Rattle.ldm_words.specs.Limits.{IsCommand, IsChange};
 ghost use Rattle.ldm_edits.specs.declared.reply.Refusal.{Refusal as Reason};
 ghost use Rattle.ldm_edits.specs.declared.stepping.Outcome.TheVariants.{Next};
 ghost use Rattle.ldm_edits.specs.Changes.{AreasFit};
-ghost use Rattle.ldm_edits.specs.Steps.{StepsAs, Keeps, IsDraftOf, VerdictKeeps, at_once, held_at, change_in, begun};
+ghost use Rattle.ldm_edits.specs.Steps.{StepsAs, Keeps, IsDraftOf, VerdictKeeps, at_once, held_at};
+ghost use Rattle.ldm_edits.specs.Steps.{change_in, begun};
 ghost use Rattle.ldm_edits.specs.Steps.{committed, cancelled, verdict_of};
 
 use crate::batch::{Draft, Turn};
@@ -78,7 +79,8 @@ fn at_once(outcome: Outcome) -> Turn
 
 // And one in a batch, where the group has this sequence.
 fn hold(seq: u64, outcome: Outcome) -> Turn
-    ensures is { (step : Result Database Reason) → StepsAs outcome step → result ≡ held_at seq step }
+    ensures is { (step : Result Database Reason) → StepsAs outcome step
+        → result ≡ held_at seq step }
     ensures low { (next : Database) → outcome ≡ Next next → next.header.seq < 2 ^ 64 }
 {
     match outcome {
@@ -104,7 +106,8 @@ fn change(
     requires draft { ForSome (option_copied draft) (IsDraftOf labels.now db.now) }
     requires limits { IsCommand command.now }
     requires change { IsChange command.now }
-    ensures is { IfOk result (λ turn. turn ≡ change_in labels.now db.now command.now (option_copied draft.entry)) }
+    ensures is { IfOk result (λ turn. turn ≡ change_in labels.now db.now command.now
+        (option_copied draft.entry)) }
     ensures keeps { IfOk result (λ turn. VerdictKeeps labels.now db.now turn) }
 {
     match draft {
@@ -116,7 +119,8 @@ fn change(
     }
 }
 
-/// What a line comes to, where this batch is open on the group, whose images have these labels. It never answers BadLine.
+/// What a line comes to, where this batch is open on the group, whose images have these labels. It
+/// never answers BadLine.
 pub fn turn(
     alloc: Global,
     db: &Db,
@@ -128,7 +132,8 @@ pub fn turn(
     requires areas { AreasFit labels.now }
     requires draft { ForSome (option_copied draft) (IsDraftOf labels.now db.now) }
     requires limits { IsCommand command.now }
-    ensures is { IfOk result (λ turn. turn ≡ verdict_of labels.now db.now (option_copied draft.entry) command.now) }
+    ensures is { IfOk result (λ turn. turn ≡ verdict_of labels.now db.now
+        (option_copied draft.entry) command.now) }
     ensures keeps { IfOk result (λ turn. VerdictKeeps labels.now db.now turn) }
 {
     match command {

@@ -15,7 +15,8 @@ use ldm_label::Labels;
 use ldm_records::Record;
 use std::alloc::Global;
 
-// The group with these records in the places of those that leave it, and with this last VBLK sequence.
+// The group with these records in the places of those that leave it, and with this last VBLK
+// sequence.
 fn changed(
     alloc: Global,
     db: &Db,
@@ -23,10 +24,13 @@ fn changed(
     made: Vec<Record>,
     last: u32,
 ) -> Result<Db, NoMemory>
-    requires rising { Rising db.now.records → Rising (in_order (staying leaving db.now.records ++ made.items)) }
+    requires rising { Rising db.now.records → Rising
+        (in_order (staying leaving db.now.records ++ made.items)) }
     requires seq { db.now.header.seq ≢ 2 ^ 64 - 1 }
-    requires last { last ≡ last_for db.now.header.last (need_in (change_of leaving db.now.records made.items)) }
-    ensures { IfOk result (λ next. next ≡ changed db.now (change_of leaving db.now.records made.items)) }
+    requires last { last ≡ last_for db.now.header.last
+        (need_in (change_of leaving db.now.records made.items)) }
+    ensures { IfOk result (λ next. next ≡ changed db.now
+        (change_of leaving db.now.records made.items)) }
 {
     let header = db.header().grown_to(alloc, last, db.header().seq + 1)?;
     let mut records = stay(alloc, db, leaving)?;
@@ -39,8 +43,8 @@ fn changed(
     }
 }
 
-/// The group with these records, of which so many are new, in the places of those that leave it, where no limit is passed. The
-/// records that stay are copied only then.
+/// The group with these records, of which so many are new, in the places of those that leave it,
+/// where no limit is passed. The records that stay are copied only then.
 pub fn change(
     alloc: Global,
     db: &Db,
@@ -51,8 +55,10 @@ pub fn change(
 ) -> Result<Db, StepError>
     requires fits { All IsFitting db.now.records }
     requires areas { AreasFit labels.now }
-    requires rising { Rising db.now.records → Rising (in_order (staying leaving db.now.records ++ made.items)) }
-    ensures { StepsTo result (change_to db.now labels.now fresh (change_of leaving db.now.records made.items)) }
+    requires rising { Rising db.now.records → Rising
+        (in_order (staying leaving db.now.records ++ made.items)) }
+    ensures { StepsTo result (change_to db.now labels.now fresh
+        (change_of leaving db.now.records made.items)) }
 {
     if let Some(refusal) = first_limit(db, labels, fresh, leaving, made.as_slice()) {
         return Err(StepError::Refused(refusal));

@@ -6,7 +6,8 @@ ghost use Rattle.ldm_space.specs.declared.placed.Wanted.{Wanted};
 ghost use Rattle.ldm_edits.specs.Answers.{FindsAs, StepsTo};
 ghost use Rattle.ldm_edits.specs.Changes.{AreasFit, change_to};
 ghost use Rattle.ldm_edits.specs.Spots.{wanted_by, open_wanted, CanBePlaced, ArePlaced};
-ghost use Rattle.ldm_edits.specs.Creating.{words_of, is_same_disk, is_bad_column, is_bad_size, made_for, fresh_for};
+ghost use Rattle.ldm_edits.specs.Creating.{words_of, is_same_disk, is_bad_column, is_bad_size};
+ghost use Rattle.ldm_edits.specs.Creating.{made_for, fresh_for};
 ghost use Rattle.ldm_edits.specs.Creating.{change_for, against_layout, created_new, created};
 
 use crate::asked::{asked_disks, asked_pieces, has_twins, is_bad_length};
@@ -140,7 +141,8 @@ fn open_wanted(
     layout: &NewLayout,
 ) -> Result<Vec<Wanted>, StepError>
     requires { IsNewLayout layout.now }
-    ensures is { FindsAs result (open_wanted db.now labels.now (words_of layout.now) (against_layout layout.now)) }
+    ensures is { FindsAs result (open_wanted db.now labels.now (words_of layout.now)
+        (against_layout layout.now)) }
     ensures can { IfOk result (λ v. CanBePlaced v.items) }
 {
     let wanted = asked(alloc, db, labels, layout)?;
@@ -167,8 +169,10 @@ fn create_at(
     requires areas { AreasFit labels.now }
     requires limits { IsCreate name.now layout.now }
     requires placed { (wanted : List Wanted)
-        × ArePlaced db.now labels.now (words_of layout.now) (against_layout layout.now) wanted spots.now }
-    ensures { StepsTo result (change_to db.now labels.now (fresh_for layout.now) (change_for db.now name.now guid layout.now spots.now)) }
+        × ArePlaced db.now labels.now (words_of layout.now)
+        (against_layout layout.now) wanted spots.now }
+    ensures { StepsTo result (change_to db.now labels.now (fresh_for layout.now)
+        (change_for db.now name.now guid layout.now spots.now)) }
 {
     let fresh = fresh_for(layout);
     let Some(id) = first_new_id(db, fresh) else {

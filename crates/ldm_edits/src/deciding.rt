@@ -39,10 +39,12 @@ fn on_another(r: &Record, components: &[&Component], own: u64, disk: u64) -> boo
     has_id(components, p.parent)
 }
 
-// Whether a record is a partition on the disk of a piece, and of another component than the piece's own.
+// Whether a record is a partition on the disk of a piece, and of another component than the piece's
+// own.
 fn meets_pieces(r: &Record, components: &[&Component], wanted: &[Wanted]) -> bool
     requires { length components.now ≡ length wanted.now }
-    ensures { result ≡ on_others (r.now ∷ []) (map (λ c. c.now) components.now) (map (λ c. c.now) components.now) wanted.now }
+    ensures { result ≡ on_others (r.now ∷ []) (map (λ c. c.now) components.now)
+        (map (λ c. c.now) components.now) wanted.now }
 {
     for at in 0..wanted.len() {
         let own = components[at].head.id;
@@ -57,7 +59,8 @@ fn meets_pieces(r: &Record, components: &[&Component], wanted: &[Wanted]) -> boo
 // Whether a piece is on a disk of another component than its own. It goes over the records once.
 fn on_others(db: &Db, components: &[&Component], wanted: &[Wanted]) -> bool
     requires { length components.now ≡ length wanted.now }
-    ensures { result ≡ on_others db.now.records (map (λ c. c.now) components.now) (map (λ c. c.now) components.now) wanted.now }
+    ensures { result ≡ on_others db.now.records (map (λ c. c.now) components.now)
+        (map (λ c. c.now) components.now) wanted.now }
 {
     for r in db.as_slice() {
         if meets_pieces(r, components, wanted) {
@@ -83,7 +86,8 @@ fn is_uneven(len: u64, wanted: &[Wanted]) -> bool
 
 // Whether a component holds more than a number of the format says.
 fn is_one_full(db: &Db, components: &[&Component]) -> bool
-    ensures { result ≡ list_any (λ c. is_much (component_holds db.now.records c)) (map (λ c. c.now) components.now) }
+    ensures { result ≡ list_any (λ c. is_much (component_holds db.now.records c))
+        (map (λ c. c.now) components.now) }
 {
     for c in components {
         if held_by(db, c.head.id) > u128::from(u64::MAX) {
@@ -100,9 +104,11 @@ fn is_much_with(capacity: u128, len: u64) -> bool
     capacity > u128::from(u64::MAX) || capacity + u128::from(len) > u128::from(u64::MAX)
 }
 
-/// Whether two lengths differ, or one is 0, or the volume or the offset of a new partition is too large.
+/// Whether two lengths differ, or one is 0, or the volume or the offset of a new partition is too
+/// large.
 pub fn is_bad_growth(db: &Db, capacity: u128, components: &[&Component], wanted: &[Wanted]) -> bool
-    ensures { result ≡ is_bad_growth db.now.records capacity (map (λ c. c.now) components.now) wanted.now }
+    ensures { result ≡ is_bad_growth db.now.records capacity
+        (map (λ c. c.now) components.now) wanted.now }
 {
     let len = len_of(wanted);
     is_uneven(len, wanted) || is_much_with(capacity, len) || is_one_full(db, components)
@@ -111,7 +117,8 @@ pub fn is_bad_growth(db: &Db, capacity: u128, components: &[&Component], wanted:
 /// Whether two pieces are on one disk, or one on a disk of another component than its own.
 pub fn is_same_disk(db: &Db, components: &[&Component], wanted: &[Wanted]) -> bool
     requires { length components.now ≡ length wanted.now }
-    ensures { result ≡ (has_twins wanted.now || on_others db.now.records (map (λ c. c.now) components.now) (map (λ c. c.now) components.now) wanted.now) }
+    ensures { result ≡ (has_twins wanted.now || on_others db.now.records
+        (map (λ c. c.now) components.now) (map (λ c. c.now) components.now) wanted.now) }
 {
     has_twins(wanted) || on_others(db, components, wanted)
 }

@@ -1,5 +1,6 @@
 //! `extend`: more pieces at the end of a span or a mirror, or the first refusal.
-ghost use Rattle.std.specs.Prelude.{◌≡◌, ◌+◌, ◌-◌, ◌^◌, ◌<◌, ◌≤◌, Contains, Some, Ok, find, length, option_copied};
+ghost use Rattle.std.specs.Prelude.{◌≡◌, ◌+◌, ◌-◌, ◌^◌, ◌<◌, ◌≤◌, Contains, Some, Ok, find, length};
+ghost use Rattle.std.specs.Prelude.{option_copied};
 ghost use Rattle.std.specs.Prelude.{sum_by, true, is_some, IfOk};
 ghost use Rattle.ldm_records.specs.declared.types.Record.TheVariants as kinds;
 ghost use Rattle.ldm_made.specs.Made.{resized, with_children};
@@ -13,7 +14,8 @@ ghost use Rattle.ldm_edits.specs.Answers.{FindsAs, StepsTo};
 ghost use Rattle.ldm_edits.specs.Asked.{words_by};
 ghost use Rattle.ldm_edits.specs.Changes.{AreasFit, change_to};
 ghost use Rattle.ldm_edits.specs.Spots.{open_wanted, CanBePlaced};
-ghost use Rattle.ldm_edits.specs.Extending.{component_in, held, longer_parts, lengthened, against_longer, MayExtend};
+ghost use Rattle.ldm_edits.specs.Extending.{component_in, held, longer_parts, lengthened};
+ghost use Rattle.ldm_edits.specs.Extending.{against_longer, MayExtend};
 ghost use Rattle.ldm_edits.specs.Extending.{longer_span, extended_span};
 ghost use Rattle.ldm_layout.specs.declared.shape.Shape.TheVariants as shapes;
 ghost use Rattle.ldm_edits.specs.Extended.{extended_mirror, extended};
@@ -63,10 +65,13 @@ fn lengthened(
 ) -> Result<Vec<Record>, NoMemory>
     requires size { capacity + sum_by (λ t. t.size) spots.now < 2 ^ 64 }
     requires children { component.now.children + length spots.now < 2 ^ 64 }
-    requires volume_there { is_some (resized volume.now (capacity + sum_by (λ t. t.size) spots.now)) ≡ true }
-    requires component_there { is_some (with_children component.now (component.now.children + length spots.now)) ≡ true }
+    requires volume_there { is_some (resized volume.now
+        (capacity + sum_by (λ t. t.size) spots.now)) ≡ true }
+    requires component_there { is_some (with_children component.now
+        (component.now.children + length spots.now)) ≡ true }
     requires ids { id + length spots.now ≤ 2 ^ 64 }
-    ensures { IfOk result (λ v. v.items ≡ longer_parts volume.now component.now capacity id spots.now) }
+    ensures { IfOk result (λ v. v.items ≡ longer_parts volume.now component.now
+        capacity id spots.now) }
 {
     let size = sectors_with(capacity, spots);
     let children = component.children + spots.len() as u64;
@@ -87,7 +92,8 @@ pub fn extend(
     requires sound { IsSoundOn db.now labels.now }
     requires areas { AreasFit labels.now }
     requires limits { ArePieces pieces.now }
-    ensures { StepsTo result (extended db.now labels.now pieces.now (volume_named name.now db.now.records)) }
+    ensures { StepsTo result (extended db.now labels.now pieces.now
+        (volume_named name.now db.now.records)) }
 {
     let Some(volume) = db.volume_named(name) else {
         return Err(StepError::Refused(Refusal::NoVolume));
@@ -161,7 +167,8 @@ fn open_wanted(
 ) -> Result<Vec<Wanted>, StepError>
     requires limits { ArePieces pieces.now }
     requires held { capacity ≡ held (layout_of db.now.records volume.now) }
-    ensures is { FindsAs result (open_wanted db.now labels.now (words_by pieces.now) (against_longer db.now.records volume.now)) }
+    ensures is { FindsAs result (open_wanted db.now labels.now (words_by pieces.now)
+        (against_longer db.now.records volume.now)) }
     ensures can { IfOk result (λ v. CanBePlaced v.items) }
     ensures some { IfOk result (λ v. 1 ≤ length v.items) }
     ensures low { IfOk result (λ v. capacity < 2 ^ 64) }
@@ -191,7 +198,9 @@ fn lengthen_at(
     requires some { 1 ≤ length wanted.now }
     requires may { max_id db.now.records + length wanted.now ≤ 2 ^ 64 - 1
         → MayExtend db.now labels.now volume.now component.now wanted.now spots.now }
-    ensures { StepsTo result (change_to db.now labels.now (length wanted.now) (lengthened db.now.records volume.now component.now (held (layout_of db.now.records volume.now)) spots.now)) }
+    ensures { StepsTo result (change_to db.now labels.now (length wanted.now)
+        (lengthened db.now.records volume.now component.now
+        (held (layout_of db.now.records volume.now)) spots.now)) }
 {
     let fresh = wanted.len() as u64;
     let Some(id) = first_new_id(db, fresh) else {

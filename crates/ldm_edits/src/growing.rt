@@ -1,12 +1,14 @@
 //! The records of a mirror that is longer.
-ghost use Rattle.std.specs.Prelude.{◌≡◌, ◌+◌, ◌++◌, ◌^◌, ◌<◌, ◌≤◌, ◌∷◌, All, IfOk, Some, true, filter, is_some, length, map};
+ghost use Rattle.std.specs.Prelude.{◌≡◌, ◌+◌, ◌++◌, ◌^◌, ◌<◌, ◌≤◌, ◌∷◌, All, IfOk, Some, true};
+ghost use Rattle.std.specs.Prelude.{filter, is_some, length, map};
 ghost use Rattle.std.specs.List.{filter_map};
 ghost use Rattle.std.specs.Option.{option_map};
 ghost use Rattle.ldm_records.specs.declared.types.Record.TheVariants as kinds;
 ghost use Rattle.ldm_made.specs.Made.{resized, with_children};
 ghost use Rattle.ldm_group.specs.Looks.{is_child};
 ghost use Rattle.ldm_volumes.specs.Volumes.{there};
-ghost use Rattle.ldm_edits.specs.Mirroring.{component_at, component_holds, grown_components, grown_parts};
+ghost use Rattle.ldm_edits.specs.Mirroring.{component_at, component_holds, grown_components};
+ghost use Rattle.ldm_edits.specs.Mirroring.{grown_parts};
 ghost use Rattle.ldm_edits.specs.Mirroring.{held_in};
 ghost use Rattle.ldm_layout.specs.Parts.{extents_of, by_offset};
 
@@ -19,7 +21,8 @@ use std::alloc::Global;
 
 /// The components of a volume, in rising id.
 pub fn components_of(alloc: Global, db: &Db, volume: u64) -> Result<Vec<&Component>, NoMemory>
-    ensures { IfOk result (λ v. map (λ c. c.now) v.items ≡ filter_map component_at (filter (is_child 3 volume) db.now.records)) }
+    ensures { IfOk result (λ v. map (λ c. c.now) v.items
+        ≡ filter_map component_at (filter (is_child 3 volume) db.now.records)) }
 {
     let mut found = Vec::new(alloc);
     for r in db.as_slice() {
@@ -54,8 +57,10 @@ fn with_components(
     components: &[&Component],
 ) -> Result<Vec<Record>, NoMemory>
     requires few { All (λ c. c.now.children + 1 < 2 ^ 64) components.now }
-    requires made { All (λ c. is_some (with_children c.now (c.now.children + 1)) ≡ true) components.now }
-    ensures { IfOk result (λ v. v.items ≡ records.items ++ there (grown_components (map (λ c. c.now) components.now))) }
+    requires made { All (λ c. is_some (with_children c.now (c.now.children + 1))
+        ≡ true) components.now }
+    ensures { IfOk result (λ v. v.items ≡ records.items
+        ++ there (grown_components (map (λ c. c.now) components.now))) }
 {
     let mut records = records;
     for at in 0..components.len() {
@@ -114,12 +119,14 @@ pub fn grown(
 ) -> Result<Vec<Record>, NoMemory>
     requires volume_there { is_some (resized volume.now size) ≡ true }
     requires few { All (λ c. c.now.children + 1 < 2 ^ 64) components.now }
-    requires made { All (λ c. is_some (with_children c.now (c.now.children + 1)) ≡ true) components.now }
+    requires made { All (λ c. is_some (with_children c.now (c.now.children + 1))
+        ≡ true) components.now }
     requires one_each { length components.now ≡ length spots.now }
     requires ids { id + length spots.now ≤ 2 ^ 64 }
     requires low { All (λ c. component_holds db.now.records c.now < 2 ^ 64) components.now }
     ensures { IfOk result (λ v. v.items ≡ there (option_map kinds.Volume (resized volume.now size)
-        ∷ (grown_components (map (λ c. c.now) components.now) ++ grown_parts db.now.records id (map (λ c. c.now) components.now) spots.now))) }
+        ∷ (grown_components (map (λ c. c.now) components.now)
+        ++ grown_parts db.now.records id (map (λ c. c.now) components.now) spots.now))) }
 {
     let mut records = Vec::new(alloc);
     records.push(Record::Volume(resized(volume, alloc, size)?))?;

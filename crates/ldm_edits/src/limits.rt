@@ -1,5 +1,6 @@
 //! The limits of ids, records, blocks and the sequence.
-ghost use Rattle.std.specs.Prelude.{◌≡◌, min, unwrap_or, ◌+◌, ◌-◌, ◌^◌, ◌≤◌, ◌<◌, All, MatchOption, nat_le};
+ghost use Rattle.std.specs.Prelude.{◌≡◌, min, unwrap_or, ◌+◌, ◌-◌, ◌^◌, ◌≤◌, ◌<◌, All, MatchOption};
+ghost use Rattle.std.specs.Prelude.{nat_le};
 ghost use Rattle.std.specs.Option.{option_map};
 ghost use Rattle.ldm_bytes.specs.Tables.{first_of};
 ghost use Rattle.ldm_group.specs.Looks.{max_id};
@@ -25,7 +26,8 @@ fn has_ids(db: &Db, fresh: u64) -> bool
 /// The first id of so many new records; none where there are fewer left.
 pub fn first_new_id(db: &Db, fresh: u64) -> Option<u64>
     requires { 1 ≤ fresh }
-    ensures { MatchOption result (2 ^ 64 - 1 < max_id db.now.records + fresh) (λ id. (id ≡ max_id db.now.records + 1)
+    ensures { MatchOption result (2 ^ 64 - 1 < max_id db.now.records + fresh)
+        (λ id. (id ≡ max_id db.now.records + 1)
         × (max_id db.now.records + fresh ≤ 2 ^ 64 - 1)) }
 {
     if has_ids(db, fresh) {
@@ -99,7 +101,8 @@ pub fn need_after(db: &Db, leaving: Leaving, made: &[Record]) -> u64
 fn later_limit(db: &Db, labels: &Labels, leaving: Leaving, made: &[Record]) -> Option<Refusal>
     requires fits { All IsFitting db.now.records }
     requires areas { AreasFit labels.now }
-    ensures { result ≡ first_of (later_limits db.now labels.now (change_of leaving db.now.records made.now)) }
+    ensures { result ≡ first_of (later_limits db.now labels.now
+        (change_of leaving db.now.records made.now)) }
 {
     if let Some(id) = long_id(made) {
         return Some(Refusal::TooLong(id));
@@ -115,7 +118,8 @@ fn later_limit(db: &Db, labels: &Labels, leaving: Leaving, made: &[Record]) -> O
     None
 }
 
-/// The first reason why these records, of which so many are new, can't take the places of those that leave the group.
+/// The first reason why these records, of which so many are new, can't take the places of those
+/// that leave the group.
 pub fn first_limit(
     db: &Db,
     labels: &Labels,
@@ -125,7 +129,8 @@ pub fn first_limit(
 ) -> Option<Refusal>
     requires fits { All IsFitting db.now.records }
     requires areas { AreasFit labels.now }
-    ensures { result ≡ first_of (limits db.now labels.now fresh (change_of leaving db.now.records made.now)) }
+    ensures { result ≡ first_of (limits db.now labels.now fresh
+        (change_of leaving db.now.records made.now)) }
 {
     if has_ids(db, fresh) {
         later_limit(db, labels, leaving, made)

@@ -1,5 +1,6 @@
 //! `extend` of a mirror: a piece more for each component, or the first refusal.
-ghost use Rattle.std.specs.Prelude.{◌≡◌, ◌+◌, ◌-◌, ◌^◌, ◌≤◌, false, length, map, Some, is_some, Contains, IfOk};
+ghost use Rattle.std.specs.Prelude.{◌≡◌, ◌+◌, ◌-◌, ◌^◌, ◌≤◌, false, length, map, Some, is_some};
+ghost use Rattle.std.specs.Prelude.{Contains, IfOk};
 ghost use Rattle.ldm_records.specs.declared.types.Record.TheVariants as kinds;
 ghost use Rattle.ldm_group.specs.Looks.{max_id};
 ghost use Rattle.ldm_layout.specs.declared.shape.Shape.TheVariants.{Mirror};
@@ -42,12 +43,15 @@ fn open_wanted(
     components: &[&Component],
     pieces: &[Piece],
 ) -> Result<Vec<Wanted>, StepError>
-    requires components { map (λ c. c.now) components.now ≡ components_of volume.now db.now.records }
+    requires components { map (λ c. c.now) components.now
+        ≡ components_of volume.now db.now.records }
     requires held { capacity ≡ held (layout_of db.now.records volume.now) }
     requires one_each { length pieces.now ≡ length components.now }
-    ensures is { FindsAs result (open_wanted db.now labels.now (words_by pieces.now) (against_growth db.now.records volume.now)) }
+    ensures is { FindsAs result (open_wanted db.now labels.now (words_by pieces.now)
+        (against_growth db.now.records volume.now)) }
     ensures can { IfOk result (λ v. CanBePlaced v.items) }
-    ensures even { IfOk result (λ v. IsEven db.now.records capacity (components_of volume.now db.now.records) v.items) }
+    ensures even { IfOk result (λ v. IsEven db.now.records capacity
+        (components_of volume.now db.now.records) v.items) }
     ensures one_each { IfOk result (λ v. length v.items ≡ length components.now) }
 {
     let wanted = asked_pieces(alloc, db, labels, pieces)?;
@@ -74,14 +78,18 @@ fn grow(
     requires sound { IsSoundOn db.now labels.now }
     requires areas { AreasFit labels.now }
     requires rising { Rising db.now.records }
-    requires components { map (λ c. c.now) components.now ≡ components_of volume.now db.now.records }
-    requires even { IsEven db.now.records capacity (components_of volume.now db.now.records) wanted.now }
+    requires components { map (λ c. c.now) components.now
+        ≡ components_of volume.now db.now.records }
+    requires even { IsEven db.now.records capacity
+        (components_of volume.now db.now.records) wanted.now }
     requires held { capacity ≡ held (layout_of db.now.records volume.now) }
     requires one_each { length wanted.now ≡ length components.now }
     requires some { 1 ≤ length wanted.now }
     requires may { max_id db.now.records + length wanted.now ≤ 2 ^ 64 - 1
         → MayGrow db.now labels.now volume.now (len_of wanted.now) wanted.now spots.now }
-    ensures { StepsTo result (change_to db.now labels.now (length wanted.now) (grown db.now.records volume.now (held (layout_of db.now.records volume.now) + len_of wanted.now) spots.now)) }
+    ensures { StepsTo result (change_to db.now labels.now (length wanted.now)
+        (grown db.now.records volume.now (held (layout_of db.now.records volume.now)
+        + len_of wanted.now) spots.now)) }
 {
     let fresh = wanted.len() as u64;
     let Some(id) = first_new_id(db, fresh) else {

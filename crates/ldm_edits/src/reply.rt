@@ -22,10 +22,11 @@ pub enum Refusal {
     PieceCount(usize),
     /// The disk word of this number, from 0 on, names no disk.
     NoDisk(usize),
-    /// Two disk words of a stripe, mirror or RAID-5 name one disk, or a mirror is to be extended on the disk of another
-    /// of its components.
+    /// Two disk words of a stripe, mirror or RAID-5 name one disk, or a mirror is to be extended on
+    /// the disk of another of its components.
     SameDisk,
-    /// A length or chunk is 0, the sectors of a column are no whole number of chunks, or the volume's size is 2^64 or more.
+    /// A length or chunk is 0, the sectors of a column are no whole number of chunks, or the
+    /// volume's size is 2^64 or more.
     BadSize,
     /// The piece or disk word of this number, from 0 on, finds no free sectors.
     NoSpace(usize),

@@ -35,7 +35,8 @@ fn largest(labels: &[Label]) -> u64
     labels.iter().map(|l| l.data_size).max().unwrap_or(0)
 }
 
-// A law of the types: the records rise, and the sizes that the labels say and the last VBLK sequence are numbers of the format.
+// A law of the types: the records rise, and the sizes that the labels say and the last VBLK
+// sequence are numbers of the format.
 fn types_hold(db: &Db, labels: &Labels)
     ensures rising { Rising db.now.records }
     ensures low { All (λ l. l.data_size < 2 ^ 64) labels.now }
@@ -75,14 +76,16 @@ fn next_of(alloc: Global, db: &Db, labels: &Labels, command: &Command) -> Result
     }
 }
 
-/// What a create, an extend or a delete makes of the group, whose images have these labels. It never answers BadLine.
+/// What a create, an extend or a delete makes of the group, whose images have these labels. It
+/// never answers BadLine.
 pub fn step(alloc: Global, db: &Db, labels: &Labels, command: &Command) -> Result<Outcome, NoMemory>
     requires sound { IsSoundOn db.now labels.now }
     requires areas { AreasFit labels.now }
     requires limits { IsCommand command.now }
     requires change { IsChange command.now }
     ensures is { IfOk result (λ outcome. StepsAs outcome (next_of db.now labels.now command.now)) }
-    ensures keeps { IfOk result (λ outcome. (next : _) → outcome ≡ Next next → Keeps labels.now db.now next) }
+    ensures keeps { IfOk result (λ outcome. (next : _) → outcome ≡ Next next
+        → Keeps labels.now db.now next) }
 {
     types_hold(db, labels);
     match next_of(alloc, db, labels, command) {

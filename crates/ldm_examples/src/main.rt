@@ -1,5 +1,6 @@
-//! Writes the images of the three disks of a usual group into a folder, as `a.img`, `b.img` and `c.img`.
-//! They are examples for `ldm`. It writes over no file: where one of the names is taken, it writes none.
+//! Writes the images of the three disks of a usual group into a folder, as `a.img`, `b.img` and
+//! `c.img`. They are examples for `ldm`. It writes over no file: where one of the names is taken,
+//! it writes none.
 #![tactic(auto)]
 
 ghost use Rattle.std.specs.Prelude.{◌≡◌, ◌++◌, IfOk, codes, string_bytes};

@@ -1,5 +1,6 @@
 //! A host over files, standard input and standard output.
-ghost use Rattle.std.specs.Prelude.{◌≡◌, ◌≤◌, ◌<◌, ◌+◌, ◌-◌, ◌^◌, length, map, min, set, slice_index, IfOk, IsErr, is_ok};
+ghost use Rattle.std.specs.Prelude.{◌≡◌, ◌≤◌, ◌<◌, ◌+◌, ◌-◌, ◌^◌, length, map, min, set};
+ghost use Rattle.std.specs.Prelude.{slice_index, IfOk, IsErr, is_ok};
 ghost use Rattle.ldm_host.specs.Moves.{Rose};
 ghost use Rattle.ldm_files.specs.Watched.{lines_in};
 
@@ -34,7 +35,8 @@ pub enum Failure {
 
 /// The images are files. It tells nothing of what is in them, of what is said and of what is heard:
 /// what the clauses say of it is how long the files are, which counts rose, and what it was handed.
-/// Of calls that fail it keeps the last, and of what it reads and says it counts what it is asked to.
+/// Of calls that fail it keeps the last, and of what it reads and says it counts what it is asked
+/// to.
 #[derive(Drop)]
 pub struct FileHost<'a, I, O> {
     images: Vec<ImageFile>,
@@ -100,7 +102,8 @@ impl<'a, I, O> FileHost<'a, I, O> {
 // Counts bytes that were handed, up to the counter's last value.
 fn hand(wrote: &mut Vec<u64>, disk: usize, n: usize)
     requires { disk < length wrote.old.items }
-    ensures { wrote.new.items ≡ set wrote.old.items disk (min (slice_index wrote.old.items disk + n) (2 ^ 64 - 1)) }
+    ensures { wrote.new.items ≡ set wrote.old.items disk
+        (min (slice_index wrote.old.items disk + n) (2 ^ 64 - 1)) }
 {
     wrote[disk] = wrote[disk].saturating_add(n as u64);
 }
@@ -149,7 +152,8 @@ fn keep_failure(failure: &mut Option<Failure>, image: usize, call: DiskCall, don
 }
 
 impl<I: Read, O: Write> Host for FileHost<'_, I, O> {
-    ghost use Rattle.ldm_files.specs.FileSeen.{file_seen, file_counts_each, file_counts_now, file_only_now};
+    ghost use Rattle.ldm_files.specs.FileSeen.{file_seen, file_counts_each, file_counts_now};
+    ghost use Rattle.ldm_files.specs.FileSeen.{file_only_now};
 
     ghost seen = { λ host. file_seen (map (λ image. image.sectors) host.images.items) host.disk_faults host.talk_faults host.wrote.items };
 

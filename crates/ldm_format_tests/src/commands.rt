@@ -113,8 +113,8 @@ fn push_job(alloc: Global, text: &mut Vec<u8>, job: &Job) -> Result<(), Fail> {
     }
 }
 
-// What a line is read as: the number of images, and the job with its values, each behind a space. Nothing, where it has no
-// reading.
+// What a line is read as: the number of images, and the job with its values, each behind a space.
+// Nothing, where it has no reading.
 fn reading(alloc: Global, line: &str) -> Result<Option<Vec<u8>>, Fail> {
     let (job, images) = match read_words(alloc, &words_of(alloc, line)?) {
         Ok(read) => read,

@@ -101,8 +101,8 @@ fn has_fault(
     answers(host_of(rt, alloc, image), want)
 }
 
-// The entry of an LDM disk is the fourth; copies that have a fault of their own, and tables that don't
-// parse, are ignored.
+// The entry of an LDM disk is the fourth; copies that have a fault of their own, and tables that
+// don't parse, are ignored.
 const USUAL_ROWS: &str = "
 M+1c2=00 M+1f2=42
 P3+0=0000000000000000 P2+0=70

@@ -52,8 +52,8 @@ fn push_word(rt: &impl Abort, bytes: &mut Vec<u8>, word: &[u8]) {
     }
 }
 
-// The bytes of a text of words: `zN` is N zeros, `lN` the length N in four bytes, `'text` the text's
-// bytes, and any other word is in hexadecimal digits.
+// The bytes of a text of words: `zN` is N zeros, `lN` the length N in four bytes, `'text` the
+// text's bytes, and any other word is in hexadecimal digits.
 pub(crate) fn bytes_of(rt: &impl Abort, alloc: Global, text: &str) -> Vec<u8> {
     let mut bytes = Vec::new(alloc);
     for word in text.split_whitespace() {

@@ -1,5 +1,6 @@
 //! The copies of several images: the newest, and whether another differs from it.
-ghost use Rattle.std.specs.Prelude.{◌≡◌, ◌+◌, ◌<◌, [], ◌∷◌, ◌++◌, List, length, take, zip, slice_index, Ok, IfOk};
+ghost use Rattle.std.specs.Prelude.{◌≡◌, ◌+◌, ◌<◌, [], ◌∷◌, ◌++◌, List, length, take, zip};
+ghost use Rattle.std.specs.Prelude.{slice_index, Ok, IfOk};
 ghost use Rattle.std.specs.Prelude.{IfErr, IfSome, IsErrOf};
 ghost use Rattle.ldm_host.specs.Seen.{image};
 ghost use Rattle.ldm_host.specs.Moves.{Looks};
@@ -9,7 +10,8 @@ ghost use Rattle.ldm_copy.specs.Answers.{FitsHeader};
 ghost use Rattle.ldm_found.specs.Copies.{IsCopyIn, note_of};
 ghost use Rattle.ldm_found.specs.Facts.{LieOn};
 ghost use Rattle.ldm_found.specs.Gathers.{Gathers};
-ghost use Rattle.ldm_found.specs.Steps.{Adds, ReadsCopy, ReadsNext, ReadsCopies, IsNewestOf, IsAmong, IsRoomy};
+ghost use Rattle.ldm_found.specs.Steps.{Adds, ReadsCopy, ReadsNext, ReadsCopies, IsNewestOf};
+ghost use Rattle.ldm_found.specs.Steps.{IsAmong, IsRoomy};
 
 use crate::fault::{OpenError, OpenFault};
 use crate::notes::{Note, Notes};
@@ -19,8 +21,8 @@ use ldm_host::Host;
 use ldm_label::Label;
 use std::alloc::Global;
 
-/// The first image with the greatest sequence, its database, and the first image that has another group
-/// at that sequence.
+/// The first image with the greatest sequence, its database, and the first image that has another
+/// group at that sequence.
 #[derive(Drop)]
 pub struct Newest {
     pub image: usize,
@@ -44,7 +46,11 @@ fn copy_at<H: Host>(
 ) -> Result<CopyState, OpenError>
     requires disk { disk < length (H.seen host.old).sizes }
     requires fits { Fits label.now (slice_index (H.seen host.old).sizes disk) }
-    ensures is { H.tells_disks → ReadsCopy disk (label.now, image (H.seen host.old).content disk) result }
+    ensures is { H.tells_disks → ReadsCopy disk (
+      label.now,
+      image
+          (H.seen host.old).content disk,
+    ) result }
     ensures room { IfOk result (λ copy. IsRoomy copy) }
     ensures looks { Looks (H.seen host.old) (H.seen host.new) (IsErrOf result OpenError.Disk) }
 {
@@ -97,7 +103,8 @@ fn with_copy(newest: Option<Newest>, image: usize, copy: CopyState) -> Option<Ne
     Some(newest)
 }
 
-// What is noted of the next image, whose copy has the same bytes as the newest so far. None where it hasn't.
+// What is noted of the next image, whose copy has the same bytes as the newest so far. None where
+// it hasn't.
 fn note_alike<H: Host>(
     host: &mut H,
     disk: usize,
@@ -110,7 +117,8 @@ fn note_alike<H: Host>(
     requires lie { LieOn labels.now (H.seen host.old).sizes }
     requires newest { IfSome newest.now (λ n. IsAmong disk n) }
     ensures is { H.tells_disks → IfOk result (λ note. IfSome note (λ note. (copies : List CopyState)
-        → Gathers IsCopyIn (take disk (zip labels.now (H.seen host.old).content)) (Ok copies) → IsNewestOf copies newest.now
+        → Gathers IsCopyIn (take disk (zip labels.now (H.seen host.old).content)) (Ok copies)
+        → IsNewestOf copies newest.now
         → Adds (label.now, image (H.seen host.old).content disk) copies newest.now note)) }
     ensures error { IfErr result (λ error. error ≡ OpenError.Disk) }
     ensures looks { Looks (H.seen host.old) (H.seen host.new) (IsErrOf result OpenError.Disk) }
@@ -126,8 +134,8 @@ fn note_alike<H: Host>(
     Ok(Some(Note::Sequence(header.seq)))
 }
 
-// The newest of the copies so far and that on the next image, and a note of this one. Where it has the same
-// bytes as the newest, it isn't read again.
+// The newest of the copies so far and that on the next image, and a note of this one. Where it has
+// the same bytes as the newest, it isn't read again.
 fn with_image<H: Host>(
     alloc: Global,
     host: &mut H,
@@ -141,7 +149,8 @@ fn with_image<H: Host>(
     requires lie { LieOn labels.now (H.seen host.old).sizes }
     requires newest { IfSome newest (λ n. IsAmong disk n) }
     ensures is { H.tells_disks → (copies : List CopyState)
-        → Gathers IsCopyIn (take disk (zip labels.now (H.seen host.old).content)) (Ok copies) → IsNewestOf copies newest
+        → Gathers IsCopyIn (take disk (zip labels.now (H.seen host.old).content)) (Ok copies)
+        → IsNewestOf copies newest
         → ReadsNext disk (label.now, image (H.seen host.old).content disk) copies result }
     ensures room { IfOk result (λ next. IfSome next.0 (λ n. IsAmong (disk + 1) n)) }
     ensures looks { Looks (H.seen host.old) (H.seen host.new) (IsErrOf result OpenError.Disk) }
@@ -154,9 +163,9 @@ fn with_image<H: Host>(
     Ok((with_copy(newest, disk, copy), note))
 }
 
-/// The newest of the copies on all images, which have these labels, and a note of each, or the first
-/// fault. At most two databases are kept at a time, and a copy with the same bytes as the newest isn't
-/// read into one.
+/// The newest of the copies on all images, which have these labels, and a note of each, or the
+/// first fault. At most two databases are kept at a time, and a copy with the same bytes as the
+/// newest isn't read into one.
 pub fn read_copies<H: Host>(
     alloc: Global,
     host: &mut H,

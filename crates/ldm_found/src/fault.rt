@@ -9,9 +9,11 @@ use ldm_label::LabelFault;
 use ldm_rules::RuleFault;
 use std::alloc::AllocFailed;
 
-/// What is wrong with the images of a group. Images are counted from 0; of several the least is named.
+/// What is wrong with the images of a group. Images are counted from 0; of several the least is
+/// named.
 ///
-/// The faults up to `Rule` say why there is no group, in the order in which they are looked for. From
+/// The faults up to `Rule` say why there is no group, in the order in which they are looked for.
+/// From
 /// `Absent` on they say why a group that was found may not be edited, again in their order.
 #[derive(Clone, Copy, PartialEq, Eq)]
 pub enum OpenFault {

@@ -15,14 +15,15 @@ use crate::found::Found;
 use ldm_host::Host;
 use std::alloc::Global;
 
-/// The group that the images hold, or the first fault. `Disk` comes only where a call of a disk failed.
-/// It reads the label of each image, and then each copy, of those with the same bytes one after another
-/// only the first; it keeps two copies at most.
+/// The group that the images hold, or the first fault. `Disk` comes only where a call of a disk
+/// failed. It reads the label of each image, and then each copy, of those with the same bytes one
+/// after another only the first; it keeps two copies at most.
 pub fn find_group<H: Host>(alloc: Global, host: &mut H) -> Result<Found, OpenError>
     requires { 0 < length (H.seen host.old).sizes }
     // What is answered is the group in the images, and there is one.
     ensures found { H.tells_disks → FindsIn (H.seen host.old).content result }
-    ensures one { (a b : Result Found OpenFault) → IsGroupIn (H.seen host.old).content a → IsGroupIn (H.seen host.old).content b
+    ensures one { (a b : Result Found OpenFault) → IsGroupIn (H.seen host.old).content a
+        → IsGroupIn (H.seen host.old).content b
         → a ≡ b }
     // For every host, these facts hold of the group.
     ensures sound { IfOk result (λ found. IsSoundGroup found) }

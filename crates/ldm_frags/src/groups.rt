@@ -1,5 +1,6 @@
 //! Groups of fragments, by their number.
-ghost use Rattle.std.specs.Prelude.{◌≡◌, ◌≤◌, ◌<◌, ◌+◌, ℕ, List, true, None, unwrap_or, OnOk, is_some};
+ghost use Rattle.std.specs.Prelude.{◌≡◌, ◌≤◌, ◌<◌, ◌+◌, ℕ, List, true, None, unwrap_or, OnOk};
+ghost use Rattle.std.specs.Prelude.{is_some};
 ghost use Rattle.std.specs.Ordering.{nat_cmp};
 ghost use Rattle.std.specs.BTreeMap.{get};
 ghost use Rattle.ldm_frags.specs.Blocks.{count, is_part, all_below, least_below};
@@ -61,7 +62,8 @@ pub fn has_all(groups: &Groups, number: u32, parts: u16) -> bool
 pub fn place_of(groups: &Groups, pieces: &[Piece], number: u32, part: u16) -> usize
     requires table { IsTable (blocks_of pieces.now) (count (blocks_of pieces.now)) groups.now }
     requires few { part < 4 }
-    ensures { result ≡ least_below (count (blocks_of pieces.now)) (is_part (blocks_of pieces.now) number part) }
+    ensures { result ≡ least_below (count (blocks_of pieces.now))
+        (is_part (blocks_of pieces.now) number part) }
 {
     match place(groups, number, part) {
         Some(k) => k as usize,

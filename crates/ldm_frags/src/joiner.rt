@@ -1,5 +1,7 @@
 //! Blocks that are taken one by one, or all at once.
-ghost use Rattle.std.specs.Prelude.{◌≡◌, ◌≤◌, ◌<◌, ◌+◌, ◌%◌, ◌++◌, ◌∷◌, [], ◌↔◌, ℕ, List, Some, None, Err, length, is_some, vec_len, IfOk, IfErr, OnOk, OnErr, MatchResult};
+ghost use Rattle.std.specs.Prelude.{◌≡◌, ◌≤◌, ◌<◌, ◌+◌, ◌%◌, ◌++◌, ◌∷◌, [], ◌↔◌, ℕ, List, Some};
+ghost use Rattle.std.specs.Prelude.{None, Err, length, is_some, vec_len, IfOk, IfErr, OnOk, OnErr};
+ghost use Rattle.std.specs.Prelude.{MatchResult};
 ghost use Rattle.std.specs.Ordering.{nat_cmp};
 ghost use Rattle.std.specs.BTreeMap.{get};
 ghost use Rattle.ldm_frags.specs.declared.faults.FragFault.{FragFault};
@@ -50,7 +52,8 @@ impl Model for Joiner {
 
 // The fault of the block of this number. The table has the blocks before it.
 fn fault_of(groups: &Groups, number: u32, block: &[u8; 128]) -> Option<FragFault>
-    ensures { result ≡ fault_by number (has_magic block.now 0) (part block.now 0) (parts block.now 0)
+    ensures { result ≡ fault_by number (has_magic block.now 0) (part block.now 0)
+        (parts block.now 0)
         (has_other (get nat_cmp groups.now (group block.now 0)) (parts block.now 0))
         (is_some (place_in (get nat_cmp groups.now (group block.now 0)) (part block.now 0))) }
 {
@@ -85,9 +88,11 @@ fn keep(
 ) -> Result<(), NoMemory>
     requires few { vec_len pieces.old < 8192 }
     requires kept { IsKept pieces.old.items groups.old }
-    requires sound { block_fault (blocks_of pieces.old.items ++ block.now) (length pieces.old.items) ≡ None }
+    requires sound { block_fault (blocks_of pieces.old.items ++ block.now)
+        (length pieces.old.items) ≡ None }
     ensures kept { OnOk result (IsKept pieces.new.items groups.new) }
-    ensures added { OnOk result ((piece : Piece) × (pieces.new.items ≡ pieces.old.items ++ piece ∷ [])
+    ensures added { OnOk result ((piece : Piece) × (pieces.new.items
+        ≡ pieces.old.items ++ piece ∷ [])
         × IsNext pieces.old.items piece block.now) }
     ensures stays { OnErr result (pieces.new.items ≡ pieces.old.items) }
 {
@@ -107,7 +112,8 @@ fn add(
     requires few { vec_len pieces.old < 8192 }
     requires kept { IsKept pieces.old.items groups.old }
     ensures kept { OnOk result (IsKept pieces.new.items groups.new) }
-    ensures added { OnOk result ((piece : Piece) × (pieces.new.items ≡ pieces.old.items ++ piece ∷ [])
+    ensures added { OnOk result ((piece : Piece) × (pieces.new.items
+        ≡ pieces.old.items ++ piece ∷ [])
         × IsNext pieces.old.items piece block.now) }
     ensures stays { OnErr result (pieces.new.items ≡ pieces.old.items) }
     ensures fault { IfErr result (λ error. IsFault error
@@ -121,7 +127,8 @@ fn add(
 }
 
 impl Joiner {
-    ghost use Rattle.std.specs.Prelude.{◌≡◌, ◌≤◌, ◌<◌, ◌+◌, ◌%◌, ◌++◌, [], ℕ, List, Some, None, Err, length, IfOk, IfErr, OnOk, MatchResult};
+    ghost use Rattle.std.specs.Prelude.{◌≡◌, ◌≤◌, ◌<◌, ◌+◌, ◌%◌, ◌++◌, [], ℕ, List, Some, None};
+    ghost use Rattle.std.specs.Prelude.{Err, length, IfOk, IfErr, OnOk, MatchResult};
     ghost use Rattle.ldm_frags.specs.declared.faults.FragError.{FragError};
     ghost use Rattle.ldm_frags.specs.Blocks.{count};
     ghost use Rattle.ldm_frags.specs.Faults.{block_fault, first_block_fault};
@@ -152,7 +159,8 @@ impl Joiner {
             (λ error. IsFault error (block_fault (blocks ++ block.now) (count blocks))) }
         // Its fault is the first of all that begins with these blocks.
         ensures first { (blocks rest : List ℕ) → IsFed self.old blocks
-            → IfErr result (λ error. IsFault error (first_block_fault (blocks ++ block.now ++ rest))) }
+            → IfErr result (λ error. IsFault error (first_block_fault
+            (blocks ++ block.now ++ rest))) }
         ensures taken { OnOk result (count self.new.blocks ≡ count self.old.blocks + 1) }
         ensures limit { self.new.limit ≡ self.old.limit }
         // With an error it has failed, and is as it was otherwise.
@@ -169,15 +177,18 @@ impl Joiner {
         Ok(())
     }
 
-    /// Takes the next blocks one by one, up to the first that has a fault. After an error the joiner answers that error
-    /// to every call, also where it is fed no block.
+    /// Takes the next blocks one by one, up to the first that has a fault. After an error the
+    /// joiner answers that error to every call, also where it is fed no block.
     pub fn feed_all(&mut self, blocks: &[u8]) -> Result<(), FragError>
         requires whole { length blocks.now % 128 ≡ 0 }
         requires room { count self.old.blocks + count blocks.now ≤ self.old.limit }
-        ensures fed { (fed : List ℕ) → IsFed self.old fed → OnOk result (IsFed self.new (fed ++ blocks.now)) }
+        ensures fed { (fed : List ℕ) → IsFed self.old fed
+            → OnOk result (IsFed self.new (fed ++ blocks.now)) }
         ensures first { (fed rest : List ℕ) → IsFed self.old fed
-            → IfErr result (λ error. IsFault error (first_block_fault (fed ++ blocks.now ++ rest))) }
-        ensures taken { OnOk result (count self.new.blocks ≡ count self.old.blocks + count blocks.now) }
+            → IfErr result (λ error. IsFault error (first_block_fault
+            (fed ++ blocks.now ++ rest))) }
+        ensures taken { OnOk result (count self.new.blocks
+            ≡ count self.old.blocks + count blocks.now) }
         ensures limit { self.new.limit ≡ self.old.limit }
         // With an error it has failed with that error, and of what it keeps nothing is said.
         ensures fails { IfErr result (λ error. self.new.failed ≡ Some error) }
@@ -195,8 +206,8 @@ impl Joiner {
         Ok(())
     }
 
-    /// The records that the blocks hold, in the order of their whole blocks and blocks of part 0, or the first block whose
-    /// group lacks a part.
+    /// The records that the blocks hold, in the order of their whole blocks and blocks of part 0,
+    /// or the first block whose group lacks a part.
     pub fn finish(self) -> Result<Vec<Joined>, FragError>
         ensures answers { (blocks : List ℕ) → IsFed self blocks → Answers blocks result }
         ensures failed { (error : FragError) → self.failed ≡ Some error → result ≡ Err error }
@@ -219,8 +230,8 @@ fn join_each(alloc: Global, blocks: &[u8]) -> Result<Vec<Joined>, FragError>
     joiner.finish()
 }
 
-/// The records that the blocks hold, in the order of their whole blocks and blocks of part 0, or the
-/// first fault. `blocks` is the blocks from number 4 on.
+/// The records that the blocks hold, in the order of their whole blocks and blocks of part 0, or
+/// the first fault. `blocks` is the blocks from number 4 on.
 pub fn join(alloc: Global, blocks: &[u8]) -> Result<Vec<Joined>, FragError>
     requires whole { length blocks.now % 128 ≡ 0 }
     requires small { length blocks.now ≤ 1048576 }
@@ -228,10 +239,12 @@ pub fn join(alloc: Global, blocks: &[u8]) -> Result<Vec<Joined>, FragError>
     // A list is answered exactly where it is joined.
     ensures joined { (list : List Joined) → Joins blocks.now list → Gives result list }
     // Each fault is answered exactly where it is the first.
-    ensures refused { (fault : FragFault) → first_block_fault blocks.now ≡ Some fault → Refuses result fault }
+    ensures refused { (fault : FragFault) → first_block_fault blocks.now ≡ Some fault
+        → Refuses result fault }
 
     // There is a fault exactly where no list is joined, and at most one list is.
-    ensures faultless { (first_block_fault blocks.now ≡ None) ↔ ((list : List Joined) × Joins blocks.now list) }
+    ensures faultless { (first_block_fault blocks.now ≡ None)
+        ↔ ((list : List Joined) × Joins blocks.now list) }
     ensures one { (a b : List Joined) → Joins blocks.now a → Joins blocks.now b → a ≡ b }
     // Blocks that hold records join to these, wherever their parts stand.
     ensures held { (records : List Placed) → Holds blocks.now records

@@ -30,7 +30,8 @@ fn missing_of(groups: &Groups, pieces: &[Piece], k: usize) -> Option<FragFault>
 fn first_missing(groups: &Groups, pieces: &[Piece]) -> Option<FragFault>
     requires kept { IsKept pieces.now groups.now }
     requires small { length pieces.now ≤ 8192 }
-    ensures { result ≡ first_below (count (blocks_of pieces.now)) (missing_fault (blocks_of pieces.now)) }
+    ensures { result ≡ first_below (count (blocks_of pieces.now))
+        (missing_fault (blocks_of pieces.now)) }
 {
     for k in 0..pieces.len() {
         if let Some(fault) = missing_of(groups, pieces, k) {
@@ -113,8 +114,10 @@ fn push_entry(
 fn all_entries(alloc: Global, groups: &Groups, pieces: &[Piece]) -> Result<Vec<Joined>, NoMemory>
     requires kept { IsKept pieces.now groups.now }
     requires small { length pieces.now ≤ 8192 }
-    requires complete { first_below (count (blocks_of pieces.now)) (missing_fault (blocks_of pieces.now)) ≡ None }
-    ensures { IfOk result (λ v. v.items ≡ entries (blocks_of pieces.now) (count (blocks_of pieces.now))) }
+    requires complete { first_below (count (blocks_of pieces.now))
+        (missing_fault (blocks_of pieces.now)) ≡ None }
+    ensures { IfOk result (λ v. v.items ≡ entries (blocks_of pieces.now)
+        (count (blocks_of pieces.now))) }
 {
     let mut out = Vec::new(alloc);
     for k in 0..pieces.len() {

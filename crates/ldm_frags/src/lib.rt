@@ -1,8 +1,8 @@
 //! Records in blocks, both ways: the payloads that a list of blocks holds, and the blocks that hold
 //! a list of payloads.
 //!
-//! A block has 128 bytes: a head of 16 bytes and a payload of 112. A record that takes more than one
-//! block stands in the fragments of a group, which may lie anywhere among the blocks.
+//! A block has 128 bytes: a head of 16 bytes and a payload of 112. A record that takes more than
+//! one block stands in the fragments of a group, which may lie anywhere among the blocks.
 #![tactic(auto)]
 
 mod blocks;

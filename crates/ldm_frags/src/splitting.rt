@@ -2,7 +2,8 @@
 ghost use Rattle.std.specs.Prelude.{◌≡◌, ◌+◌, ◌*◌, ◌≤◌, ◌<◌, length, map, All, IfOk};
 ghost use Rattle.ldm_frags.specs.Blocks.{count};
 ghost use Rattle.ldm_frags.specs.Joins.{Joins};
-ghost use Rattle.ldm_frags.specs.Written.{parts_of, need_of, IsSized, IsPlaced, Holds, AddsUnused, in_order, joined_of};
+ghost use Rattle.ldm_frags.specs.Written.{parts_of, need_of, IsSized, IsPlaced, Holds, AddsUnused};
+ghost use Rattle.ldm_frags.specs.Written.{in_order, joined_of};
 ghost use Rattle.ldm_frags.specs.Answers.{SplitAnswers};
 
 use crate::SplitError;
@@ -60,8 +61,8 @@ fn write_all(out: &mut [u8], payloads: &[Bytes])
     write_rest(out, next, end);
 }
 
-/// The blocks from number 4 on that hold records of these payloads, in their order and without gaps,
-/// and then unused blocks.
+/// The blocks from number 4 on that hold records of these payloads, in their order and without
+/// gaps, and then unused blocks.
 pub fn split(alloc: Global, payloads: &[Bytes], blocks: u32) -> Result<Bytes, SplitError>
     requires sized { All IsSized payloads.now }
     requires few { blocks ≤ 8192 }

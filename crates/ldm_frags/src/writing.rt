@@ -1,8 +1,10 @@
 //! Blocks as they are written, and whether they are written so.
-ghost use Rattle.std.specs.Prelude.{◌≡◌, ◌≢◌, ◌↔◌, ℕ, ◌+◌, ◌-◌, ◌*◌, ◌≤◌, ◌<◌, ◌++◌, length, replicate, IsTrue, All, AllPairs};
+ghost use Rattle.std.specs.Prelude.{◌≡◌, ◌≢◌, ◌↔◌, ℕ, ◌+◌, ◌-◌, ◌*◌, ◌≤◌, ◌<◌, ◌++◌, length};
+ghost use Rattle.std.specs.Prelude.{replicate, IsTrue, All, AllPairs};
 ghost use Rattle.ldm_bytes.specs.Places.{put};
 ghost use Rattle.ldm_frags.specs.Blocks.{count};
-ghost use Rattle.ldm_frags.specs.Written.{parts_of, part_bytes, head, written_block, unused_block, block_at, IsInUse, IsPlaced};
+ghost use Rattle.ldm_frags.specs.Written.{parts_of, part_bytes, head, written_block, unused_block};
+ghost use Rattle.ldm_frags.specs.Written.{block_at, IsInUse, IsPlaced};
 
 use crate::slots::Slots;
 use crate::splitting::parts_of;
@@ -45,7 +47,8 @@ fn write_block(out: &mut [u8], number: u32, group: u32, part: u16, parts: u16, b
     requires within { number < count out.old + 4 }
     requires short { length bytes.now ≤ 112 }
     ensures { out.new ≡ put out.old (128 * (number - 4))
-        (written_block number group part parts (bytes.now ++ replicate (112 - length bytes.now) 0)) }
+        (written_block number group part parts (bytes.now
+        ++ replicate (112 - length bytes.now) 0)) }
 {
     let at = 128 * (number as usize - 4);
     put_bytes(out, at, &head_of(number, group, part, parts));
@@ -56,14 +59,15 @@ fn write_block(out: &mut [u8], number: u32, group: u32, part: u16, parts: u16, b
 fn part_of(payload: &[u8], part: usize) -> &[u8]
     requires { part < parts_of (length payload.now) }
     ensures short { length result.now ≤ 112 }
-    ensures bytes { result.now ++ replicate (112 - length result.now) 0 ≡ part_bytes payload.now part }
+    ensures bytes { result.now ++ replicate (112 - length result.now) 0
+        ≡ part_bytes payload.now part }
 {
     let at = 112 * part;
     &payload[at..payload.len().min(at + 112)]
 }
 
-// Writes a record of this payload into the blocks of these numbers, a part into each. `out` begins with block 4. All
-// other blocks stay.
+// Writes a record of this payload into the blocks of these numbers, a part into each. `out` begins
+// with block 4. All other blocks stay.
 fn write_parts(payload: &[u8], numbers: &[u32], out: &mut [u8])
     requires some { 1 ≤ length payload.now }
     requires few { length payload.now ≤ 448 }
@@ -71,7 +75,8 @@ fn write_parts(payload: &[u8], numbers: &[u32], out: &mut [u8])
     requires apart { AllPairs (λ a b. a ≢ b) numbers.now }
     requires within { All (IsInUse out.old) numbers.now }
     ensures placed { IsPlaced out.new (record { payload = payload.now; slots = numbers.now }) }
-    ensures others { (b : ℕ) → 4 ≤ b → All (λ s. s ≢ b) numbers.now → block_at out.new b ≡ block_at out.old b }
+    ensures others { (b : ℕ) → 4 ≤ b → All (λ s. s ≢ b) numbers.now
+        → block_at out.new b ≡ block_at out.old b }
 {
     for part in 0..numbers.len() {
         let bytes = part_of(payload, part);
@@ -86,8 +91,8 @@ fn write_parts(payload: &[u8], numbers: &[u32], out: &mut [u8])
     }
 }
 
-/// Writes a record of this payload into the blocks of these numbers, a part into each. `out` begins with block 4. All
-/// other blocks stay.
+/// Writes a record of this payload into the blocks of these numbers, a part into each. `out` begins
+/// with block 4. All other blocks stay.
 pub fn write_record(payload: &[u8], slots: &Slots, out: &mut [u8])
     requires some { 1 ≤ length payload.now }
     requires few { length payload.now ≤ 448 }
@@ -95,7 +100,8 @@ pub fn write_record(payload: &[u8], slots: &Slots, out: &mut [u8])
     requires apart { AllPairs (λ a b. a ≢ b) slots.now }
     requires within { All (IsInUse out.old) slots.now }
     ensures placed { IsPlaced out.new (record { payload = payload.now; slots = slots.now }) }
-    ensures others { (b : ℕ) → 4 ≤ b → All (λ s. s ≢ b) slots.now → block_at out.new b ≡ block_at out.old b }
+    ensures others { (b : ℕ) → 4 ≤ b → All (λ s. s ≢ b) slots.now
+        → block_at out.new b ≡ block_at out.old b }
 {
     write_parts(payload, slots.as_slice(), out);
 }
@@ -109,7 +115,8 @@ pub fn write_unused(number: u32, out: &mut [u8])
     write_block(out, number, 0, 0, 0, &[]);
 }
 
-/// Writes a record of this payload into the blocks from number `first` on. `out` begins with block 4.
+/// Writes a record of this payload into the blocks from number `first` on. `out` begins with block
+/// 4.
 pub(crate) fn write_next(out: &mut [u8], first: u32, payload: &[u8])
     requires some { 1 ≤ length payload.now }
     requires few { length payload.now ≤ 448 }
@@ -117,9 +124,11 @@ pub(crate) fn write_next(out: &mut [u8], first: u32, payload: &[u8])
     requires after { 4 ≤ first }
     requires within { first + parts_of (length payload.now) ≤ count out.old + 4 }
     ensures written { (i : ℕ) → i < parts_of (length payload.now) → block_at out.new (first + i)
-        ≡ written_block (first + i) first i (parts_of (length payload.now)) (part_bytes payload.now i) }
+        ≡ written_block (first + i) first i (parts_of (length payload.now))
+        (part_bytes payload.now i) }
     ensures below { (b : ℕ) → 4 ≤ b → b < first → block_at out.new b ≡ block_at out.old b }
-    ensures above { (b : ℕ) → first + parts_of (length payload.now) ≤ b → block_at out.new b ≡ block_at out.old b }
+    ensures above { (b : ℕ) → first + parts_of (length payload.now) ≤ b
+        → block_at out.new b ≡ block_at out.old b }
 {
     let numbers = [first, first + 1, first + 2, first + 3];
     let parts = parts_of(payload.len()) as usize;
@@ -143,7 +152,8 @@ fn is_block(blocks: &[u8], number: u32, group: u32, part: u16, parts: u16, bytes
     requires within { IsInUse blocks.now number }
     requires short { length bytes.now ≤ 112 }
     ensures { IsTrue result ↔ (block_at blocks.now number
-        ≡ written_block number group part parts (bytes.now ++ replicate (112 - length bytes.now) 0)) }
+        ≡ written_block number group part parts (bytes.now
+        ++ replicate (112 - length bytes.now) 0)) }
 {
     let at = 128 * (number as usize - 4);
     let head = head_of(number, group, part, parts);
@@ -151,11 +161,13 @@ fn is_block(blocks: &[u8], number: u32, group: u32, part: u16, parts: u16, bytes
     blocks[at..at + 16] == head[..] && blocks[at + 16..at + 128] == payload[..]
 }
 
-/// Whether a payload stands in the blocks of these numbers as `write_record` writes it. `blocks` begins with block 4.
+/// Whether a payload stands in the blocks of these numbers as `write_record` writes it. `blocks`
+/// begins with block 4.
 pub fn is_written(payload: &[u8], slots: &Slots, blocks: &[u8]) -> bool
     requires within { All (IsInUse blocks.now) slots.now }
     requires some { 1 ≤ length payload.now }
-    ensures { IsTrue result ↔ IsPlaced blocks.now (record { payload = payload.now; slots = slots.now }) }
+    ensures { IsTrue result ↔ IsPlaced blocks.now
+        (record { payload = payload.now; slots = slots.now }) }
 {
     let places = slots.as_slice();
     if payload.len() > 448 || places.len() != parts_of(payload.len()) as usize {

@@ -10,7 +10,8 @@ use ldm_records::Record;
 use std::alloc::Global;
 use std::marker::Model;
 
-/// Records, with the index by which they are looked up. Contracts see it as the list of the records.
+/// Records, with the index by which they are looked up. Contracts see it as the list of the
+/// records.
 #[derive(Drop)]
 pub struct Catalog {
     records: Records,

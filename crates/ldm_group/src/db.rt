@@ -55,9 +55,9 @@ impl Db {
     ghost use Rattle.ldm_group.specs.Database.{Database, MakesDb, at_seq};
     ghost use Rattle.ldm_group.specs.Index.{IsIndexOf};
 
-    /// The database of this header, with the records in their order. Its maps are made in near linear time,
-    /// but where records were chosen so that their keys fall on one place of a hash table: then in some
-    /// ten steps for each pair of records.
+    /// The database of this header, with the records in their order. Its maps are made in near
+    /// linear time, but where records were chosen so that their keys fall on one place of a hash
+    /// table: then in some ten steps for each pair of records.
     pub fn new(alloc: Global, header: Header, records: Vec<Record>) -> Result<Db, DbError>
         ensures { MakesDb result header records.items }
     {

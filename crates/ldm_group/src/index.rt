@@ -1,8 +1,10 @@
 //! Tables of the places of records, by what they are looked up by.
-ghost use Rattle.std.specs.Prelude.{◌≡◌, ◌+◌, ◌<◌, ◌^◌, ℕ, List, Some, if◌then◌else◌, bytes_eq, nat_eq, length, take, OnOk};
+ghost use Rattle.std.specs.Prelude.{◌≡◌, ◌+◌, ◌<◌, ◌^◌, ℕ, List, Some, if◌then◌else◌, bytes_eq};
+ghost use Rattle.std.specs.Prelude.{nat_eq, length, take, OnOk};
 ghost use Rattle.indexmap.specs.IndexMap.{get, Updates};
 ghost use Rattle.ldm_group.specs.Hits.{hits, count_in, one_more, at_name, at_object};
-ghost use Rattle.ldm_group.specs.Looks.{is_at, is_child, is_disk_named, is_disk_with, is_volume_named};
+ghost use Rattle.ldm_group.specs.Looks.{is_at, is_child, is_disk_named, is_disk_with};
+ghost use Rattle.ldm_group.specs.Looks.{is_volume_named};
 
 use crate::order::{id_of, kind_of};
 use indexmap::IndexMap;
@@ -82,7 +84,8 @@ fn one_more(found: Option<Hits>, at: usize) -> Hits
 // One more record, at this place, has the key.
 fn note<K: Eq + Hash + Drop>(map: &mut IndexMap<K, Hits>, key: K, at: usize) -> Result<(), NoMemory>
     requires { count_in (get K.eq map.old key) + 1 < 2 ^ 64 }
-    ensures { OnOk result (Updates K.eq map.old map.new key (Some (one_more (get K.eq map.old key) at))) }
+    ensures { OnOk result (Updates K.eq map.old map.new key
+        (Some (one_more (get K.eq map.old key) at))) }
 {
     let hits = one_more(map.get(&key).copied(), at);
     map.insert(key, hits)?;
@@ -97,7 +100,9 @@ fn note_name(
     at: usize,
 ) -> Result<(), NoMemory>
     requires { count_in (at_name names.old name.now) + 1 < 2 ^ 64 }
-    ensures { OnOk result ((q : List ℕ) → at_name names.new q ≡ (if bytes_eq name.now q then Some (one_more (at_name names.old name.now) at) else at_name names.old q)) }
+    ensures { OnOk result ((q : List ℕ) → at_name names.new q
+        ≡ (if bytes_eq name.now q then Some (one_more (at_name names.old name.now) at)
+        else at_name names.old q)) }
 {
     note(names, Vec::from_slice(alloc, name)?, at)
 }
@@ -109,8 +114,10 @@ fn note_id(
     at: usize,
 ) -> Result<(), NoMemory>
     requires within { at < length records.now }
-    requires before { (kind id : ℕ) → at_object ids.old kind id ≡ hits (is_at kind id) (take at records.now) }
-    ensures { OnOk result ((kind id : ℕ) → at_object ids.new kind id ≡ hits (is_at kind id) (take (at + 1) records.now)) }
+    requires before { (kind id : ℕ) → at_object ids.old kind id
+        ≡ hits (is_at kind id) (take at records.now) }
+    ensures { OnOk result ((kind id : ℕ) → at_object ids.new kind id
+        ≡ hits (is_at kind id) (take (at + 1) records.now)) }
 {
     let r = &records[at];
     note(ids, ObjectId::new(kind_of(r), id_of(r)), at)
@@ -123,8 +130,10 @@ fn note_volume(
     at: usize,
 ) -> Result<(), NoMemory>
     requires within { at < length records.now }
-    requires before { (name : List ℕ) → at_name volumes.old name ≡ hits (is_volume_named name) (take at records.now) }
-    ensures { OnOk result ((name : List ℕ) → at_name volumes.new name ≡ hits (is_volume_named name) (take (at + 1) records.now)) }
+    requires before { (name : List ℕ) → at_name volumes.old name
+        ≡ hits (is_volume_named name) (take at records.now) }
+    ensures { OnOk result ((name : List ℕ) → at_name volumes.new name
+        ≡ hits (is_volume_named name) (take (at + 1) records.now)) }
 {
     match &records[at] {
         Record::Volume(v) => note_name(volumes, alloc, v.head.name.as_slice(), at),
@@ -139,8 +148,10 @@ fn note_disk(
     at: usize,
 ) -> Result<(), NoMemory>
     requires within { at < length records.now }
-    requires before { (name : List ℕ) → at_name disks.old name ≡ hits (is_disk_named name) (take at records.now) }
-    ensures { OnOk result ((name : List ℕ) → at_name disks.new name ≡ hits (is_disk_named name) (take (at + 1) records.now)) }
+    requires before { (name : List ℕ) → at_name disks.old name
+        ≡ hits (is_disk_named name) (take at records.now) }
+    ensures { OnOk result ((name : List ℕ) → at_name disks.new name
+        ≡ hits (is_disk_named name) (take (at + 1) records.now)) }
 {
     match &records[at] {
         Record::Disk(d) => note_name(disks, alloc, d.head.name.as_slice(), at),
@@ -154,8 +165,10 @@ fn note_guid(
     at: usize,
 ) -> Result<(), NoMemory>
     requires within { at < length records.now }
-    requires before { (guid : ℕ) → get nat_eq guids.old guid ≡ hits (is_disk_with guid) (take at records.now) }
-    ensures { OnOk result ((guid : ℕ) → get nat_eq guids.new guid ≡ hits (is_disk_with guid) (take (at + 1) records.now)) }
+    requires before { (guid : ℕ) → get nat_eq guids.old guid
+        ≡ hits (is_disk_with guid) (take at records.now) }
+    ensures { OnOk result ((guid : ℕ) → get nat_eq guids.new guid
+        ≡ hits (is_disk_with guid) (take (at + 1) records.now)) }
 {
     match &records[at] {
         Record::Disk(d) => note(guids, d.guid, at),
@@ -169,8 +182,10 @@ fn note_child(
     at: usize,
 ) -> Result<(), NoMemory>
     requires within { at < length records.now }
-    requires before { (kind id : ℕ) → at_object children.old kind id ≡ hits (is_child kind id) (take at records.now) }
-    ensures { OnOk result ((kind id : ℕ) → at_object children.new kind id ≡ hits (is_child kind id) (take (at + 1) records.now)) }
+    requires before { (kind id : ℕ) → at_object children.old kind id
+        ≡ hits (is_child kind id) (take at records.now) }
+    ensures { OnOk result ((kind id : ℕ) → at_object children.new kind id
+        ≡ hits (is_child kind id) (take (at + 1) records.now)) }
 {
     match &records[at] {
         Record::Component(c) => note(children, ObjectId::new(3, c.parent), at),
@@ -187,7 +202,8 @@ impl Index {
     ghost use Rattle.ldm_records.specs.declared.types.Record.{Record};
     ghost use Rattle.ldm_group.specs.Hits.{hits};
     ghost use Rattle.ldm_group.specs.Index.{IsIndexOf};
-    ghost use Rattle.ldm_group.specs.Looks.{is_at, is_child, is_disk_named, is_disk_with, is_volume_named};
+    ghost use Rattle.ldm_group.specs.Looks.{is_at, is_child, is_disk_named, is_disk_with};
+    ghost use Rattle.ldm_group.specs.Looks.{is_volume_named};
 
     // The index of no records, with room for so many.
     fn with_room(alloc: Global, records: usize) -> Result<Index, NoMemory>
@@ -238,35 +254,40 @@ impl Index {
 
     /// The record of this kind and id.
     pub fn at(&self, kind: u8, id: u64) -> Option<Hits>
-        ensures { (records : List Record) → IsIndexOf self.now records → result ≡ hits (is_at kind id) records }
+        ensures { (records : List Record) → IsIndexOf self.now records
+            → result ≡ hits (is_at kind id) records }
     {
         self.ids.get(&ObjectId::new(kind, id)).copied()
     }
 
     /// The volumes of this name.
     pub fn volumes(&self, name: &[u8]) -> Option<Hits>
-        ensures { (records : List Record) → IsIndexOf self.now records → result ≡ hits (is_volume_named name.now) records }
+        ensures { (records : List Record) → IsIndexOf self.now records
+            → result ≡ hits (is_volume_named name.now) records }
     {
         self.volumes.get(name).copied()
     }
 
     /// The disks of this name.
     pub fn disks(&self, name: &[u8]) -> Option<Hits>
-        ensures { (records : List Record) → IsIndexOf self.now records → result ≡ hits (is_disk_named name.now) records }
+        ensures { (records : List Record) → IsIndexOf self.now records
+            → result ≡ hits (is_disk_named name.now) records }
     {
         self.disks.get(name).copied()
     }
 
     /// The disks of this GUID.
     pub fn guids(&self, guid: u128) -> Option<Hits>
-        ensures { (records : List Record) → IsIndexOf self.now records → result ≡ hits (is_disk_with guid) records }
+        ensures { (records : List Record) → IsIndexOf self.now records
+            → result ≡ hits (is_disk_with guid) records }
     {
         self.guids.get(&guid).copied()
     }
 
     /// The children of the object of this kind and id.
     pub fn children(&self, kind: u8, id: u64) -> Option<Hits>
-        ensures { (records : List Record) → IsIndexOf self.now records → result ≡ hits (is_child kind id) records }
+        ensures { (records : List Record) → IsIndexOf self.now records
+            → result ≡ hits (is_child kind id) records }
     {
         self.children.get(&ObjectId::new(kind, id)).copied()
     }

@@ -1,7 +1,8 @@
-//! The database of a group: a header and the records of its disks, volumes, components and partitions.
+//! The database of a group: a header and the records of its disks, volumes, components and
+//! partitions.
 //!
-//! The records stand in rising order of kind and id. What they are looked up by stands in maps, which
-//! are made with the database: so a look-up takes no memory, and doesn't walk.
+//! The records stand in rising order of kind and id. What they are looked up by stands in maps,
+//! which are made with the database: so a look-up takes no memory, and doesn't walk.
 #![tactic(auto)]
 
 mod catalog;

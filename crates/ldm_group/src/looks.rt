@@ -1,9 +1,11 @@
 //! Records by id, name, GUID and parent.
-ghost use Rattle.std.specs.Prelude.{◌≡◌, true, Bool, List, find, count_by, option_copied, IfSome, Some, Contains};
+ghost use Rattle.std.specs.Prelude.{◌≡◌, true, Bool, List, find, count_by, option_copied, IfSome};
+ghost use Rattle.std.specs.Prelude.{Some, Contains};
 ghost use Rattle.ldm_records.specs.declared.types.Record.{Record};
 ghost use Rattle.ldm_records.specs.declared.types.Record.TheVariants as kinds;
 ghost use Rattle.ldm_group.specs.Hits.{hits};
-ghost use Rattle.ldm_group.specs.Looks.{is_at, by_id, is_volume_named, volume_named, disk_named, is_disk_with, disk_with, children_of, max_id};
+ghost use Rattle.ldm_group.specs.Looks.{is_at, by_id, is_volume_named, volume_named, disk_named};
+ghost use Rattle.ldm_group.specs.Looks.{is_disk_with, disk_with, children_of, max_id};
 ghost use Rattle.ldm_group.specs.Order.{kind_of, id_of};
 
 use crate::db::Db;
@@ -13,7 +15,8 @@ use ldm_records::{Disk, Record, Volume};
 
 // How many records a key finds.
 fn count_of(found: Option<Hits>) -> u64
-    ensures { (records : List Record) (test : Record → Bool) → found ≡ hits test records → result ≡ count_by test records }
+    ensures { (records : List Record) (test : Record → Bool) → found ≡ hits test records
+        → result ≡ count_by test records }
 {
     found.map_or(0, |hits| hits.count)
 }
@@ -21,9 +24,11 @@ fn count_of(found: Option<Hits>) -> u64
 impl Db {
     // The first of the records that a key finds.
     fn first_of(&self, found: Option<Hits>) -> Option<&Record>
-        ensures is { (test : Record → Bool) → found ≡ hits test self.now.records → option_copied result ≡ find test self.now.records }
+        ensures is { (test : Record → Bool) → found ≡ hits test self.now.records
+            → option_copied result ≡ find test self.now.records }
         ensures there { IfSome result (λ r. Contains self.now.records r.now) }
-        ensures again { IfSome result (λ r. by_id (kind_of r.now) (id_of r.now) self.now.records ≡ Some r.now) }
+        ensures again { IfSome result (λ r. by_id (kind_of r.now)
+            (id_of r.now) self.now.records ≡ Some r.now) }
     {
         self.as_slice().get(found?.first)
     }
@@ -41,7 +46,8 @@ impl Db {
     pub fn volume_named(&self, name: &[u8]) -> Option<&Volume>
         ensures is { option_copied result ≡ volume_named name.now self.now.records }
         ensures there { IfSome result (λ x. Contains self.now.records (kinds.Volume x.now)) }
-        ensures again { IfSome result (λ x. by_id 3 x.now.head.id self.now.records ≡ Some (kinds.Volume x.now)) }
+        ensures again { IfSome result (λ x. by_id 3 x.now.head.id self.now.records
+            ≡ Some (kinds.Volume x.now)) }
     {
         match self.first_of(self.index().volumes(name)) {
             Some(Record::Volume(v)) => Some(v),
@@ -53,7 +59,8 @@ impl Db {
     pub fn disk_named(&self, name: &[u8]) -> Option<&Disk>
         ensures is { option_copied result ≡ disk_named name.now self.now.records }
         ensures there { IfSome result (λ x. Contains self.now.records (kinds.Disk x.now)) }
-        ensures again { IfSome result (λ x. by_id 2 x.now.head.id self.now.records ≡ Some (kinds.Disk x.now)) }
+        ensures again { IfSome result (λ x. by_id 2 x.now.head.id self.now.records
+            ≡ Some (kinds.Disk x.now)) }
     {
         match self.first_of(self.index().disks(name)) {
             Some(Record::Disk(d)) => Some(d),
@@ -65,7 +72,8 @@ impl Db {
     pub fn disk_with(&self, guid: u128) -> Option<&Disk>
         ensures is { option_copied result ≡ disk_with guid self.now.records }
         ensures there { IfSome result (λ x. Contains self.now.records (kinds.Disk x.now)) }
-        ensures again { IfSome result (λ x. by_id 2 x.now.head.id self.now.records ≡ Some (kinds.Disk x.now)) }
+        ensures again { IfSome result (λ x. by_id 2 x.now.head.id self.now.records
+            ≡ Some (kinds.Disk x.now)) }
     {
         match self.first_of(self.index().guids(guid)) {
             Some(Record::Disk(d)) => Some(d),
@@ -87,8 +95,8 @@ impl Db {
         count_of(self.index().guids(guid))
     }
 
-    /// The number of components of a volume (kind 3), or of partitions of a component (kind 4) or of
-    /// a disk (kind 2). Other kinds have none.
+    /// The number of components of a volume (kind 3), or of partitions of a component (kind 4) or
+    /// of a disk (kind 2). Other kinds have none.
     pub fn children_of(&self, kind: u8, id: u64) -> u64
         ensures { result ≡ children_of kind id self.now.records }
     {

@@ -28,8 +28,8 @@ fn are_same_records(records: &[Record], others: &[Record]) -> bool
 }
 
 impl Db {
-    /// Whether both are the same group: they are equal but for the carried bytes of their headers. It
-    /// takes no memory.
+    /// Whether both are the same group: they are equal but for the carried bytes of their headers.
+    /// It takes no memory.
     pub fn same_core(&self, other: &Db) -> bool
         ensures { IsTrue result ↔ IsSameCore self.now other.now }
     {

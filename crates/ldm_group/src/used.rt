@@ -11,7 +11,8 @@ use std::alloc::Global;
 /// The sectors that the partitions of each disk have together, by the disk's id. A disk without
 /// partitions isn't there.
 pub fn used_sectors(alloc: Global, records: &[Record]) -> Result<IndexMap<u64, u128>, NoMemory>
-    ensures { IfOk result (λ m. (disk : ℕ) → unwrap_or (map.get nat_eq m disk) 0 ≡ used_on records.now disk) }
+    ensures { IfOk result (λ m. (disk : ℕ) → unwrap_or (map.get nat_eq m disk) 0
+        ≡ used_on records.now disk) }
 {
     let mut used = IndexMap::new(alloc);
     for r in records {

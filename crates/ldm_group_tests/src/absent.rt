@@ -1,4 +1,5 @@
-//! Volumes of which a disk is absent: the least sector that is lost, and the least disk that is missing.
+//! Volumes of which a disk is absent: the least sector that is lost, and the least disk that is
+//! missing.
 use crate::layout_columns::plan_in;
 use crate::made::database;
 use crate::rules::label;

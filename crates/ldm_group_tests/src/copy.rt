@@ -25,7 +25,8 @@ const B8: usize = 128 * 8;
 
 const B9: usize = 128 * 9;
 
-// The number of parts in a block's head; the type, the length and the id in the payload of a whole record.
+// The number of parts in a block's head; the type, the length and the id in the payload of a whole
+// record.
 const PARTS: usize = 14;
 
 const TYPE: usize = 16 + 3;
@@ -132,7 +133,8 @@ fn first_faults(rt: HostRuntime) -> Result<(), Fail> {
     Ok(())
 }
 
-// A label takes eight reads, and a copy three: one for its header, and two for its 15 sectors of blocks.
+// A label takes eight reads, and a copy three: one for its header, and two for its 15 sectors of
+// blocks.
 #[test]
 fn failing_disks(rt: HostRuntime) -> Result<(), Fail> {
     for call in &[9, 10, 11] {

@@ -8,7 +8,8 @@ use std::test::Fail;
 // Where the header has the committed sequence.
 const SEQUENCE: usize = 0x75;
 
-// What is found on the first images of the sample group, with these changes, where these calls fail.
+// What is found on the first images of the sample group, with these changes, where these calls
+// fail.
 fn found_with(
     alloc: Global,
     count: usize,
@@ -52,8 +53,9 @@ fn error_at(alloc: Global, call: u64) -> Result<Option<OpenError>, Fail> {
     Ok(found_with(alloc, 3, &[], &[call])?.err())
 }
 
-// The labels of three disks take 24 reads, and the first copy three: one for its header, and two for its 15 sectors of blocks, eight
-// at a time. The others have the same bytes: they take two reads for every eight sectors.
+// The labels of three disks take 24 reads, and the first copy three: one for its header, and two
+// for its 15 sectors of blocks, eight at a time. The others have the same bytes: they take two
+// reads for every eight sectors.
 #[test]
 fn failing_disks(rt: HostRuntime) -> Result<(), Fail> {
     for call in &[1, 24, 25, 27, 28, 35] {

@@ -25,7 +25,8 @@ fn opened(alloc: Global, host: &mut MemoryHost) -> Result<(Label, Db), Fail>
     ensures two { 1 < length (memory_seen host.new).sizes }
     ensures settled { Settled (memory_seen host.new) 1 }
     ensures fits { IfOk result (λ read. Fits read.0 (slice_index (memory_seen host.new).sizes 1)) }
-    ensures opened { IfOk result (λ read. IsOpen (config_area read.0 (image (memory_seen host.new).content 1))) }
+    ensures opened { IfOk result (λ read. IsOpen (config_area read.0
+        (image (memory_seen host.new).content 1))) }
     ensures room { IfOk result (λ read. FitsHeader read.1) }
 {
     let Ok(label) = read_label(host, 1) else {
@@ -37,7 +38,8 @@ fn opened(alloc: Global, host: &mut MemoryHost) -> Result<(Label, Db), Fail>
     Ok((label, db))
 }
 
-// Rewrites the open copy of the second disk with the body of a database, and answers whether no call failed.
+// Rewrites the open copy of the second disk with the body of a database, and answers whether no
+// call failed.
 fn rewrites(alloc: Global, host: &mut MemoryHost, label: &Label, db: &Db) -> Result<bool, Fail>
     requires two { 1 < length (memory_seen host.old).sizes }
     requires settled { Settled (memory_seen host.old) 1 }
@@ -85,13 +87,15 @@ fn newer(alloc: Global) -> Result<Db, Fail>
     Ok(db)
 }
 
-// A host whose second copy, of sequence 7, is rewritten with this database, stopped after so many of the calls.
+// A host whose second copy, of sequence 7, is rewritten with this database, stopped after so many
+// of the calls.
 fn stopped(alloc: Global, db: &Db, calls: u64) -> Result<MemoryHost, Fail>
     requires { FitsHeader db.now }
 {
     let mut host = host_of(alloc, images_at(alloc, 7)?)?;
     let (label, _) = opened(alloc, &mut host)?;
-    // A label takes eight reads, and a copy one for its first sector and one for every eight of the 15 behind it.
+    // A label takes eight reads, and a copy one for its first sector and one for every eight of the
+    // 15 behind it.
     let mut host = host.stop_after(calls.saturating_add(11));
     rewrites(alloc, &mut host, &label, db)?;
     Ok(host)
@@ -121,8 +125,9 @@ fn reading(alloc: Global, images: Vec<Vec<u8>>) -> Result<char, Fail> {
     }
 }
 
-// For each number of calls, what reads of an image whose pending bytes are the old ones, the new ones, all 0x56
-// and all 0x00. The calls are the write of the gate and its sync, of the body, and of the gate.
+// For each number of calls, what reads of an image whose pending bytes are the old ones, the new
+// ones, all 0x56 and all 0x00. The calls are the write of the gate and its sync, of the body, and
+// of the gate.
 const READINGS: [&str; 7] = ["7777", "7-7-", "----", "----", "----", "-88-", "8888"];
 
 const FILLINGS: [Filling; 4] = [
@@ -171,8 +176,8 @@ fn reads_back(alloc: Global, images: Vec<Vec<u8>>) -> Result<bool, Fail> {
     Ok(again.same_core(&db))
 }
 
-// The part of this number, and the block that holds it, of a disk record whose own spelling has 448 bytes: a
-// name of 255 letters, and a tail. The group of the fragments is block 8.
+// The part of this number, and the block that holds it, of a disk record whose own spelling has 448
+// bytes: a name of 255 letters, and a tail. The group of the fragments is block 8.
 fn long_part(part: u8) -> [u8; 128] {
     let mut block = [b'x'; 128];
     put_bytes(&mut block, 0, b"VBLK");

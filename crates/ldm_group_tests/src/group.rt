@@ -4,8 +4,8 @@ use ldm_group::{Db, DbError};
 use std::alloc::Global;
 use std::test::Fail;
 
-// Records in no order. Names are the bytes 65 to 71; the volume of components is 6, and partitions lie in
-// component 7 on disk 2.
+// Records in no order. Names are the bytes 65 to 71; the volume of components is 6, and partitions
+// lie in component 7 on disk 2.
 const MIXED: &str =
     "5.1.71.0.8.7.2 2.3.65.65 3.6.68.1.8 4.7.67.1.6 1.9.70 3.4.68.1.8 2.2.65.65 4.1.67.1.6 5.8.68.0.8.7.2";
 

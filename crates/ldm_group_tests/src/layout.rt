@@ -4,8 +4,8 @@ use ldm_layout::{LayoutFault, faults};
 use std::alloc::Global;
 use std::test::Fail;
 
-// The fault of the only volume, and the records: the volume 5, its components 6 and 7, and partitions on
-// the disks 2 and 3.
+// The fault of the only volume, and the records: the volume 5, its components 6 and 7, and
+// partitions on the disks 2 and 3.
 const ROWS: &str = "\
 Unknown 3.5.0.0.0
 Unknown 3.5.0.0.1 4.6.0.0.5.2 4.7.0.0.5.1

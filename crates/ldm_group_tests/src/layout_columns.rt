@@ -38,8 +38,8 @@ pub(crate) fn plan_in(rt: &impl Abort, alloc: Global, db: &Db) -> Result<Plan, F
     plan(alloc, db, 5).map_err(|_| Fail::from("no plan"))
 }
 
-// Three columns of 12 sectors on disks 2, 3 and 4, in chunks of 4. The records stand in another order,
-// and the first column has no index.
+// Three columns of 12 sectors on disks 2, 3 and 4, in chunks of 4. The records stand in another
+// order, and the first column has no index.
 const RAID5: &str =
     "3.5.0.0.24 4.6.0.0.5.3.4.3 5.7.0.0.12.6.4.0.3 5.8.0.0.12.6.2 5.9.0.0.12.6.3.0.2";
 

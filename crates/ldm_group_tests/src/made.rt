@@ -33,9 +33,10 @@ fn start_of(start: u8) -> u64 {
     }
 }
 
-// A kind, an id and a name of one byte. Then, of a disk: its GUID; of a volume: its children number and
-// size; of a component: its children number, volume and layout, and its chunk and columns if the latter
-// isn't 0; of a partition: its start, size, component, disk and offset, and its index plus 1 if it has one.
+// A kind, an id and a name of one byte. Then, of a disk: its GUID; of a volume: its children number
+// and size; of a component: its children number, volume and layout, and its chunk and columns if
+// the latter isn't 0; of a partition: its start, size, component, disk and offset, and its index
+// plus 1 if it has one.
 pub(crate) type Row = [u8; 9];
 
 // Puts the body of a component, and answers its flags and length.
@@ -132,7 +133,8 @@ pub(crate) fn kinds_of(alloc: Global, db: &Db) -> Result<Vec<(u8, u64)>, Fail> {
     Ok(kinds)
 }
 
-// Where the config area begins, in bytes: at sector 17 of the database, which begins at sector 6144.
+// Where the config area begins, in bytes: at sector 17 of the database, which begins at sector
+// 6144.
 const AREA: usize = 512 * (6144 + 17);
 
 // Puts bytes at a place, if they lie in the image.
@@ -148,7 +150,8 @@ pub(crate) fn put(image: &mut [u8], place: usize, bytes: &[u8]) {
     put_at(image, place.saturating_add(AREA), bytes);
 }
 
-// Where the tables of contents say the size of the config area: they are at the sectors 1, 2, 2045 and 2046 of the database.
+// Where the tables of contents say the size of the config area: they are at the sectors 1, 2, 2045
+// and 2046 of the database.
 const AREA_SIZES: [usize; 4] = [
     512 * (6144 + 1) + 0x36,
     512 * (6144 + 2) + 0x36,
@@ -163,8 +166,8 @@ pub(crate) fn put_area_size(image: &mut [u8], sectors: u8) {
     }
 }
 
-// A host that has the first images of the sample group, with these bytes at these places of the config
-// areas of images. The calls with these numbers fail.
+// A host that has the first images of the sample group, with these bytes at these places of the
+// config areas of images. The calls with these numbers fail.
 pub(crate) fn host_with(
     alloc: Global,
     count: usize,

@@ -24,8 +24,9 @@ pub(crate) fn labels(alloc: Global) -> Result<Labels, Fail> {
     Ok(Labels::from_vec(Vec::from_slice(alloc, &[label(1, 200), label(1, 250)])?))
 }
 
-// A rule and the id at which it is broken, or 0, and the records. Mostly these: the group 9, the disks 2
-// and 3 of GUIDs 1 and 2, the volume 6 of 8 sectors, its component 7, and that one's partition 8.
+// A rule and the id at which it is broken, or 0, and the records. Mostly these: the group 9, the
+// disks 2 and 3 of GUIDs 1 and 2, the volume 6 of 8 sectors, its component 7, and that one's
+// partition 8.
 const ROWS: [(u8, u64, &str); 38] = [
     (0, 0, "1.9.1 2.2.1.1 2.3.2.2"),
     (1, 0, ""),

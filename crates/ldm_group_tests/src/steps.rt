@@ -67,8 +67,8 @@ fn put_record(image: &mut [u8], block: u8, payload: &[u8]) -> u8 {
     next
 }
 
-// Puts the records of a text's words from block 8 on: 6 and a long volume's id, name, children, size and flags,
-// or a row.
+// Puts the records of a text's words from block 8 on: 6 and a long volume's id, name, children,
+// size and flags, or a row.
 fn put_records(image: &mut [u8], text: &str) {
     let mut block = 8;
     for word in text.split_whitespace() {
@@ -108,7 +108,8 @@ fn group_of(alloc: Global, disks: u8, header: &str, records: &str) -> Result<Fou
 fn outcome_of(alloc: Global, db: &Db, labels: &Labels, line: &str) -> Result<Outcome, Fail>
     requires sound { IsSoundOn db.now labels.now }
     requires areas { AreasFit labels.now }
-    ensures { IfOk result (λ outcome. (next : _) → outcome ≡ Next next → IsSoundOn next labels.now) }
+    ensures { IfOk result (λ outcome. (next : _) → outcome ≡ Next next
+        → IsSoundOn next labels.now) }
 {
     let Ok(command) = read_line(alloc, line.as_bytes()) else {
         return Ok(Outcome::Refused(Refusal::BadLine));
@@ -128,8 +129,9 @@ fn reply_of(alloc: Global, outcome: &Outcome) -> Result<Bytes, Fail> {
     Ok(reply_text(alloc, 1, &reply)?)
 }
 
-// An id, and then of a volume its children number and size; of a component its volume, layout, children number, chunk
-// and columns; and of a partition its component, disk, start, size, offset and index.
+// An id, and then of a volume its children number and size; of a component its volume, layout,
+// children number, chunk and columns; and of a partition its component, disk, start, size, offset
+// and index.
 type Numbers = [u64; 7];
 
 fn numbers_of(r: &Record) -> Option<Numbers> {
@@ -169,7 +171,8 @@ fn line_of(alloc: Global, line: &str) -> Result<String, AllocError> {
     line.replace(alloc, "*", "cccccccc-cccc-cccc-cccc-cccccccccccc")
 }
 
-// The group after the rows of a script, each a line and its reply; and the rows with the replies that come.
+// The group after the rows of a script, each a line and its reply; and the rows with the replies
+// that come.
 fn run(alloc: Global, group: Db, labels: &Labels, script: &str) -> Result<(Db, Vec<u8>), Fail>
     requires sound { IsSoundOn group labels.now }
     requires areas { AreasFit labels.now }
@@ -189,8 +192,8 @@ fn run(alloc: Global, group: Db, labels: &Labels, script: &str) -> Result<(Db, V
     Ok((db, said))
 }
 
-// How many disks a group has, its header and records; a script; and the numbers of the volumes, components
-// and partitions after it.
+// How many disks a group has, its header and records; a script; and the numbers of the volumes,
+// components and partitions after it.
 type Case = (
     u8,
     &'static str,
@@ -269,7 +272,8 @@ extend Data Disk2=100 > 1 ok 12
             [23, 6, 3, 17, 100, 2058, 0],
         ],
     ),
-    // Ids that are left again are taken again where they are the greatest, and sectors by the first that they hold.
+    // Ids that are left again are taken again where they are the greatest, and sectors by the first
+    // that they hold.
     (
         3,
         "0.64",
@@ -455,8 +459,8 @@ create More * span Disk1=1 > 1 ok 11
     ),
 ];
 
-// Each refusal beside all later ones that can stand with it: the room and the sequence are spent, and of the first
-// group the ids too.
+// Each refusal beside all later ones that can stand with it: the room and the sequence are spent,
+// and of the first group the ids too.
 const TOGETHER: [Case; 4] = [
     (
         3,

@@ -38,7 +38,8 @@ const VMDB: [Row; 9] = [
     (0xAD, b"\x00\x00\x00\x03"),
 ];
 
-// The blocks of the records, each whole but for its filling of zeros; block 5 is a vector of the format.
+// The blocks of the records, each whole but for its filling of zeros; block 5 is a vector of the
+// format.
 const RECORDS: [Row; 4] = [
     (
         128 * 4,
@@ -129,8 +130,8 @@ fn writes_the_tables_and_nothing_else(rt: HostRuntime) -> Result<(), Fail> {
     Ok(())
 }
 
-// The number of the last block, the count of disks, the head of the block behind the disks' records, that of the last
-// block, and what stands behind it.
+// The number of the last block, the count of disks, the head of the block behind the disks'
+// records, that of the last block, and what stands behind it.
 const FEWER: [Row; 5] = [
     (0x04, b"\x00\x00\x17\x24"),
     (0x91, b"\x00\x00\x00\x02"),
@@ -152,7 +153,8 @@ fn writes_fewer_disks_and_more_blocks(rt: HostRuntime) -> Result<(), Fail> {
     Ok(())
 }
 
-// The committed sequence, the last VBLK sequence and the number of records of the sample group, as it is found.
+// The committed sequence, the last VBLK sequence and the number of records of the sample group, as
+// it is found.
 fn found_in(alloc: Global, disks: u8, last: u32) -> Result<(u64, u32, usize), Fail> {
     let images = sample_images(alloc, disks.clamp(1, 3), last.clamp(8, 5924))?;
     let mut host = MemoryHost::new(alloc, images, Vec::new(alloc))?;

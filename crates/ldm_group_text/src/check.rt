@@ -25,7 +25,8 @@ fn push_note(text: &mut Text, image: usize, note: &Note) -> Result<(), NoMemory>
 
 // A line for each image.
 fn push_notes(text: &mut Text, notes: &[Note]) -> Result<(), NoMemory>
-    ensures { OnOk result (text.new ≡ text.old ++ flat_map text_of_note (enumerate_from 0 notes.now)) }
+    ensures { OnOk result (text.new ≡ text.old ++ flat_map text_of_note
+        (enumerate_from 0 notes.now)) }
 {
     for (image, note) in notes.iter().enumerate() {
         push_note(text, image, note)?;

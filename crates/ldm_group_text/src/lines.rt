@@ -1,7 +1,9 @@
 //! The lines of components and partitions.
-ghost use Rattle.std.specs.Prelude.{◌≡◌, ◌==◌, ◌++◌, ℕ, [], nat_eq, OnOk, IfOk, unwrap_or, codes, if◌then◌else◌};
+ghost use Rattle.std.specs.Prelude.{◌≡◌, ◌==◌, ◌++◌, ℕ, [], nat_eq, OnOk, IfOk, unwrap_or, codes};
+ghost use Rattle.std.specs.Prelude.{if◌then◌else◌};
 ghost use Rattle.std.specs.HashMap as hash;
-ghost use Rattle.ldm_group_text.specs.Volumes.{text_of_index, text_of_partition, text_of_partitions};
+ghost use Rattle.ldm_group_text.specs.Volumes.{text_of_index, text_of_partition};
+ghost use Rattle.ldm_group_text.specs.Volumes.{text_of_partitions};
 ghost use Rattle.ldm_group_text.specs.Volumes.{text_of_striping, text_of_layout, text_of_component};
 ghost use Rattle.ldm_group_text.specs.Volumes.{text_of_components};
 
@@ -58,7 +60,8 @@ fn add_partition(
     p: &Partition,
 ) -> Result<(), NoMemory>
     ensures { OnOk result ((id : ℕ) → unwrap_or (hash.get nat_eq lines.new id) []
-        ≡ unwrap_or (hash.get nat_eq lines.old id) [] ++ (if p.now.parent == id then text_of_partition p.now else [])) }
+        ≡ unwrap_or (hash.get nat_eq lines.old id) []
+        ++ (if p.now.parent == id then text_of_partition p.now else [])) }
 {
     let text = lines.entry(p.parent)?.or_insert(Text::new(alloc));
     push_partition(text, p)
@@ -69,7 +72,8 @@ pub(crate) fn partition_lines(
     alloc: Global,
     records: &[Record],
 ) -> Result<HashMap<u64, Text>, NoMemory>
-    ensures { IfOk result (λ m. (id : ℕ) → unwrap_or (hash.get nat_eq m id) [] ≡ text_of_partitions records.now id) }
+    ensures { IfOk result (λ m. (id : ℕ) → unwrap_or (hash.get nat_eq m id) []
+        ≡ text_of_partitions records.now id) }
 {
     let mut lines = HashMap::new(alloc);
     for r in records {
@@ -148,7 +152,8 @@ fn add_component(
     partitions: &[u8],
 ) -> Result<(), NoMemory>
     ensures { OnOk result ((id : ℕ) → unwrap_or (hash.get nat_eq lines.new id) []
-        ≡ unwrap_or (hash.get nat_eq lines.old id) [] ++ (if c.now.parent == id then text_of_component c.now partitions.now else [])) }
+        ≡ unwrap_or (hash.get nat_eq lines.old id) []
+        ++ (if c.now.parent == id then text_of_component c.now partitions.now else [])) }
 {
     let text = lines.entry(c.parent)?.or_insert(Text::new(alloc));
     push_component(text, c, partitions)
@@ -161,7 +166,8 @@ pub(crate) fn component_lines(
     partitions: &HashMap<u64, Text>,
 ) -> Result<HashMap<u64, Text>, NoMemory>
     ensures { IfOk result (λ m. (id : ℕ) → unwrap_or (hash.get nat_eq m id) []
-        ≡ text_of_components (λ component. unwrap_or (hash.get nat_eq partitions.now component) []) records.now id) }
+        ≡ text_of_components (λ component. unwrap_or (hash.get nat_eq partitions.now component) [])
+        records.now id) }
 {
     let mut lines = HashMap::new(alloc);
     for r in records {

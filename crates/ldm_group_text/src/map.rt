@@ -3,7 +3,8 @@ ghost use Rattle.std.specs.Prelude.{◌≡◌, ◌++◌, ◌+◌, ◌<◌, ◌�
 ghost use Rattle.std.specs.HashMap as hash;
 ghost use Rattle.std.specs.List.{range_with_len};
 ghost use Rattle.ldm_layout.specs.Layouts.{copies_of};
-ghost use Rattle.ldm_group_text.specs.Map.{text_of_image_sector, text_of_sector_on, text_of_copy, text_of_parity};
+ghost use Rattle.ldm_group_text.specs.Map.{text_of_image_sector, text_of_sector_on, text_of_copy};
+ghost use Rattle.ldm_group_text.specs.Map.{text_of_parity};
 ghost use Rattle.ldm_group_text.specs.Map.{text_of_sector, text_of_sectors, text_of_map};
 
 use crate::mapped::{MappedDisk, mapped_disks};
@@ -49,7 +50,8 @@ fn push_copy(
 ) -> Result<(), NoMemory>
     requires within { sector < plan.now.size }
     requires copied { copy < copies_of plan.now }
-    ensures { OnOk result (text.new ≡ text.old ++ text_of_copy (λ id. hash.get nat_eq disks.now id) plan.now sector copy) }
+    ensures { OnOk result (text.new ≡ text.old ++ text_of_copy
+        (λ id. hash.get nat_eq disks.now id) plan.now sector copy) }
 {
     let place = plan.place(sector, copy);
     let Some(disk) = disks.get(&place.disk) else {
@@ -69,7 +71,8 @@ fn push_copies(
 ) -> Result<(), NoMemory>
     requires { sector < plan.now.size }
     ensures { OnOk result (text.new ≡ text.old
-        ++ flat_map (text_of_copy (λ id. hash.get nat_eq disks.now id) plan.now sector) (range_with_len 0 (copies_of plan.now))) }
+        ++ flat_map (text_of_copy (λ id. hash.get nat_eq disks.now id) plan.now sector)
+        (range_with_len 0 (copies_of plan.now))) }
 {
     for copy in 0..plan.copies() {
         push_copy(text, disks, plan, sector, copy)?;
@@ -86,7 +89,8 @@ fn push_parity(
     sector: u64,
 ) -> Result<(), NoMemory>
     requires { sector < plan.now.size }
-    ensures { OnOk result (text.new ≡ text.old ++ text_of_parity (λ id. hash.get nat_eq disks.now id) plan.now sector) }
+    ensures { OnOk result (text.new ≡ text.old ++ text_of_parity
+        (λ id. hash.get nat_eq disks.now id) plan.now sector) }
 {
     let Some(place) = plan.parity(sector) else {
         return Ok(());
@@ -108,7 +112,8 @@ fn push_sector(
     sector: u64,
 ) -> Result<(), NoMemory>
     requires { sector < plan.now.size }
-    ensures { OnOk result (text.new ≡ text.old ++ text_of_sector (λ id. hash.get nat_eq disks.now id) plan.now sector) }
+    ensures { OnOk result (text.new ≡ text.old ++ text_of_sector
+        (λ id. hash.get nat_eq disks.now id) plan.now sector) }
 {
     push_copies(text, disks, plan, sector)?;
     push_parity(text, disks, plan, sector)
@@ -123,7 +128,8 @@ fn push_sectors(
     count: u64,
 ) -> Result<(), NoMemory>
     requires { first + count ≤ plan.now.size }
-    ensures { OnOk result (text.new ≡ text.old ++ text_of_sectors (λ id. hash.get nat_eq disks.now id) plan.now first count) }
+    ensures { OnOk result (text.new ≡ text.old ++ text_of_sectors
+        (λ id. hash.get nat_eq disks.now id) plan.now first count) }
 {
     let behind = plan.size() - first;
     prove!(count <= behind);

@@ -55,7 +55,8 @@ pub(crate) fn mapped_disks(
     labels: &[Label],
     records: &[Record],
 ) -> Result<HashMap<u64, MappedDisk>, NoMemory>
-    ensures { IfOk result (λ m. (id : ℕ) → hash.get nat_eq m id ≡ mapped_at labels.now records.now id) }
+    ensures { IfOk result (λ m. (id : ℕ) → hash.get nat_eq m id
+        ≡ mapped_at labels.now records.now id) }
 {
     let mut disks = HashMap::new(alloc);
     for r in records {

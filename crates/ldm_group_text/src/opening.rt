@@ -51,7 +51,8 @@ fn said_text(alloc: Global, word: &[u8], number: u64, said: &[u8]) -> Result<Byt
 
 // rule R at ID
 fn rule_text(alloc: Global, fault: RuleFault) -> Result<Bytes, NoMemory>
-    ensures { IfOk result (λ text. text ≡ codes "rule " ++ decimal fault.rule ++ codes " at " ++ decimal fault.id) }
+    ensures { IfOk result (λ text. text ≡ codes "rule " ++ decimal fault.rule ++ codes " at "
+        ++ decimal fault.id) }
 {
     let mut text = Text::new(alloc);
     push_number(&mut text, b"rule ", u64::from(fault.rule))?;

@@ -1,12 +1,14 @@
 //! The text of `show`.
-ghost use Rattle.std.specs.Prelude.{◌≡◌, ◌++◌, ◌-◌, ◌<◌, nat_eq, length, slice_get, Some, All, OnOk, IfOk, unwrap_or};
+ghost use Rattle.std.specs.Prelude.{◌≡◌, ◌++◌, ◌-◌, ◌<◌, nat_eq, length, slice_get, Some, All};
+ghost use Rattle.std.specs.Prelude.{OnOk, IfOk, unwrap_or};
 ghost use Rattle.indexmap.specs.IndexMap as map;
 ghost use Rattle.ldm_group.specs.Partitions.{used_on};
 ghost use Rattle.ldm_group.specs.Room.{IsFitting};
 ghost use Rattle.ldm_rules.specs.Ends.{sectors_by};
 ghost use Rattle.ldm_found.specs.Facts.{IsSoundGroup};
 ghost use Rattle.ldm_rules.specs.Present.{image_with};
-ghost use Rattle.ldm_group_text.specs.Show.{text_of_group, text_of_place, text_of_disk_at, text_of_disks, text_of_show};
+ghost use Rattle.ldm_group_text.specs.Show.{text_of_group, text_of_place, text_of_disk_at};
+ghost use Rattle.ldm_group_text.specs.Show.{text_of_disks, text_of_show};
 
 use crate::volumes::push_all_volumes;
 use indexmap::IndexMap;
@@ -55,7 +57,8 @@ fn push_image(text: &mut Text, labels: &Labels, image: usize, used: u128) -> Res
 
 // The image of a disk, or that it is missing.
 fn push_place(text: &mut Text, found: &Found, guid: u128, used: u128) -> Result<(), NoMemory>
-    ensures { OnOk result (text.new ≡ text.old ++ text_of_place used found.now.labels (image_with guid found.now.labels)) }
+    ensures { OnOk result (text.new ≡ text.old ++ text_of_place used found.now.labels
+        (image_with guid found.now.labels)) }
 {
     match found.image_with(guid) {
         None => text.push(b" missing"),
@@ -72,7 +75,8 @@ fn push_disk(
     used: &IndexMap<u64, u128>,
 ) -> Result<(), NoMemory>
     ensures { OnOk result (text.new ≡ text.old
-        ++ text_of_disk_at (λ disk. unwrap_or (map.get nat_eq used.now disk) 0) found.now.labels d.now) }
+        ++ text_of_disk_at (λ disk. unwrap_or (map.get nat_eq used.now disk) 0)
+        found.now.labels d.now) }
 {
     push_number(text, b"disk ", d.head.id)?;
     push_named(text, b" ", d.head.name.as_slice(), d.guid)?;
@@ -83,7 +87,8 @@ fn push_disk(
 // A line for each disk, by the sectors that the map has for it.
 fn push_lines(text: &mut Text, found: &Found, used: &IndexMap<u64, u128>) -> Result<(), NoMemory>
     ensures { OnOk result (text.new ≡ text.old
-        ++ text_of_disks (λ disk. unwrap_or (map.get nat_eq used.now disk) 0) found.now.labels found.now.db.records) }
+        ++ text_of_disks (λ disk. unwrap_or (map.get nat_eq used.now disk) 0) found.now.labels
+        found.now.db.records) }
 {
     for r in found.db.as_slice() {
         if let Record::Disk(d) = r {
@@ -102,8 +107,8 @@ fn push_disks(alloc: Global, text: &mut Text, found: &Found) -> Result<(), NoMem
     push_lines(text, found, &used)
 }
 
-/// The text that shows a group: its name, sequence and blocks, a line for each disk, and the volumes with their components
-/// and partitions.
+/// The text that shows a group: its name, sequence and blocks, a line for each disk, and the
+/// volumes with their components and partitions.
 pub fn show_text(alloc: Global, found: &Found) -> Result<Bytes, NoMemory>
     requires { IsSoundGroup found.now }
     ensures { IfOk result (λ text. text ≡ text_of_show found.now) }

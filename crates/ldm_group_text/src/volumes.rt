@@ -3,7 +3,8 @@ ghost use Rattle.std.specs.Prelude.{◌≡◌, ◌++◌, [], nat_eq, OnOk, unwra
 ghost use Rattle.std.specs.HashMap as hash;
 ghost use Rattle.ldm_layout.specs.Parts.{plexes_at};
 ghost use Rattle.ldm_layout.specs.Volumes.{shape_of};
-ghost use Rattle.ldm_group_text.specs.Volumes.{text_of_shape, text_of_volume, text_of_volumes, text_of_all_volumes};
+ghost use Rattle.ldm_group_text.specs.Volumes.{text_of_shape, text_of_volume, text_of_volumes};
+ghost use Rattle.ldm_group_text.specs.Volumes.{text_of_all_volumes};
 
 use crate::lines::{component_lines, lines_of, partition_lines};
 use ldm_bytes::NoMemory;
@@ -61,7 +62,8 @@ fn push_volumes(
     parts: &Parts,
     components: &HashMap<u64, Text>,
 ) -> Result<(), NoMemory>
-    ensures { OnOk result (text.new ≡ text.old ++ text_of_volumes (λ volume. shape_of (plexes_at volume parts.now.plexes))
+    ensures { OnOk result (text.new ≡ text.old ++ text_of_volumes
+        (λ volume. shape_of (plexes_at volume parts.now.plexes))
         (λ volume. unwrap_or (hash.get nat_eq components.now volume) []) records.now) }
 {
     for r in records {

@@ -62,7 +62,8 @@ fn form_of(name: &str) -> Option<&'static str> {
 // What stands in the help for a command.
 const COMMAND: &str = "COMMAND";
 
-// The one of two words that takes fewer changes to be this word, the first where they take as many; with how many.
+// The one of two words that takes fewer changes to be this word, the first where they take as many;
+// with how many.
 type Near = (&'static str, usize);
 
 fn nearer(alloc: Global, word: &str, best: Near, name: &'static str) -> Result<Near, AllocError> {

@@ -2,7 +2,8 @@
 /// What a call did, as a host in memory keeps it.
 #[derive(Drop)]
 pub enum Call {
-    /// These bytes were taken at the front of a range of this length, which is pending from then on.
+    /// These bytes were taken at the front of a range of this length, which is pending from then
+    /// on.
     Write {
         disk: usize,
         at: usize,

@@ -1,10 +1,13 @@
 //! Disks, an input and an output: what each call promises, also of stops.
-ghost use Rattle.std.specs.Prelude.{◌≡◌, ◌^◌, ◌+◌, ◌-◌, ◌*◌, ◌/◌, ◌<◌, ◌≤◌, ◌++◌, min, List, ℕ, length, take, set};
-ghost use Rattle.std.specs.Prelude.{slice_index, slice_range, IfOk, OnOk, OnErr, IsErr, is_ok, Bool, ⊤};
+ghost use Rattle.std.specs.Prelude.{◌≡◌, ◌^◌, ◌+◌, ◌-◌, ◌*◌, ◌/◌, ◌<◌, ◌≤◌, ◌++◌, min, List, ℕ};
+ghost use Rattle.std.specs.Prelude.{length, take, set};
+ghost use Rattle.std.specs.Prelude.{slice_index, slice_range, IfOk, OnOk, OnErr, IsErr, is_ok};
+ghost use Rattle.std.specs.Prelude.{Bool, ⊤};
 ghost use Rattle.ldm_bytes.specs.Numbers.{IsBytes};
 ghost use Rattle.ldm_bytes.specs.Places.{put};
 ghost use Rattle.ldm_host.specs.Seen.{Seen, Leaves, image};
-ghost use Rattle.ldm_host.specs.Moves.{Still, Quiet, Writes, Syncs, Settled, SameLeft, Ticks, DiskFailed, TalkFailed, Looks};
+ghost use Rattle.ldm_host.specs.Moves.{Still, Quiet, Writes, Syncs, Settled, SameLeft, Ticks};
+ghost use Rattle.ldm_host.specs.Moves.{DiskFailed, TalkFailed, Looks};
 ghost use Rattle.ldm_host.specs.Acts.{Act};
 
 /// A call of a host failed.
@@ -25,7 +28,8 @@ pub trait Host {
     /// The host tells what was said, what was heard and what is left to hear.
     ghost tells_talk: { Type 0 };
 
-    /// What this kind of host says more of how a call ends, and whether it was Ok. Most say nothing.
+    /// What this kind of host says more of how a call ends, and whether it was Ok. Most say
+    /// nothing.
     ghost ending: { Act → Self → Self → Bool → Type 0 } = { λ _ _ _ _. ⊤ };
 
     /// How many disks there are.
@@ -38,7 +42,8 @@ pub trait Host {
         ensures size { result ≡ slice_index (seen self.now).sizes disk }
         ensures fits { result < 2 ^ 55 };
 
-    /// Fills the buffer with the bytes of a disk from a place on. After `Failed` it holds any bytes.
+    /// Fills the buffer with the bytes of a disk from a place on. After `Failed` it holds any
+    /// bytes.
     fn read_at(&mut self, disk: usize, at: u64, buf: &mut [u8]) -> Result<(), Failed>
         requires disk { disk < length (seen self.old).sizes }
         requires range { at + length buf.old ≤ 512 * slice_index (seen self.old).sizes disk }
@@ -47,22 +52,24 @@ pub trait Host {
         ensures looks { Looks (seen self.old) (seen self.new) (IsErr result) }
         ensures ending { ending Act.Read self.old self.new (is_ok result) };
 
-    /// Writes the bytes to a disk from a place on. Until a later sync of that disk succeeds, a stop may
-    /// leave any bytes in the range, and after `Failed` a read may give any bytes there.
+    /// Writes the bytes to a disk from a place on. Until a later sync of that disk succeeds, a stop
+    /// may leave any bytes in the range, and after `Failed` a read may give any bytes there.
     fn write_at(&mut self, disk: usize, at: u64, bytes: &[u8]) -> Result<(), Failed>
         requires disk { disk < length (seen self.old).sizes }
         requires range { at + length bytes.now ≤ 512 * slice_index (seen self.old).sizes disk }
         ensures written { tells_disks → OnOk result ((seen self.new).content
-            ≡ set (seen self.old).content disk (put (image (seen self.old).content disk) at bytes.now)) }
+            ≡ set (seen self.old).content disk (put (image
+            (seen self.old).content disk) at bytes.now)) }
         ensures writes { Writes disk at (length bytes.now) (seen self.old) (seen self.new) }
         ensures wrote { (seen self.new).wrote
-            ≡ set (seen self.old).wrote disk (min (slice_index (seen self.old).wrote disk + length bytes.now) (2 ^ 64 - 1)) }
+            ≡ set (seen self.old).wrote disk (min (slice_index (seen self.old).wrote disk
+            + length bytes.now) (2 ^ 64 - 1)) }
         ensures ticks { Ticks (seen self.old) (seen self.new) }
         ensures cause { IsErr result → DiskFailed (seen self.old) (seen self.new) }
         ensures ending { ending (Act.Write disk at bytes.now) self.old self.new (is_ok result) };
 
-    /// After Ok nothing is pending on that disk: a stop leaves what a read gives. After `Failed` what
-    /// was pending stays pending.
+    /// After Ok nothing is pending on that disk: a stop leaves what a read gives. After `Failed`
+    /// what was pending stays pending.
     fn sync(&mut self, disk: usize) -> Result<(), Failed>
         requires { disk < length (seen self.old).sizes }
         ensures settled { OnOk result (Settled (seen self.new) disk) }
@@ -72,12 +79,13 @@ pub trait Host {
         ensures cause { IsErr result → DiskFailed (seen self.old) (seen self.new) }
         ensures ending { ending (Act.Sync disk) self.old self.new (is_ok result) };
 
-    /// Moves the next bytes of the input to the front of the buffer, and answers how many. It answers 0
-    /// only at the end of the input. After `Failed` it took none.
+    /// Moves the next bytes of the input to the front of the buffer, and answers how many. It
+    /// answers 0 only at the end of the input. After `Failed` it took none.
     fn hear(&mut self, buf: &mut [u8]) -> Result<usize, Failed>
         requires { 0 < length buf.old }
         ensures count { IfOk result (λ n. n ≤ length buf.old) }
-        ensures taken { tells_talk → IfOk result (λ n. ((seen self.old).input ≡ take n buf.new ++ (seen self.new).input)
+        ensures taken { tells_talk → IfOk result (λ n.
+            ((seen self.old).input ≡ take n buf.new ++ (seen self.new).input)
             × ((seen self.new).heard ≡ (seen self.old).heard ++ take n buf.new)
             × (n ≡ 0 → length (seen self.old).input ≡ 0)) }
         ensures nothing { OnErr result (Quiet (seen self.old) (seen self.new)) }
@@ -89,8 +97,10 @@ pub trait Host {
 
     /// Appends the bytes to what was said, or after `Failed` some of those at their front.
     fn say(&mut self, bytes: &[u8]) -> Result<(), Failed>
-        ensures said { tells_talk → OnOk result ((seen self.new).said ≡ (seen self.old).said ++ bytes.now) }
-        ensures front { (n : ℕ) × ((seen self.new).said ≡ (seen self.old).said ++ take n bytes.now) }
+        ensures said { tells_talk → OnOk result ((seen self.new).said
+            ≡ (seen self.old).said ++ bytes.now) }
+        ensures front { (n : ℕ) × ((seen self.new).said
+            ≡ (seen self.old).said ++ take n bytes.now) }
         ensures heard { (seen self.new).heard ≡ (seen self.old).heard }
         ensures input { (seen self.new).input ≡ (seen self.old).input }
         ensures still { Still (seen self.old) (seen self.new) }
@@ -124,7 +134,8 @@ pub trait Host {
 
     /// So is what a stop could leave at any moment.
     ghost bytes_since: { (host : Self) (t : ℕ) (images : List (List ℕ)) (said : List ℕ)
-        → (seen host).left_since t images said → (disk : ℕ) → disk < length (seen host).sizes → IsBytes (image images disk) };
+        → (seen host).left_since t images said → (disk : ℕ) → disk < length (seen host).sizes
+        → IsBytes (image images disk) };
 
     /// This moment is one of those since an earlier one.
     ghost counts_now: { (host : Self) (t : ℕ) (images : List (List ℕ)) → t ≤ (seen host).clock
@@ -132,5 +143,6 @@ pub trait Host {
 
     /// Since this moment there is no other.
     ghost only_now: { (host : Self) (images : List (List ℕ)) (said : List ℕ)
-        → (seen host).left_since (seen host).clock images said → Leaves (seen host) images × (said ≡ (seen host).said) };
+        → (seen host).left_since (seen host).clock images said
+        → Leaves (seen host) images × (said ≡ (seen host).said) };
 }

@@ -8,8 +8,10 @@ impl Host for MemoryHost {
     ghost use Rattle.std.specs.Prelude.{⊤};
     ghost use Rattle.ldm_host.specs.Memory.{memory_seen};
     ghost use Rattle.ldm_host.specs.Ending.{Ends};
-    ghost use Rattle.ldm_host.specs.Laws.{law_one_each, law_counts_each, law_lengths, law_may_stay, law_same_length};
-    ghost use Rattle.ldm_host.specs.Laws.{law_left_bytes, law_bytes_since, law_counts_now, law_only_now};
+    ghost use Rattle.ldm_host.specs.Laws.{law_one_each, law_counts_each, law_lengths, law_may_stay};
+    ghost use Rattle.ldm_host.specs.Laws.{law_same_length};
+    ghost use Rattle.ldm_host.specs.Laws.{law_left_bytes, law_bytes_since, law_counts_now};
+    ghost use Rattle.ldm_host.specs.Laws.{law_only_now};
 
     ghost seen = { memory_seen };
 

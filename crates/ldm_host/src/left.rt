@@ -80,11 +80,13 @@ fn fill_range(image: &mut Vec<u8>, call: &Call, disk: usize, byte: u8)
 }
 
 impl MemoryHost {
-    /// One list of images that a stop now may leave: outside the ranges that are pending they are the
-    /// content.
+    /// One list of images that a stop now may leave: outside the ranges that are pending they are
+    /// the content.
     pub fn left(&self, alloc: Global, filling: Filling) -> Result<Vec<Vec<u8>>, NoMemory>
-        ensures leaves { IfOk result (λ images. Leaves (memory_seen self.now) (items_of images.items)) }
-        ensures is { IfOk result (λ images. items_of images.items ≡ left_of filling (story_of self.now)) }
+        ensures leaves { IfOk result (λ images. Leaves (memory_seen self.now)
+            (items_of images.items)) }
+        ensures is { IfOk result (λ images. items_of images.items
+            ≡ left_of filling (story_of self.now)) }
     {
         let mut images = Vec::new(alloc);
         for disk in 0..self.held.len() {
@@ -98,7 +100,8 @@ impl MemoryHost {
         requires { disk < length self.now.held.items }
         ensures small { (byte : ℕ) → filling ≡ Fill byte → byte < 256 }
         ensures is { IfOk result (λ bytes. bytes.items
-            ≡ left_on filling (disk_at (run (fresh_state (items_of self.now.first.items)) self.now.calls.items).disks disk)) }
+            ≡ left_on filling (disk_at (run (fresh_state (items_of self.now.first.items))
+            self.now.calls.items).disks disk)) }
     {
         match filling {
             Filling::Old => self.last_synced(alloc, disk),
@@ -111,7 +114,8 @@ impl MemoryHost {
     fn last_synced(&self, alloc: Global, disk: usize) -> Result<Vec<u8>, AllocError>
         requires { disk < length self.now.held.items }
         ensures { IfOk result (λ bytes. bytes.items
-            ≡ (disk_at (run (fresh_state (items_of self.now.first.items)) self.now.calls.items).disks disk).synced) }
+            ≡ (disk_at (run (fresh_state (items_of self.now.first.items))
+            self.now.calls.items).disks disk).synced) }
     {
         let mut image = copy_of(alloc, &self.first[disk])?;
         for call in &self.calls[..last_sync(&self.calls, disk)] {
@@ -124,7 +128,8 @@ impl MemoryHost {
     fn filled(&self, alloc: Global, disk: usize, byte: u8) -> Result<Vec<u8>, AllocError>
         requires { disk < length self.now.held.items }
         ensures { IfOk result (λ bytes. bytes.items
-            ≡ filled byte (disk_at (run (fresh_state (items_of self.now.first.items)) self.now.calls.items).disks disk).pending (image (items_of self.now.held.items) disk)) }
+            ≡ filled byte (disk_at (run (fresh_state (items_of self.now.first.items))
+            self.now.calls.items).disks disk).pending (image (items_of self.now.held.items) disk)) }
     {
         let mut image = copy_of(alloc, &self.held[disk])?;
         for place in last_sync(&self.calls, disk)..self.calls.len() {

@@ -4,8 +4,8 @@
 //! (`specs/Seen.antt`, `specs/Moves.antt`). What a stop may leave on the disks is part of that.
 //!
 //! `MemoryHost` is a host in memory that tells everything and whose failures are exact
-//! (`specs/Story.antt`, `specs/Ending.antt`). `left` gives one list of the images that a stop may leave
-//! of it (`specs/Left.antt`).
+//! (`specs/Story.antt`, `specs/Ending.antt`). `left` gives one list of the images that a stop may
+//! leave of it (`specs/Left.antt`).
 #![tactic(auto)]
 
 mod call;

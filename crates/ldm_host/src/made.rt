@@ -1,6 +1,7 @@
 //! Images of zeros, and copies of images.
 // How a host in memory is made and looked at.
-ghost use Rattle.std.specs.Prelude.{◌≡◌, ◌<◌, ◌++◌, ◌∷◌, [], ℕ, length, replicate, slice_index, IfOk, OnOk, Ok, Vec};
+ghost use Rattle.std.specs.Prelude.{◌≡◌, ◌<◌, ◌++◌, ◌∷◌, [], ℕ, length, replicate, slice_index};
+ghost use Rattle.std.specs.Prelude.{IfOk, OnOk, Ok, Vec};
 ghost use Rattle.std.specs.declared.alloc.Global.{Global};
 ghost use Rattle.ldm_bytes.specs.Numbers.{IsBytes};
 ghost use Rattle.ldm_host.specs.Images.{items_of};
@@ -26,7 +27,8 @@ pub(crate) fn push_made(
     images: &mut Vec<Vec<u8>>,
     made: Result<Vec<u8>, AllocError>,
 ) -> Result<(), AllocError>
-    ensures { OnOk result ((image : Vec ℕ Global) × (made ≡ Ok image) × (images.new.items ≡ images.old.items ++ image ∷ [])) }
+    ensures { OnOk result ((image : Vec ℕ Global) × (made ≡ Ok image)
+        × (images.new.items ≡ images.old.items ++ image ∷ [])) }
 {
     images.push(made?).ok().ok_or(AllocError)
 }
@@ -51,8 +53,8 @@ fn zeros(alloc: Global, count: usize) -> Result<Vec<u64>, AllocError>
 }
 
 impl MemoryHost {
-    /// A host of these images, which hears this script. Nothing is pending, nothing was said, no call
-    /// is chosen to fail and no stop is set.
+    /// A host of these images, which hears this script. Nothing is pending, nothing was said, no
+    /// call is chosen to fail and no stop is set.
     pub fn new(alloc: Global, images: Vec<Vec<u8>>, script: Vec<u8>) -> Result<MemoryHost, NoMemory>
         ensures content { IfOk result (λ host. (memory_seen host).content ≡ items_of images.items) }
         ensures settled { IfOk result (λ host. (disk : ℕ) → Settled (memory_seen host) disk) }
@@ -63,7 +65,8 @@ impl MemoryHost {
         ensures disk_faults { IfOk result (λ host. (counts_of host).disk_faults ≡ 0) }
         ensures talk_faults { IfOk result (λ host. (counts_of host).talk_faults ≡ 0) }
         ensures dry { IfOk result (λ host. (counts_of host).dry ≡ 0) }
-        ensures wrote { IfOk result (λ host. (counts_of host).wrote ≡ replicate (length images.items) 0) }
+        ensures wrote { IfOk result (λ host. (counts_of host).wrote
+            ≡ replicate (length images.items) 0) }
         ensures plan { IfOk result (λ host. plan_of host ≡ no_failures) }
     {
         if let Ok(first) = copies(alloc, &images)
@@ -90,8 +93,9 @@ impl MemoryHost {
         }
     }
 
-    /// The calls with these numbers fail. All calls of `read_at`, `write_at`, `sync`, `hear` and `say`
-    /// are numbered together from 1, up to 2^64 - 1, which is the number of all later calls too.
+    /// The calls with these numbers fail. All calls of `read_at`, `write_at`, `sync`, `hear` and
+    /// `say` are numbered together from 1, up to 2^64 - 1, which is the number of all later calls
+    /// too.
     ///
     /// A `write_at` or `say` that fails so takes the first half of its bytes, rounded down.
     pub fn with_failures(self, calls: Vec<u64>) -> MemoryHost

@@ -1,11 +1,13 @@
 //! What each call of a host in memory adds to what it keeps.
 // What the calls of a host in memory do, one by one.
-ghost use Rattle.std.specs.Prelude.{◌≡◌, ◌≤◌, ◌<◌, ◌+◌, ◌&&◌, length, IfOk, OnErr, is_ok, not, if◌then◌else◌};
+ghost use Rattle.std.specs.Prelude.{◌≡◌, ◌≤◌, ◌<◌, ◌+◌, ◌&&◌, length, IfOk, OnErr, is_ok, not};
+ghost use Rattle.std.specs.Prelude.{if◌then◌else◌};
 ghost use Rattle.ldm_host.specs.declared.outcome.Outcome.TheVariants.{Whole};
 ghost use Rattle.ldm_host.specs.Images.{items_of};
 ghost use Rattle.ldm_host.specs.Plan.{next};
 ghost use Rattle.ldm_host.specs.Seen.{image};
-ghost use Rattle.ldm_host.specs.Steps.{Adds, IsHear, IsSay, IsSayOf, IsSync, IsWrite, IsWriteOf, Moved, held_after};
+ghost use Rattle.ldm_host.specs.Steps.{Adds, IsHear, IsSay, IsSayOf, IsSync, IsWrite, IsWriteOf};
+ghost use Rattle.ldm_host.specs.Steps.{Moved, held_after};
 ghost use Rattle.ldm_host.specs.Steps.{is_whole, placed, said_after, said_more};
 
 use crate::Failed;
@@ -60,8 +62,10 @@ fn take_bytes(
     requires disk { disk < length held.old.items }
     requires range { at + asked ≤ length (image (items_of held.old.items) disk) }
     requires short { length taken.now ≤ asked }
-    ensures calls { Adds result (IsWriteOf disk at taken.now asked) calls.old.items calls.new.items }
-    ensures held { items_of held.new.items ≡ placed result disk at taken.now (items_of held.old.items) }
+    ensures calls { Adds result (IsWriteOf disk at taken.now asked) calls.old.items
+        calls.new.items }
+    ensures held { items_of held.new.items ≡ placed result disk at taken.now
+        (items_of held.old.items) }
 {
     if keep_write(calls, alloc, disk, at, taken, asked) {
         put_in(held, disk, at, taken);
@@ -83,8 +87,10 @@ pub fn write_part(
 ) -> bool
     requires disk { disk < length held.old.items }
     requires range { at + length bytes.now ≤ length (image (items_of held.old.items) disk) }
-    ensures calls { Adds result (IsWrite outcome disk at bytes.now) calls.old.items calls.new.items }
-    ensures held { items_of held.new.items ≡ held_after outcome result disk at bytes.now (items_of held.old.items) }
+    ensures calls { Adds result (IsWrite outcome disk at bytes.now) calls.old.items
+        calls.new.items }
+    ensures held { items_of held.new.items ≡ held_after outcome result disk at bytes.now
+        (items_of held.old.items) }
 {
     let asked = bytes.len();
     match outcome {
@@ -145,8 +151,8 @@ pub fn say_part(
     }
 }
 
-/// Moves what comes next of the script to the front of the buffer, where the outcome is whole. It fails
-/// where it finds no memory.
+/// Moves what comes next of the script to the front of the buffer, where the outcome is whole. It
+/// fails where it finds no memory.
 pub fn hear_part(
     calls: &mut Vec<Call>,
     heard: &mut usize,
@@ -157,8 +163,10 @@ pub fn hear_part(
     requires some { 0 < length buf.old }
     requires fits { heard.old ≤ length script.now.items }
     ensures count { IfOk result (λ n. n ≤ length buf.old) }
-    ensures taken { outcome ≡ Whole → IfOk result (λ n. Moved script.now.items heard.old heard.new n buf.new) }
-    ensures calls { Adds (is_ok result) (IsHear outcome heard.old heard.new) calls.old.items calls.new.items }
+    ensures taken { outcome ≡ Whole → IfOk result
+        (λ n. Moved script.now.items heard.old heard.new n buf.new) }
+    ensures calls { Adds (is_ok result) (IsHear outcome heard.old heard.new) calls.old.items
+        calls.new.items }
     ensures fits { heard.new ≤ length script.now.items }
     ensures stays { OnErr result (heard.new ≡ heard.old) }
 {

@@ -126,7 +126,8 @@ fn push_volume(alloc: Global, payloads: &mut Vec<Payload>, v: &Volume) -> Result
     push(alloc, payloads, 0x51, flags, &fields)
 }
 
-/// A component. That of a stripe has its chunk and its count of columns, as they are spelled; of others it is empty.
+/// A component. That of a stripe has its chunk and its count of columns, as they are spelled; of
+/// others it is empty.
 struct Component<'a> {
     id: u64,
     name: &'a [u8],
@@ -160,8 +161,8 @@ fn push_component(
     push(alloc, payloads, 0x32, flags, &fields)
 }
 
-/// A partition of a component, from a sector of its disk's data on. A column has an index, as it is spelled; of others it is
-/// empty.
+/// A partition of a component, from a sector of its disk's data on. A column has an index, as it is
+/// spelled; of others it is empty.
 struct Partition<'a> {
     id: u64,
     name: &'a [u8],

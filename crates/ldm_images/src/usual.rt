@@ -113,7 +113,8 @@ fn image_of(alloc: Global, disk: u8, payloads: &[Payload]) -> Result<Vec<u8>, No
 
 // The images of the three disks.
 fn images_with(alloc: Global, payloads: &[Payload]) -> Result<Vec<Vec<u8>>, NoMemory>
-    ensures sizes { IfOk result (λ images. All (λ image. length image.items ≡ 8192 * 512) images.items) }
+    ensures sizes { IfOk result (λ images. All (λ image. length image.items
+        ≡ 8192 * 512) images.items) }
     ensures are { IfOk result (λ images. AreUsualImages 3 (items_of images.items)) }
 {
     let mut images = Vec::new(alloc);
@@ -123,10 +124,11 @@ fn images_with(alloc: Global, payloads: &[Payload]) -> Result<Vec<Vec<u8>>, NoMe
     Ok(images)
 }
 
-/// The images of the three disks of a usual group: `Dg0`, sequence 7, last VBLK sequence 5924, with the
-/// volumes `Volume1`, `Volume2`, `Stripe1` and `Mirror1`.
+/// The images of the three disks of a usual group: `Dg0`, sequence 7, last VBLK sequence 5924, with
+/// the volumes `Volume1`, `Volume2`, `Stripe1` and `Mirror1`.
 pub fn usual_images(alloc: Global) -> Result<Vec<Vec<u8>>, NoMemory>
-    ensures sizes { IfOk result (λ images. (vec_len images ≡ 3) × All (λ image. length image.items ≡ 8192 * 512) images.items) }
+    ensures sizes { IfOk result (λ images. (vec_len images ≡ 3)
+        × All (λ image. length image.items ≡ 8192 * 512) images.items) }
     // Each reads as the label of its disk, and has the header of the database behind an open gate.
     ensures are { IfOk result (λ images. AreUsualImages 3 (items_of images.items)) }
 {

@@ -30,7 +30,8 @@ fn records_of(
 ) -> Result<Vec<Record>, NoMemory>
     requires short { length name.now ≤ 30 }
     requires few { length disks.now ≤ 64 }
-    ensures { IfOk result (λ records. records.items ≡ first_records name.now guid disks.now (length disks.now)) }
+    ensures { IfOk result (λ records. records.items
+        ≡ first_records name.now guid disks.now (length disks.now)) }
 {
     let mut records = Vec::new(alloc);
     records.push(new_group(alloc, 1, name, guid)?)?;
@@ -54,7 +55,8 @@ pub fn new_database(
     requires without_zero { All (λ byte. byte ≢ 0) name.now }
     requires few { length disks.now ≤ 64 }
     ensures made { IfOk result (IsNewGroup name.now guid disks.now last seq) }
-    ensures new { IfOk result (λ db. (labels : List Label) → map (λ label. label.disk_guid) labels ≡ disks.now
+    ensures new { IfOk result (λ db. (labels : List Label)
+        → map (λ label. label.disk_guid) labels ≡ disks.now
         → IsNewOn db.records labels) }
     ensures fits { IfOk result (λ db. length disks.now + 1 ≤ room_of last → FitsHeader db) }
 {

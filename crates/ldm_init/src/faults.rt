@@ -1,5 +1,6 @@
 //! Why disks are not made a group.
-ghost use Rattle.std.specs.Prelude.{◌≡◌, ◌+◌, ◌*◌, ◌<◌, ◌≤◌, ℕ, length, slice_index, slice_range, take, None, Some};
+ghost use Rattle.std.specs.Prelude.{◌≡◌, ◌+◌, ◌*◌, ◌<◌, ◌≤◌, ℕ, length, slice_index, slice_range};
+ghost use Rattle.std.specs.Prelude.{take, None, Some};
 ghost use Rattle.std.specs.Prelude.{OnOk, IfOk, IsErr, IsErrOf};
 ghost use Rattle.ldm_host.specs.Moves.{Looks};
 ghost use Rattle.ldm_host.specs.Seen.{image};
@@ -69,7 +70,8 @@ fn are_zero(bytes: &[u8]) -> bool
     bytes.iter().all(|byte| *byte == 0)
 }
 
-// Whether the first bytes of a disk from a place on, so many of those that the buffer has room for, are zero.
+// Whether the first bytes of a disk from a place on, so many of those that the buffer has room for,
+// are zero.
 fn is_zero<H: Host>(
     host: &mut H,
     disk: usize,
@@ -82,7 +84,8 @@ fn is_zero<H: Host>(
     requires few { count ≤ length buffer.old }
     ensures size { length buffer.new ≡ length buffer.old }
     ensures is { H.tells_disks → IfOk result (λ zero. zero
-        ≡ are_zero (take count (slice_range (image (H.seen host.old).content disk) at (at + length buffer.old)))) }
+        ≡ are_zero (take count (slice_range (image (H.seen host.old).content disk) at
+        (at + length buffer.old)))) }
     ensures looks { Looks (H.seen host.old) (H.seen host.new) (IsErr result) }
 {
     host.read_at(disk, at, buffer)?;
@@ -94,7 +97,8 @@ fn is_empty<H: Host>(host: &mut H, disk: usize, buffer: &mut [u8]) -> Result<boo
     requires disk { disk < length (H.seen host.old).sizes }
     requires large { 2112 ≤ slice_index (H.seen host.old).sizes disk }
     requires room { length buffer.old ≡ 512 * 2048 }
-    ensures is { H.tells_disks → IfOk result (λ empty. empty ≡ is_empty (image (H.seen host.old).content disk)) }
+    ensures is { H.tells_disks → IfOk result (λ empty. empty
+        ≡ is_empty (image (H.seen host.old).content disk)) }
     ensures looks { Looks (H.seen host.old) (H.seen host.new) (IsErr result) }
 {
     let last = 512 * (host.sectors(disk) - 2048);
@@ -105,7 +109,8 @@ fn is_empty<H: Host>(host: &mut H, disk: usize, buffer: &mut [u8]) -> Result<boo
 
 // The first disk that isn't empty.
 fn first_full<H: Host>(host: &mut H, buffer: &mut [u8]) -> Result<Option<usize>, Failed>
-    requires large { (disk : ℕ) → disk < length (H.seen host.old).sizes → 2112 ≤ slice_index (H.seen host.old).sizes disk }
+    requires large { (disk : ℕ) → disk < length (H.seen host.old).sizes
+        → 2112 ≤ slice_index (H.seen host.old).sizes disk }
     requires room { length buffer.old ≡ 512 * 2048 }
     ensures is { H.tells_disks → IfOk result (IsFirst IsFull (H.seen host.old).content) }
     ensures looks { Looks (H.seen host.old) (H.seen host.new) (IsErr result) }
@@ -125,7 +130,8 @@ pub fn check_disks<H: Host>(
     buffer: &mut [u8],
 ) -> Result<(), InitError>
     requires room { length buffer.old ≡ 512 * 2048 }
-    ensures fault { H.tells_disks → (guids : _) → labels.now ≡ new_labels (H.seen host.old).sizes guids
+    ensures fault { H.tells_disks → (guids : _) → labels.now
+        ≡ new_labels (H.seen host.old).sizes guids
         → ChecksAs guids (H.seen host.old).sizes (H.seen host.old).content result }
     ensures large { OnOk result ((disk : ℕ) → disk < length (H.seen host.old).sizes
         → 2112 ≤ slice_index (H.seen host.old).sizes disk) }

@@ -1,12 +1,14 @@
 //! A new group, made on disks that are empty.
-ghost use Rattle.std.specs.Prelude.{◌≡◌, ◌*◌, ◌<◌, ◌≤◌, ◌≢◌, ◌⊎◌, ℕ, length, slice_index, All, Some, None, Err, OnOk};
+ghost use Rattle.std.specs.Prelude.{◌≡◌, ◌*◌, ◌<◌, ◌≤◌, ◌≢◌, ◌⊎◌, ℕ, length, slice_index, All};
+ghost use Rattle.std.specs.Prelude.{Some, None, Err, OnOk};
 ghost use Rattle.std.specs.Prelude.{IfOk, IfErr, IsErrOf};
 ghost use Rattle.ldm_host.specs.Moves.{Still, Looks, Works, AtEachMoment};
 ghost use Rattle.ldm_label.specs.Written.{IsWritable};
 ghost use Rattle.ldm_words.specs.NewGroup as words;
 ghost use Rattle.ldm_init.specs.declared.faults.InitFault.{InitFault};
 ghost use Rattle.ldm_init.specs.Faults.{InitAnswers, IsInitFault};
-ghost use Rattle.ldm_init.specs.Images.{AreNewImages, HoldNewGroup, IsInitMoment, IsNewBody, NothingPending};
+ghost use Rattle.ldm_init.specs.Images.{AreNewImages, HoldNewGroup, IsInitMoment, IsNewBody};
+ghost use Rattle.ldm_init.specs.Images.{NothingPending};
 ghost use Rattle.ldm_init.specs.Moments.{AllTake, MayHaveWritten, WritesGroup};
 ghost use Rattle.ldm_init.specs.NewGroup.{new_labels};
 
@@ -59,14 +61,17 @@ fn prepare<H: Host>(
 ) -> Result<Plan, InitError>
     requires words { words.IsNewGroup name.now guids.now }
     requires count { length guids.now ≡ length (H.seen host.old).sizes }
-    ensures labels { IfOk result (λ plan. plan.labels.items ≡ new_labels (H.seen host.old).sizes guids.now) }
+    ensures labels { IfOk result (λ plan. plan.labels.items
+        ≡ new_labels (H.seen host.old).sizes guids.now) }
     ensures writable { IfOk result (λ plan. All (λ label. IsWritable label) plan.labels.items) }
     ensures body { IfOk result (λ plan. IsNewBody name.now guid guids.now plan.body) }
     ensures buffer { IfOk result (λ plan. length plan.buffer.items ≡ 512 * 2048) }
     ensures large { OnOk result ((disk : ℕ) → disk < length (H.seen host.old).sizes
         → 2112 ≤ slice_index (H.seen host.old).sizes disk) }
-    ensures empty { H.tells_disks → OnOk result (IsInitFault guids.now (H.seen host.old).content None) }
-    ensures fault { H.tells_disks → IfErr result (λ error. InitAnswers guids.now (H.seen host.old).content (Err error)) }
+    ensures empty { H.tells_disks → OnOk result (IsInitFault guids.now
+        (H.seen host.old).content None) }
+    ensures fault { H.tells_disks → IfErr result (λ error. InitAnswers guids.now
+        (H.seen host.old).content (Err error)) }
     ensures looks { Looks (H.seen host.old) (H.seen host.new) (IsErrOf result InitError.Disk) }
 {
     let labels = new_labels(alloc, host, guids)?;
@@ -87,7 +92,8 @@ fn write_plan<H: Host>(host: &mut H, plan: Plan) -> Result<(), InitError>
     requires count { length plan.labels.items ≡ length (H.seen host.old).sizes }
     requires takes { AllTake plan.labels.items plan.body (H.seen host.old).sizes }
     requires buffer { length plan.buffer.items ≡ 512 * 2048 }
-    ensures writes { WritesGroup H.tells_disks result plan.labels.items plan.body (H.seen host.old) (H.seen host.new) }
+    ensures writes { WritesGroup H.tells_disks result plan.labels.items plan.body (H.seen host.old)
+        (H.seen host.new) }
     ensures not_refused { MayHaveWritten result }
 {
     let Plan {
@@ -101,8 +107,8 @@ fn write_plan<H: Host>(host: &mut H, plan: Plan) -> Result<(), InitError>
     }
 }
 
-/// Makes the disks a new group of this name and GUID, with these GUIDs of its disks. What was said and the input stay as they
-/// are. All memory is taken before the first write.
+/// Makes the disks a new group of this name and GUID, with these GUIDs of its disks. What was said
+/// and the input stay as they are. All memory is taken before the first write.
 pub fn init<H: Host>(
     alloc: Global,
     host: &mut H,
@@ -114,17 +120,23 @@ pub fn init<H: Host>(
     requires count { length disks.now ≡ length (H.seen host.old).sizes }
     // Exactly the first fault of the disks is answered.
     ensures answers { H.tells_disks → InitAnswers disks.now (H.seen host.old).content result }
-    // Nothing is written after a fault or want of memory, nor where there is a fault, whatever is answered.
+    // Nothing is written after a fault or want of memory, nor where there is a fault, whatever is
+    // answered.
     ensures unwritten { MayHaveWritten result ⊎ Still (H.seen host.old) (H.seen host.new) }
-    ensures faulty { H.tells_disks → (fault : InitFault) → IsInitFault disks.now (H.seen host.old).content (Some fault)
+    ensures faulty { H.tells_disks → (fault : InitFault)
+        → IsInitFault disks.now (H.seen host.old).content (Some fault)
         → Still (H.seen host.old) (H.seen host.new) }
     // Whatever a stop leaves is refused as without signature, or is the new group.
-    ensures any_moment { H.tells_disks → NothingPending (H.seen host.old) → IsInitFault disks.now (H.seen host.old).content None
-        → AtEachMoment (H.seen host.old) (H.seen host.new) (IsInitMoment name.now guid disks.now (H.seen host.old)) }
+    ensures any_moment { H.tells_disks → NothingPending (H.seen host.old)
+        → IsInitFault disks.now (H.seen host.old).content None
+        → AtEachMoment (H.seen host.old) (H.seen host.new)
+        (IsInitMoment name.now guid disks.now (H.seen host.old)) }
     // After Ok the disks hold its images, which are found as the new group, and nothing is pending.
-    ensures images { H.tells_disks → OnOk result (AreNewImages name.now guid disks.now (H.seen host.old).sizes (H.seen host.old).content (H.seen host.new).content) }
+    ensures images { H.tells_disks → OnOk result (AreNewImages name.now guid disks.now
+        (H.seen host.old).sizes (H.seen host.old).content (H.seen host.new).content) }
     ensures holds { H.tells_disks → NothingPending (H.seen host.old)
-        → OnOk result (HoldNewGroup name.now guid disks.now (H.seen host.old).sizes (H.seen host.new).content) }
+        → OnOk result (HoldNewGroup name.now guid disks.now (H.seen host.old).sizes
+        (H.seen host.new).content) }
     ensures settled { OnOk result (NothingPending (H.seen host.new)) }
     ensures works { Works (H.seen host.old) (H.seen host.new) (IsErrOf result InitError.Disk) }
 {

@@ -34,7 +34,8 @@ pub(crate) fn new_labels<H: Host>(
     guids: &[u128],
 ) -> Result<Vec<Label>, NoMemory>
     requires { length guids.now ≤ length (H.seen host.now).sizes }
-    ensures are { IfOk result (λ labels. labels.items ≡ new_labels (H.seen host.now).sizes guids.now) }
+    ensures are { IfOk result (λ labels. labels.items
+        ≡ new_labels (H.seen host.now).sizes guids.now) }
     ensures writable { IfOk result (λ labels. All (λ label. IsWritable label) labels.items) }
 {
     let mut labels = Vec::new(alloc);

@@ -22,13 +22,18 @@ pub fn write_all<H: Host>(
     requires count { length labels.now ≡ length (H.seen host.old).sizes }
     requires takes { AllTake labels.now body.now (H.seen host.old).sizes }
     requires size { length buffer.old ≡ 512 * 2048 }
-    ensures any_moment { H.tells_disks → (db : Database) (start : Before) → AllOn db labels.now body.now
+    ensures any_moment { H.tells_disks → (db : Database) (start : Before)
+        → AllOn db labels.now body.now
         → IsWriting db labels.now start 0 (H.seen host.old)
         → AtEachMoment (H.seen host.old) (H.seen host.new) (IsMaking db labels.now start) }
-    ensures done { H.tells_disks → OnOk result ((db : Database) (start : Before) → AllOn db labels.now body.now
-        → IsWriting db labels.now start 0 (H.seen host.old) → IsWriting db labels.now start (length labels.now) (H.seen host.new)) }
-    ensures written { H.tells_disks → OnOk result ((disk : ℕ) (label : LabelModel) → slice_get labels.now disk ≡ Some label
-        → IsUnsignedImage label body.now (image (H.seen host.old).content disk) (image (H.seen host.new).content disk)) }
+    ensures done { H.tells_disks → OnOk result ((db : Database) (start : Before)
+        → AllOn db labels.now body.now
+        → IsWriting db labels.now start 0 (H.seen host.old)
+        → IsWriting db labels.now start (length labels.now) (H.seen host.new)) }
+    ensures written { H.tells_disks → OnOk result
+        ((disk : ℕ) (label : LabelModel) → slice_get labels.now disk ≡ Some label
+        → IsUnsignedImage label body.now (image (H.seen host.old).content disk)
+        (image (H.seen host.new).content disk)) }
     ensures works { Works (H.seen host.old) (H.seen host.new) (IsErr result) }
 {
     'disks: for disk in 0..labels.len() {
@@ -47,7 +52,8 @@ pub fn write_group<H: Host>(
     requires count { length labels.now ≡ length (H.seen host.old).sizes }
     requires takes { AllTake labels.now body.now (H.seen host.old).sizes }
     requires size { length buffer.old ≡ 512 * 2048 }
-    ensures { WritesGroup H.tells_disks result labels.now body.now (H.seen host.old) (H.seen host.new) }
+    ensures { WritesGroup H.tells_disks result labels.now body.now (H.seen host.old)
+        (H.seen host.new) }
 {
     write_all(host, labels, body, buffer)?;
     sign_all(host)

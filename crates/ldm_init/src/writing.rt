@@ -1,5 +1,6 @@
 //! What is written to a disk before its signature.
-ghost use Rattle.std.specs.Prelude.{◌≡◌, ◌+◌, ◌*◌, ◌<◌, ◌≤◌, length, replicate, slice_index, OnOk, IsErr};
+ghost use Rattle.std.specs.Prelude.{◌≡◌, ◌+◌, ◌*◌, ◌<◌, ◌≤◌, length, replicate, slice_index, OnOk};
+ghost use Rattle.std.specs.Prelude.{IsErr};
 ghost use Rattle.ldm_host.specs.Moves.{Settled, DiskFailed};
 ghost use Rattle.ldm_host.specs.Seen.{image};
 ghost use Rattle.ldm_bytes.specs.Places.{put};
@@ -15,8 +16,9 @@ use ldm_bytes::put_bytes;
 use ldm_host::{Failed, Host};
 use ldm_label::{Label, LabelSectors, label_sectors};
 
-/// Writes the first bytes of a disk, at most 511, its sector 6, and bytes from a place on, then syncs. At each moment, whatever the
-/// outcome, all other bytes are as they were, the last of the signature among them.
+/// Writes the first bytes of a disk, at most 511, its sector 6, and bytes from a place on, then
+/// syncs. At each moment, whatever the outcome, all other bytes are as they were, the last of the
+/// signature among them.
 pub(crate) fn write_unsigned<H: Host>(
     host: &mut H,
     disk: usize,
@@ -30,9 +32,11 @@ pub(crate) fn write_unsigned<H: Host>(
     requires room { 7 ≤ slice_index (H.seen host.old).sizes disk }
     requires range { begin + length last.now ≤ 512 * slice_index (H.seen host.old).sizes disk }
     ensures written { H.tells_disks → OnOk result (image (H.seen host.new).content disk
-        ≡ put (put (put (image (H.seen host.old).content disk) 0 front.now) 0xC00 copy.now) begin last.now) }
+        ≡ put (put (put (image (H.seen host.old).content disk) 0 front.now) 0xC00 copy.now)
+        begin last.now) }
     ensures settled { OnOk result (Settled (H.seen host.new) disk) }
-    ensures changes { ChangesBeside (IsBeside begin (length last.now)) disk (H.seen host.old) (H.seen host.new) }
+    ensures changes { ChangesBeside (IsBeside begin (length last.now)) disk (H.seen host.old)
+        (H.seen host.new) }
     ensures cause { IsErr result → DiskFailed (H.seen host.old) (H.seen host.new) }
 {
     host.write_at(disk, 0, front)?;
@@ -65,8 +69,8 @@ fn fill_last(buffer: &mut [u8], label: &Label, sectors: &LabelSectors, body: &[u
     put_bytes(buffer, 512 * 2047, &sectors.header);
 }
 
-/// Writes all of a disk that a new group has but the last byte of the signature, then syncs. The buffer is that of the last
-/// 2048 sectors.
+/// Writes all of a disk that a new group has but the last byte of the signature, then syncs. The
+/// buffer is that of the last 2048 sectors.
 pub fn write_disk<H: Host>(
     host: &mut H,
     disk: usize,
@@ -78,11 +82,13 @@ pub fn write_disk<H: Host>(
     requires takes { CanTake label.now body.now (slice_index (H.seen host.old).sizes disk) }
     requires size { length buffer.old ≡ 512 * 2048 }
     ensures written { H.tells_disks
-        → OnOk result (IsUnsignedImage label.now body.now (image (H.seen host.old).content disk) (image (H.seen host.new).content disk)) }
+        → OnOk result (IsUnsignedImage label.now body.now (image (H.seen host.old).content disk)
+        (image (H.seen host.new).content disk)) }
     ensures ready { H.tells_disks → OnOk result ((db : Database) → IsBodyOn db label.now body.now
         → IsReady db label.now (image (H.seen host.new).content disk)) }
     ensures settled { OnOk result (Settled (H.seen host.new) disk) }
-    ensures changes { ChangesBeside (IsBeside (512 * label.now.config_start) (512 * 2048)) disk (H.seen host.old) (H.seen host.new) }
+    ensures changes { ChangesBeside (IsBeside (512 * label.now.config_start) (512 * 2048)) disk
+        (H.seen host.old) (H.seen host.new) }
     ensures size { length buffer.new ≡ 512 * 2048 }
     ensures cause { IsErr result → DiskFailed (H.seen host.old) (H.seen host.new) }
 {

@@ -159,8 +159,8 @@ fn says_each_fault_of_a_copy(rt: HostRuntime) -> Result<(), Fail> {
     expect_cases(rt.alloc(), &rt, "records on A", 1, &BLOCKS)
 }
 
-// The group and the disk in the records that Vista writes: 44 bytes behind the group's name, and 16 of a GUID and 29 behind
-// the disk's. What else the blocks hold is carried.
+// The group and the disk in the records that Vista writes: 44 bytes behind the group's name, and 16
+// of a GUID and 29 behind the disk's. What else the blocks hold is carried.
 const VISTA: [Case; 1] = [(
     &[
         (AREA + 128 * 4 + 0x13, b"\x45\x00\x00\x00\x32"),

@@ -6,7 +6,8 @@ use std::alloc::Global;
 use std::process::Abort;
 use std::test::Fail;
 
-// The images of a group, and the job that is at hand: its words, what it hears, and what it has to say.
+// The images of a group, and the job that is at hand: its words, what it hears, and what it has to
+// say.
 //
 // The text of a session has lines with a mark, and all others are said:
 //
@@ -289,7 +290,8 @@ $ map M 149 1 on A B C
 149 copy 1 Disk2 149 at 212
 = 0";
 
-// Lines of a batch are one change of the group, with one new sequence, or none; one that is open at the end counts for nothing.
+// Lines of a batch are one change of the group, with one new sequence, or none; one that is open at
+// the end counts for nothing.
 const BATCHES: &str = "\
 $ edit on A B C
 < begin
@@ -407,8 +409,8 @@ $ edit on A B C
 3 refused: empty batch
 = 1";
 
-// The blocks 8 to 13: a volume of 255 sectors, in four fragments, whose second text has 255 bytes and whose
-// tail has 111; its component, and its partition.
+// The blocks 8 to 13: a volume of 255 sectors, in four fragments, whose second text has 255 bytes
+// and whose tail has 111; its component, and its partition.
 const LONG_RECORD: &str = "\
 ! *.copy+408=0000000800000004
 ! *.copy+410=00000051000001b8010504446174610367656eff

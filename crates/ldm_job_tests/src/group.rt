@@ -81,7 +81,8 @@ fn is_named(which: &str, image: usize) -> bool {
     }
 }
 
-// Does a change IMAGE.SECTORS+OFFSET=BYTES or IMAGE.cut+SECTOR=, or one of all images where IMAGE is a star.
+// Does a change IMAGE.SECTORS+OFFSET=BYTES or IMAGE.cut+SECTOR=, or one of all images where IMAGE
+// is a star.
 pub(crate) fn change_images(alloc: Global, images: &mut [Vec<u8>], text: &str) -> Result<(), Fail> {
     let Some((which, rest)) = text.split_once('.') else {
         return Err(Fail::from("no image"));
@@ -275,8 +276,8 @@ fn shows_and_checks_the_group(rt: HostRuntime) -> Result<(), Fail> {
     Ok(())
 }
 
-// The blocks 8 to 10: a volume of 200 sectors, its component with two partitions, and the first of them,
-// on disk 2 from sector 0 on.
+// The blocks 8 to 10: a volume of 200 sectors, its component with two partitions, and the first of
+// them, on disk 2 from sector 0 on.
 const VOLUME: &str = "\
 *.copy+400=56424c4b0000000800000008000000010000005100000047010501560367656e00414354495645000000000000000003
 *.copy+430=00000000000001010000000000000000000000000000000001c80000000007bbbbbbbbbbbbbbbbbbbbbbbbbbbbbbbb

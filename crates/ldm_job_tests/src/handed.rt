@@ -106,8 +106,8 @@ fn heals_with_the_body_of_the_other_copies(rt: HostRuntime) -> Result<(), Fail> 
     )
 }
 
-// Volume 5 and its component 6 in the blocks 11 and 12, and its partition 7 in three parts, in the blocks 9, 5 and 7: its name
-// has 255 letters. The disks 2 and 4 are in the blocks 8 and 10.
+// Volume 5 and its component 6 in the blocks 11 and 12, and its partition 7 in three parts, in the
+// blocks 9, 5 and 7: its name has 255 letters. The disks 2 and 4 are in the blocks 8 and 10.
 const OUT_OF_ORDER: &str = "\
 *.copy+288=00000009000100037878787878787878787878787878787878787878787878787878787878787878
 *.copy+2b0=78787878787878787878787878787878787878787878787878787878787878787878787878787878

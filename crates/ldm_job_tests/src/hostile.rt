@@ -1,4 +1,5 @@
-//! Images that no healthy disk has: lengths, places and numbers at the ends of what the format can say.
+//! Images that no healthy disk has: lengths, places and numbers at the ends of what the format can
+//! say.
 use crate::group::{expect_all, expect_last, expect_rows};
 use crate::jobs::sample_group;
 use std::test::Fail;

@@ -101,7 +101,8 @@ fn refuses_disks_that_are_not_empty_or_too_small(rt: HostRuntime) -> Result<(), 
     )
 }
 
-// Puts the last byte of the signature into each image, if one has it. Then all else is there on all of them.
+// Puts the last byte of the signature into each image, if one has it. Then all else is there on all
+// of them.
 fn sign_all(images: &mut [Vec<u8>]) -> bool {
     if !images.iter().any(|image| image.get(0x1FF) == Some(&0xAA)) {
         return false;
@@ -112,8 +113,8 @@ fn sign_all(images: &mut [Vec<u8>]) -> bool {
     true
 }
 
-// Looks at what is left of a new group that is stopped after so many calls: no image has a signature, or the group is found.
-// Answers whether it was made whole.
+// Looks at what is left of a new group that is stopped after so many calls: no image has a
+// signature, or the group is found. Answers whether it was made whole.
 fn stops(alloc: Global, rt: &impl Abort, calls: u64, filling: Filling) -> Result<bool, Fail> {
     let mut host = MemoryHost::new(alloc, zeros(alloc, 8192)?, Vec::new(alloc))?.stop_after(calls);
     let status = run_over(alloc, &words_in(alloc, INIT)?, &mut host);

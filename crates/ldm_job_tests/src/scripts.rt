@@ -7,8 +7,8 @@ use std::alloc::Global;
 use std::process::Abort;
 use std::test::Fail;
 
-// COUNT|HEAD|PART|REPLY: a line of the head and so many of the part behind it, and the reply to it. The last line
-// has no newline.
+// COUNT|HEAD|PART|REPLY: a line of the head and so many of the part behind it, and the reply to it.
+// The last line has no newline.
 const ODD_LINES: &str = "\
 3|| |refused: bad line
 255|delete |x|refused: no volume

@@ -1,4 +1,5 @@
-//! What a stop at each call of an edit leaves of a group, and edits that begin again where calls failed.
+//! What a stop at each call of an edit leaves of a group, and edits that begin again where calls
+//! failed.
 use crate::jobs::{run_over, sample_group, words_in};
 use ldm_host::{Filling, Host, MemoryHost};
 use ldm_run::Status;
@@ -6,8 +7,9 @@ use std::alloc::Global;
 use std::process::Abort;
 use std::test::Fail;
 
-// A script over the sample group of so many disks with this `last`, what is said to it where no call fails, how that ends, and
-// for each number of replies that are whole the groups that may open.
+// A script over the sample group of so many disks with this `last`, what is said to it where no
+// call fails, how that ends, and for each number of replies that are whole the groups that may
+// open.
 struct Script {
     disks: u8,
     last: u32,
@@ -54,8 +56,9 @@ const GROWTH: Script = Script {
     opens: &[[4, 5], [5, 5]],
 };
 
-// What the group is before the first two scripts, after the first line of the first and after its last, and after the batch; and
-// before and after the third: as it is shown, and then as it is checked once all its copies are equal again.
+// What the group is before the first two scripts, after the first line of the first and after its
+// last, and after the batch; and before and after the third: as it is shown, and then as it is
+// checked once all its copies are equal again.
 const GROUPS: [&str; 6] = [
     "\
 group Dg0 aaaaaaaa-aaaa-aaaa-aaaa-aaaaaaaaaaaa sequence 7 blocks 4 of 60
@@ -187,7 +190,8 @@ fn is_fault(status: Option<Status>) -> bool {
     matches!(status, Some(Status::DiskFault) | Some(Status::TalkFault))
 }
 
-// Looks at what an edit leaves that is stopped after so many calls, with this filling, and answers whether it was whole.
+// Looks at what an edit leaves that is stopped after so many calls, with this filling, and answers
+// whether it was whole.
 fn stops(
     alloc: Global,
     rt: &impl Abort,
@@ -265,8 +269,8 @@ fn opens_after_a_stop_while_the_group_grows(rt: HostRuntime) -> Result<(), Fail>
     Ok(())
 }
 
-// Edits a second time on the host of an edit in which a call failed, by what is left of the script. Then all copies are
-// open with one group, not before the last line that was answered with ok.
+// Edits a second time on the host of an edit in which a call failed, by what is left of the script.
+// Then all copies are open with one group, not before the last line that was answered with ok.
 fn edits_again(alloc: Global, rt: &impl Abort, host: MemoryHost, call: u64) -> Result<(), Fail> {
     let mut host = host;
     let unheard = call == 1;
@@ -317,7 +321,8 @@ fn edits_again_after_a_call_that_failed(rt: HostRuntime) -> Result<(), Fail> {
     Err(Fail::from("no edit was whole"))
 }
 
-// What a stop leaves of the host with this filling opens, not before the last line that was answered with ok.
+// What a stop leaves of the host with this filling opens, not before the last line that was
+// answered with ok.
 fn opens_answered(
     alloc: Global,
     rt: &impl Abort,
@@ -333,8 +338,8 @@ fn opens_answered(
     Ok(())
 }
 
-// Four calls in a row fail, and the edit is begun again until no call fails in it. Answers whether the first didn't come so
-// far.
+// Four calls in a row fail, and the edit is begun again until no call fails in it. Answers whether
+// the first didn't come so far.
 fn fails_from(alloc: Global, rt: &impl Abort, call: u64, filling: Filling) -> Result<bool, Fail> {
     let mut calls = Vec::new(alloc);
     for more in 0..4u64 {

@@ -6,7 +6,8 @@ use ldm_run::Status;
 use std::alloc::Global;
 use std::test::Fail;
 
-// Each shape on all disks and where one is absent, names that have to be spelled in another way, and what can't be had.
+// Each shape on all disks and where one is absent, names that have to be spelled in another way,
+// and what can't be had.
 const TABLES: &str = "\
 $ edit on A B C
 < create Data bbbbbbbb-bbbb-bbbb-bbbb-bbbbbbbbbbbb span Disk1=2048 Disk1=10 Disk2=5
@@ -69,8 +70,8 @@ fn spells_tables(rt: HostRuntime) -> Result<(), Fail> {
     play(rt.alloc(), &rt, 3, 64, TABLES)
 }
 
-// Where the size of the volume stands whose GUID is sixteen of these bytes, in the last megabyte of an image: a number of one
-// byte, and then five bytes up to the GUID.
+// Where the size of the volume stands whose GUID is sixteen of these bytes, in the last megabyte of
+// an image: a number of one byte, and then five bytes up to the GUID.
 fn size_place(image: &[u8], guid: u8) -> Option<usize> {
     let area = image.len().checked_sub(0x10_0000)?;
     let place = image[area..]
@@ -79,7 +80,8 @@ fn size_place(image: &[u8], guid: u8) -> Option<usize> {
     area.checked_add(place)?.checked_sub(6)
 }
 
-// The images of the sample group with a volume of such a GUID that a line creates, whose size is then this.
+// The images of the sample group with a volume of such a GUID that a line creates, whose size is
+// then this.
 fn resized(alloc: Global, line: &str, guid: u8, size: u8) -> Result<Vec<Vec<u8>>, Fail> {
     let script = line.as_bytes().to_vec(alloc)?;
     let mut host = MemoryHost::new(alloc, sample_group(alloc, 3, 64)?, script)?;
@@ -131,7 +133,8 @@ ldm_vol_Dg0_R,LDM-cccccccc-cccc-cccc-cccc-cccccccccccc,,ro,0 16 raid raid5_ls 2 
     ),
 ];
 
-// A stripe of 42 sectors, of which the last 10 fill no row, and a RAID-5 of 20, of which the last 4 don't.
+// A stripe of 42 sectors, of which the last 10 fill no row, and a RAID-5 of 20, of which the last 4
+// don't.
 #[test]
 fn spells_what_whole_rows_leave(rt: HostRuntime) -> Result<(), Fail> {
     let alloc = rt.alloc();

@@ -8,8 +8,8 @@ use std::alloc::Global;
 use std::process::Abort;
 use std::test::Fail;
 
-// A RAID-5 with zeros in all its sectors, and then with one byte of sector 71 of an image changed. A mirror, and then one byte
-// of sector 162 of an image.
+// A RAID-5 with zeros in all its sectors, and then with one byte of sector 71 of an image changed.
+// A mirror, and then one byte of sector 162 of an image.
 const SCRUBS: &str = "\
 $ create R cccccccc-cccc-cccc-cccc-cccccccccccc raid5 4 12 Disk1 Disk2 Disk3 on A B C
 1 ok 8

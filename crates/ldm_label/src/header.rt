@@ -1,7 +1,8 @@
 //! Private headers (PRIVHEAD).
 ghost use Rattle.std.specs.Prelude.{◌≡◌, ◌+◌, ◌<◌, IfOk};
 ghost use Rattle.ldm_label.specs.Answer.{answer};
-ghost use Rattle.ldm_label.specs.Fields.{is_privhead, has_version, header_of, is_out_of_range, same_header};
+ghost use Rattle.ldm_label.specs.Fields.{is_privhead, has_version, header_of, is_out_of_range};
+ghost use Rattle.ldm_label.specs.Fields.{same_header};
 ghost use Rattle.ldm_label.specs.LabelOf.{header_faults, differs};
 ghost use Rattle.ldm_label.specs.Parts.{HeaderFits};
 

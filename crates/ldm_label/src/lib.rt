@@ -1,8 +1,8 @@
 //! The label of a disk: what its MBR, its private headers (PRIVHEAD) and its tables of contents
 //! (TOCBLOCK) say of the disk and its database, or the first fault that they have.
 //!
-//! Sectors have 512 bytes. The format's fields are in `specs/Fields.antt`, the faults in their order
-//! in `specs/LabelOf.antt`, the sectors that are written in `specs/Written.antt`.
+//! Sectors have 512 bytes. The format's fields are in `specs/Fields.antt`, the faults in their
+//! order in `specs/LabelOf.antt`, the sectors that are written in `specs/Written.antt`.
 #![tactic(auto)]
 
 ghost use Rattle.std.specs.Prelude.{◌≡◌};
@@ -24,8 +24,8 @@ pub use reading::read_label;
 pub use sectors::read_sector;
 pub use writing::{LabelSectors, label_sectors, write_label};
 
-/// What the label of a disk says. `minor` is the version's: 11 or 12. Data and database are in sectors
-/// of the disk, the areas in sectors of the database.
+/// What the label of a disk says. `minor` is the version's: 11 or 12. Data and database are in
+/// sectors of the disk, the areas in sectors of the database.
 #[derive(Clone, Copy, PartialEq, Eq)]
 pub struct Label {
     pub disk_guid: u128,

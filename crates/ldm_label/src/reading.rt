@@ -1,10 +1,12 @@
 //! Reads the label of a disk, or its first fault.
-ghost use Rattle.std.specs.Prelude.{◌≡◌, ◌+◌, ◌^◌, ◌<◌, ◌≤◌, [], ◌∷◌, ◌++◌, length, slice_index, slice_get, IfOk, IsErrOf};
+ghost use Rattle.std.specs.Prelude.{◌≡◌, ◌+◌, ◌^◌, ◌<◌, ◌≤◌, [], ◌∷◌, ◌++◌, length, slice_index};
+ghost use Rattle.std.specs.Prelude.{slice_get, IfOk, IsErrOf};
 ghost use Rattle.ldm_host.specs.Moves.{Looks};
 ghost use Rattle.ldm_host.specs.Seen.{image};
 ghost use Rattle.ldm_label.specs.Answer.{answer, Gives};
 ghost use Rattle.ldm_label.specs.Fields.{sector, header_of};
-ghost use Rattle.ldm_label.specs.LabelOf.{mbr_faults, header_faults, copy_faults, toc_faults, tocs_in, some_differ};
+ghost use Rattle.ldm_label.specs.LabelOf.{mbr_faults, header_faults, copy_faults, toc_faults};
+ghost use Rattle.ldm_label.specs.LabelOf.{tocs_in, some_differ};
 ghost use Rattle.ldm_label.specs.LabelOf.{first_toc, label_of, Fits};
 ghost use Rattle.ldm_label.specs.Parts.{HeaderFits, TocFits};
 
@@ -25,7 +27,8 @@ fn read_header<H: Host>(
     requires size { sectors ≡ slice_index (H.seen host.old).sizes disk }
     requires some { 7 ≤ sectors }
     ensures is { H.tells_disks → (let disk = image (H.seen host.old).content disk in
-        Gives result (answer (mbr_faults (sector disk 0) ++ header_faults (sector disk 6) sectors) (header_of (sector disk 6)))) }
+        Gives result (answer (mbr_faults (sector disk 0) ++ header_faults (sector disk 6) sectors)
+        (header_of (sector disk 6)))) }
     ensures fits { IfOk result (λ header. HeaderFits header sectors) }
     ensures looks { Looks (H.seen host.old) (H.seen host.new) (IsErrOf result LabelError.Disk) }
 {
@@ -43,7 +46,8 @@ fn check_copies<H: Host>(
 ) -> Result<(), LabelError>
     requires disk { disk < length (H.seen host.old).sizes }
     requires inside { header.now.config_start + 2048 ≤ slice_index (H.seen host.old).sizes disk }
-    ensures is { H.tells_disks → Gives result (answer (copy_faults header.now (image (H.seen host.old).content disk)) tt) }
+    ensures is { H.tells_disks → Gives result (answer
+        (copy_faults header.now (image (H.seen host.old).content disk)) tt) }
     ensures looks { Looks (H.seen host.old) (H.seen host.new) (IsErrOf result LabelError.Disk) }
 {
     let sectors = host.sectors(disk);
@@ -89,8 +93,8 @@ fn read_toc<H: Host>(host: &mut H, disk: usize, start: u64) -> Result<Toc, Label
     Ok(Toc::checked(common)?)
 }
 
-/// The label of a disk, or its first fault. `Disk` comes only where a call of the disk failed. It takes
-/// no memory, reads sector by sector, and reads no more once a fault is found.
+/// The label of a disk, or its first fault. `Disk` comes only where a call of the disk failed. It
+/// takes no memory, reads sector by sector, and reads no more once a fault is found.
 pub fn read_label<H: Host>(host: &mut H, disk: usize) -> Result<Label, LabelError>
     requires { disk < length (H.seen host.old).sizes }
     ensures is { H.tells_disks → Gives result (label_of (image (H.seen host.old).content disk)) }

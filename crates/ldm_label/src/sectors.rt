@@ -1,5 +1,6 @@
 //! Sectors of a disk, as they are read.
-ghost use Rattle.std.specs.Prelude.{◌≡◌, ◌+◌, ◌*◌, ◌^◌, ◌<◌, ◌≤◌, length, slice_index, slice_range, IfOk, IsErr};
+ghost use Rattle.std.specs.Prelude.{◌≡◌, ◌+◌, ◌*◌, ◌^◌, ◌<◌, ◌≤◌, length, slice_index, slice_range};
+ghost use Rattle.std.specs.Prelude.{IfOk, IsErr};
 ghost use Rattle.std.specs.Str.{bytes_eq};
 ghost use Rattle.ldm_host.specs.Moves.{Looks};
 ghost use Rattle.ldm_host.specs.Seen.{image};
@@ -20,7 +21,8 @@ pub fn read_sector<H: Host>(host: &mut H, disk: usize, at: u64) -> Result<[u8; 5
     requires disk { disk < length (H.seen host.old).sizes }
     requires inside { at < slice_index (H.seen host.old).sizes disk }
     requires few { at < 2 ^ 55 }
-    ensures bytes { H.tells_disks → IfOk result (λ bytes. bytes ≡ sector (image (H.seen host.old).content disk) at) }
+    ensures bytes { H.tells_disks → IfOk result (λ bytes. bytes
+        ≡ sector (image (H.seen host.old).content disk) at) }
     ensures looks { Looks (H.seen host.old) (H.seen host.new) (IsErr result) }
 {
     let mut bytes = [0u8; 512];

@@ -4,7 +4,8 @@ ghost use Rattle.ldm_bytes.specs.Guid.{own_guid};
 ghost use Rattle.ldm_bytes.specs.Places.{put};
 ghost use Rattle.ldm_label.specs.Fields.{sectors_of};
 ghost use Rattle.ldm_label.specs.LabelOf.{label_of, Fits};
-ghost use Rattle.ldm_label.specs.Written.{written_mbr, written_header, written_toc, written_sectors, HasLabel};
+ghost use Rattle.ldm_label.specs.Written.{written_mbr, written_header, written_toc};
+ghost use Rattle.ldm_label.specs.Written.{written_sectors, HasLabel};
 ghost use Rattle.ldm_label.specs.Written.{SameOutsideLabel, IsKnownMinor};
 
 use crate::Label;

@@ -43,7 +43,8 @@ fn least_size(extents: &[Extent]) -> u64
 
 /// The sectors of a stripe, 0 without a chunk.
 pub fn stripe_capacity(extents: &[Extent], chunk: u64) -> u128
-    ensures { result ≡ stripe_capacity (length extents.now) chunk (least (map (λ e. e.size) extents.now)) }
+    ensures { result ≡ stripe_capacity (length extents.now) chunk
+        (least (map (λ e. e.size) extents.now)) }
 {
     if chunk == 0 {
         return 0;
@@ -54,7 +55,8 @@ pub fn stripe_capacity(extents: &[Extent], chunk: u64) -> u128
 
 /// The sectors of a RAID-5 without its parity, 0 without a chunk.
 pub fn raid5_capacity(extents: &[Extent], chunk: u64) -> u128
-    ensures { result ≡ raid5_capacity (length extents.now) chunk (least (map (λ e. e.size) extents.now)) }
+    ensures { result ≡ raid5_capacity (length extents.now) chunk
+        (least (map (λ e. e.size) extents.now)) }
 {
     if chunk == 0 {
         return 0;
@@ -67,7 +69,8 @@ pub fn raid5_capacity(extents: &[Extent], chunk: u64) -> u128
 pub fn stripe_place(columns: &[Extent], chunk: u64, sector: u64) -> Place
     requires chunked { 0 < chunk }
     requires ends { AllEnd columns.now }
-    requires within { sector < stripe_capacity (length columns.now) chunk (least (map (λ e. e.size) columns.now)) }
+    requires within { sector < stripe_capacity (length columns.now) chunk
+        (least (map (λ e. e.size) columns.now)) }
     ensures { option_map sector_of (stripe_spot columns.now chunk sector) ≡ Some result }
 {
     let count = columns.len() as u64;
@@ -84,7 +87,8 @@ pub fn raid5_place(columns: &[Extent], chunk: u64, sector: u64) -> Place
     requires chunked { 0 < chunk }
     requires many { 2 ≤ length columns.now }
     requires ends { AllEnd columns.now }
-    requires within { sector < raid5_capacity (length columns.now) chunk (least (map (λ e. e.size) columns.now)) }
+    requires within { sector < raid5_capacity (length columns.now) chunk
+        (least (map (λ e. e.size) columns.now)) }
     ensures { option_map sector_of (raid5_spot columns.now chunk sector) ≡ Some result }
 {
     let count = columns.len() as u64;
@@ -103,7 +107,8 @@ pub fn parity_place(columns: &[Extent], chunk: u64, sector: u64) -> Place
     requires chunked { 0 < chunk }
     requires many { 2 ≤ length columns.now }
     requires ends { AllEnd columns.now }
-    requires within { sector < raid5_capacity (length columns.now) chunk (least (map (λ e. e.size) columns.now)) }
+    requires within { sector < raid5_capacity (length columns.now) chunk
+        (least (map (λ e. e.size) columns.now)) }
     ensures { option_map sector_of (parity_spot columns.now chunk sector) ≡ Some result }
 {
     let count = columns.len() as u64;
@@ -134,7 +139,8 @@ pub fn column_place(columns: &[Extent], chunk: u64, sector: u64, column: usize) 
     requires chunked { 0 < chunk }
     requires many { 2 ≤ length columns.now }
     requires ends { AllEnd columns.now }
-    requires within { sector < raid5_capacity (length columns.now) chunk (least (map (λ e. e.size) columns.now)) }
+    requires within { sector < raid5_capacity (length columns.now) chunk
+        (least (map (λ e. e.size) columns.now)) }
     requires there { column < length columns.now }
     ensures { option_map sector_of (column_spot columns.now chunk sector column) ≡ Some result }
 {

@@ -2,7 +2,8 @@
 ghost use Rattle.std.specs.Prelude.{◌≡◌, fold, min};
 ghost use Rattle.std.specs.List.{list_all};
 ghost use Rattle.ldm_layout.specs.Parts.{tiles};
-ghost use Rattle.ldm_layout.specs.Layouts.{is_tiled, fewest, has_columns, plex_capacity, capacity_of, first_fault};
+ghost use Rattle.ldm_layout.specs.Layouts.{is_tiled, fewest, has_columns, plex_capacity};
+ghost use Rattle.ldm_layout.specs.Layouts.{capacity_of, first_fault};
 
 use crate::columns::{raid5_capacity, rises, stripe_capacity};
 use crate::parts::Extent;
@@ -114,7 +115,8 @@ impl Draft {
 
     // The least of a number of sectors and those of the components.
     fn capacity_with(&self, sectors: u128, plexes: &[Extents]) -> u128
-        ensures { result ≡ fold (λ m es. min m (plex_capacity self.now.shape self.now.chunk es)) sectors plexes.now }
+        ensures { result ≡ fold (λ m es. min m (plex_capacity self.now.shape self.now.chunk es))
+            sectors plexes.now }
     {
         plexes
             .iter()

@@ -21,7 +21,9 @@ pub struct VolumeFault {
 }
 
 fn fault(alloc: Global, parts: &Parts, volume: &Volume) -> Result<Option<LayoutFault>, NoMemory>
-    ensures { IfOk result (λ f. f ≡ fault_of (checked (draft_of volume.now.size (plexes_at volume.now.head.id parts.now.plexes) (λ c. extents_at c parts.now.extents)))) }
+    ensures { IfOk result (λ f. f ≡ fault_of (checked
+        (draft_of volume.now.size (plexes_at volume.now.head.id parts.now.plexes)
+        (λ c. extents_at c parts.now.extents)))) }
 {
     match draft_of(alloc, parts, volume)? {
         Some(draft) => Ok(draft.first_fault()),
@@ -30,7 +32,8 @@ fn fault(alloc: Global, parts: &Parts, volume: &Volume) -> Result<Option<LayoutF
 }
 
 fn fault_at(alloc: Global, parts: &Parts, r: &Record) -> Result<Option<VolumeFault>, NoMemory>
-    ensures { IfOk result (λ f. (records : List Record) → IsListsOf parts.now records → f ≡ fault_at records r.now) }
+    ensures { IfOk result (λ f. (records : List Record) → IsListsOf parts.now records
+        → f ≡ fault_at records r.now) }
 {
     let Record::Volume(v) = r else {
         return Ok(None);

@@ -86,7 +86,8 @@ fn all_laid_out(
     shape: Shape,
     plexes: &[Plex],
 ) -> Result<Vec<Extents>, NoMemory>
-    ensures { IfOk result (λ v. v.items ≡ map (λ p. laid_out shape (extents_at p.id parts.now.extents)) plexes.now) }
+    ensures { IfOk result (λ v. v.items ≡ map (λ p. laid_out shape
+        (extents_at p.id parts.now.extents)) plexes.now) }
 {
     let mut all = Vec::new(alloc);
     for p in plexes {
@@ -97,7 +98,8 @@ fn all_laid_out(
 
 /// The layout of a volume, with its faults, where its components make a shape.
 pub fn draft_of(alloc: Global, parts: &Parts, volume: &Volume) -> Result<Option<Draft>, NoMemory>
-    ensures { IfOk result (λ d. d ≡ draft_of volume.now.size (plexes_at volume.now.head.id parts.now.plexes) (λ c. extents_at c parts.now.extents)) }
+    ensures { IfOk result (λ d. d ≡ draft_of volume.now.size
+        (plexes_at volume.now.head.id parts.now.plexes) (λ c. extents_at c parts.now.extents)) }
 {
     let plexes = parts.plexes(volume.head.id);
     let Some(shape) = shape_of(plexes) else {

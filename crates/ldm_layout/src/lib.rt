@@ -1,4 +1,5 @@
-//! The layout of a volume: its shape, its first fault, and the disk and sector at which each of its sectors lies.
+//! The layout of a volume: its shape, its first fault, and the disk and sector at which each of its
+//! sectors lies.
 #![tactic(auto)]
 
 mod columns;

@@ -1,7 +1,8 @@
 //! Where a sector of a volume lies, its parity, and how many sectors lie side by side.
 ghost use Rattle.std.specs.Prelude.{◌≡◌, ◌<◌, ◌↔◌, false, IsSome, Some, length, slice_get};
 ghost use Rattle.ldm_layout.specs.Layouts.{is_tiled, capacity_of, copies_of, place_in, parity_in};
-ghost use Rattle.ldm_layout.specs.Columns.{columns_of, chunk_of, IsColumned, own_column, column_in, IsStretch};
+ghost use Rattle.ldm_layout.specs.Columns.{columns_of, chunk_of, IsColumned, own_column, column_in};
+ghost use Rattle.ldm_layout.specs.Columns.{IsStretch};
 ghost use Rattle.ldm_layout.specs.Answers.{IsPlan, IsPlexOf};
 ghost use Rattle.ldm_layout.specs.declared.shape.Shape.TheVariants.{Raid5};
 
@@ -59,7 +60,8 @@ impl Plan {
         self.draft.capacity()
     }
 
-    /// How many places each sector has: as many as a mirror has components, and one in other shapes.
+    /// How many places each sector has: as many as a mirror has components, and one in other
+    /// shapes.
     pub fn copies(&self) -> usize
         ensures is { result ≡ copies_of self.now }
         ensures some { 0 < self.now.size → 0 < result }
@@ -107,7 +109,8 @@ impl Plan {
     fn column_slice(&self) -> &[Extent]
         ensures is { result.now ≡ columns_of self.now }
         ensures holds { is_tiled self.now.shape ≡ false → IsPlexOf self.now result.now }
-        ensures there { is_tiled self.now.shape ≡ false → slice_get self.now.plexes 0 ≡ Some result.now }
+        ensures there { is_tiled self.now.shape ≡ false
+            → slice_get self.now.plexes 0 ≡ Some result.now }
     {
         if is_tiled(self.draft.shape) {
             &[]
@@ -155,8 +158,8 @@ impl Plan {
         column_place(self.column_slice(), self.draft.chunk, sector, column)
     }
 
-    /// How many sectors from this one on lie side by side in a copy: to the end of the partition, of the
-    /// chunk or of the volume.
+    /// How many sectors from this one on lie side by side in a copy: to the end of the partition,
+    /// of the chunk or of the volume.
     pub fn stretch(&self, sector: u64, copy: usize) -> u64
         requires within { sector < self.now.size }
         requires copied { copy < copies_of self.now }

@@ -26,8 +26,10 @@ pub fn volume_with(db: &Db, id: u64) -> Option<&Volume>
 
 // The layout of a volume of these parts.
 fn plan_of(alloc: Global, parts: &Parts, volume: &Volume) -> Result<Plan, LayoutError>
-    requires { All (λ p. AllEnd (extents_at p.id parts.now.extents)) (plexes_at volume.now.head.id parts.now.plexes) }
-    ensures { PlansAs result (checked (draft_of volume.now.size (plexes_at volume.now.head.id parts.now.plexes) (λ c. extents_at c parts.now.extents))) }
+    requires { All (λ p. AllEnd (extents_at p.id parts.now.extents))
+        (plexes_at volume.now.head.id parts.now.plexes) }
+    ensures { PlansAs result (checked (draft_of volume.now.size
+        (plexes_at volume.now.head.id parts.now.plexes) (λ c. extents_at c parts.now.extents))) }
 {
     let Some(draft) = draft_of(alloc, parts, volume)? else {
         return Err(LayoutError::Fault(LayoutFault::Unknown));
@@ -41,9 +43,12 @@ fn plan_of(alloc: Global, parts: &Parts, volume: &Volume) -> Result<Plan, Layout
 /// The layout of the volume of this id. The error is its first fault.
 pub fn plan(alloc: Global, db: &Db, volume: u64) -> Result<Plan, LayoutError>
     requires there { IsSome (volume_with volume db.now.records) }
-    requires ends { All (λ r. is_partition_of volume db.now.records r ≡ true → EndsInRange r) db.now.records }
-    ensures is { IfSome (volume_with volume db.now.records) (λ v. PlansAs result (layout_of db.now.records v)) }
-    ensures size { IfOk result (λ plan. IfSome (volume_with volume db.now.records) (λ v. plan.size ≡ v.size)) }
+    requires ends { All (λ r. is_partition_of volume db.now.records r ≡ true
+        → EndsInRange r) db.now.records }
+    ensures is { IfSome (volume_with volume db.now.records)
+        (λ v. PlansAs result (layout_of db.now.records v)) }
+    ensures size { IfOk result (λ plan. IfSome (volume_with volume db.now.records)
+        (λ v. plan.size ≡ v.size)) }
 {
     let parts = Parts::of(alloc, db.as_slice())?;
     match volume_with(db, volume) {

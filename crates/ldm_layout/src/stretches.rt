@@ -16,7 +16,8 @@ fn tile_stretch(extents: &[Extent], sector: u64) -> u64
     requires ends { AllEnd extents.now }
     requires within { sector < sum_by (λ e. e.size) extents.now }
     ensures some { 0 < result }
-    ensures spots { (i : ℕ) → i < result → tile_spot extents.now (sector + i) ≡ option_map (λ s. (s.0, s.1 + i)) (tile_spot extents.now sector) }
+    ensures spots { (i : ℕ) → i < result → tile_spot extents.now (sector + i)
+        ≡ option_map (λ s. (s.0, s.1 + i)) (tile_spot extents.now sector) }
 {
     let e = tile_at(extents, sector);
     e.size - (sector - e.offset)
@@ -31,7 +32,8 @@ fn chunk_stretch(chunk: u64, sector: u64) -> u64
     chunk - sector % chunk
 }
 
-/// How many sectors from this one on lie side by side in a component: to the end of the tile or of the chunk.
+/// How many sectors from this one on lie side by side in a component: to the end of the tile or of
+/// the chunk.
 pub fn plex_stretch(shape: Shape, extents: &[Extent], chunk: u64, sector: u64) -> u64
     requires tiled { is_tiled shape ≡ true → IsTrue (tiles extents.now) }
     requires chunked { is_tiled shape ≡ false → 0 < chunk }

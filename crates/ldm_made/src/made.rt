@@ -1,7 +1,9 @@
 //! The records that are made from nothing.
 ghost use Rattle.std.specs.Prelude.{◌≡◌, ◌≤◌, ◌<◌, ◌^◌, [], length, unwrap_or, Some, IfOk};
 ghost use Rattle.ldm_bytes.specs.Guid.{own_guid};
-ghost use Rattle.ldm_made.specs.Made.{new_partition, part_name, index_flags, IsStriping, new_component, component_name, striping_flags, active, new_volume, volume_kind, volume_fixed21, new_disk, new_group};
+ghost use Rattle.ldm_made.specs.Made.{new_partition, part_name, index_flags, IsStriping};
+ghost use Rattle.ldm_made.specs.Made.{new_component, component_name, striping_flags, active};
+ghost use Rattle.ldm_made.specs.Made.{new_volume, volume_kind, volume_fixed21, new_disk, new_group};
 
 use ldm_bytes::{Bytes, NoMemory, write_guid};
 use ldm_records::{
@@ -9,8 +11,8 @@ use ldm_records::{
 };
 use std::alloc::Global;
 
-/// A new volume of a command's name and GUID: a RAID-5, or any other. Its size is in sectors. Its type
-/// byte is 0x07, and its state `ACTIVE`.
+/// A new volume of a command's name and GUID: a RAID-5, or any other. Its size is in sectors. Its
+/// type byte is 0x07, and its state `ACTIVE`.
 pub fn new_volume(
     alloc: Global,
     id: u64,
@@ -79,8 +81,8 @@ fn volume_fixed21(raid: bool) -> [u8; 21]
     ]
 }
 
-/// A new component, which is named `c` and its id in decimal. The layout type is 1 for a stripe, 2 for a
-/// span or a mirror, and 3 for RAID-5; a stripe and RAID-5 have a striping.
+/// A new component, which is named `c` and its id in decimal. The layout type is 1 for a stripe, 2
+/// for a span or a mirror, and 3 for RAID-5; a stripe and RAID-5 have a striping.
 pub fn new_component(
     alloc: Global,
     id: u64,
@@ -138,8 +140,8 @@ fn striping_flags(striping: &Option<Striping>) -> u8
     }
 }
 
-/// A new partition, which is named `p` and its id in decimal. Its start on the disk, its offset in the
-/// component and its size are in sectors; a column of a stripe or RAID-5 has an index.
+/// A new partition, which is named `p` and its id in decimal. Its start on the disk, its offset in
+/// the component and its size are in sectors; a column of a stripe or RAID-5 has an index.
 pub fn new_partition(
     alloc: Global,
     id: u64,

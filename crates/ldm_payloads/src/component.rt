@@ -33,7 +33,8 @@ pub struct ComponentFields<'a> {
 
 #[tactic(auto, unfolding(crate::specs::Steps::read_values))]
 fn read_component(flags: u8, rest: &[u8]) -> Option<ComponentFields<'_>>
-    ensures gives { Reads (λ f. (component_seen f, f.tail.now)) result (read_values (drop 2 (component_kinds flags)) rest.now) }
+    ensures gives { Reads (λ f. (component_seen f, f.tail.now)) result
+        (read_values (drop 2 (component_kinds flags)) rest.now) }
     ensures flagged { IfSome result (λ f. is_some f.striping ≡ has_flag flags 0x10) }
     ensures short { IfSome result (λ f. length f.state.now ≤ 255) }
 {
@@ -81,7 +82,8 @@ pub fn component_of(
     opening: &Opening<'_>,
     rest: &[u8],
 ) -> Result<Record, RecordError>
-    ensures { Gives plain_of result (rest_at opening.now 0x32 (component_kinds opening.now.flags) rest.now) }
+    ensures { Gives plain_of result (rest_at opening.now 0x32
+        (component_kinds opening.now.flags) rest.now) }
 {
     let Some(fields) = read_component(opening.flags, rest) else {
         return Err(RecordError::Fault(RecordFault::Malformed));

@@ -35,7 +35,8 @@ pub struct Disk4Fields<'a> {
 
 #[tactic(auto, unfolding(crate::specs::Steps::read_values))]
 fn read_disk3(rest: &[u8]) -> Option<Disk3Fields<'_>>
-    ensures gives { Reads (λ f. (disk3_seen f, f.tail.now)) result (read_values (drop 2 disk3_kinds) rest.now) }
+    ensures gives { Reads (λ f. (disk3_seen f, f.tail.now)) result
+        (read_values (drop 2 disk3_kinds) rest.now) }
     ensures short { IfSome result (λ f. length f.alt.now ≤ 255) }
     ensures long { IfSome result (λ f. length f.fixed12 ≡ 12) }
 {
@@ -56,7 +57,8 @@ fn read_disk3(rest: &[u8]) -> Option<Disk3Fields<'_>>
 
 #[tactic(auto, unfolding(crate::specs::Steps::read_values))]
 fn read_disk4(rest: &[u8]) -> Option<Disk4Fields<'_>>
-    ensures gives { Reads (λ f. (disk4_seen f, f.tail.now)) result (read_values (drop 2 disk4_kinds) rest.now) }
+    ensures gives { Reads (λ f. (disk4_seen f, f.tail.now)) result
+        (read_values (drop 2 disk4_kinds) rest.now) }
     ensures long { IfSome result (λ f. length f.fixed29 ≡ 29) }
 {
     if let Some((guid, rest)) = read_u128(rest)
@@ -72,7 +74,8 @@ fn read_disk4(rest: &[u8]) -> Option<Disk4Fields<'_>>
     }
 }
 
-/// The disk of version 3 whose fields after the name stand in the rest. Its own spelling has the room.
+/// The disk of version 3 whose fields after the name stand in the rest. Its own spelling has the
+/// room.
 pub fn disk3_of(alloc: Global, opening: &Opening<'_>, rest: &[u8]) -> Result<Record, RecordError>
     ensures { Gives plain_of result (rest_at opening.now 0x34 disk3_kinds rest.now) }
 {
@@ -95,7 +98,8 @@ pub fn disk3_of(alloc: Global, opening: &Opening<'_>, rest: &[u8]) -> Result<Rec
     }))
 }
 
-/// The disk of version 4 whose fields after the name stand in the rest. Its own spelling has the room.
+/// The disk of version 4 whose fields after the name stand in the rest. Its own spelling has the
+/// room.
 pub fn disk4_of(alloc: Global, opening: &Opening<'_>, rest: &[u8]) -> Result<Record, RecordError>
     ensures { Gives plain_of result (rest_at opening.now 0x44 disk4_kinds rest.now) }
 {

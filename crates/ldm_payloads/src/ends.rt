@@ -43,9 +43,11 @@ pub fn ends_of(
 ) -> Result<(Head, Bytes), RecordError>
     requires { len < 2 ^ 32 }
     ensures gives { (type : ℕ) (values : List Value) → values_len values ≡ len
-        → Gives (ended type values) result (with_room opening.now.room (opened opening.now type (values, tail.now))) }
+        → Gives (ended type values) result (with_room opening.now.room
+        (opened opening.now type (values, tail.now))) }
     ensures flags { IfOk result (λ x. x.0.flags ≡ opening.now.flags) }
-    ensures short { IfOk result (λ x. length (own_number x.0.id) + (length x.0.name + 1) + len + length x.1 < 2 ^ 32) }
+    ensures short { IfOk result (λ x. length (own_number x.0.id) + (length x.0.name + 1) + len
+        + length x.1 < 2 ^ 32) }
 {
     let own = number_len(opening.id) + (opening.name.len() + 1) + len + tail.len();
     if opening.room < 8 + own || own >= 1 << 32 {

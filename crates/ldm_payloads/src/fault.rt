@@ -9,7 +9,8 @@ use ldm_bytes::NoMemory;
 pub enum RecordFault {
     /// The type byte is none of the seven.
     UnknownType(u8),
-    /// The payload spells no record. It has fewer than 8 bytes, or its type byte is one of the seven.
+    /// The payload spells no record. It has fewer than 8 bytes, or its type byte is one of the
+    /// seven.
     Malformed,
 }
 

@@ -1,6 +1,8 @@
 //! The fields of a record, one after another.
-ghost use Rattle.std.specs.Prelude.{◌≡◌, ◌≤◌, ◌+◌, ◌∷◌, [], length, IfOk, IfSome, is_some, unwrap_or};
-ghost use Rattle.ldm_records.specs.Values.{Fixed, Wide, GuidText, Number, Text, WideKind, GuidKind, FixedKind, NumberKind, TextKind, When, value_len};
+ghost use Rattle.std.specs.Prelude.{◌≡◌, ◌≤◌, ◌+◌, ◌∷◌, [], length, IfOk, IfSome, is_some};
+ghost use Rattle.std.specs.Prelude.{unwrap_or};
+ghost use Rattle.ldm_records.specs.Values.{Fixed, Wide, GuidText, Number, Text, WideKind, GuidKind};
+ghost use Rattle.ldm_records.specs.Values.{FixedKind, NumberKind, TextKind, When, value_len};
 ghost use Rattle.ldm_bytes.specs.Numbers.{Reads};
 ghost use Rattle.ldm_records.specs.Fields.{number_option, text_option};
 ghost use Rattle.ldm_records.specs.Forms.{chunk_value, columns_value, first_value, second_value};
@@ -79,7 +81,8 @@ pub fn read_byte(bytes: &[u8]) -> Option<(u8, &[u8])>
 
 #[tactic(auto, unfolding(crate::specs::Steps::read_value))]
 pub fn read_fixed<const N: usize>(bytes: &[u8]) -> Option<(&[u8; N], &[u8])>
-    ensures gives { Reads (λ x. (Fixed x.0.now, x.1.now)) result (read_value (FixedKind N) bytes.now) }
+    ensures gives { Reads (λ x. (Fixed x.0.now, x.1.now)) result
+        (read_value (FixedKind N) bytes.now) }
     ensures long { IfSome result (λ x. length x.0.now ≡ N) }
 {
     bytes.split_first_chunk::<N>()
@@ -87,7 +90,8 @@ pub fn read_fixed<const N: usize>(bytes: &[u8]) -> Option<(&[u8; N], &[u8])>
 
 #[tactic(auto, unfolding(crate::specs::Steps::read_value))]
 pub fn read_number_when(present: bool, bytes: &[u8]) -> Option<(Option<u64>, &[u8])>
-    ensures gives { Reads (λ x. (number_option x.0, x.1.now)) result (read_value (When present NumberKind) bytes.now) }
+    ensures gives { Reads (λ x. (number_option x.0, x.1.now)) result
+        (read_value (When present NumberKind) bytes.now) }
     ensures there { IfSome result (λ x. is_some x.0 ≡ present) }
 {
     if !present {
@@ -101,7 +105,8 @@ pub fn read_number_when(present: bool, bytes: &[u8]) -> Option<(Option<u64>, &[u
 
 #[tactic(auto, unfolding(crate::specs::Steps::read_value))]
 pub fn read_text_when(present: bool, bytes: &[u8]) -> Option<(Option<&[u8]>, &[u8])>
-    ensures gives { Reads (λ x. (text_option (seen x.0), x.1.now)) result (read_value (When present TextKind) bytes.now) }
+    ensures gives { Reads (λ x. (text_option (seen x.0), x.1.now)) result
+        (read_value (When present TextKind) bytes.now) }
     ensures there { IfSome result (λ x. is_some x.0 ≡ present) }
     ensures short { IfSome result (λ x. length (unwrap_or (seen x.0) []) ≤ 255) }
 {
@@ -116,7 +121,8 @@ pub fn read_text_when(present: bool, bytes: &[u8]) -> Option<(Option<&[u8]>, &[u
 
 #[tactic(auto, unfolding(crate::specs::Steps::read_value, crate::specs::Steps::read_values))]
 pub fn read_striping(present: bool, bytes: &[u8]) -> Option<(Option<Striping>, &[u8])>
-    ensures gives { Reads (λ x. (chunk_value x.0 ∷ columns_value x.0 ∷ [], x.1.now)) result (read_values (When present NumberKind ∷ When present NumberKind ∷ []) bytes.now) }
+    ensures gives { Reads (λ x. (chunk_value x.0 ∷ columns_value x.0 ∷ [], x.1.now)) result
+        (read_values (When present NumberKind ∷ When present NumberKind ∷ []) bytes.now) }
     ensures there { IfSome result (λ x. is_some x.0 ≡ present) }
 {
     if !present {
@@ -133,7 +139,8 @@ pub fn read_striping(present: bool, bytes: &[u8]) -> Option<(Option<Striping>, &
 
 #[tactic(auto, unfolding(crate::specs::Steps::read_value, crate::specs::Steps::read_values))]
 pub fn read_ids(present: bool, bytes: &[u8]) -> Option<(Option<IdsText<'_>>, &[u8])>
-    ensures gives { Reads (λ x. (first_seen x.0 ∷ second_seen x.0 ∷ [], x.1.now)) result (read_values (When present TextKind ∷ When present TextKind ∷ []) bytes.now) }
+    ensures gives { Reads (λ x. (first_seen x.0 ∷ second_seen x.0 ∷ [], x.1.now)) result
+        (read_values (When present TextKind ∷ When present TextKind ∷ []) bytes.now) }
     ensures there { IfSome result (λ x. is_some x.0 ≡ present) }
 {
     if !present {

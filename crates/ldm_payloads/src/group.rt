@@ -36,7 +36,8 @@ pub struct Group4Fields<'a> {
 
 #[tactic(auto, unfolding(crate::specs::Steps::read_values))]
 fn read_group3(flags: u8, rest: &[u8]) -> Option<Group3Fields<'_>>
-    ensures gives { Reads (λ f. (group3_seen f, f.tail.now)) result (read_values (drop 2 (group3_kinds flags)) rest.now) }
+    ensures gives { Reads (λ f. (group3_seen f, f.tail.now)) result
+        (read_values (drop 2 (group3_kinds flags)) rest.now) }
     ensures flagged { IfSome result (λ f. is_some f.ids ≡ has_flag flags 0x08) }
     ensures short { IfSome result (λ f. length f.guid.now ≤ 255) }
     ensures long { IfSome result (λ f. length f.fixed12 ≡ 12) }
@@ -58,7 +59,8 @@ fn read_group3(flags: u8, rest: &[u8]) -> Option<Group3Fields<'_>>
 
 #[tactic(auto, unfolding(crate::specs::Steps::read_values))]
 fn read_group4(flags: u8, rest: &[u8]) -> Option<Group4Fields<'_>>
-    ensures gives { Reads (λ f. (group4_seen f, f.tail.now)) result (read_values (drop 2 (group4_kinds flags)) rest.now) }
+    ensures gives { Reads (λ f. (group4_seen f, f.tail.now)) result
+        (read_values (drop 2 (group4_kinds flags)) rest.now) }
     ensures flagged { IfSome result (λ f. is_some f.ids ≡ has_flag flags 0x08) }
     ensures long { IfSome result (λ f. length f.fixed44 ≡ 44) }
 {
@@ -75,9 +77,11 @@ fn read_group4(flags: u8, rest: &[u8]) -> Option<Group4Fields<'_>>
     }
 }
 
-/// The group of version 3 whose fields after the name stand in the rest. Its own spelling has the room.
+/// The group of version 3 whose fields after the name stand in the rest. Its own spelling has the
+/// room.
 pub fn group3_of(alloc: Global, opening: &Opening<'_>, rest: &[u8]) -> Result<Record, RecordError>
-    ensures { Gives plain_of result (rest_at opening.now 0x35 (group3_kinds opening.now.flags) rest.now) }
+    ensures { Gives plain_of result (rest_at opening.now 0x35
+        (group3_kinds opening.now.flags) rest.now) }
 {
     let Some(fields) = read_group3(opening.flags, rest) else {
         return Err(RecordError::Fault(RecordFault::Malformed));
@@ -101,9 +105,11 @@ pub fn group3_of(alloc: Global, opening: &Opening<'_>, rest: &[u8]) -> Result<Re
     }
 }
 
-/// The group of version 4 whose fields after the name stand in the rest. Its own spelling has the room.
+/// The group of version 4 whose fields after the name stand in the rest. Its own spelling has the
+/// room.
 pub fn group4_of(alloc: Global, opening: &Opening<'_>, rest: &[u8]) -> Result<Record, RecordError>
-    ensures { Gives plain_of result (rest_at opening.now 0x45 (group4_kinds opening.now.flags) rest.now) }
+    ensures { Gives plain_of result (rest_at opening.now 0x45
+        (group4_kinds opening.now.flags) rest.now) }
 {
     let Some(fields) = read_group4(opening.flags, rest) else {
         return Err(RecordError::Fault(RecordFault::Malformed));

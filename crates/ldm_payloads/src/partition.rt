@@ -32,7 +32,8 @@ pub struct PartitionFields<'a> {
 
 #[tactic(auto, unfolding(crate::specs::Steps::read_values))]
 fn read_partition(flags: u8, rest: &[u8]) -> Option<PartitionFields<'_>>
-    ensures gives { Reads (λ f. (partition_seen f, f.tail.now)) result (read_values (drop 2 (partition_kinds flags)) rest.now) }
+    ensures gives { Reads (λ f. (partition_seen f, f.tail.now)) result
+        (read_values (drop 2 (partition_kinds flags)) rest.now) }
     ensures flagged { IfSome result (λ f. is_some f.index ≡ has_flag flags 0x08) }
 {
     if let Some((fixed12, rest)) = read_fixed::<12>(rest)
@@ -75,7 +76,8 @@ pub fn partition_of(
     opening: &Opening<'_>,
     rest: &[u8],
 ) -> Result<Record, RecordError>
-    ensures { Gives plain_of result (rest_at opening.now 0x33 (partition_kinds opening.now.flags) rest.now) }
+    ensures { Gives plain_of result (rest_at opening.now 0x33
+        (partition_kinds opening.now.flags) rest.now) }
 {
     let Some(fields) = read_partition(opening.flags, rest) else {
         return Err(RecordError::Fault(RecordFault::Malformed));

@@ -22,7 +22,8 @@ use ldm_bytes::{get_u16, get_u32};
 use ldm_records::Record;
 use std::alloc::Global;
 
-// The record of this type whose fields after the name stand in the rest. Its own spelling has the room.
+// The record of this type whose fields after the name stand in the rest. Its own spelling has the
+// room.
 #[tactic(auto, unfolding(crate::specs::Opened::typed_rest))]
 fn typed_record(
     alloc: Global,
@@ -85,12 +86,14 @@ pub fn read_record(alloc: Global, payload: &[u8]) -> Result<Record, RecordError>
     // What is spelled so is read, unless memory runs out.
     ensures only { (r : Record) → Spells (plain_of r) payload.now → AnswersRecord result r }
     // One record is spelled at most.
-    ensures one { (r s : Record) → Spells (plain_of r) payload.now → Spells (plain_of s) payload.now → r ≡ s }
+    ensures one { (r s : Record) → Spells (plain_of r) payload.now
+        → Spells (plain_of s) payload.now → r ≡ s }
     // A type byte that is none of the seven.
     ensures unknown { IsUnknown payload.now
         → AnswersFault result (faults.UnknownType (slice_index payload.now 3)) }
     // Anything else that spells no record.
-    ensures malformed { (IsUnknown payload.now → ⊥) → ((r : Record) → Spells (plain_of r) payload.now → ⊥)
+    ensures malformed { (IsUnknown payload.now → ⊥)
+        → ((r : Record) → Spells (plain_of r) payload.now → ⊥)
         → AnswersFault result faults.Malformed }
 {
     payload_record(alloc, payload)

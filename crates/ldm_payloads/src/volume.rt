@@ -55,7 +55,8 @@ fn read_main(rest: &[u8]) -> Option<(VolumeMain<'_>, &[u8])>
 
 #[tactic(auto, unfolding(crate::specs::Steps::read_values))]
 fn read_more(flags: u8, rest: &[u8]) -> Option<VolumeMore<'_>>
-    ensures gives { Reads (λ f. (more_seen f, f.tail.now)) result (read_values (more_kinds flags) rest.now) }
+    ensures gives { Reads (λ f. (more_seen f, f.tail.now)) result
+        (read_values (more_kinds flags) rest.now) }
     ensures id1 { IfSome result (λ f. is_some f.id1 ≡ has_flag flags 0x08) }
     ensures id2 { IfSome result (λ f. is_some f.id2 ≡ has_flag flags 0x20) }
     ensures size2 { IfSome result (λ f. is_some f.size2 ≡ has_flag flags 0x80) }
@@ -119,7 +120,8 @@ fn more_texts(alloc: Global, more: &VolumeMore<'_>) -> Result<MoreTexts, NoMemor
 
 /// The volume whose fields after the name stand in the rest. Its own spelling has the room.
 pub fn volume_of(alloc: Global, opening: &Opening<'_>, rest: &[u8]) -> Result<Record, RecordError>
-    ensures { Gives plain_of result (rest_at opening.now 0x51 (volume_kinds opening.now.flags) rest.now) }
+    ensures { Gives plain_of result (rest_at opening.now 0x51
+        (volume_kinds opening.now.flags) rest.now) }
 {
     let Some((main, rest)) = read_main(rest) else {
         return Err(RecordError::Fault(RecordFault::Malformed));

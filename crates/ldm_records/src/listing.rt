@@ -6,7 +6,8 @@ ghost use Rattle.ldm_records.specs.Fields.{number_option, text_option};
 ghost use Rattle.ldm_records.specs.Forms.{chunk_value, columns_value, first_value, second_value};
 ghost use Rattle.ldm_records.specs.Outlines.{filled};
 ghost use Rattle.ldm_records.specs.Plain.{IsRecord};
-ghost use Rattle.ldm_records.specs.Views.{plain_volume, plain_component, plain_partition, plain_disk, plain_group, plain_of};
+ghost use Rattle.ldm_records.specs.Views.{plain_volume, plain_component, plain_partition};
+ghost use Rattle.ldm_records.specs.Views.{plain_disk, plain_group, plain_of};
 
 use crate::field::Field;
 use crate::pieces::{DiskForm, GroupForm, Striping, TwoIds};
@@ -164,7 +165,8 @@ pub fn disk3_fields<'a>(d: &'a Disk, alt: &'a Bytes, fixed12: &'a [u8; 12]) -> [
 
 pub fn disk4_fields<'a>(d: &'a Disk, fixed29: &'a [u8; 29]) -> [Field<'a>; 15]
     ensures { values_of result
-        ≡ filled (Number d.now.head.id ∷ Text d.now.head.name ∷ Wide 16 d.now.guid ∷ Fixed fixed29.now ∷ []) }
+        ≡ filled (Number d.now.head.id ∷ Text d.now.head.name ∷ Wide 16 d.now.guid
+        ∷ Fixed fixed29.now ∷ []) }
 {
     [
         Field::Number(d.head.id),
@@ -233,7 +235,8 @@ pub fn group4_fields<'a>(g: &'a GroupRec, fixed44: &'a [u8; 44]) -> [Field<'a>; 
     ]
 }
 
-// Every value of these types is a record. The bodies read the fields whose types bound their values.
+// Every value of these types is a record. The bodies read the fields whose types bound their
+// values.
 
 pub fn volume_sound(v: &Volume)
     ensures { IsRecord (plain_volume v.now) }

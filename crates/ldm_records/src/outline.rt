@@ -12,8 +12,8 @@ use crate::pieces::{DiskForm, GroupForm, Head};
 use crate::types::{Disk, GroupRec, Record};
 use ldm_bytes::Bytes;
 
-/// A record as it is written: its head, its type byte, its fields in the order of the table and then
-/// absent ones, and its tail.
+/// A record as it is written: its head, its type byte, its fields in the order of the table and
+/// then absent ones, and its tail.
 #[derive(Clone, Copy)]
 pub struct Outline<'a> {
     pub head: &'a Head,

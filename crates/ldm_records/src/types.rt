@@ -3,7 +3,8 @@ ghost use Rattle.std.specs.Prelude.{◌≡◌, ◌≤◌, ◌<◌, ◌^◌, ◌+
 ghost use Rattle.ldm_records.specs.Values.{values_len};
 ghost use Rattle.ldm_records.specs.Table.{has_flag};
 ghost use Rattle.ldm_records.specs.Fields.{volume_values, component_values, partition_values};
-ghost use Rattle.ldm_records.specs.Forms.{chunk_value, columns_value, first_value, second_value, alt_of, disk_values, guid_text_of, group_values};
+ghost use Rattle.ldm_records.specs.Forms.{chunk_value, columns_value, first_value, second_value};
+ghost use Rattle.ldm_records.specs.Forms.{alt_of, disk_values, guid_text_of, group_values};
 
 use crate::cloning::{both_clone, ends_clone, ids_clone, texts_clone};
 use crate::pieces::{DiskForm, GroupForm, Head, Striping, TwoIds};
@@ -123,9 +124,9 @@ impl Component {
     }
 }
 
-/// A partition of a component: a piece of a disk. It begins at the sector `start` of the disk's data
-/// area. In a span or a mirror it has `offset` sectors of the component before it; a column has 0 there,
-/// which nothing reads.
+/// A partition of a component: a piece of a disk. It begins at the sector `start` of the disk's
+/// data area. In a span or a mirror it has `offset` sectors of the component before it; a column
+/// has 0 there, which nothing reads.
 #[derive(Drop)]
 pub struct Partition {
     pub head: Head,

@@ -1,7 +1,9 @@
 //! The own spelling of a record.
-ghost use Rattle.std.specs.Prelude.{◌≡◌, ◌+◌, ◌<◌, ◌≤◌, ◌^◌, ◌++◌, ◌∷◌, List, ℕ, length, OnOk, IfOk};
+ghost use Rattle.std.specs.Prelude.{◌≡◌, ◌+◌, ◌<◌, ◌≤◌, ◌^◌, ◌++◌, ◌∷◌, List, ℕ, length, OnOk};
+ghost use Rattle.std.specs.Prelude.{IfOk};
 ghost use Rattle.byteorder.specs.Endian.{big_bytes};
-ghost use Rattle.ldm_records.specs.Values.{Number, Text, GuidText, own_value, own_values, value_len, values_len, IsShort, AreShort};
+ghost use Rattle.ldm_records.specs.Values.{Number, Text, GuidText, own_value, own_values};
+ghost use Rattle.ldm_records.specs.Values.{value_len, values_len, IsShort, AreShort};
 ghost use Rattle.ldm_records.specs.FieldViews.{value_of, values_of};
 ghost use Rattle.ldm_records.specs.Plain.{IsRecord, Spells, made, own_spelling};
 ghost use Rattle.ldm_records.specs.Views.{plain_of};
@@ -98,7 +100,8 @@ fn fields_len(fields: &[Field]) -> usize
 }
 
 fn push_head(out: &mut Vec<u8>, mark: u16, flags: u8, kind: u8, len: u32) -> Result<(), NoMemory>
-    ensures { OnOk result (out.new.items ≡ out.old.items ++ (big_bytes 2 mark ++ flags ∷ kind ∷ big_bytes 4 len)) }
+    ensures { OnOk result (out.new.items ≡ out.old.items
+        ++ (big_bytes 2 mark ++ flags ∷ kind ∷ big_bytes 4 len)) }
 {
     let mark = mark.to_be_bytes();
     let len = len.to_be_bytes();
@@ -133,8 +136,8 @@ fn push_record(
 
 // ---- records
 
-/// The record's own spelling: numbers with the fewest bytes, GUID texts in lower case, the tail, and
-/// no filling.
+/// The record's own spelling: numbers with the fewest bytes, GUID texts in lower case, the tail,
+/// and no filling.
 pub fn spelling(alloc: Global, r: &Record) -> Result<Bytes, NoMemory>
     ensures own { IfOk result (λ b. b ≡ own_spelling (plain_of r.now)) }
     // With any filling behind it, it spells the record.

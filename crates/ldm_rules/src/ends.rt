@@ -10,7 +10,8 @@ use ldm_group::{Db, id_of};
 use ldm_label::{Label, Labels};
 use ldm_records::Record;
 
-/// The sectors of the disk of this GUID, as its label says; of an absent disk, the most that a number of the format says.
+/// The sectors of the disk of this GUID, as its label says; of an absent disk, the most that a
+/// number of the format says.
 pub fn sectors_of(labels: &[Label], guid: u128) -> u64
     ensures { result ≡ sectors_by (label_with guid labels.now) }
 {
@@ -44,7 +45,8 @@ fn passes_end(r: &Record, db: &Db, labels: &Labels) -> bool
 
 /// The least partition that ends behind the data of its disk.
 pub fn over_the_end(db: &Db, labels: &Labels) -> Option<u64>
-    ensures is { result ≡ first_broken (passes_end (data_size labels.now db.now.records)) db.now.records }
+    ensures is { result ≡ first_broken (passes_end
+        (data_size labels.now db.now.records)) db.now.records }
     ensures ends { result ≡ None → All EndsInRange db.now.records }
 {
     let records = db.as_slice();

@@ -7,7 +7,8 @@ ghost use Rattle.ldm_rules.specs.Rules.{first_broken, is_short, has_layout_fault
 
 use ldm_layout::{LayoutFault, VolumeFault};
 
-// Whether it is that the volume is larger than its layout, or, where `short` is false, another fault.
+// Whether it is that the volume is larger than its layout, or, where `short` is false, another
+// fault.
 fn is_of(fault: LayoutFault, short: bool) -> bool
     ensures { result ≡ (if short then is_short fault else not (is_short fault)) }
 {
@@ -15,7 +16,8 @@ fn is_of(fault: LayoutFault, short: bool) -> bool
 }
 
 fn first_of(faults: &[VolumeFault], short: bool) -> Option<&VolumeFault>
-    ensures { option_copied result ≡ find (λ f. if short then is_short f.fault else not (is_short f.fault)) faults.now }
+    ensures { option_copied result ≡ find (λ f. if short then is_short f.fault else not
+        (is_short f.fault)) faults.now }
 {
     faults.iter().find(|f| is_of(f.fault, short))
 }

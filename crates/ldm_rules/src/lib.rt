@@ -1,8 +1,8 @@
 //! The rules of a sound group.
 //!
-//! `check` tests them in their order, which `specs/Table.antt` has as a table, and answers the first
-//! that is broken, with the least id at which it is. Most rules are a walk over the records, each
-//! of which asks the look-ups of the database.
+//! `check` tests them in their order, which `specs/Table.antt` has as a table, and answers the
+//! first that is broken, with the least id at which it is. Most rules are a walk over the records,
+//! each of which asks the look-ups of the database.
 #![tactic(auto)]
 
 mod broken;

@@ -1,5 +1,6 @@
 //! Rule 11: partitions that have a sector in common.
-ghost use Rattle.std.specs.Prelude.{◌≡◌, ◌↔◌, ◌==◌, ◌&&◌, ◌≤◌, ◌<◌, ◌+◌, max, min, All, IfOk, IsTrue, find};
+ghost use Rattle.std.specs.Prelude.{◌≡◌, ◌↔◌, ◌==◌, ◌&&◌, ◌≤◌, ◌<◌, ◌+◌, max, min, All, IfOk};
+ghost use Rattle.std.specs.Prelude.{IsTrue, find};
 ghost use Rattle.std.specs.Prelude.{option_copied, length, IsPermutation};
 ghost use Rattle.std.specs.List.{filter_map, list_any, AllAdjacentBelow};
 ghost use Rattle.std.specs.List.Sorted.{IsNonDecreasingBy};
@@ -94,7 +95,8 @@ fn spans_of(alloc: Global, records: &[Record]) -> Result<Vec<Span>, NoMemory>
 
 // Whether each ends before the next.
 fn are_apart(spans: &[Span]) -> bool
-    ensures { IsTrue result ↔ AllAdjacentBelow (λ a b. a.end ≤ b.start) spans.now (length spans.now) }
+    ensures { IsTrue result ↔ AllAdjacentBelow (λ a b. a.end ≤ b.start) spans.now
+        (length spans.now) }
 {
     for at in 1..spans.len() {
         if spans[at].start < spans[at - 1].end {

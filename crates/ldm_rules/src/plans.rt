@@ -11,7 +11,8 @@ use ldm_layout::{LayoutError, Plan, plan};
 use ldm_records::Volume;
 use std::alloc::Global;
 
-/// The layout of a volume of the group: there is one, since the group is sound on disks with these labels.
+/// The layout of a volume of the group: there is one, since the group is sound on disks with these
+/// labels.
 pub fn sound_plan(
     alloc: Global,
     db: &Db,

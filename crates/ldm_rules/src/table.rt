@@ -6,7 +6,8 @@ ghost use Rattle.ldm_rules.specs.Disjoint.{AllLaidOut};
 ghost use Rattle.ldm_records.specs.declared.types.Record.{Record};
 ghost use Rattle.ldm_layout.specs.Volumes.{layout_faults};
 ghost use Rattle.ldm_rules.specs.Rules.{first_broken, has_layout_fault, passes_layout};
-ghost use Rattle.ldm_rules.specs.Table.{broken_at, ChecksAs, first_broken_rule, name_rules, tree_rules, sector_rules};
+ghost use Rattle.ldm_rules.specs.Table.{broken_at, ChecksAs, first_broken_rule, name_rules};
+ghost use Rattle.ldm_rules.specs.Table.{tree_rules, sector_rules};
 ghost use Rattle.ldm_rules.specs.declared.fault.RuleError.TheVariants.{Fault};
 
 use crate::broken::{RecordRule, first_broken};
@@ -79,7 +80,8 @@ fn first_fault(faults: &[VolumeFault]) -> Result<(), RuleError>
 }
 
 fn check_layouts(alloc: Global, db: &Db) -> Result<(), RuleError>
-    ensures { ChecksAs result (first_of (broken_at 12 (first_broken (has_layout_fault db.now.records) db.now.records)
+    ensures { ChecksAs result (first_of (broken_at 12
+        (first_broken (has_layout_fault db.now.records) db.now.records)
         ∷ broken_at 13 (first_broken (passes_layout db.now.records) db.now.records) ∷ [])) }
 {
     let faults = faults(alloc, db)?;
@@ -103,9 +105,9 @@ fn check_sectors(alloc: Global, db: &Db, labels: &Labels) -> Result<(), RuleErro
     check_layouts(alloc, db)
 }
 
-/// Whether the group is sound on the disks that have these labels. A disk without a label is absent,
-/// and its data may end anywhere below 2^64. The error is the first broken rule, with the least id at
-/// which it is broken.
+/// Whether the group is sound on the disks that have these labels. A disk without a label is
+/// absent, and its data may end anywhere below 2^64. The error is the first broken rule, with the
+/// least id at which it is broken.
 pub fn check(alloc: Global, db: &Db, labels: &Labels) -> Result<(), RuleError>
     ensures is { ChecksAs result (first_broken_rule db.now.records labels.now) }
     ensures ends { OnOk result (All EndsInRange db.now.records) }

@@ -1,7 +1,8 @@
 //! Rules 4 to 8: parents, disks and numbers of children.
 ghost use Rattle.std.specs.Prelude.{◌≡◌, ◌==◌, count_by};
 ghost use Rattle.ldm_group.specs.Looks.{is_at, children_of};
-ghost use Rattle.ldm_rules.specs.Rules.{lacks_volume, lacks_component, lacks_disk, miscounts_components, miscounts_partitions};
+ghost use Rattle.ldm_rules.specs.Rules.{lacks_volume, lacks_component, lacks_disk};
+ghost use Rattle.ldm_rules.specs.Rules.{miscounts_components, miscounts_partitions};
 
 use ldm_group::Db;
 use ldm_records::Record;

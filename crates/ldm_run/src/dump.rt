@@ -24,7 +24,8 @@ const PIECE: usize = 0x10_0000;
 
 // The line that refuses for a sector that is lost.
 fn lost_refusal(alloc: Global, sector: u64) -> Result<Bytes, NoMemory>
-    ensures { IfOk result (λ line. line ≡ text_of_refusal ((codes "sector " ++ decimal sector) ++ codes " is lost")) }
+    ensures { IfOk result (λ line. line ≡ text_of_refusal
+        ((codes "sector " ++ decimal sector) ++ codes " is lost")) }
 {
     let mut text = Text::new(alloc);
     push_number(&mut text, b"sector ", sector)?;
@@ -37,7 +38,10 @@ fn dump_plan<H: Host>(alloc: Global, host: &mut H, found: &Found, plan: &Plan) -
     requires kept { (y : ℕ) → y < plan.now.size → is_lost found.now plan.now y ≡ false }
     requires lies { LiesOn found.now plan.now (H.seen host.old).sizes }
     ensures { Streams H.tells_disks (H.seen host.old) (H.seen host.new)
-        (λ answer. answer ≡ (text_of_volume (H.seen host.old).content found.now plan.now, Status.Done)) result }
+        (λ answer. answer ≡ (
+          text_of_volume (H.seen host.old).content found.now plan.now,
+          Status.Done,
+        )) result }
 {
     let Ok(mut buffer) = vec![in alloc; 0u8; PIECE] else {
         return Status::NoMemory;
@@ -75,7 +79,8 @@ fn dump_found<H: Host>(alloc: Global, host: &mut H, found: &Found, name: &[u8]) 
 /// dump NAME on IMAGE...
 pub(crate) fn dump<H: Host>(alloc: Global, host: &mut H, name: &Bytes) -> Status
     requires { 0 < length (H.seen host.old).sizes }
-    ensures { DoesJob H.tells_disks H.tells_talk (jobs.Dump name.now) (H.seen host.old) (H.seen host.new) result }
+    ensures { DoesJob H.tells_disks H.tells_talk (jobs.Dump name.now) (H.seen host.old)
+        (H.seen host.new) result }
 {
     match open_group(alloc, host) {
         Err(status) => status,

@@ -54,7 +54,8 @@ fn edit_line<H: Host>(
     requires rests { RestsOn session.group (H.seen host.old) }
     requires holds { H.tells_disks → HoldsSession session (H.seen host.old).content }
     requires limits { IfSome line IsCommand }
-    ensures { AnswersLine H.tells_disks session line number (H.seen host.old) (H.seen host.new) result }
+    ensures { AnswersLine H.tells_disks session line number (H.seen host.old)
+        (H.seen host.new) result }
 {
     let (session, reply) = apply_line(alloc, host, session, line)?;
     match say_reply(alloc, host, number, &reply) {
@@ -81,7 +82,8 @@ fn edit_each<H: Host>(alloc: Global, host: &mut H, first: Session, script: &[u8]
     requires holds { H.tells_disks → HoldsSession first (H.seen host.old).content }
     requires short { length script.now ≤ 1048576 }
     requires fresh { first.group.draft ≡ None }
-    ensures { DoesLines H.tells_disks first.group (commands_in script.now) (H.seen host.old) (H.seen host.new) result }
+    ensures { DoesLines H.tells_disks first.group (commands_in script.now) (H.seen host.old)
+        (H.seen host.new) result }
 {
     let mut session = first;
     let mut rest = script;
@@ -106,10 +108,13 @@ fn edit_each<H: Host>(alloc: Global, host: &mut H, first: Session, script: &[u8]
 // The group that the disks hold, made ready to be edited; or how the run ends where there is none.
 fn open_session<H: Host>(alloc: Global, host: &mut H) -> Result<Session, Status>
     requires { 0 < length (H.seen host.old).sizes }
-    ensures session { IfOk result (λ session. IsSettled H.tells_disks (H.seen host.old).content session (H.seen host.new)) }
-    ensures keeps { H.tells_disks → OnOk result (KeepsOneGroup (H.seen host.old) (H.seen host.new) ⊥) }
+    ensures session { IfOk result (λ session. IsSettled H.tells_disks
+        (H.seen host.old).content session (H.seen host.new)) }
+    ensures keeps { H.tells_disks → OnOk result (KeepsOneGroup (H.seen host.old)
+        (H.seen host.new) ⊥) }
     ensures works { OnOk result (Works (H.seen host.old) (H.seen host.new) ⊥) }
-    ensures silent { IfErr result (λ status. status ≡ Status.DiskFault → (H.seen host.new).said ≡ (H.seen host.old).said) }
+    ensures silent { IfErr result (λ status. status ≡ Status.DiskFault
+        → (H.seen host.new).said ≡ (H.seen host.old).said) }
     ensures fault { IfErr result (λ status. (lines : List (Option Line))
         → DoesGroup H.tells_disks lines (H.seen host.old) (H.seen host.new) status) }
 {
@@ -125,7 +130,8 @@ fn open_session<H: Host>(alloc: Global, host: &mut H) -> Result<Session, Status>
 pub(crate) fn edit_script<H: Host>(alloc: Global, host: &mut H, script: &[u8]) -> Status
     requires images { 0 < length (H.seen host.old).sizes }
     requires short { length script.now ≤ 1048576 }
-    ensures { DoesGroup H.tells_disks (commands_in script.now) (H.seen host.old) (H.seen host.new) result }
+    ensures { DoesGroup H.tells_disks (commands_in script.now) (H.seen host.old)
+        (H.seen host.new) result }
 {
     match open_session(alloc, host) {
         Err(status) => status,
@@ -139,7 +145,8 @@ fn edit_alone<H: Host>(alloc: Global, host: &mut H, session: Session, command: C
     requires holds { H.tells_disks → HoldsSession session (H.seen host.old).content }
     requires limits { IsCommand command }
     requires fresh { session.group.draft ≡ None }
-    ensures does { DoesLines H.tells_disks session.group (Some command ∷ []) (H.seen host.old) (H.seen host.new) result }
+    ensures does { DoesLines H.tells_disks session.group (Some command ∷ []) (H.seen host.old)
+        (H.seen host.new) result }
     ensures silent { result ≡ Status.DiskFault → (H.seen host.new).said ≡ (H.seen host.old).said }
 {
     let (_, reply) = match edit_line(alloc, host, session, 1, Some(command)) {
@@ -153,7 +160,8 @@ fn edit_alone<H: Host>(alloc: Global, host: &mut H, session: Session, command: C
 pub(crate) fn edit_one<H: Host>(alloc: Global, host: &mut H, command: Command) -> Status
     requires images { 0 < length (H.seen host.old).sizes }
     requires limits { IsCommand command }
-    ensures { DoesJob H.tells_disks H.tells_talk (jobs.One command) (H.seen host.old) (H.seen host.new) result }
+    ensures { DoesJob H.tells_disks H.tells_talk (jobs.One command) (H.seen host.old)
+        (H.seen host.new) result }
 {
     match open_session(alloc, host) {
         Err(status) => status,

@@ -16,7 +16,8 @@ use std::alloc::Global;
 
 // Two places of one GUID.
 fn same_text(alloc: Global, first: usize, second: usize) -> Result<Bytes, NoMemory>
-    ensures { IfOk result (λ text. text ≡ ((codes "GUIDs " ++ decimal first) ++ (codes " and " ++ decimal second))
+    ensures { IfOk result (λ text. text ≡ ((codes "GUIDs " ++ decimal first)
+        ++ (codes " and " ++ decimal second))
         ++ codes " are one") }
 {
     let mut text = Text::new(alloc);
@@ -76,7 +77,8 @@ pub(crate) fn make_group<H: Host>(
 ) -> Status
     requires words { words.IsNewGroup name.now disks.now }
     requires count { length disks.now ≡ length (H.seen host.old).sizes }
-    ensures { DoesJob H.tells_disks H.tells_talk (jobs.Init name.now guid disks.now) (H.seen host.old) (H.seen host.new) result }
+    ensures { DoesJob H.tells_disks H.tells_talk (jobs.Init name.now guid disks.now)
+        (H.seen host.old) (H.seen host.new) result }
 {
     match ldm_init::init(alloc, host, name, guid, disks) {
         Err(InitError::Disk) => Status::DiskFault,

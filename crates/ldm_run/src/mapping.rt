@@ -18,8 +18,8 @@ fn is_bad_range(size: u64, first: u64, count: u64) -> bool
     count == 0 || count > 4096 || size < first || size - first < count
 }
 
-/// What `map` answers on a group: the lines of so many sectors of the volume of this name, or the line of
-/// the refusal.
+/// What `map` answers on a group: the lines of so many sectors of the volume of this name, or the
+/// line of the refusal.
 pub(crate) fn mapped(
     alloc: Global,
     found: &Found,
@@ -28,7 +28,8 @@ pub(crate) fn mapped(
     count: u64,
 ) -> Result<(Bytes, Status), NoMemory>
     requires { IsSoundGroup found.now }
-    ensures is { IfOk result (λ answer. (answer.0, answer.1) ≡ map_answer name.now first count found.now) }
+    ensures is { IfOk result (λ answer. (answer.0, answer.1)
+        ≡ map_answer name.now first count found.now) }
     ensures status { IfOk result (λ answer. HasAnswer answer.1) }
 {
     let Some(volume) = found.db.volume_named(name) else {

@@ -1,5 +1,6 @@
 //! The jobs over a host, and `run`, which does the one that words ask for.
-ghost use Rattle.std.specs.Prelude.{◌≡◌, ◌≢◌, ◌↔◌, ◌<◌, ◌≤◌, List, ℕ, length, slice_index, IfOk, IfErr, OnOk, None, Ok};
+ghost use Rattle.std.specs.Prelude.{◌≡◌, ◌≢◌, ◌↔◌, ◌<◌, ◌≤◌, List, ℕ, length, slice_index, IfOk};
+ghost use Rattle.std.specs.Prelude.{IfErr, OnOk, None, Ok};
 ghost use Rattle.ldm_host.specs.Seen.{image};
 ghost use Rattle.ldm_label.specs.LabelOf.{label_of, Fits};
 ghost use Rattle.ldm_host.specs.Moves.{Looks};
@@ -17,7 +18,8 @@ ghost use Rattle.ldm_run.specs.Scripts.{commands_in, try_answer};
 ghost use Rattle.ldm_run.specs.Kinds.{kind_of, JobTalk};
 ghost use Rattle.ldm_run.specs.Stops.{JobStops, JobSinceSyncs};
 ghost use Rattle.ldm_run.specs.Written.{JobDisks};
-ghost use Rattle.ldm_run.specs.Runs.{Answers, Completes, Causes, DoesJob, NoFault, HasImages, IsUnread, OfJob};
+ghost use Rattle.ldm_run.specs.Runs.{Answers, Completes, Causes, DoesJob, NoFault, HasImages};
+ghost use Rattle.ldm_run.specs.Runs.{IsUnread, OfJob};
 ghost use Rattle.ldm_run.specs.Runs.{OnlyReads, Replies};
 
 use crate::dump::dump;
@@ -77,7 +79,8 @@ pub(crate) fn say_made<H: Host>(
 ) -> Status
     requires { HasAnswer status }
     ensures says { (text : List ℕ) → IfOk made (λ m. m ≡ text)
-        → OnlyReads H.tells_talk (H.seen host.old) (H.seen host.new) (λ answer. answer ≡ (text, status)) result }
+        → OnlyReads H.tells_talk (H.seen host.old) (H.seen host.new)
+        (λ answer. answer ≡ (text, status)) result }
     ensures no_disk { result ≢ Status.DiskFault }
 {
     match made {
@@ -119,7 +122,8 @@ fn refuse_copy<H: Host>(alloc: Global, host: &mut H, fault: CopyFault) -> Status
 // disk on IMAGE
 fn disk<H: Host>(alloc: Global, host: &mut H) -> Status
     requires { length (H.seen host.old).sizes ≡ 1 }
-    ensures { DoesJob H.tells_disks H.tells_talk jobs.Disk (H.seen host.old) (H.seen host.new) result }
+    ensures { DoesJob H.tells_disks H.tells_talk jobs.Disk (H.seen host.old)
+        (H.seen host.new) result }
 {
     match read_label(host, 0) {
         Err(LabelError::Disk) => Status::DiskFault,
@@ -147,7 +151,8 @@ fn copy_of_label<H: Host>(alloc: Global, host: &mut H, label: &Label) -> Status
 // records on IMAGE
 fn records<H: Host>(alloc: Global, host: &mut H) -> Status
     requires { length (H.seen host.old).sizes ≡ 1 }
-    ensures { DoesJob H.tells_disks H.tells_talk jobs.Records (H.seen host.old) (H.seen host.new) result }
+    ensures { DoesJob H.tells_disks H.tells_talk jobs.Records (H.seen host.old)
+        (H.seen host.new) result }
 {
     match read_label(host, 0) {
         Err(LabelError::Disk) => Status::DiskFault,
@@ -167,7 +172,8 @@ fn opening_refusal(alloc: Global, fault: &OpenFault) -> Result<Bytes, NoMemory>
 // Refuses the images for a fault of opening.
 pub(crate) fn refuse_opening<H: Host>(alloc: Global, host: &mut H, fault: &OpenFault) -> Status
     ensures { OnlyReads H.tells_talk (H.seen host.old) (H.seen host.new)
-        (λ answer. answer ≡ (text_of_refusal (text_of_open_fault fault.now), Status.Refused)) result }
+        (λ answer. answer ≡ (text_of_refusal (text_of_open_fault fault.now), Status.Refused))
+        result }
 {
     let line = opening_refusal(alloc, fault);
     say_made(host, line, Status::Refused)
@@ -176,7 +182,8 @@ pub(crate) fn refuse_opening<H: Host>(alloc: Global, host: &mut H, fault: &OpenF
 /// The group that the images hold, and nothing was said; or how the run ends where there is none.
 pub(crate) fn open_group<H: Host>(alloc: Global, host: &mut H) -> Result<Found, Status>
     requires { 0 < length (H.seen host.old).sizes }
-    ensures found { H.tells_disks → IfOk result (λ found. IsGroupIn (H.seen host.old).content (Ok found)) }
+    ensures found { H.tells_disks → IfOk result (λ found. IsGroupIn
+        (H.seen host.old).content (Ok found)) }
     ensures sound { IfOk result (λ found. IsSoundGroup found) }
     ensures lies { IfOk result (λ found. LieOn found.labels (H.seen host.new).sizes) }
     ensures looks { OnOk result (Looks (H.seen host.old) (H.seen host.new) ⊥) }
@@ -195,7 +202,8 @@ pub(crate) fn open_group<H: Host>(alloc: Global, host: &mut H) -> Result<Found, 
 // show on IMAGE...
 fn show<H: Host>(alloc: Global, host: &mut H) -> Status
     requires { 0 < length (H.seen host.old).sizes }
-    ensures { DoesJob H.tells_disks H.tells_talk jobs.Show (H.seen host.old) (H.seen host.new) result }
+    ensures { DoesJob H.tells_disks H.tells_talk jobs.Show (H.seen host.old)
+        (H.seen host.new) result }
 {
     match open_group(alloc, host) {
         Err(status) => status,
@@ -206,7 +214,8 @@ fn show<H: Host>(alloc: Global, host: &mut H) -> Status
 // check on IMAGE...
 fn check<H: Host>(alloc: Global, host: &mut H) -> Status
     requires { 0 < length (H.seen host.old).sizes }
-    ensures { DoesJob H.tells_disks H.tells_talk jobs.Check (H.seen host.old) (H.seen host.new) result }
+    ensures { DoesJob H.tells_disks H.tells_talk jobs.Check (H.seen host.old)
+        (H.seen host.new) result }
 {
     match open_group(alloc, host) {
         Err(status) => status,
@@ -217,7 +226,8 @@ fn check<H: Host>(alloc: Global, host: &mut H) -> Status
 // map NAME FIRST COUNT on IMAGE...
 fn map<H: Host>(alloc: Global, host: &mut H, name: &Bytes, first: u64, count: u64) -> Status
     requires { 0 < length (H.seen host.old).sizes }
-    ensures { DoesJob H.tells_disks H.tells_talk (jobs.Map name.now first count) (H.seen host.old) (H.seen host.new) result }
+    ensures { DoesJob H.tells_disks H.tells_talk (jobs.Map name.now first count) (H.seen host.old)
+        (H.seen host.new) result }
 {
     let found = match open_group(alloc, host) {
         Err(status) => return status,
@@ -250,7 +260,8 @@ fn try_lines<H: Host>(alloc: Global, host: &mut H, script: &[u8]) -> Status
 // try on IMAGE...
 fn try_script<H: Host>(alloc: Global, host: &mut H) -> Status
     requires { 0 < length (H.seen host.old).sizes }
-    ensures { DoesJob H.tells_disks H.tells_talk jobs.Try (H.seen host.old) (H.seen host.new) result }
+    ensures { DoesJob H.tells_disks H.tells_talk jobs.Try (H.seen host.old)
+        (H.seen host.new) result }
 {
     match hear_script(alloc, host) {
         Err(status) => status,
@@ -265,7 +276,8 @@ fn try_script<H: Host>(alloc: Global, host: &mut H) -> Status
 /// edit on IMAGE...
 pub(crate) fn edit<H: Host>(alloc: Global, host: &mut H) -> Status
     requires { 0 < length (H.seen host.old).sizes }
-    ensures { DoesJob H.tells_disks H.tells_talk jobs.Edit (H.seen host.old) (H.seen host.new) result }
+    ensures { DoesJob H.tells_disks H.tells_talk jobs.Edit (H.seen host.old)
+        (H.seen host.new) result }
 {
     match hear_script(alloc, host) {
         Err(status) => status,
@@ -319,29 +331,36 @@ fn do_words<H: Host>(alloc: Global, words: &[String], host: &mut H) -> Status
 pub fn run<H: Host>(alloc: Global, words: &[String], host: &mut H) -> Status
     requires { HasImages (job_of (texts words.now)) (H.seen host.old) }
     // Usage comes exactly where the words have no reading.
-    ensures usage { result ≢ Status.NoMemory → (result ≡ Status.Usage) ↔ (job_of (texts words.now) ≡ None) }
-    // Done and Refused are the answer, and nothing is said but the beginning of its text. There is one answer.
+    ensures usage { result ≢ Status.NoMemory → (result ≡ Status.Usage)
+        ↔ (job_of (texts words.now) ≡ None) }
+    // Done and Refused are the answer, and nothing is said but the beginning of its text. There is
+    // one answer.
     ensures answers { H.tells_disks
-        → Answers (H.seen host.old) (H.seen host.new) (IsAnswerTo (texts words.now) (H.seen host.old).content (H.seen host.old).input) result }
-    ensures one { (a b : Answer) → IsAnswerTo (texts words.now) (H.seen host.old).content (H.seen host.old).input a
+        → Answers (H.seen host.old) (H.seen host.new)
+        (IsAnswerTo (texts words.now) (H.seen host.old).content (H.seen host.old).input) result }
+    ensures one { (a b : Answer) → IsAnswerTo (texts words.now) (H.seen host.old).content
+        (H.seen host.old).input a
         → IsAnswerTo (texts words.now) (H.seen host.old).content (H.seen host.old).input b → a ≡ b }
     // A fault comes only where its count rose.
     ensures causes { Causes (H.seen host.old) (H.seen host.new) result }
     // Where no count rose, the answer comes, or NoMemory.
-    ensures complete { H.tells_disks → NoFault (H.seen host.old) (H.seen host.new) → result ≢ Status.NoMemory
-        → Completes (H.seen host.old) (H.seen host.new) (IsAnswerTo (texts words.now) (H.seen host.old).content (H.seen host.old).input) result }
+    ensures complete { H.tells_disks → NoFault (H.seen host.old) (H.seen host.new)
+        → result ≢ Status.NoMemory
+        → Completes (H.seen host.old) (H.seen host.new)
+        (IsAnswerTo (texts words.now) (H.seen host.old).content (H.seen host.old).input) result }
     // No call of the host is made where the words have no reading.
     ensures disks { OfJob (job_of (texts words.now)) (host.new
         ≡ host.old) (λ job. JobDisks H.tells_disks job (H.seen host.old) (H.seen host.new) result) }
     // After a fault nothing more is said, but where the answer is said while the disks are read on.
     ensures talk { OfJob (job_of (texts words.now)) (host.new
-        ≡ host.old) (λ job. JobTalk H.tells_disks H.tells_talk (kind_of job) (H.seen host.old) (H.seen host.new) result) }
-    // Whatever a stop leaves at any moment of a job that writes, and after it, opens as the group after some first lines,
-    // among them each that was answered.
+        ≡ host.old) (λ job. JobTalk H.tells_disks H.tells_talk (kind_of job) (H.seen host.old)
+        (H.seen host.new) result) }
+    // Whatever a stop leaves at any moment of a job that writes, and after it, opens as the group
+    // after some first lines, among them each that was answered.
     ensures stops { OfJob (job_of (texts words.now)) (host.new
         ≡ host.old) (λ job. JobStops H.tells_disks job (H.seen host.old) (H.seen host.new)) }
-    // Where anything was pending at the start, so it is from the end of the syncs on; until then a stop leaves what it could
-    // leave before.
+    // Where anything was pending at the start, so it is from the end of the syncs on; until then a
+    // stop leaves what it could leave before.
     ensures since_syncs { OfJob (job_of (texts words.now)) (host.new
         ≡ host.old) (λ job. JobSinceSyncs H.tells_disks job (H.seen host.old) (H.seen host.new)) }
 {

@@ -3,7 +3,8 @@ ghost use Rattle.std.specs.Prelude.{◌≡◌, ◌==◌, count_by, IfOk, string_
 ghost use Rattle.ldm_words.specs.declared.job.Job.TheVariants as jobs;
 ghost use Rattle.ldm_run.specs.declared.running.Status.{Status as Ending};
 ghost use Rattle.ldm_run.specs.Runs.{DoesJob};
-ghost use Rattle.ldm_run.specs.Sample.{text_of_counts, text_of_group, text_of_summary, IsSampleAnswer, IsSampleHost};
+ghost use Rattle.ldm_run.specs.Sample.{text_of_counts, text_of_group, text_of_summary};
+ghost use Rattle.ldm_run.specs.Sample.{IsSampleAnswer, IsSampleHost};
 
 use crate::running::{Status, edit, say_made};
 use ldm_bytes::{Bytes, NoMemory};
@@ -45,7 +46,8 @@ fn group_text(alloc: Global, seq: u64, need: u64, room: u64) -> Result<String, N
     Ok(format!(in alloc; " sequence {seq} blocks {need} of {room}\n")?)
 }
 
-// The line that says how many lines of the script were done and refused, and what the group is then.
+// The line that says how many lines of the script were done and refused, and what the group is
+// then.
 fn summary_text(
     alloc: Global,
     seed: u64,
@@ -62,8 +64,8 @@ fn summary_text(
     Ok(Bytes::from_vec(text))
 }
 
-// The summary of what such a host said and holds. The group began at sequence 7, and each line that was done took it one
-// further.
+// The summary of what such a host said and holds. The group began at sequence 7, and each line that
+// was done took it one further.
 fn summarize(alloc: Global, seed: u64, host: MemoryHost) -> Result<Bytes, NoMemory>
     requires { IsSampleHost seed host }
     ensures { IfOk result (λ text. IsSampleAnswer seed (text, Ending.Done)) }
@@ -97,7 +99,8 @@ fn sample_text(alloc: Global, seed: u64) -> Result<Bytes, NoMemory>
 
 /// sample SEED
 pub(crate) fn sample<H: Host>(alloc: Global, host: &mut H, seed: u64) -> Status
-    ensures { DoesJob H.tells_disks H.tells_talk (jobs.Sample seed) (H.seen host.old) (H.seen host.new) result }
+    ensures { DoesJob H.tells_disks H.tells_talk (jobs.Sample seed) (H.seen host.old)
+        (H.seen host.new) result }
 {
     match sample_text(alloc, seed) {
         Err(NoMemory) => Status::NoMemory,

@@ -26,7 +26,8 @@ const SECTORS: usize = 2048;
 
 // The line that refuses for a disk that isn't present.
 fn missing_refusal(alloc: Global, disk: u64) -> Result<Bytes, NoMemory>
-    ensures { IfOk result (λ line. line ≡ text_of_refusal ((codes "disk " ++ decimal disk) ++ codes " is missing")) }
+    ensures { IfOk result (λ line. line ≡ text_of_refusal
+        ((codes "disk " ++ decimal disk) ++ codes " is missing")) }
 {
     let mut text = Text::new(alloc);
     push_number(&mut text, b"disk ", disk)?;
@@ -137,7 +138,8 @@ fn scrub_found<H: Host>(alloc: Global, host: &mut H, found: &Found, name: &[u8])
 /// scrub NAME on IMAGE...
 pub(crate) fn scrub<H: Host>(alloc: Global, host: &mut H, name: &Bytes) -> Status
     requires { 0 < length (H.seen host.old).sizes }
-    ensures { DoesJob H.tells_disks H.tells_talk (jobs.Scrub name.now) (H.seen host.old) (H.seen host.new) result }
+    ensures { DoesJob H.tells_disks H.tells_talk (jobs.Scrub name.now) (H.seen host.old)
+        (H.seen host.new) result }
 {
     match open_group(alloc, host) {
         Err(status) => status,

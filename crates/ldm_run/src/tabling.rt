@@ -27,7 +27,8 @@ fn fault_refusal(alloc: Global, fault: TableFault) -> Result<Bytes, NoMemory>
     refusal_text(alloc, text.as_slice())
 }
 
-// What is answered on a group: the line that makes the device of the volume of this name, or that of the refusal.
+// What is answered on a group: the line that makes the device of the volume of this name, or that
+// of the refusal.
 fn tabled<H: Host>(
     alloc: Global,
     host: &H,
@@ -37,7 +38,8 @@ fn tabled<H: Host>(
 ) -> Result<(Bytes, Status), NoMemory>
     requires sound { IsSoundGroup found.now }
     requires lies { LieOn found.now.labels (H.seen host.now).sizes }
-    ensures is { IfOk result (λ answer. (answer.0, answer.1) ≡ table_answer name.now words.now found.now) }
+    ensures is { IfOk result (λ answer. (answer.0, answer.1)
+        ≡ table_answer name.now words.now found.now) }
     ensures status { IfOk result (λ answer. HasAnswer answer.1) }
 {
     let Some(volume) = found.db.volume_named(name) else {
@@ -54,7 +56,8 @@ fn tabled<H: Host>(
 /// table VOLUME on IMAGE...
 pub(crate) fn table<H: Host>(alloc: Global, host: &mut H, name: &Bytes, words: &Names) -> Status
     requires { 0 < length (H.seen host.old).sizes }
-    ensures { DoesJob H.tells_disks H.tells_talk (jobs.Table name.now words.now) (H.seen host.old) (H.seen host.new) result }
+    ensures { DoesJob H.tells_disks H.tells_talk (jobs.Table name.now words.now) (H.seen host.old)
+        (H.seen host.new) result }
 {
     let found = match open_group(alloc, host) {
         Err(status) => return status,

@@ -1,5 +1,6 @@
 //! Copies and rows of a volume, compared.
-ghost use Rattle.std.specs.Prelude.{◌≡◌, ◌+◌, ◌-◌, ◌*◌, ◌/◌, ◌%◌, ◌<◌, ◌≤◌, ℕ, length, map, fold, bit_xor};
+ghost use Rattle.std.specs.Prelude.{◌≡◌, ◌+◌, ◌-◌, ◌*◌, ◌/◌, ◌%◌, ◌<◌, ◌≤◌, ℕ, length, map, fold};
+ghost use Rattle.std.specs.Prelude.{bit_xor};
 ghost use Rattle.std.specs.Prelude.{slice_index, false, OnOk, IfOk, IsErr, Some};
 ghost use Rattle.std.specs.List.{list_any, range_with_len};
 ghost use Rattle.std.specs.Option.{option_to_list};
@@ -13,7 +14,8 @@ ghost use Rattle.ldm_dump.specs.Sources.{is_raid5, spot_at, copy_spot};
 ghost use Rattle.ldm_dump.specs.Bytes.{byte_at, joined_byte};
 ghost use Rattle.ldm_dump.specs.Redundant.{row_spots};
 ghost use Rattle.ldm_dump.specs.Runs.{HasBytes, LiesOn, RowsLieOn};
-ghost use Rattle.ldm_scrub.specs.Compare.{is_bad, is_bad_at, sector_at, IsCommonRun, part, mark, marked};
+ghost use Rattle.ldm_scrub.specs.Compare.{is_bad, is_bad_at, sector_at, IsCommonRun, part, mark};
+ghost use Rattle.ldm_scrub.specs.Compare.{marked};
 
 use crate::places::{common_run, row_place, row_sector};
 use ldm_dump::{clear, join_spot, read_spot, spot_of};
@@ -26,7 +28,8 @@ fn mark_differing(bytes: &[u8], others: &[u8], marks: &mut [u8])
     requires size { length bytes.now ≡ 512 * length marks.old }
     requires same { length others.now ≡ length bytes.now }
     ensures { (i : ℕ) → i < length marks.old
-        → slice_index marks.new i ≡ marked (bytes_eq (part bytes.now i) (part others.now i)) (slice_index marks.old i) }
+        → slice_index marks.new i ≡ marked (bytes_eq (part bytes.now i) (part others.now i))
+        (slice_index marks.old i) }
 {
     for i in 0..marks.len() {
         if bytes[512 * i..512 * i + 512] != others[512 * i..512 * i + 512] {
@@ -39,7 +42,8 @@ fn mark_differing(bytes: &[u8], others: &[u8], marks: &mut [u8])
 fn mark_unlike(bytes: &[u8], sector: &[u8], marks: &mut [u8])
     requires size { length bytes.now ≡ 512 * length marks.old }
     ensures { (i : ℕ) → i < length marks.old
-        → slice_index marks.new i ≡ marked (bytes_eq (part bytes.now i) sector.now) (slice_index marks.old i) }
+        → slice_index marks.new i ≡ marked (bytes_eq (part bytes.now i) sector.now)
+        (slice_index marks.old i) }
 {
     for i in 0..marks.len() {
         if &bytes[512 * i..512 * i + 512] != sector {
@@ -63,8 +67,10 @@ fn read_copy_run<H: Host>(
     requires run { IsCommonRun plan.now sector run }
     requires room { length out.old ≤ 512 * run }
     requires lies { LiesOn found.now plan.now (H.seen host.old).sizes }
-    ensures bytes { H.tells_disks → OnOk result ((j : ℕ) → j < length out.old → slice_index out.new j
-        ≡ joined_byte (H.seen host.old).content (option_to_list (copy_spot found.now plan.now sector copy)) j) }
+    ensures bytes { H.tells_disks → OnOk result ((j : ℕ) → j < length out.old
+        → slice_index out.new j
+        ≡ joined_byte (H.seen host.old).content (option_to_list
+        (copy_spot found.now plan.now sector copy)) j) }
     ensures looks { Looks (H.seen host.old) (H.seen host.new) (IsErr result) }
 {
     match spot_of(host, found, plan.place(sector, copy)) {
@@ -91,8 +97,10 @@ fn read_column<H: Host>(
     requires has { (s : Place) → spot_at found.now (column_in plan.now sector column) ≡ Some s
         → HasBytes (H.seen host.old).sizes s (length out.old) }
     requires lies { RowsLieOn found.now plan.now (H.seen host.old).sizes }
-    ensures bytes { H.tells_disks → OnOk result ((j : ℕ) → j < length out.old → slice_index out.new j
-        ≡ joined_byte (H.seen host.old).content (option_to_list (spot_at found.now (column_in plan.now sector column))) j) }
+    ensures bytes { H.tells_disks → OnOk result ((j : ℕ) → j < length out.old
+        → slice_index out.new j
+        ≡ joined_byte (H.seen host.old).content (option_to_list
+        (spot_at found.now (column_in plan.now sector column))) j) }
     ensures looks { Looks (H.seen host.old) (H.seen host.new) (IsErr result) }
 {
     match spot_of(host, found, plan.column(sector, column)) {
@@ -104,7 +112,8 @@ fn read_column<H: Host>(
     }
 }
 
-// Makes of each byte its exclusive-or with what a column has from the start of a sector's row and offset on.
+// Makes of each byte its exclusive-or with what a column has from the start of a sector's row and
+// offset on.
 fn join_column<H: Host>(
     host: &mut H,
     found: &Found,
@@ -121,8 +130,10 @@ fn join_column<H: Host>(
         → HasBytes (H.seen host.old).sizes s (length out.old) }
     requires lies { RowsLieOn found.now plan.now (H.seen host.old).sizes }
     requires same { length scratch.old ≡ length out.old }
-    ensures bytes { H.tells_disks → OnOk result ((j : ℕ) → j < length out.old → slice_index out.new j
-        ≡ fold bit_xor (slice_index out.old j) (map (byte_at (H.seen host.old).content j) (option_to_list (spot_at found.now (column_in plan.now sector column))))) }
+    ensures bytes { H.tells_disks → OnOk result ((j : ℕ) → j < length out.old
+        → slice_index out.new j
+        ≡ fold bit_xor (slice_index out.old j) (map (byte_at (H.seen host.old).content j)
+        (option_to_list (spot_at found.now (column_in plan.now sector column))))) }
     ensures looks { Looks (H.seen host.old) (H.seen host.new) (IsErr result) }
 {
     match spot_of(host, found, plan.column(sector, column)) {
@@ -143,12 +154,14 @@ fn join_row<H: Host>(
     requires raid5 { plan.now.shape ≡ Raid5 }
     requires columned { IsColumned plan.now }
     requires within { sector < plan.now.size }
-    requires has { (column : ℕ) (s : Place) → spot_at found.now (column_in plan.now sector column) ≡ Some s
+    requires has { (column : ℕ) (s : Place) → spot_at found.now
+        (column_in plan.now sector column) ≡ Some s
         → HasBytes (H.seen host.old).sizes s (length out.old) }
     requires lies { RowsLieOn found.now plan.now (H.seen host.old).sizes }
     requires same { length scratch.old ≡ length out.old }
     ensures bytes { H.tells_disks → OnOk result ((j : ℕ) → j < length out.old
-        → slice_index out.new j ≡ joined_byte (H.seen host.old).content (row_spots found.now plan.now sector) j) }
+        → slice_index out.new j ≡ joined_byte (H.seen host.old).content
+        (row_spots found.now plan.now sector) j) }
     ensures looks { Looks (H.seen host.old) (H.seen host.new) (IsErr result) }
 {
     read_column(host, found, plan, sector, 0, out)?;
@@ -158,7 +171,8 @@ fn join_row<H: Host>(
     Ok(())
 }
 
-/// Marks the sectors of a run of a volume with copies, one mark for each, 1 where two copies differ.
+/// Marks the sectors of a run of a volume with copies, one mark for each, 1 where two copies
+/// differ.
 pub fn mark_copies<H: Host>(
     host: &mut H,
     found: &Found,
@@ -176,7 +190,8 @@ pub fn mark_copies<H: Host>(
     requires size { length out.old ≡ 512 * length marks.old }
     requires same { length scratch.old ≡ length out.old }
     requires lies { LiesOn found.now plan.now (H.seen host.old).sizes }
-    ensures marks { H.tells_disks → OnOk result ((i : ℕ) → i < length marks.old → slice_index marks.new i
+    ensures marks { H.tells_disks → OnOk result ((i : ℕ) → i < length marks.old
+        → slice_index marks.new i
         ≡ mark (is_bad (H.seen host.old).content found.now plan.now (sector + i))) }
     ensures looks { Looks (H.seen host.old) (H.seen host.new) (IsErr result) }
 {
@@ -190,8 +205,8 @@ pub fn mark_copies<H: Host>(
     Ok(())
 }
 
-/// Marks the places of a RAID-5 from this one on, one mark for each, 1 where the parity fails. In the columns they lie side
-/// by side, whatever the chunks.
+/// Marks the places of a RAID-5 from this one on, one mark for each, 1 where the parity fails. In
+/// the columns they lie side by side, whatever the chunks.
 pub fn mark_rows<H: Host>(
     host: &mut H,
     found: &Found,
@@ -202,12 +217,14 @@ pub fn mark_rows<H: Host>(
     marks: &mut [u8],
 ) -> Result<(), Failed>
     requires raid5 { plan.now.shape ≡ Raid5 }
-    requires within { (i : ℕ) → i < length marks.old → sector_at plan.now (place + i) < plan.now.size }
+    requires within { (i : ℕ) → i < length marks.old
+        → sector_at plan.now (place + i) < plan.now.size }
     requires some { 0 < length marks.old }
     requires size { length out.old ≡ 512 * length marks.old }
     requires same { length scratch.old ≡ length out.old }
     requires lies { RowsLieOn found.now plan.now (H.seen host.old).sizes }
-    ensures marks { H.tells_disks → OnOk result ((i : ℕ) → i < length marks.old → slice_index marks.new i
+    ensures marks { H.tells_disks → OnOk result ((i : ℕ) → i < length marks.old
+        → slice_index marks.new i
         ≡ mark (is_bad_at (H.seen host.old).content found.now plan.now (place + i))) }
     ensures looks { Looks (H.seen host.old) (H.seen host.new) (IsErr result) }
 {
@@ -229,7 +246,8 @@ fn mark_one<H: Host>(
     marks: &mut [u8],
 ) -> Result<(), Failed>
     requires within { sector < plan.now.size }
-    requires first { plan.now.shape ≡ Raid5 → sector / plan.now.chunk % (length (columns_of plan.now) - 1) ≡ 0 }
+    requires first { plan.now.shape ≡ Raid5 → sector / plan.now.chunk %
+        (length (columns_of plan.now) - 1) ≡ 0 }
     requires one { length marks.old ≡ 1 }
     requires size { length out.old ≡ 512 }
     requires same { length scratch.old ≡ length out.old }
@@ -251,8 +269,8 @@ fn mark_one<H: Host>(
     }
 }
 
-/// Whether copies of a mirror's sector differ, or the parity fails in the row of a RAID-5 whose first chunk has the sector,
-/// at the sector's offset. It takes no memory.
+/// Whether copies of a mirror's sector differ, or the parity fails in the row of a RAID-5 whose
+/// first chunk has the sector, at the sector's offset. It takes no memory.
 pub fn place_bad<H: Host>(
     host: &mut H,
     found: &Found,
@@ -260,10 +278,12 @@ pub fn place_bad<H: Host>(
     sector: u64,
 ) -> Result<bool, Failed>
     requires within { sector < plan.now.size }
-    requires first { plan.now.shape ≡ Raid5 → sector / plan.now.chunk % (length (columns_of plan.now) - 1) ≡ 0 }
+    requires first { plan.now.shape ≡ Raid5 → sector / plan.now.chunk %
+        (length (columns_of plan.now) - 1) ≡ 0 }
     requires lies { LiesOn found.now plan.now (H.seen host.old).sizes }
     requires rows { RowsLieOn found.now plan.now (H.seen host.old).sizes }
-    ensures is { H.tells_disks → IfOk result (λ bad. bad ≡ is_bad (H.seen host.old).content found.now plan.now sector) }
+    ensures is { H.tells_disks → IfOk result (λ bad. bad
+        ≡ is_bad (H.seen host.old).content found.now plan.now sector) }
     ensures looks { Looks (H.seen host.old) (H.seen host.new) (IsErr result) }
 {
     let mut out = [0u8; 512];

@@ -8,8 +8,8 @@ pub fn clean_volumes_are_redundant()
     ensures { CleanIsRedundant }
 {}
 
-/// That all disks of a volume of a sound group are there where none of them is missing. The call does
-/// nothing.
+/// That all disks of a volume of a sound group are there where none of them is missing. The call
+/// does nothing.
 pub fn volumes_without_missing_disks_are_complete()
     ensures { NoneMissingIsComplete }
 {}

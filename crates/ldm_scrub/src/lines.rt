@@ -1,5 +1,6 @@
 //! The lines of bad places, written in memory that was taken before.
-ghost use Rattle.std.specs.Prelude.{◌≡◌, ◌++◌, ◌+◌, ◌*◌, ◌/◌, ◌%◌, ◌<◌, ◌≤◌, ◌^◌, ℕ, Bool, List, [], length, take};
+ghost use Rattle.std.specs.Prelude.{◌≡◌, ◌++◌, ◌+◌, ◌*◌, ◌/◌, ◌%◌, ◌<◌, ◌≤◌, ◌^◌, ℕ, Bool, List};
+ghost use Rattle.std.specs.Prelude.{[], length, take};
 ghost use Rattle.std.specs.Prelude.{slice_index, flat_map, count_by, decimal, if◌then◌else◌};
 ghost use Rattle.std.specs.List.{range_with_len};
 ghost use Rattle.ldm_layout.specs.declared.shape.Shape.TheVariants.{Raid5};
@@ -75,7 +76,8 @@ fn push_marked(page: &mut [u8], used: usize, plan: &Plan, place: u64, m: u8) -> 
     requires { used + LINE ≤ length page.old }
     ensures end { result ≤ used + LINE }
     ensures is { (bad : Bool) → m ≡ mark bad
-        → take result page.new ≡ take used page.old ++ (if bad then line_of plan.now place else []) }
+        → take result page.new ≡ take used page.old ++ (if bad then line_of
+        plan.now place else []) }
 {
     if m == 1 {
         push_line(page, used, plan, place)
@@ -84,13 +86,16 @@ fn push_marked(page: &mut [u8], used: usize, plan: &Plan, place: u64, m: u8) -> 
     }
 }
 
-/// Puts the lines of the marked places from this one on at the front of the page, and answers where they end.
+/// Puts the lines of the marked places from this one on at the front of the page, and answers where
+/// they end.
 pub fn push_lines(page: &mut [u8], plan: &Plan, place: u64, marks: &[u8]) -> usize
     requires room { LINE * length marks.now ≤ length page.old }
     requires within { place + length marks.now < 2 ^ 64 }
     ensures end { result ≤ length page.old }
-    ensures is { (bad : ℕ → Bool) → ((i : ℕ) → i < length marks.now → slice_index marks.now i ≡ mark (bad (place + i)))
-        → take result page.new ≡ flat_map (λ p. if bad p then line_of plan.now p else []) (range_with_len place (length marks.now)) }
+    ensures is { (bad : ℕ → Bool) → ((i : ℕ) → i < length marks.now
+        → slice_index marks.now i ≡ mark (bad (place + i)))
+        → take result page.new ≡ flat_map (λ p. if bad p then line_of plan.now p else [])
+        (range_with_len place (length marks.now)) }
 {
     let mut used = 0;
     'marks: for i in 0..marks.len() {

@@ -68,8 +68,8 @@ fn is_missing(found: &Found, volume: u64, r: &Record) -> bool
     is_absent(found, r) && has_part(&found.db, volume, id_of(r))
 }
 
-/// The least disk with a partition of the volume of which no image is there. It walks over the partitions
-/// once for each absent disk.
+/// The least disk with a partition of the volume of which no image is there. It walks over the
+/// partitions once for each absent disk.
 pub fn missing_disk(found: &Found, volume: u64) -> Option<u64>
     ensures { result ≡ missing_of found.now volume }
 {

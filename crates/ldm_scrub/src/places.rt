@@ -6,7 +6,8 @@ ghost use Rattle.ldm_scrub.specs.Compare.{sector_at, IsCount, IsCommonRun};
 
 use ldm_layout::{Plan, Shape};
 
-// How many places a RAID-5 has: those of its whole rows, and those of the row that the volume's end cuts.
+// How many places a RAID-5 has: those of its whole rows, and those of the row that the volume's end
+// cuts.
 fn count_rows(plan: &Plan) -> u64
     requires { plan.now.shape ≡ Raid5 }
     ensures { IsCount plan.now result }

@@ -1,5 +1,6 @@
 //! The places of a volume, compared, and what is said of them.
-ghost use Rattle.std.specs.Prelude.{◌≡◌, ◌++◌, ◌+◌, ◌*◌, ◌<◌, ◌≤◌, ◌^◌, ℕ, List, length, slice_index, false, IfOk};
+ghost use Rattle.std.specs.Prelude.{◌≡◌, ◌++◌, ◌+◌, ◌*◌, ◌<◌, ◌≤◌, ◌^◌, ℕ, List, length};
+ghost use Rattle.std.specs.Prelude.{slice_index, false, IfOk};
 ghost use Rattle.std.specs.Prelude.{OnOk, IsErr, IsErrOf};
 ghost use Rattle.std.specs.List.{range_with_len};
 ghost use Rattle.ldm_host.specs.Moves.{Still, Begins, DiskFailed, TalkFailed, Looks};
@@ -28,7 +29,8 @@ pub enum ScrubError {
     Talk,
 }
 
-// Marks places of a volume with copies from this one on, as many as there are marks at most, and answers how many.
+// Marks places of a volume with copies from this one on, as many as there are marks at most, and
+// answers how many.
 fn mark_some_copies<H: Host>(
     host: &mut H,
     found: &Found,
@@ -67,7 +69,8 @@ fn mark_some_copies<H: Host>(
     Ok(count)
 }
 
-// Marks places of a RAID-5 from this one on, as many as there are marks at most, and answers how many.
+// Marks places of a RAID-5 from this one on, as many as there are marks at most, and answers how
+// many.
 fn mark_some_rows<H: Host>(
     host: &mut H,
     found: &Found,
@@ -137,7 +140,8 @@ fn mark_some<H: Host>(
     }
 }
 
-// Says the lines of the marked places from this one on, where there are any, and answers how many there are.
+// Says the lines of the marked places from this one on, where there are any, and answers how many
+// there are.
 fn say_marked<H: Host>(
     host: &mut H,
     plan: &Plan,
@@ -149,14 +153,18 @@ fn say_marked<H: Host>(
     requires within { place + length marks.now < 2 ^ 64 }
     ensures few { IfOk result (λ n. n ≤ length marks.now) }
     ensures said { H.tells_talk → (images : List (List ℕ)) (found : Found)
-        → ((i : ℕ) → i < length marks.now → slice_index marks.now i ≡ mark (is_bad_at images found plan.now (place + i)))
+        → ((i : ℕ) → i < length marks.now → slice_index marks.now i
+        ≡ mark (is_bad_at images found plan.now (place + i)))
         → IfOk result (λ n. (H.seen host.new).said ≡ (H.seen host.old).said
         ++ lines_of images found plan.now (range_with_len place (length marks.now))) }
     ensures count { (images : List (List ℕ)) (found : Found)
-        → ((i : ℕ) → i < length marks.now → slice_index marks.now i ≡ mark (is_bad_at images found plan.now (place + i)))
-        → IfOk result (λ n. n ≡ bad_of images found plan.now (range_with_len place (length marks.now))) }
+        → ((i : ℕ) → i < length marks.now → slice_index marks.now i
+        ≡ mark (is_bad_at images found plan.now (place + i)))
+        → IfOk result (λ n. n ≡ bad_of images found plan.now
+        (range_with_len place (length marks.now))) }
     ensures front { (images : List (List ℕ)) (found : Found)
-        → ((i : ℕ) → i < length marks.now → slice_index marks.now i ≡ mark (is_bad_at images found plan.now (place + i)))
+        → ((i : ℕ) → i < length marks.now → slice_index marks.now i
+        ≡ mark (is_bad_at images found plan.now (place + i)))
         → Begins (H.seen host.new).said ((H.seen host.old).said
         ++ lines_of images found plan.now (range_with_len place (length marks.now))) }
     ensures still { Still (H.seen host.old) (H.seen host.new) }
@@ -172,8 +180,8 @@ fn say_marked<H: Host>(
     Ok(bad)
 }
 
-// Compares places from this one on, as many as there are marks at most, says the lines of the bad ones, and answers how
-// many were compared and how many are bad.
+// Compares places from this one on, as many as there are marks at most, says the lines of the bad
+// ones, and answers how many were compared and how many are bad.
 fn scrub_some<H: Host>(
     host: &mut H,
     found: &Found,
@@ -197,11 +205,13 @@ fn scrub_some<H: Host>(
     ensures fits { IfOk result (λ n. place + n.0 ≤ all) }
     ensures few { IfOk result (λ n. n.1 ≤ n.0) }
     ensures said { H.tells_disks → IfOk result (λ n. (H.seen host.new).said
-        ≡ (H.seen host.old).said ++ lines_of (H.seen host.old).content found.now plan.now (range_with_len place n.0)) }
+        ≡ (H.seen host.old).said ++ lines_of (H.seen host.old).content found.now plan.now
+        (range_with_len place n.0)) }
     ensures count { H.tells_disks → IfOk result (λ n. n.1
         ≡ bad_of (H.seen host.old).content found.now plan.now (range_with_len place n.0)) }
     ensures front { H.tells_disks → (n : ℕ) × (place + n ≤ all) × Begins (H.seen host.new).said
-        ((H.seen host.old).said ++ lines_of (H.seen host.old).content found.now plan.now (range_with_len place n)) }
+        ((H.seen host.old).said ++ lines_of (H.seen host.old).content found.now plan.now
+        (range_with_len place n)) }
     ensures still { Still (H.seen host.old) (H.seen host.new) }
     ensures input { SameInput (H.seen host.old) (H.seen host.new) }
     ensures disk { IsErrOf result ScrubError.Disk → DiskFailed (H.seen host.old) (H.seen host.new) }
@@ -235,11 +245,13 @@ fn scrub_places<H: Host>(
     requires lies { LiesOn found.now plan.now (H.seen host.old).sizes }
     requires rows { RowsLieOn found.now plan.now (H.seen host.old).sizes }
     ensures said { H.tells_disks → OnOk result ((H.seen host.new).said
-        ≡ (H.seen host.old).said ++ lines_of (H.seen host.old).content found.now plan.now (places_of plan.now)) }
+        ≡ (H.seen host.old).said ++ lines_of (H.seen host.old).content found.now plan.now
+        (places_of plan.now)) }
     ensures count { H.tells_disks → IfOk result (λ bad. bad
         ≡ bad_of (H.seen host.old).content found.now plan.now (places_of plan.now)) }
     ensures front { H.tells_disks → Begins (H.seen host.new).said
-        ((H.seen host.old).said ++ lines_of (H.seen host.old).content found.now plan.now (places_of plan.now)) }
+        ((H.seen host.old).said ++ lines_of (H.seen host.old).content found.now plan.now
+        (places_of plan.now)) }
     ensures still { Still (H.seen host.old) (H.seen host.new) }
     ensures input { SameInput (H.seen host.old) (H.seen host.new) }
     ensures disk { IsErrOf result ScrubError.Disk → DiskFailed (H.seen host.old) (H.seen host.new) }
@@ -255,8 +267,8 @@ fn scrub_places<H: Host>(
     Ok(bad)
 }
 
-/// Compares the copies of a mirror, or the rows of a RAID-5, says a line for each bad place, and behind them `front` with
-/// both counts, and answers how many places are bad. It takes no memory.
+/// Compares the copies of a mirror, or the rows of a RAID-5, says a line for each bad place, and
+/// behind them `front` with both counts, and answers how many places are bad. It takes no memory.
 pub fn scrub_volume<H: Host>(
     host: &mut H,
     found: &Found,
@@ -275,11 +287,13 @@ pub fn scrub_volume<H: Host>(
     requires lies { LiesOn found.now plan.now (H.seen host.old).sizes }
     requires rows { RowsLieOn found.now plan.now (H.seen host.old).sizes }
     ensures said { H.tells_disks → OnOk result ((H.seen host.new).said
-        ≡ (H.seen host.old).said ++ text_of_scrub front.now (H.seen host.old).content found.now plan.now) }
+        ≡ (H.seen host.old).said ++ text_of_scrub front.now
+        (H.seen host.old).content found.now plan.now) }
     ensures count { H.tells_disks → IfOk result (λ bad. bad
         ≡ bad_of (H.seen host.old).content found.now plan.now (places_of plan.now)) }
     ensures front { H.tells_disks → Begins (H.seen host.new).said
-        ((H.seen host.old).said ++ text_of_scrub front.now (H.seen host.old).content found.now plan.now) }
+        ((H.seen host.old).said ++ text_of_scrub front.now
+        (H.seen host.old).content found.now plan.now) }
     ensures still { Still (H.seen host.old) (H.seen host.new) }
     ensures input { SameInput (H.seen host.old) (H.seen host.new) }
     ensures disk { IsErrOf result ScrubError.Disk → DiskFailed (H.seen host.old) (H.seen host.new) }

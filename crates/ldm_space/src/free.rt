@@ -7,7 +7,8 @@ use crate::taken::{Taken, past};
 use ldm_group::Db;
 use ldm_records::Record;
 
-// The end of a partition of this disk that has one of the `len` sectors from `at` on; otherwise `at`.
+// The end of a partition of this disk that has one of the `len` sectors from `at` on; otherwise
+// `at`.
 fn past_record(r: &Record, disk: u64, len: u64, at: u64) -> u64
     requires some { 0 < len }
     requires ends { EndsInRange r.now }
@@ -26,12 +27,14 @@ fn past_record(r: &Record, disk: u64, len: u64, at: u64) -> u64
     }
 }
 
-// A walk over all partitions of the disk, past those that have one of the `len` sectors from where it has come to.
+// A walk over all partitions of the disk, past those that have one of the `len` sectors from where
+// it has come to.
 pub fn past_all(records: &[Record], disk: u64, len: u64, from: u64) -> u64
     requires some { 0 < len }
     requires ends { All EndsInRange records.now }
     ensures not_before { from ≤ result }
-    ensures passed { (q : ℕ) → from ≤ q → q < result → is_taken (taken_in records.now) disk len q ≡ true }
+    ensures passed { (q : ℕ) → from ≤ q → q < result
+        → is_taken (taken_in records.now) disk len q ≡ true }
     ensures free { result ≡ from → is_taken (taken_in records.now) disk len from ≡ false }
 {
     let mut at = from;
@@ -41,11 +44,12 @@ pub fn past_all(records: &[Record], disk: u64, len: u64, from: u64) -> u64
     at
 }
 
-/// The first fit: the least start of `len` sectors of the disk's data area, which has `data_size` sectors, that no partition of
-/// the disk has; `None` where there is none. It takes no memory.
+/// The first fit: the least start of `len` sectors of the disk's data area, which has `data_size`
+/// sectors, that no partition of the disk has; `None` where there is none. It takes no memory.
 ///
-/// It walks over the records once for each start that it looks at. Each walk but the last passes at least one partition that no
-/// later walk meets, so there is at most one walk more than the disk has partitions; two, where they lie in the order of their ids.
+/// It walks over the records once for each start that it looks at. Each walk but the last passes at
+/// least one partition that no later walk meets, so there is at most one walk more than the disk
+/// has partitions; two, where they lie in the order of their ids.
 pub fn first_fit(db: &Db, disk: u64, data_size: u64, len: u64) -> Option<u64>
     requires some { 0 < len }
     requires ends { All EndsInRange db.now.records }

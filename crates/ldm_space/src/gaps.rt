@@ -1,10 +1,12 @@
 //! The gaps of a disk, from which runs of sectors are taken.
-ghost use Rattle.std.specs.Prelude.{◌≡◌, ◌+◌, ◌-◌, ◌^◌, ◌<◌, ℕ, List, All, IfOk, OnOk, IfNone, IsPermutation};
+ghost use Rattle.std.specs.Prelude.{◌≡◌, ◌+◌, ◌-◌, ◌^◌, ◌<◌, ℕ, List, All, IfOk, OnOk, IfNone};
+ghost use Rattle.std.specs.Prelude.{IsPermutation};
 ghost use Rattle.std.specs.List.{filter_map, position};
 ghost use Rattle.std.specs.List.Sorted.{IsNonDecreasingBy};
 ghost use Rattle.ldm_group.specs.Partitions.{EndsInRange};
 ghost use Rattle.ldm_space.specs.Free.{Taken, taken_in};
-ghost use Rattle.ldm_space.specs.Gaps.{AreGaps, TakesFirst, is_long, first_gap, without_first, taken_on, with_gap};
+ghost use Rattle.ldm_space.specs.Gaps.{AreGaps, TakesFirst, is_long, first_gap, without_first};
+ghost use Rattle.ldm_space.specs.Gaps.{taken_on, with_gap};
 
 use crate::taken::Taken;
 use ldm_bytes::NoMemory;
@@ -53,7 +55,8 @@ fn taken_on(disk: u64, r: &Record) -> Option<Taken>
 
 // What is taken of the disk, in rising start.
 fn all_taken_on(alloc: Global, records: &[Record], disk: u64) -> Result<Vec<Taken>, NoMemory>
-    ensures same { IfOk result (λ v. IsPermutation (filter_map (taken_on disk) records.now) v.items) }
+    ensures same { IfOk result (λ v. IsPermutation
+        (filter_map (taken_on disk) records.now) v.items) }
     ensures rising { IfOk result (λ v. IsNonDecreasingBy (λ t. t.start) v.items) }
 {
     let mut taken = Vec::new(alloc);
@@ -87,8 +90,8 @@ fn first_long(gaps: &[Gap], len: u64) -> Option<usize>
 }
 
 impl FreeMap {
-    /// The gaps of the disk of this id, whose data area has `data_size` sectors: the longest runs of its sectors in which no
-    /// partition of the disk has one.
+    /// The gaps of the disk of this id, whose data area has `data_size` sectors: the longest runs
+    /// of its sectors in which no partition of the disk has one.
     pub fn of(alloc: Global, db: &Db, disk: u64, data_size: u64) -> Result<FreeMap, NoMemory>
         requires ends { All EndsInRange db.now.records }
         ensures { IfOk result (λ map. AreGaps map (taken_in db.now.records) disk data_size) }
@@ -96,7 +99,8 @@ impl FreeMap {
         FreeMap::beside(alloc, db.as_slice(), disk, data_size)
     }
 
-    /// The same beside the partitions among the records. One walk over what is taken in rising start, past the end of all before.
+    /// The same beside the partitions among the records. One walk over what is taken in rising
+    /// start, past the end of all before.
     pub(crate) fn beside(
         alloc: Global,
         records: &[Record],
@@ -124,8 +128,8 @@ impl FreeMap {
         self.gaps.as_slice()
     }
 
-    /// Takes `len` sectors where the first gap of so many or more begins, and says where that is; `None` where there is no
-    /// such gap. It takes no memory.
+    /// Takes `len` sectors where the first gap of so many or more begins, and says where that is;
+    /// `None` where there is no such gap. It takes no memory.
     pub fn take(&mut self, len: u64) -> Option<u64>
         requires some { 0 < len }
         ensures found { result ≡ first_gap len self.old }

@@ -21,7 +21,8 @@ pub struct Wanted {
     pub size: u64,
 }
 
-// The map of a disk that was met, or one that is made of the partitions. It has no limit: what is asked of it says its own.
+// The map of a disk that was met, or one that is made of the partitions. It has no limit: what is
+// asked of it says its own.
 fn opened(
     alloc: Global,
     records: &[Record],
@@ -29,7 +30,8 @@ fn opened(
     kept: Option<FreeMap>,
 ) -> Result<FreeMap, NoMemory>
     requires ends { All EndsInRange records.now }
-    ensures { IfOk result (λ map. MatchOption kept (AreGaps map (taken_in records.now) disk (2 ^ 64 - 1)) (λ old. map ≡ old)) }
+    ensures { IfOk result (λ map. MatchOption kept
+        (AreGaps map (taken_in records.now) disk (2 ^ 64 - 1)) (λ old. map ≡ old)) }
 {
     match kept {
         Some(map) => Ok(map),
@@ -42,16 +44,18 @@ fn fit(map: &mut FreeMap, asked: Wanted) -> Option<u64>
     requires some { 0 < asked.size }
     ensures first { (taken : List Taken) → AreGaps map.old taken asked.disk (2 ^ 64 - 1)
         → result ≡ first_free_start taken asked.disk asked.limit asked.size }
-    ensures left { IfSome result (λ start. (taken : List Taken) → AreGaps map.old taken asked.disk (2 ^ 64 - 1)
-        → AreGaps map.new (record { disk = asked.disk; start = start; size = asked.size } ∷ taken) asked.disk (2 ^ 64 - 1)) }
+    ensures left { IfSome result (λ start. (taken : List Taken)
+        → AreGaps map.old taken asked.disk (2 ^ 64 - 1)
+        → AreGaps map.new (record { disk = asked.disk; start = start; size = asked.size } ∷ taken)
+        asked.disk (2 ^ 64 - 1)) }
 {
     let last = asked.limit.checked_sub(asked.size)?;
     let start = map.take(asked.size)?;
     if start <= last { Some(start) } else { None }
 }
 
-/// What the partitions that are asked for take, each at its first fit beside those before it; or the place of the first that
-/// finds none.
+/// What the partitions that are asked for take, each at its first fit beside those before it; or
+/// the place of the first that finds none.
 ///
 /// It walks over the records once for each disk that is asked.
 pub fn place_all(

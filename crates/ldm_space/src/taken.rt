@@ -10,7 +10,8 @@ pub struct Taken {
     pub size: u64,
 }
 
-// The end of what is taken, where it has one of the `len` sectors of the disk from `at` on; otherwise `at`.
+// The end of what is taken, where it has one of the `len` sectors of the disk from `at` on;
+// otherwise `at`.
 pub fn past(taken: &Taken, disk: u64, len: u64, at: u64) -> u64
     requires some { 0 < len }
     requires ends { taken.now.start + taken.now.size < 2 ^ 64 }

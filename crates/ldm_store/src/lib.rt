@@ -1,5 +1,5 @@
-//! The group of a host's disks while it is edited: copies that a stop left behind are healed, and a command is done on all
-//! disks, one after the other.
+//! The group of a host's disks while it is edited: copies that a stop left behind are healed, and a
+//! command is done on all disks, one after the other.
 #![tactic(auto)]
 
 mod laws;

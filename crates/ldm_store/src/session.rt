@@ -19,8 +19,9 @@ use ldm_words::Command;
 use std::alloc::Global;
 use std::marker::Model;
 
-/// A group that may be edited: its database, the labels of its images, in the order of the disks, and the batch that is open.
-/// It keeps the body with which all copies begin, where they begin with one.
+/// A group that may be edited: its database, the labels of its images, in the order of the disks,
+/// and the batch that is open. It keeps the body with which all copies begin, where they begin with
+/// one.
 #[derive(Drop)]
 pub struct Session {
     db: Db,
@@ -42,13 +43,15 @@ impl Model for Session {
 /// Why a command has no answer.
 #[derive(Drop)]
 pub enum ApplyError {
-    /// A call of a disk failed. A stop now, and the disks as they are, leave the group before the command or after it.
+    /// A call of a disk failed. A stop now, and the disks as they are, leave the group before the
+    /// command or after it.
     Disk,
     /// Memory ran out: nothing was written, and the session comes back as it was.
     NoMemory(Session),
 }
 
-// What takes the place of each copy: what changes in the body that all begin with, or the whole body of the newer group.
+// What takes the place of each copy: what changes in the body that all begin with, or the whole
+// body of the newer group.
 fn next_of(alloc: Global, body: &Option<Body>, older: &Db, newer: &Db) -> Result<Next, NoMemory>
     requires core { IfSome body.now (IsCoreBody older.now) }
     requires rises { older.now.header.last ≤ newer.now.header.last }
@@ -68,7 +71,8 @@ fn next_of(alloc: Global, body: &Option<Body>, older: &Db, newer: &Db) -> Result
 }
 
 impl Session {
-    ghost use Rattle.std.specs.Prelude.{◌≡◌, ◌+◌, ◌*◌, ◌/◌, ◌<◌, ◌≤◌, ℕ, List, slice_index, Option, IfOk, IfSome};
+    ghost use Rattle.std.specs.Prelude.{◌≡◌, ◌+◌, ◌*◌, ◌/◌, ◌<◌, ◌≤◌, ℕ, List, slice_index, Option};
+    ghost use Rattle.std.specs.Prelude.{IfOk, IfSome};
     ghost use Rattle.std.specs.Prelude.{IsErrOf, Some, None, option_copied};
     ghost use Rattle.std.specs.Option.{ForSome};
     ghost use Rattle.ldm_host.specs.Moves.{Still, Works};
@@ -78,9 +82,11 @@ impl Session {
     ghost use Rattle.ldm_found.specs.Facts.{IsSoundGroup};
     ghost use Rattle.ldm_store.specs.Bodies.{changed_blocks};
     ghost use Rattle.ldm_store.specs.Kept.{AlwaysKept};
-    ghost use Rattle.ldm_store.specs.Sessions.{IsEditable, IsNextFor, RestsOn, HoldsSession, IsApplied, turn_in};
+    ghost use Rattle.ldm_store.specs.Sessions.{IsEditable, IsNextFor, RestsOn, HoldsSession};
+    ghost use Rattle.ldm_store.specs.Sessions.{IsApplied, turn_in};
 
-    // The session of a group that was found and that nothing blocks, with the body that its copies begin with.
+    // The session of a group that was found and that nothing blocks, with the body that its copies
+    // begin with.
     pub fn of(found: Found, body: Option<Body>) -> Session
         requires sound { IsSoundGroup found }
         requires unblocked { found.blocked ≡ None }
@@ -109,7 +115,14 @@ impl Session {
     // The same group, with this batch open.
     fn with_draft(self, draft: Option<Draft>) -> Session
         requires { ForSome draft (IsDraftOf self.group.labels self.group.db) }
-        ensures { result ≡ record { group = record { db = self.group.db; labels = self.group.labels; draft = draft }; body = self.body } }
+        ensures { result ≡ record {
+          group = record {
+            db = self.group.db;
+            labels = self.group.labels;
+            draft = draft;
+          };
+          body = self.body;
+        } }
     {
         let Session {
             db,
@@ -129,7 +142,14 @@ impl Session {
     fn with_group(self, db: Db, body: Body) -> Session
         requires editable { IsEditable db self.group.labels }
         requires core { IsCoreBody db body }
-        ensures { result ≡ record { group = record { db = db; labels = self.group.labels; draft = None }; body = Some body } }
+        ensures { result ≡ record {
+          group = record {
+            db = db;
+            labels = self.group.labels;
+            draft = None;
+          };
+          body = Some body;
+        } }
     {
         let Session {
             db: _,
@@ -148,15 +168,17 @@ impl Session {
     /// The batch that is open.
     pub fn draft(&self) -> Option<&Draft>
         ensures is { option_copied result ≡ self.now.group.draft }
-        ensures drafted { ForSome self.now.group.draft (IsDraftOf self.now.group.labels self.now.group.db) }
+        ensures drafted { ForSome self.now.group.draft
+            (IsDraftOf self.now.group.labels self.now.group.db) }
     {
         self.draft.as_ref()
     }
 
-    /// Does one command on all disks, in their order; while a batch is open, a command is held, and a commit is done. All memory is
-    /// taken before the first write.
+    /// Does one command on all disks, in their order; while a batch is open, a command is held, and
+    /// a commit is done. All memory is taken before the first write.
     ///
-    /// The host is the one that was settled, and nobody else wrote to its disks since. Its disks have the session's labels.
+    /// The host is the one that was settled, and nobody else wrote to its disks since. Its disks
+    /// have the session's labels.
     pub fn apply<H: Host>(
         self,
         alloc: Global,
@@ -166,23 +188,31 @@ impl Session {
         requires rests { RestsOn self.group (H.seen host.old) }
         requires holds { H.tells_disks → HoldsSession self (H.seen host.old).content }
         requires command { IsCommand command.now }
-        // At each moment the group before the command or the one after it is found, whatever the outcome.
+        // At each moment the group before the command or the one after it is found, whatever the
+        // outcome.
         ensures any_moment { H.tells_disks
-            → AlwaysKept self.group.labels self.group.db (turn_in self.group command.now).state.db (H.seen host.old) (H.seen host.new) }
+            → AlwaysKept self.group.labels self.group.db (turn_in self.group command.now).state.db
+            (H.seen host.old) (H.seen host.new) }
         // What comes back is the session after the command, which the disks hold, and its reply.
-        ensures applied { IfOk result (λ answer. IsApplied H.tells_disks self command.now answer.0 answer.1 (H.seen host.old) (H.seen host.new)) }
+        ensures applied { IfOk result (λ answer. IsApplied H.tells_disks self command.now answer.0
+            answer.1 (H.seen host.old) (H.seen host.new)) }
         // Where a disk failed the group after the command may be edited too.
-        ensures torn { IsErrOf result ApplyError.Disk → IsNextFor self.group (turn_in self.group command.now).state.db }
+        ensures torn { IsErrOf result ApplyError.Disk
+            → IsNextFor self.group (turn_in self.group command.now).state.db }
         // Where memory ran out the session comes back as it was.
-        ensures no_memory { (session : _) → IsErrOf result (ApplyError.NoMemory session) → (session ≡ self)
+        ensures no_memory { (session : _) → IsErrOf result (ApplyError.NoMemory session)
+            → (session ≡ self)
             × Still (H.seen host.old) (H.seen host.new) }
         // Each disk is handed the bytes of the body of the next group at most, and one more.
         ensures wrote { (disk : ℕ) → slice_index (H.seen host.new).wrote disk
-            ≤ slice_index (H.seen host.old).wrote disk + (512 * ((turn_in self.group command.now).state.db.header.last / 4) + 1) }
-        // Where the copies are tidy, it is handed the header, so many blocks as the records take that only one of both groups has, and
-        // the blocks that the next group has more.
-        ensures touched { (body : List ℕ) (disk : ℕ) → self.body ≡ Some body → slice_index (H.seen host.new).wrote disk
-            ≤ slice_index (H.seen host.old).wrote disk + (128 * changed_blocks self.group.db (turn_in self.group command.now).state.db + 513) }
+            ≤ slice_index (H.seen host.old).wrote disk + (512 * ((turn_in self.group
+            command.now).state.db.header.last / 4) + 1) }
+        // Where the copies are tidy, it is handed the header, so many blocks as the records take
+        // that only one of both groups has, and the blocks that the next group has more.
+        ensures touched { (body : List ℕ) (disk : ℕ) → self.body ≡ Some body
+            → slice_index (H.seen host.new).wrote disk
+            ≤ slice_index (H.seen host.old).wrote disk + (128 * changed_blocks self.group.db
+            (turn_in self.group command.now).state.db + 513) }
         ensures works { Works (H.seen host.old) (H.seen host.new) (IsErrOf result ApplyError.Disk) }
     {
         let Ok(turned) = turn(alloc, &self.db, self.draft.as_ref(), &self.labels, command) else {

@@ -1,5 +1,6 @@
 //! Makes the group of the disks ready to be edited.
-ghost use Rattle.std.specs.Prelude.{if◌then◌else◌, ◌≡◌, ◌≢◌, ◌⊎◌, ◌+◌, ◌<◌, ℕ, length, slice_index, Result, IfOk};
+ghost use Rattle.std.specs.Prelude.{if◌then◌else◌, ◌≡◌, ◌≢◌, ◌⊎◌, ◌+◌, ◌<◌, ℕ, length, slice_index};
+ghost use Rattle.std.specs.Prelude.{Result, IfOk};
 ghost use Rattle.std.specs.Prelude.{IfErr, OnOk, IsErr, IsErrOf, Some, None};
 ghost use Rattle.ldm_host.specs.Moves.{Settled, Settles, DiskFailed, Looks, Works};
 ghost use Rattle.ldm_host.specs.Seen.{image};
@@ -14,7 +15,8 @@ ghost use Rattle.ldm_found.specs.Opening.{IsGroupIn};
 ghost use Rattle.ldm_store.specs.Kept.{AlwaysKept, HoldsNone, HoldsNoneFor, HoldsEditable};
 ghost use Rattle.ldm_store.specs.Turning.{IsBodyOnEach, AllSettled};
 ghost use Rattle.ldm_store.specs.Healing.{HasNote};
-ghost use Rattle.ldm_store.specs.Settling.{KeepsOneGroup, IsHandedFew, IsSettled, IsReady, HealsAll};
+ghost use Rattle.ldm_store.specs.Settling.{KeepsOneGroup, IsHandedFew, IsSettled, IsReady};
+ghost use Rattle.ldm_store.specs.Settling.{HealsAll};
 
 use crate::session::Session;
 use crate::sharing::{healing_body, is_behind};
@@ -26,7 +28,8 @@ use std::alloc::Global;
 
 // Syncs every disk.
 fn sync_all<H: Host>(host: &mut H) -> Result<(), Failed>
-    ensures settled { OnOk result ((disk : ℕ) → disk < length (H.seen host.old).sizes → Settled (H.seen host.new) disk) }
+    ensures settled { OnOk result ((disk : ℕ) → disk < length (H.seen host.old).sizes
+        → Settled (H.seen host.new) disk) }
     ensures settles { Settles (H.seen host.old) (H.seen host.new) }
     ensures cause { IsErr result → DiskFailed (H.seen host.old) (H.seen host.new) }
 {
@@ -49,7 +52,8 @@ fn heal<H: Host>(
     requires body { (db : Database) × IsBodyOn db label.now body.now }
     requires settled { Settled (H.seen host.old) disk }
     requires noted { H.tells_disks → HasNote label.now (image (H.seen host.old).content disk) note }
-    ensures { Rewrites H.tells_disks result disk label.now body.now (length body.now + 1) (H.seen host.old) (H.seen host.new) }
+    ensures { Rewrites H.tells_disks result disk label.now body.now (length body.now + 1)
+        (H.seen host.old) (H.seen host.new) }
 {
     match note {
         Note::Closed => refill(host, disk, label, body),
@@ -86,7 +90,8 @@ fn kept(body: Body, is_kept: bool) -> Option<Body>
     if is_kept { Some(body) } else { None }
 }
 
-// The group of the disks, which may be edited, with the body to heal its copies with; and whether all others share it.
+// The group of the disks, which may be edited, with the body to heal its copies with; and whether
+// all others share it.
 fn ready<H: Host>(alloc: Global, host: &mut H) -> Result<(Found, Body, bool), OpenError>
     requires { 0 < length (H.seen host.old).sizes }
     ensures ready { IfOk result (λ it. IsReady H.tells_disks (H.seen host.old) it.0 it.1 it.2) }
@@ -102,19 +107,26 @@ fn ready<H: Host>(alloc: Global, host: &mut H) -> Result<(Found, Body, bool), Op
     Ok((found, body, shared))
 }
 
-// Finds the group of disks on which nothing is pending, and rewrites each copy that is closed or of a lower sequence.
+// Finds the group of disks on which nothing is pending, and rewrites each copy that is closed or of
+// a lower sequence.
 fn settle_synced<H: Host>(alloc: Global, host: &mut H) -> Result<Session, OpenError>
     requires images { 0 < length (H.seen host.old).sizes }
-    requires synced { (disk : ℕ) → disk < length (H.seen host.old).sizes → Settled (H.seen host.old) disk }
+    requires synced { (disk : ℕ) → disk < length (H.seen host.old).sizes
+        → Settled (H.seen host.old) disk }
     // From here on a stop leaves images that hold that one group, whatever is answered.
-    ensures kept { H.tells_disks → (found : Found) → IsGroupIn (H.seen host.old).content (Result.Ok found) → found.blocked ≡ None
+    ensures kept { H.tells_disks → (found : Found)
+        → IsGroupIn (H.seen host.old).content (Result.Ok found) → found.blocked ≡ None
         → AlwaysKept found.labels found.db found.db (H.seen host.old) (H.seen host.new) }
-    ensures written { H.tells_disks → Settles (H.seen host.old) (H.seen host.new) ⊎ HoldsEditable (H.seen host.old).content }
-    ensures session { IfOk result (λ session. IsSettled H.tells_disks (H.seen host.old).content session (H.seen host.new)) }
+    ensures written { H.tells_disks → Settles (H.seen host.old) (H.seen host.new)
+        ⊎ HoldsEditable (H.seen host.old).content }
+    ensures session { IfOk result (λ session. IsSettled H.tells_disks
+        (H.seen host.old).content session (H.seen host.new)) }
     ensures fault { H.tells_disks → (fault : OpenFault) → IsErrOf result (OpenError.Fault fault)
         → HoldsNoneFor fault (H.seen host.old).content }
-    ensures unwritten { IfErr result (λ error. error ≢ OpenError.Disk → Settles (H.seen host.old) (H.seen host.new)) }
-    ensures handed { H.tells_disks → (found : Found) → IsGroupIn (H.seen host.old).content (Result.Ok found)
+    ensures unwritten { IfErr result (λ error. error ≢ OpenError.Disk
+        → Settles (H.seen host.old) (H.seen host.new)) }
+    ensures handed { H.tells_disks → (found : Found)
+        → IsGroupIn (H.seen host.old).content (Result.Ok found)
         → IsHandedFew found (H.seen host.old).wrote (H.seen host.new).wrote }
     ensures works { Works (H.seen host.old) (H.seen host.new) (IsErrOf result OpenError.Disk) }
 {
@@ -125,26 +137,35 @@ fn settle_synced<H: Host>(alloc: Global, host: &mut H) -> Result<Session, OpenEr
     Ok(Session::of(found, kept(body, shared)))
 }
 
-/// Makes the group of the disks ready to be edited: syncs every disk, finds the group, and rewrites each copy that is closed
-/// or of a lower sequence, in the order of the disks, with the group's database: with the body that all other copies share,
-/// or with a new one. A copy that needs none of this is handed no
-/// byte. Anything may be pending before. All memory is taken before the first write.
+/// Makes the group of the disks ready to be edited: syncs every disk, finds the group, and rewrites
+/// each copy that is closed or of a lower sequence, in the order of the disks, with the group's
+/// database: with the body that all other copies share, or with a new one. A copy that needs none
+/// of this is handed no byte. Anything may be pending before. All memory is taken before the first
+/// write.
 ///
-/// A fault is one of those of `find_group`, or the reason that blocks editing; `Disk` comes only where a call of a disk
-/// failed. After a `Fault` and after `NoMemory` nothing was written, nor after `Disk` where there is no group that may be edited.
+/// A fault is one of those of `find_group`, or the reason that blocks editing; `Disk` comes only
+/// where a call of a disk failed. After a `Fault` and after `NoMemory` nothing was written, nor
+/// after `Disk` where there is no group that may be edited.
 pub fn settle<H: Host>(alloc: Global, host: &mut H) -> Result<Session, OpenError>
     requires { 0 < length (H.seen host.old).sizes }
-    // Until the syncs are over a stop leaves what it could leave before; from then on, images that hold one group.
-    ensures any_moment { H.tells_disks → KeepsOneGroup (H.seen host.old) (H.seen host.new) (IsErrOf result OpenError.Disk) }
+    // Until the syncs are over a stop leaves what it could leave before; from then on, images that
+    // hold one group.
+    ensures any_moment { H.tells_disks → KeepsOneGroup (H.seen host.old) (H.seen host.new)
+        (IsErrOf result OpenError.Disk) }
     // The session is that of the group which the disks held, and they hold it now.
-    ensures session { IfOk result (λ session. IsSettled H.tells_disks (H.seen host.old).content session (H.seen host.new)) }
+    ensures session { IfOk result (λ session. IsSettled H.tells_disks
+        (H.seen host.old).content session (H.seen host.new)) }
     ensures fault { H.tells_disks → (fault : OpenFault) → IsErrOf result (OpenError.Fault fault)
         → HoldsNoneFor fault (H.seen host.old).content }
-    // Where the disks hold no group that may be edited, they are synced and handed no byte, whatever the answer.
-    ensures untouched { H.tells_disks → HoldsNone (H.seen host.old).content → Settles (H.seen host.old) (H.seen host.new) }
-    ensures unwritten { IfErr result (λ error. error ≢ OpenError.Disk → Settles (H.seen host.old) (H.seen host.new)) }
+    // Where the disks hold no group that may be edited, they are synced and handed no byte,
+    // whatever the answer.
+    ensures untouched { H.tells_disks → HoldsNone (H.seen host.old).content
+        → Settles (H.seen host.old) (H.seen host.new) }
+    ensures unwritten { IfErr result (λ error. error ≢ OpenError.Disk
+        → Settles (H.seen host.old) (H.seen host.new)) }
     // A disk is handed bytes only where its copy is behind, and then those of a body, and one more.
-    ensures handed { H.tells_disks → (found : Found) → IsGroupIn (H.seen host.old).content (Result.Ok found)
+    ensures handed { H.tells_disks → (found : Found)
+        → IsGroupIn (H.seen host.old).content (Result.Ok found)
         → IsHandedFew found (H.seen host.old).wrote (H.seen host.new).wrote }
     ensures works { Works (H.seen host.old) (H.seen host.new) (IsErrOf result OpenError.Disk) }
 {

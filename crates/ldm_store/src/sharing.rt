@@ -1,5 +1,6 @@
 //! The body that the copies share which aren't behind.
-ghost use Rattle.std.specs.Prelude.{◌≡◌, ◌*◌, ◌<◌, ◌≤◌, ℕ, IsTrue, true, false, Result, Option, Some, None, length};
+ghost use Rattle.std.specs.Prelude.{◌≡◌, ◌*◌, ◌<◌, ◌≤◌, ℕ, IsTrue, true, false, Result, Option};
+ghost use Rattle.std.specs.Prelude.{Some, None, length};
 ghost use Rattle.std.specs.Prelude.{slice_index, slice_get, IfOk, IfSome, IsErrOf};
 ghost use Rattle.ldm_host.specs.Moves.{Looks};
 ghost use Rattle.ldm_host.specs.Seen.{image};
@@ -12,7 +13,8 @@ ghost use Rattle.ldm_found.specs.declared.notes.Note.{Note};
 ghost use Rattle.ldm_found.specs.Facts.{LieOn, IsSoundGroup};
 ghost use Rattle.ldm_found.specs.Opening.{IsGroupIn};
 ghost use Rattle.ldm_store.specs.Healing.{is_behind};
-ghost use Rattle.ldm_store.specs.Bodies.{IsBegunBut, IsTidyBut, LacksBody, KeepsBody, LosesBody, ShareNone};
+ghost use Rattle.ldm_store.specs.Bodies.{IsBegunBut, IsTidyBut, LacksBody, KeepsBody, LosesBody};
+ghost use Rattle.ldm_store.specs.Bodies.{ShareNone};
 
 use ldm_copy::{Body, BodyError, body_of, read_body};
 use ldm_found::{Found, Note, OpenError};
@@ -99,7 +101,8 @@ fn all_have<H: Host>(
     requires low { 4 ≤ db.now.header.last }
     requires room { (disk : ℕ) (label : Label) → slice_get labels.now disk ≡ Some label
         → db.now.header.last ≤ 4 * label.area_sectors }
-    ensures yes { H.tells_disks → IfOk result (λ all. IsTrue all → (disk : ℕ) → disk < length labels.now
+    ensures yes { H.tells_disks → IfOk result (λ all. IsTrue all → (disk : ℕ)
+        → disk < length labels.now
         → KeepsBody seq labels.now notes.now db.now body.now (H.seen host.old).content disk) }
     ensures no { H.tells_disks → IfOk result (λ all. all ≡ false
         → LosesBody seq labels.now notes.now db.now body.now (H.seen host.old).content) }
@@ -115,9 +118,11 @@ fn all_have<H: Host>(
 
 // The first copy that is neither closed nor of a lower sequence than this.
 fn first_ahead(seq: u64, notes: &[Note]) -> Option<usize>
-    ensures found { (disk : ℕ) → result ≡ Some disk → (note : Note) × (slice_get notes.now disk ≡ Some note)
+    ensures found { (disk : ℕ) → result ≡ Some disk
+        → (note : Note) × (slice_get notes.now disk ≡ Some note)
         × (is_behind seq note ≡ false) }
-    ensures none { result ≡ None → (disk : ℕ) (note : Note) → slice_get notes.now disk ≡ Some note → is_behind seq note ≡ true }
+    ensures none { result ≡ None → (disk : ℕ) (note : Note) → slice_get notes.now disk ≡ Some note
+        → is_behind seq note ≡ true }
 {
     for disk in 0..notes.len() {
         if !is_behind(seq, notes[disk]) {
@@ -142,7 +147,8 @@ fn shared_body<H: Host>(
     requires room { (disk : ℕ) (label : Label) → slice_get labels.now disk ≡ Some label
         → db.now.header.last ≤ 4 * label.area_sectors }
     ensures core { IfOk result (λ body. IfSome body (IsCoreBody db.now)) }
-    ensures keep { H.tells_disks → IfOk result (λ body. IfSome body (λ bytes. (disk : ℕ) → disk < length labels.now
+    ensures keep { H.tells_disks → IfOk result (λ body. IfSome body
+        (λ bytes. (disk : ℕ) → disk < length labels.now
         → KeepsBody seq labels.now notes.now db.now bytes (H.seen host.old).content disk)) }
     ensures none { H.tells_disks → IfOk result (λ body. body ≡ None
         → ShareNone seq labels.now notes.now db.now (H.seen host.old).content) }
@@ -160,7 +166,8 @@ fn shared_body<H: Host>(
     Ok(Some(body))
 }
 
-/// The body to heal copies with: that which all others share, or the one that is made of the group; and whether it is shared.
+/// The body to heal copies with: that which all others share, or the one that is made of the group;
+/// and whether it is shared.
 pub fn healing_body<H: Host>(
     alloc: Global,
     host: &mut H,
@@ -172,8 +179,10 @@ pub fn healing_body<H: Host>(
     requires is { H.tells_disks → IsGroupIn (H.seen host.old).content (Result.Ok found.now) }
     ensures core { IfOk result (λ one. IsCoreBody found.now.db one.0) }
     ensures exact { H.tells_disks → IfOk result (λ one. IsBodyOf found.now.db one.0) }
-    ensures shared { H.tells_disks → IfOk result (λ one. one.1 ≡ true → IsBegunBut found.now (H.seen host.old).content one.0) }
-    ensures alone { H.tells_disks → IfOk result (λ one. one.1 ≡ false → IsTidyBut found.now (H.seen host.old).content → ⊥) }
+    ensures shared { H.tells_disks → IfOk result (λ one. one.1 ≡ true
+        → IsBegunBut found.now (H.seen host.old).content one.0) }
+    ensures alone { H.tells_disks → IfOk result (λ one. one.1 ≡ false
+        → IsTidyBut found.now (H.seen host.old).content → ⊥) }
     ensures faultless { (fault : OpenFault) → IsErrOf result (OpenError.Fault fault) → ⊥ }
     ensures looks { Looks (H.seen host.old) (H.seen host.new) (IsErrOf result OpenError.Disk) }
 {

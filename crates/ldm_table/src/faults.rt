@@ -1,12 +1,15 @@
 //! Why a volume has no table.
-ghost use Rattle.std.specs.Prelude.{◌≡◌, ◌-◌, ◌<◌, ◌+◌, ◌≤◌, ℕ, true, false, IfOk, find, position, length};
+ghost use Rattle.std.specs.Prelude.{◌≡◌, ◌-◌, ◌<◌, ◌+◌, ◌≤◌, ℕ, true, false, IfOk, find, position};
+ghost use Rattle.std.specs.Prelude.{length};
 ghost use Rattle.std.specs.List.{range_with_len, list_all, list_any};
 ghost use Rattle.ldm_words.specs.Names.{is_plain};
 ghost use Rattle.ldm_layout.specs.Columns.{columns_of};
 ghost use Rattle.ldm_dump.specs.Sources.{is_lost};
 ghost use Rattle.ldm_table.specs.Tables.{in_rows, array_of};
-ghost use Rattle.ldm_table.specs.Faults.{is_bad_chunk, has_many_columns, is_rebuilt, is_colon, begins_with_slash};
-ghost use Rattle.ldm_table.specs.Faults.{is_device_word, is_no_device_word, is_long, is_long_member, volume_fault};
+ghost use Rattle.ldm_table.specs.Faults.{is_bad_chunk, has_many_columns, is_rebuilt, is_colon};
+ghost use Rattle.ldm_table.specs.Faults.{begins_with_slash};
+ghost use Rattle.ldm_table.specs.Faults.{is_device_word, is_no_device_word, is_long};
+ghost use Rattle.ldm_table.specs.Faults.{is_long_member, volume_fault};
 ghost use Rattle.ldm_table.specs.Faults.{text_of_fault};
 
 use crate::parts::Member;
@@ -61,7 +64,8 @@ fn has_many_columns(shape: Shape, columns: usize) -> bool
 // The least sector from this one on that can't be read from one image.
 fn first_rebuilt(found: &Found, plan: &Plan, first: u64) -> Option<u64>
     requires { first ≤ plan.now.size }
-    ensures { result ≡ find (is_rebuilt found.now plan.now) (range_with_len first (plan.now.size - first)) }
+    ensures { result ≡ find (is_rebuilt found.now plan.now)
+        (range_with_len first (plan.now.size - first)) }
 {
     let mut sector = first;
     'runs: while sector < plan.size() {

@@ -1,4 +1,5 @@
-//! The device-mapper tables that make a read-only device of a volume, and the text that `dmsetup` makes it from.
+//! The device-mapper tables that make a read-only device of a volume, and the text that `dmsetup`
+//! makes it from.
 #![tactic(auto)]
 
 mod faults;

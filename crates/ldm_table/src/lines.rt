@@ -1,5 +1,6 @@
 //! The lines of a table, as text.
-ghost use Rattle.std.specs.Prelude.{◌≡◌, ◌≢◌, ◌++◌, ◌+◌, ◌-◌, ◌*◌, ◌<◌, ◌≤◌, ℕ, None, Some, Option, List, false};
+ghost use Rattle.std.specs.Prelude.{◌≡◌, ◌≢◌, ◌++◌, ◌+◌, ◌-◌, ◌*◌, ◌<◌, ◌≤◌, ℕ, None, Some, Option};
+ghost use Rattle.std.specs.Prelude.{List, false};
 ghost use Rattle.std.specs.Prelude.{OnOk, IfOk, flat_map, length, map, slice_get, decimal, codes};
 ghost use Rattle.std.specs.List.{range_with_len};
 ghost use Rattle.ldm_layout.specs.Columns.{columns_of, chunk_of};
@@ -7,10 +8,13 @@ ghost use Rattle.ldm_layout.specs.declared.shape.Shape.TheVariants.{Stripe, Raid
 ghost use Rattle.ldm_dump.specs.Sources.{first_copy};
 ghost use Rattle.ldm_dump.specs.Runs.{LiesOn};
 ghost use Rattle.ldm_table.specs.Targets.{linear, striped, raid5_ls};
-ghost use Rattle.ldm_table.specs.Tables.{line_of, before, stretches_of, column_spot, column_spots, whole_rows};
+ghost use Rattle.ldm_table.specs.Tables.{line_of, before, stretches_of, column_spot, column_spots};
+ghost use Rattle.ldm_table.specs.Tables.{whole_rows};
 ghost use Rattle.ldm_table.specs.Tables.{row_sectors, in_rows, row_lines, rest_lines, array_of};
-ghost use Rattle.ldm_table.specs.Spelling.{text_of_spot, text_of_range, text_of_target, text_of_device};
-ghost use Rattle.ldm_table.specs.Spelling.{text_of_column, text_of_member, text_of_line, text_of_part};
+ghost use Rattle.ldm_table.specs.Spelling.{text_of_spot, text_of_range, text_of_target};
+ghost use Rattle.ldm_table.specs.Spelling.{text_of_device};
+ghost use Rattle.ldm_table.specs.Spelling.{text_of_column, text_of_member, text_of_line};
+ghost use Rattle.ldm_table.specs.Spelling.{text_of_part};
 ghost use Rattle.ldm_table.specs.Spelling.{text_of_part_if};
 
 use crate::names::{push_argument, push_escaped};
@@ -72,7 +76,8 @@ pub(crate) fn push_parts(
     words: &Names,
     members: &[Option<Member>],
 ) -> Result<(), NoMemory>
-    ensures { OnOk result (text.new ≡ text.old ++ flat_map (text_of_part_if words.now) members.now) }
+    ensures { OnOk result (text.new ≡ text.old ++ flat_map
+        (text_of_part_if words.now) members.now) }
 {
     for member in members {
         if let Some(member) = member {
@@ -100,10 +105,12 @@ fn push_stretches<H: Host>(
     first: u64,
 ) -> Result<(), NoMemory>
     requires within { first < plan.now.size }
-    requires copied { (x : ℕ) → first ≤ x → x < plan.now.size → first_copy found.now plan.now x ≢ None }
+    requires copied { (x : ℕ) → first ≤ x → x < plan.now.size
+        → first_copy found.now plan.now x ≢ None }
     requires lies { LiesOn found.now plan.now (H.seen host.now).sizes }
     ensures { OnOk result (text.new ≡ text.old
-        ++ flat_map (text_of_line words.now) (map line_of (stretches_of found.now plan.now first (plan.now.size - first)))) }
+        ++ flat_map (text_of_line words.now) (map line_of
+        (stretches_of found.now plan.now first (plan.now.size - first)))) }
 {
     let size = plan.size();
     let mut last = stretch_at(host, found, plan, first);
@@ -129,9 +136,11 @@ pub(crate) fn push_rest<H: Host>(
     found: &Found,
     plan: &Plan,
 ) -> Result<(), NoMemory>
-    requires copied { (x : ℕ) → in_rows plan.now ≤ x → x < plan.now.size → first_copy found.now plan.now x ≢ None }
+    requires copied { (x : ℕ) → in_rows plan.now ≤ x → x < plan.now.size
+        → first_copy found.now plan.now x ≢ None }
     requires lies { LiesOn found.now plan.now (H.seen host.now).sizes }
-    ensures { OnOk result (text.new ≡ text.old ++ flat_map (text_of_line words.now) (rest_lines found.now plan.now)) }
+    ensures { OnOk result (text.new ≡ text.old ++ flat_map (text_of_line words.now)
+        (rest_lines found.now plan.now)) }
 {
     let first = in_rows(plan);
     if first < plan.size() {
@@ -202,7 +211,8 @@ fn push_striped(
     chunk: u64,
     columns: &[Option<Spot>],
 ) -> Result<(), NoMemory>
-    ensures { OnOk result (text.new ≡ text.old ++ text_of_target words.now (striped chunk columns.now)) }
+    ensures { OnOk result (text.new ≡ text.old ++ text_of_target words.now
+        (striped chunk columns.now)) }
 {
     push_number(text, b" striped ", columns.len() as u64)?;
     push_number(text, b" ", chunk)?;
@@ -242,7 +252,8 @@ fn push_array(
     chunk: u64,
     members: &[Option<Member>],
 ) -> Result<(), NoMemory>
-    ensures { OnOk result (text.new ≡ text.old ++ text_of_target words.now (raid5_ls chunk members.now)) }
+    ensures { OnOk result (text.new ≡ text.old ++ text_of_target words.now
+        (raid5_ls chunk members.now)) }
 {
     let _ = words;
     push_number(text, b" raid raid5_ls 2 ", chunk)?;
@@ -263,7 +274,11 @@ fn push_stripe_rows<H: Host>(
     requires rows { 0 < whole_rows plan.now }
     requires lies { LiesOn found.now plan.now (H.seen host.now).sizes }
     ensures { OnOk result (text.new ≡ text.old ++ text_of_line words.now
-        (record { start = 0; sectors = in_rows plan.now; target = striped (chunk_of plan.now) (column_spots found.now plan.now) })) }
+        (record {
+          start = 0;
+          sectors = in_rows plan.now;
+          target = striped (chunk_of plan.now) (column_spots found.now plan.now);
+        })) }
 {
     let columns = column_spots(alloc, host, found, plan)?;
     push_range(text, 0, in_rows(plan))?;
@@ -278,13 +293,18 @@ fn push_array_rows(
     members: &[Option<Member>],
 ) -> Result<(), NoMemory>
     ensures { OnOk result (text.new ≡ text.old ++ text_of_line words.now
-        (record { start = 0; sectors = in_rows plan.now; target = raid5_ls (chunk_of plan.now) members.now })) }
+        (record {
+          start = 0;
+          sectors = in_rows plan.now;
+          target = raid5_ls (chunk_of plan.now) members.now;
+        })) }
 {
     push_range(text, 0, in_rows(plan))?;
     push_array(text, words, plan.chunk(), members)
 }
 
-/// The line of the whole rows, over these devices where it is a RAID-5; nothing where no row is whole.
+/// The line of the whole rows, over these devices where it is a RAID-5; nothing where no row is
+/// whole.
 pub(crate) fn push_rows<H: Host>(
     alloc: Global,
     text: &mut Text,
@@ -296,7 +316,8 @@ pub(crate) fn push_rows<H: Host>(
 ) -> Result<(), NoMemory>
     requires array { members.now ≡ array_of found.now plan.now }
     requires lies { LiesOn found.now plan.now (H.seen host.now).sizes }
-    ensures { OnOk result (text.new ≡ text.old ++ flat_map (text_of_line words.now) (row_lines found.now plan.now)) }
+    ensures { OnOk result (text.new ≡ text.old ++ flat_map (text_of_line words.now)
+        (row_lines found.now plan.now)) }
 {
     if whole_rows(plan) == 0 {
         return Ok(());

@@ -1,8 +1,10 @@
 //! Names of devices, and escapes.
 ghost use Rattle.std.specs.Prelude.{◌≡◌, ◌<◌, ◌++◌, OnOk, IfOk};
 ghost use Rattle.ldm_words.specs.Names.{hex_digit};
-ghost use Rattle.ldm_table.specs.Names.{is_letter, is_listed, mangled_byte, mangled, device_name, part_name};
-ghost use Rattle.ldm_table.specs.Names.{volume_name, escaped_byte, escaped, argument_byte, argument};
+ghost use Rattle.ldm_table.specs.Names.{is_letter, is_listed, mangled_byte, mangled, device_name};
+ghost use Rattle.ldm_table.specs.Names.{part_name};
+ghost use Rattle.ldm_table.specs.Names.{volume_name, escaped_byte, escaped, argument_byte};
+ghost use Rattle.ldm_table.specs.Names.{argument};
 
 use ldm_bytes::{Bytes, NoMemory};
 use ldm_records::Volume;

@@ -1,12 +1,14 @@
 //! The devices of an array: what whole rows of a RAID-5 have of each column.
-ghost use Rattle.std.specs.Prelude.{◌≡◌, ◌*◌, ◌<◌, Some, IfOk, length, option_copied, map, find, false};
+ghost use Rattle.std.specs.Prelude.{◌≡◌, ◌*◌, ◌<◌, Some, IfOk, length, option_copied, map, find};
+ghost use Rattle.std.specs.Prelude.{false};
 ghost use Rattle.std.specs.List.{range_with_len};
 ghost use Rattle.ldm_layout.specs.Columns.{columns_of};
 ghost use Rattle.ldm_layout.specs.declared.shape.Shape.TheVariants.{Raid5};
 ghost use Rattle.ldm_dump.specs.Sources.{spot_of};
 ghost use Rattle.ldm_dump.specs.Runs.{IsOn, RowsLieOn};
 ghost use Rattle.ldm_dump.specs.declared.spots.Spot.{Spot as Sector};
-ghost use Rattle.ldm_table.specs.Tables.{begins_at, name_in, partition_name, member_from, member_at, members_of};
+ghost use Rattle.ldm_table.specs.Tables.{begins_at, name_in, partition_name, member_from};
+ghost use Rattle.ldm_table.specs.Tables.{member_at, members_of};
 ghost use Rattle.ldm_table.specs.Tables.{array_of, whole_rows};
 
 use crate::names::part_name;
@@ -19,7 +21,8 @@ use ldm_layout::{Place, Plan, Shape};
 use ldm_records::Record;
 use std::alloc::Global;
 
-/// A device of an array: its name, where it begins on an image, and its sectors, all of which lie side by side.
+/// A device of an array: its name, where it begins on an image, and its sectors, all of which lie
+/// side by side.
 #[derive(Drop)]
 pub struct Member {
     pub name: Bytes,

@@ -46,7 +46,8 @@ fn text_of<H: Host>(
 ) -> Result<Bytes, NoMemory>
     requires named { name.now ≡ volume_name found.now.db.header.name volume.now }
     requires array { members.now ≡ array_of found.now plan.now }
-    requires copied { (x : ℕ) → in_rows plan.now ≤ x → x < plan.now.size → first_copy found.now plan.now x ≢ None }
+    requires copied { (x : ℕ) → in_rows plan.now ≤ x → x < plan.now.size
+        → first_copy found.now plan.now x ≢ None }
     requires lies { LiesOn found.now plan.now (H.seen host.now).sizes }
     ensures { IfOk result (λ text. text ≡ text_of_table words.now found.now volume.now plan.now) }
 {
@@ -59,8 +60,8 @@ fn text_of<H: Host>(
     Ok(text.into_bytes())
 }
 
-/// The line that makes a read-only device of a volume of the group, of images that these words name, or why there is
-/// none.
+/// The line that makes a read-only device of a volume of the group, of images that these words
+/// name, or why there is none.
 pub fn table_text<H: Host>(
     alloc: Global,
     host: &H,
@@ -71,7 +72,8 @@ pub fn table_text<H: Host>(
 ) -> Result<Result<Bytes, TableFault>, NoMemory>
     requires lies { LiesOn found.now plan.now (H.seen host.now).sizes }
     requires rows { RowsLieOn found.now plan.now (H.seen host.now).sizes }
-    ensures text { IfOk result (λ answer. answer ≡ table_text words.now found.now volume.now plan.now) }
+    ensures text { IfOk result (λ answer. answer ≡ table_text words.now found.now
+        volume.now plan.now) }
 {
     if let Some(fault) = volume_fault(found, plan) {
         return Ok(Err(fault));
@@ -98,8 +100,8 @@ pub fn table_text<H: Host>(
     Ok(Ok(text))
 }
 
-/// That the device of a volume without faults, as the targets of its table are read, has exactly the volume's sectors, each with
-/// the bytes of the volume. The call does nothing.
+/// That the device of a volume without faults, as the targets of its table are read, has exactly
+/// the volume's sectors, each with the bytes of the volume. The call does nothing.
 pub fn tables_are_volumes()
     ensures { TablesAreVolumes }
 {}

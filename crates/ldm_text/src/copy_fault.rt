@@ -1,7 +1,8 @@
 //! The text of each fault of a copy.
 ghost use Rattle.std.specs.Prelude.{◌≡◌, ◌++◌, IfOk, codes, decimal};
 ghost use Rattle.ldm_words.specs.Names.{hex_byte};
-ghost use Rattle.ldm_text.specs.Records.{text_of_vmdb_fault, at_block, text_of_frag_fault, text_of_copy_fault};
+ghost use Rattle.ldm_text.specs.Records.{text_of_vmdb_fault, at_block, text_of_frag_fault};
+ghost use Rattle.ldm_text.specs.Records.{text_of_copy_fault};
 
 use crate::naming::hex_byte;
 use crate::parts::{Part, text_of};
@@ -70,7 +71,8 @@ fn type_text(alloc: Global, block: u32, kind: u8) -> Result<Bytes, NoMemory>
 
 // kind K id I twice
 fn same_id_text(alloc: Global, kind: u8, id: u64) -> Result<Bytes, NoMemory>
-    ensures { IfOk result (λ text. text ≡ codes "kind " ++ decimal kind ++ codes " id " ++ decimal id ++ codes " twice") }
+    ensures { IfOk result (λ text. text ≡ codes "kind " ++ decimal kind ++ codes " id "
+        ++ decimal id ++ codes " twice") }
 {
     let parts = [
         Part::Word(b"kind "),

@@ -1,6 +1,7 @@
 //! The text of a label, and of each of its faults.
 ghost use Rattle.std.specs.Prelude.{◌≡◌, ◌++◌, OnOk, IfOk, codes, decimal};
-ghost use Rattle.ldm_text.specs.Texts.{text_of_disk, text_of_privhead, text_of_areas, text_of_label, text_of_label_fault};
+ghost use Rattle.ldm_text.specs.Texts.{text_of_disk, text_of_privhead, text_of_areas};
+ghost use Rattle.ldm_text.specs.Texts.{text_of_label, text_of_label_fault};
 
 use crate::growing::Text;
 use crate::parts::{Part, push_parts, text_of};

@@ -1,4 +1,5 @@
-//! The texts that the program says of a disk and of a copy, each exact, and what all texts are made of.
+//! The texts that the program says of a disk and of a copy, each exact, and what all texts are made
+//! of.
 #![tactic(auto)]
 
 mod copy_fault;

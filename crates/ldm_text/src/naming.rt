@@ -65,7 +65,8 @@ pub fn push_name(text: &mut Text, word: &[u8], name: &[u8]) -> Result<(), NoMemo
 
 /// A name behind a word, and then a GUID.
 pub fn push_named(text: &mut Text, word: &[u8], name: &[u8], guid: u128) -> Result<(), NoMemory>
-    ensures { OnOk result (text.new ≡ text.old ++ ((word.now ++ esc name.now) ++ (codes " " ++ own_guid guid))) }
+    ensures { OnOk result (text.new ≡ text.old ++ ((word.now ++ esc name.now)
+        ++ (codes " " ++ own_guid guid))) }
 {
     push_name(text, word, name)?;
     push_parts(text, &[Part::Word(b" "), Part::Guid(guid)])

@@ -1,6 +1,7 @@
 //! The text of a copy: a line for its header and for each record.
 ghost use Rattle.std.specs.Prelude.{◌≡◌, ◌++◌, OnOk, IfOk, flat_map};
-ghost use Rattle.ldm_text.specs.Records.{type_of, name_of, text_of_record, text_of_header, text_of_copy};
+ghost use Rattle.ldm_text.specs.Records.{type_of, name_of, text_of_record, text_of_header};
+ghost use Rattle.ldm_text.specs.Records.{text_of_copy};
 
 use crate::growing::Text;
 use crate::parts::{Part, push_parts};
@@ -90,7 +91,8 @@ fn push_records(text: &mut Text, records: &[Record]) -> Result<(), NoMemory>
 
 // The text of a valid copy.
 fn database_text(alloc: Global, db: &Db) -> Result<Bytes, NoMemory>
-    ensures { IfOk result (λ text. text ≡ text_of_header db.now.header ++ flat_map text_of_record db.now.records) }
+    ensures { IfOk result (λ text. text ≡ text_of_header db.now.header
+        ++ flat_map text_of_record db.now.records) }
 {
     let mut text = Text::new(alloc);
     push_header(&mut text, db.header())?;
@@ -98,8 +100,8 @@ fn database_text(alloc: Global, db: &Db) -> Result<Bytes, NoMemory>
     Ok(text.into_bytes())
 }
 
-/// The text of one copy of the database: its header and its records, each with the length of its own
-/// spelling in bytes.
+/// The text of one copy of the database: its header and its records, each with the length of its
+/// own spelling in bytes.
 pub fn records_text(alloc: Global, state: &CopyState) -> Result<Bytes, NoMemory>
     ensures { IfOk result (λ text. text ≡ text_of_copy state.now) }
 {

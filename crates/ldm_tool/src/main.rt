@@ -155,8 +155,8 @@ fn try_output<O: Write>(needs: Needs, output: &mut O) -> io::Result<()> {
     Ok(())
 }
 
-// What is counted of a job: the lines of one that writes, and the bytes of a long one where they are
-// told on a terminal.
+// What is counted of a job: the lines of one that writes, and the bytes of a long one where they
+// are told on a terminal.
 fn watch_of<'a>(rt: &'a HostRuntime, needs: Needs, terminals: Terminals) -> Watch<'a> {
     match needs {
         Needs {

@@ -4,7 +4,8 @@ ghost use Rattle.ldm_host.specs.Images.{items_of};
 ghost use Rattle.ldm_found.specs.declared.found.Found.{Found};
 ghost use Rattle.ldm_found.specs.Opening.{IsGroupIn};
 ghost use Rattle.ldm_sample_disks.specs.Disks.{sample_label, IsZeros};
-ghost use Rattle.ldm_vectors.specs.Sample.{IsSampleDatabase, IsSampleImage, AreImagesWith, AreSampleImages, IsSampleGroup};
+ghost use Rattle.ldm_vectors.specs.Sample.{IsSampleDatabase, IsSampleImage, AreImagesWith};
+ghost use Rattle.ldm_vectors.specs.Sample.{AreSampleImages, IsSampleGroup};
 
 use ldm_bytes::{NoMemory, put_bytes};
 use ldm_copy::{Body, bodies_are_copies, body_of};
@@ -55,7 +56,8 @@ fn sample_image(alloc: Global, disk: u8, body: &[u8]) -> Result<Vec<u8>, NoMemor
 fn images_with(alloc: Global, disks: u8, body: &[u8]) -> Result<Vec<Vec<u8>>, NoMemory>
     requires disks { disks ≤ 3 }
     requires room { length body.now ≤ 512 * 1481 }
-    ensures sizes { IfOk result (λ images. All (λ image. length image.items ≡ 8192 * 512) images.items) }
+    ensures sizes { IfOk result (λ images. All (λ image. length image.items
+        ≡ 8192 * 512) images.items) }
     ensures are { IfOk result (λ images. AreImagesWith disks body.now (items_of images.items)) }
 {
     let mut images = Vec::new(alloc);
@@ -65,8 +67,8 @@ fn images_with(alloc: Global, disks: u8, body: &[u8]) -> Result<Vec<Vec<u8>>, No
     Ok(images)
 }
 
-/// The images of the first disks of the sample group, which is `Dg0` with sequence 7 and the disks `Disk1`
-/// to `Disk3`. `last` is the header's last VBLK sequence.
+/// The images of the first disks of the sample group, which is `Dg0` with sequence 7 and the disks
+/// `Disk1` to `Disk3`. `last` is the header's last VBLK sequence.
 pub fn sample_images(alloc: Global, disks: u8, last: u32) -> Result<Vec<Vec<u8>>, NoMemory>
     requires some { 1 ≤ disks }
     requires disks { disks ≤ 3 }
@@ -75,7 +77,8 @@ pub fn sample_images(alloc: Global, disks: u8, last: u32) -> Result<Vec<Vec<u8>>
     ensures sizes { IfOk result (λ images. (vec_len images ≡ disks)
         × All (λ image. length image.items ≡ 8192 * 512) images.items) }
     ensures made { IfOk result (λ images. AreSampleImages disks last (items_of images.items)) }
-    ensures found { IfOk result (λ images. (found : Found) × IsGroupIn (items_of images.items) (Result.Ok found)
+    ensures found { IfOk result (λ images. (found : Found)
+        × IsGroupIn (items_of images.items) (Result.Ok found)
         × IsSampleGroup disks last found) }
 {
     let db = sample_database(alloc, disks, last)?;

@@ -1,5 +1,5 @@
-//! A small sample group, for examples and tests: the images of `Dg0`, with one to three disks and no
-//! volume, and a script for it.
+//! A small sample group, for examples and tests: the images of `Dg0`, with one to three disks and
+//! no volume, and a script for it.
 #![tactic(auto)]
 
 mod images;

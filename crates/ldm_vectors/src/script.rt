@@ -1,6 +1,7 @@
 //! The sample script: lines that are drawn from a seed.
 ghost use Rattle.std.specs.Prelude.{◌≡◌, ◌≢◌, ◌/◌, ◌^◌, ◌≤◌, IfOk, length, string_bytes};
-ghost use Rattle.ldm_vectors.specs.Script.{advanced, span_line, mirror_line, extend_line, delete_line, line_of, script_of};
+ghost use Rattle.ldm_vectors.specs.Script.{advanced, span_line, mirror_line, extend_line};
+ghost use Rattle.ldm_vectors.specs.Script.{delete_line, line_of, script_of};
 
 use ldm_bytes::NoMemory;
 use std::alloc::Global;
@@ -78,8 +79,8 @@ fn line_of(alloc: Global, line: u64, kind: u64, value: u64) -> Result<String, No
     }
 }
 
-/// The sample script of a seed: 200 lines that create, extend and delete volumes of the group of three
-/// sample images.
+/// The sample script of a seed: 200 lines that create, extend and delete volumes of the group of
+/// three sample images.
 pub fn sample_script(alloc: Global, seed: u64) -> Result<Vec<u8>, NoMemory>
     ensures is { IfOk result (λ script. script.items ≡ script_of seed) }
     ensures short { IfOk result (λ script. length script.items ≤ 20000) }

@@ -16,7 +16,8 @@ pub struct Header {
     pub name: Bytes,
     /// The GUID of the group.
     pub guid: u128,
-    /// The carried header bytes: the sector with the last VBLK sequence, both sequences and all counts zero.
+    /// The carried header bytes: the sector with the last VBLK sequence, both sequences and all
+    /// counts zero.
     pub raw: [u8; 512],
     pub ghost kept: { IsKept name guid raw },
 }
@@ -39,7 +40,8 @@ impl Header {
         })
     }
 
-    /// An equal header but for its last VBLK sequence and its committed sequence, as the next database has it.
+    /// An equal header but for its last VBLK sequence and its committed sequence, as the next
+    /// database has it.
     pub fn grown_to(&self, alloc: Global, last: u32, seq: u64) -> Result<Header, NoMemory>
         ensures { IfOk result (λ h. h ≡ grown_to self.now last seq) }
     {

@@ -10,8 +10,8 @@ impl Header {
     ghost use Rattle.std.specs.Prelude.{◌≡◌, ◌≢◌, ◌≤◌, All, IfOk, length};
     ghost use Rattle.ldm_vmdb.specs.Made.{IsNewHeader};
 
-    /// The header of a new database. Its name has 30 bytes at most, since a zero byte ends it, and its GUID
-    /// is carried as a text in lower case.
+    /// The header of a new database. Its name has 30 bytes at most, since a zero byte ends it, and
+    /// its GUID is carried as a text in lower case.
     pub fn new(
         alloc: Global,
         name: &[u8],

@@ -1,7 +1,9 @@
 //! Reads a header, or its first fault.
 ghost use Rattle.std.specs.Prelude.{◌≡◌, ◌≤◌, ◌<◌, Some, None, MatchResult, length, IfOk, ◌==◌};
 ghost use Rattle.std.specs.List.{position_or_len};
-ghost use Rattle.ldm_vmdb.specs.Sectors.{has_magic, has_version, has_block_size, has_first_block, is_settled, fits_area, last_of, group_guid, group_name, carried};
+ghost use Rattle.ldm_vmdb.specs.Sectors.{has_magic, has_version, has_block_size, has_first_block};
+ghost use Rattle.ldm_vmdb.specs.Sectors.{is_settled, fits_area, last_of, group_guid, group_name};
+ghost use Rattle.ldm_vmdb.specs.Sectors.{carried};
 ghost use Rattle.ldm_vmdb.specs.Headers.{vmdb_fault, ReadsHeader};
 
 use crate::header::{Header, VmdbError, VmdbFault};

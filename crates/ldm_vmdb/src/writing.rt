@@ -31,7 +31,8 @@ fn put_counts(out: &mut [u8], at: usize, counts: Counts)
 pub fn write_header(header: &Header, seq: u64, counts: Counts, out: &mut [u8; 512])
     ensures bytes { out.new ≡ written header.now seq counts }
     ensures reads_back { ReadsBack header.now seq out.new }
-    ensures no_fault { (area_sectors : ℕ) → header.now.last ≤ 4 * area_sectors → vmdb_fault out.new area_sectors ≡ None }
+    ensures no_fault { (area_sectors : ℕ) → header.now.last ≤ 4 * area_sectors
+        → vmdb_fault out.new area_sectors ≡ None }
 {
     let last = header.last;
     copy_carried(&header.raw, out);

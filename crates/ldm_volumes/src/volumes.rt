@@ -1,6 +1,7 @@
 //! The records of a new volume of each shape, and of a longer span.
 ghost use Rattle.std.specs.Prelude.{◌≡◌, ◌+◌, ◌-◌, ◌*◌, ◌^◌, ◌<◌, ◌≤◌, ◌++◌, length, sum_by, IfOk};
-ghost use Rattle.ldm_volumes.specs.Volumes.{there, span_parts, column_parts, mirror_parts, span_made, stripe_made};
+ghost use Rattle.ldm_volumes.specs.Volumes.{there, span_parts, column_parts, mirror_parts};
+ghost use Rattle.ldm_volumes.specs.Volumes.{span_made, stripe_made};
 ghost use Rattle.ldm_volumes.specs.Volumes.{raid5_made, mirror_made};
 
 use ldm_bytes::NoMemory;
@@ -21,7 +22,8 @@ pub fn sectors_with(from: u64, spots: &[Taken]) -> u64
     sectors
 }
 
-/// The partitions of a span's component behind other records, from an offset on: their ids and their offsets follow one another.
+/// The partitions of a span's component behind other records, from an offset on: their ids and
+/// their offsets follow one another.
 pub fn with_tiles(
     alloc: Global,
     records: Vec<Record>,
@@ -32,7 +34,8 @@ pub fn with_tiles(
 ) -> Result<Vec<Record>, NoMemory>
     requires ids { id + length spots.now ≤ 2 ^ 64 }
     requires sizes { from + sum_by (λ t. t.size) spots.now < 2 ^ 64 }
-    ensures { IfOk result (λ v. v.items ≡ records.items ++ there (span_parts id component from spots.now)) }
+    ensures { IfOk result (λ v. v.items ≡ records.items
+        ++ there (span_parts id component from spots.now)) }
 {
     let mut records = records;
     let mut offset = from;
@@ -48,7 +51,8 @@ pub fn with_tiles(
     Ok(records)
 }
 
-// The partitions of a stripe or RAID-5 behind other records: their ids and their indexes follow one another.
+// The partitions of a stripe or RAID-5 behind other records: their ids and their indexes follow one
+// another.
 fn with_columns(
     alloc: Global,
     records: Vec<Record>,
@@ -57,7 +61,8 @@ fn with_columns(
     spots: &[Taken],
 ) -> Result<Vec<Record>, NoMemory>
     requires { id + length spots.now ≤ 2 ^ 64 }
-    ensures { IfOk result (λ v. v.items ≡ records.items ++ there (column_parts id component 0 spots.now)) }
+    ensures { IfOk result (λ v. v.items ≡ records.items
+        ++ there (column_parts id component 0 spots.now)) }
 {
     let mut records = records;
     for at in 0..spots.len() {
@@ -81,7 +86,8 @@ fn with_copies(
     spots: &[Taken],
 ) -> Result<Vec<Record>, NoMemory>
     requires { id + 2 * length spots.now ≤ 2 ^ 64 }
-    ensures { IfOk result (λ v. v.items ≡ records.items ++ there (mirror_parts id volume spots.now)) }
+    ensures { IfOk result (λ v. v.items ≡ records.items
+        ++ there (mirror_parts id volume spots.now)) }
 {
     let mut records = records;
     for at in 0..spots.len() {

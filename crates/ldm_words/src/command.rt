@@ -42,7 +42,8 @@ impl Pieces {
     }
 }
 
-/// The names of disks in a command, or the words of images, in their order. Contracts see them as that list.
+/// The names of disks in a command, or the words of images, in their order. Contracts see them as
+/// that list.
 #[derive(Drop)]
 pub struct Names {
     items: Vec<Bytes>,
@@ -104,8 +105,8 @@ impl Drop for NewLayout {
     }
 }
 
-/// A change of the group that a line of a script, or the words of a command line, ask for; or a word of a batch, which
-/// stands in scripts alone.
+/// A change of the group that a line of a script, or the words of a command line, ask for; or a
+/// word of a batch, which stands in scripts alone.
 pub enum Command {
     /// A new volume, with its GUID.
     Create {

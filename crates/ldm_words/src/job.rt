@@ -3,8 +3,10 @@ ghost use Rattle.std.specs.Prelude.{◌≡◌, ◌≤◌, IfOk, IfSome, length};
 ghost use Rattle.std.specs.Option.{option_map};
 ghost use Rattle.std.specs.List.{position_or_len};
 ghost use Rattle.ldm_words.specs.declared.job.Job.TheVariants as jobs;
-ghost use Rattle.ldm_words.specs.Jobs.{texts, is_on, image_words, images_of, images_behind, plain, named_in, named};
-ghost use Rattle.ldm_words.specs.Jobs.{map_form, init_form, sample_form, job_form, is_group, takes, fits, job_of};
+ghost use Rattle.ldm_words.specs.Jobs.{texts, is_on, image_words, images_of, images_behind, plain};
+ghost use Rattle.ldm_words.specs.Jobs.{named_in, named};
+ghost use Rattle.ldm_words.specs.Jobs.{map_form, init_form, sample_form, job_form, is_group, takes};
+ghost use Rattle.ldm_words.specs.Jobs.{fits, job_of};
 ghost use Rattle.ldm_words.specs.Jobs.{HasCount, KeepsLimits, kind_of, writes};
 ghost use Rattle.ldm_words.specs.Commands.{bytes_of, command_of};
 ghost use Rattle.ldm_words.specs.Readings.{Reads};
@@ -244,7 +246,8 @@ fn copy_words(alloc: Global, words: &[String]) -> Result<Names, NoMemory>
 
 // table NAME, with the words of the images
 fn read_table(alloc: Global, rest: &[String], behind: &[String]) -> Result<Option<Job>, NoMemory>
-    ensures is { IfOk result (λ found. found ≡ named (λ name. jobs.Table name (texts behind.now)) (texts rest.now)) }
+    ensures is { IfOk result (λ found. found ≡ named (λ name. jobs.Table name (texts behind.now))
+        (texts rest.now)) }
     ensures limits { IfOk result (λ found. IfSome found KeepsLimits) }
 {
     match read_named(alloc, rest)? {

@@ -43,7 +43,8 @@ fn split_tokens(alloc: Global, line: &[u8]) -> Result<Vec<&[u8]>, NoMemory>
     Ok(tokens)
 }
 
-/// The command, or the word of a batch, that a line of a script says. BadLine comes exactly where it has no reading.
+/// The command, or the word of a batch, that a line of a script says. BadLine comes exactly where
+/// it has no reading.
 pub fn read_line(alloc: Global, line: &[u8]) -> Result<Command, LineError>
     ensures reads { ReadsLine result (line_of (tokens_of line.now)) }
     ensures limits { IfOk result IsCommand }
@@ -57,7 +58,8 @@ pub fn read_line(alloc: Global, line: &[u8]) -> Result<Command, LineError>
 
 /// The first line of a script, and the bytes after it. `None` exactly where there is no line.
 pub fn front_line(script: &[u8]) -> Option<(&[u8], &[u8])>
-    ensures { MatchOption result (lines_of script.now ≡ []) (λ front. IsFrontLine script.now front.0.now front.1.now) }
+    ensures { MatchOption result (lines_of script.now ≡ [])
+        (λ front. IsFrontLine script.now front.0.now front.1.now) }
 {
     if script.is_empty() {
         return None;

@@ -1,6 +1,7 @@
 //! Names as they are written.
 ghost use Rattle.std.specs.Prelude.{◌≡◌, ◌<◌, ◌≤◌, IfOk, IfSome, IsTrue, length};
-ghost use Rattle.ldm_words.specs.Names.{name_of, spelled, is_plain, is_hex, hex_value, escaped, NamesReadBack};
+ghost use Rattle.ldm_words.specs.Names.{name_of, spelled, is_plain, is_hex, hex_value, escaped};
+ghost use Rattle.ldm_words.specs.Names.{NamesReadBack};
 ghost use Rattle.ldm_words.specs.Units.{unit_of};
 
 use ldm_bytes::{Bytes, NoMemory};

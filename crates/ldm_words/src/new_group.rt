@@ -11,7 +11,8 @@ use ldm_bytes::{Bytes, NoMemory, read_guid};
 use std::alloc::Global;
 use std::marker::Model;
 
-/// The GUIDs of the disks of a new group, in the order of its images. Contracts see them as that list.
+/// The GUIDs of the disks of a new group, in the order of its images. Contracts see them as that
+/// list.
 #[derive(Drop)]
 pub struct Guids {
     items: Vec<u128>,

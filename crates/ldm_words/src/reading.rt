@@ -1,8 +1,10 @@
 //! Commands from tokens.
 ghost use Rattle.std.specs.Prelude.{◌≡◌, IfOk, IfSome};
 ghost use Rattle.ldm_words.specs.Names.{name_of};
-ghost use Rattle.ldm_words.specs.Commands.{bytes_of, many, piece_of, columns_of, mirror_of, layout_of, new_name};
-ghost use Rattle.ldm_words.specs.Commands.{create_of, extend_of, delete_of, command_of, alone, line_of};
+ghost use Rattle.ldm_words.specs.Commands.{bytes_of, many, piece_of, columns_of, mirror_of};
+ghost use Rattle.ldm_words.specs.Commands.{layout_of, new_name};
+ghost use Rattle.ldm_words.specs.Commands.{create_of, extend_of, delete_of, command_of, alone};
+ghost use Rattle.ldm_words.specs.Commands.{line_of};
 ghost use Rattle.ldm_words.specs.Equals.{IsLastEquals};
 ghost use Rattle.ldm_words.specs.Limits.{IsCommand, CommandsKeepLimits, LinesKeepLimits};
 
@@ -204,8 +206,8 @@ fn read_form(alloc: Global, tokens: &[&[u8]]) -> Result<Option<Command>, NoMemor
     }
 }
 
-/// The command that the tokens say. `None` exactly where they have no reading. On a command line each
-/// word is one token.
+/// The command that the tokens say. `None` exactly where they have no reading. On a command line
+/// each word is one token.
 #[tactic(auto, using(crate::proofs::LimitLaws::keep_limits, crate::proofs::LimitLaws::keeps))]
 pub fn read_command(alloc: Global, tokens: &[&[u8]]) -> Result<Option<Command>, NoMemory>
     ensures is { IfOk result (λ found. found ≡ command_of (bytes_of tokens.now)) }
@@ -245,7 +247,8 @@ fn read_line_form(alloc: Global, tokens: &[&[u8]]) -> Result<Option<Command>, No
     }
 }
 
-/// The command, or the word of a batch, that the tokens of a line of a script say. `None` exactly where they have no reading.
+/// The command, or the word of a batch, that the tokens of a line of a script say. `None` exactly
+/// where they have no reading.
 #[tactic(auto, using(crate::proofs::LimitLaws::lines_keep, crate::proofs::LimitLaws::line_keeps))]
 pub fn read_script_line(alloc: Global, tokens: &[&[u8]]) -> Result<Option<Command>, NoMemory>
     ensures is { IfOk result (λ found. found ≡ line_of (bytes_of tokens.now)) }
