@@ -13,7 +13,7 @@ use Rattle.std.specs.List.{list_all}
 use Rattle.uuid.specs.Text.{parsed, parsed_hyphenated, hyphenated_text, lower, parsed_simple, is_hex_digit, value_of, by_index, byte_of_digits, digits_of, has_hyphens}
 use Rattle.uuid.proofs.TextLemmas.{by_index_length}
 use Rattle.uuid.proofs.RoundTrips.{parses_hyphenated_text}
-use Rattle.ldm_bytes.specs.Guid.{number_of, guid_of, own_guid}
+use Rattle.ldm_bytes.specs.Guid.{guid_number, guid_of, own_guid}
 
 pub of_36 : (t : List ℕ) → length t ≡ 36 → parsed t ≡ parsed_hyphenated t
 of_36 t e = rw e refl
@@ -37,9 +37,9 @@ pub read_is : (t bytes : List ℕ) (v : ℕ) → length t ≡ 36 → Some bytes 
 unfolding guid_of some
 read_is t bytes v len p e =
     let h : Some bytes ≡ parsed_hyphenated t = p ∙ of_36 t len in
-    ap some (e ∙ number_is bytes) ∙ ap number_of h
+    ap some (e ∙ number_is bytes) ∙ ap guid_number h
 
-no_value : (o : Option (List ℕ)) → ((u : List ℕ) × (o ≡ Some u) → ⊥) → None ≡ number_of o
+no_value : (o : Option (List ℕ)) → ((u : List ℕ) × (o ≡ Some u) → ⊥) → None ≡ guid_number o
 no_value None h = refl
 no_value (Some u) h = absurd (h (u, refl))
 
@@ -53,7 +53,7 @@ unfolding guid_of own_guid some
 guid_again v lt =
     let back : big_number 16 (big_bytes 16 v) ≡ v = ap (big_number 16) (sym (append-nil (big_bytes 16 v))) ∙ big_number-reads_back 16 v [] lt in
     let parsed-is : parsed_hyphenated (hyphenated_text lower (big_bytes 16 v)) ≡ Some (big_bytes 16 v) = sym (parses_hyphenated_text lower (big_bytes 16 v) (inl refl) refl (All-from_recursion (λ b. b < 256) (big_bytes 16 v) (bytes_small 16 v))) in
-    let number : number_of (parsed_hyphenated (hyphenated_text lower (big_bytes 16 v))) ≡ Some (big_number 16 (big_bytes 16 v)) = ap number_of parsed-is in
+    let number : guid_number (parsed_hyphenated (hyphenated_text lower (big_bytes 16 v))) ≡ Some (big_number 16 (big_bytes 16 v)) = ap guid_number parsed-is in
     number ∙ ap some back
 
 pub own_len : (bytes : List ℕ) → length (hyphenated_text lower bytes) ≡ 36
@@ -77,7 +77,7 @@ guard_in : (b : Bool) (o : Option (List ℕ)) (y : List ℕ) → cond b o None �
 guard_in true o y e = e
 guard_in false o y e = absurd cc
 
-number_some : (o : Option (List ℕ)) (v : ℕ) → number_of o ≡ Some v → (bytes : List ℕ) × (o ≡ Some bytes) × (big_number 16 bytes ≡ v)
+number_some : (o : Option (List ℕ)) (v : ℕ) → guid_number o ≡ Some v → (bytes : List ℕ) × (o ≡ Some bytes) × (big_number 16 bytes ≡ v)
 number_some None v e = absurd cc
 number_some (Some bytes) v e = (bytes, refl, cc)
 

@@ -3,13 +3,13 @@ use Rattle.std.specs.Prelude.{◌≡◌, ℕ, List, Option, Some, None}
 use Rattle.byteorder.specs.Endian.{big_number, big_bytes}
 use Rattle.uuid.specs.Text.{parsed_hyphenated, hyphenated_text, lower}
 
-abbrev pub number_of : Option (List ℕ) → Option ℕ
-number_of None = None
-number_of (Some bytes) = Some (big_number 16 bytes)
+abbrev pub guid_number : Option (List ℕ) → Option ℕ
+guid_number None = None
+guid_number (Some bytes) = Some (big_number 16 bytes)
 
 -- the GUID that the text stands for, as a number of 128 bits; nothing where it is no GUID text
 unfoldable pub guid_of : List ℕ → Option ℕ
-guid_of text = number_of (parsed_hyphenated text)
+guid_of text = guid_number (parsed_hyphenated text)
 
 -- the text stands for this GUID
 abbrev pub IsGuidText : ℕ → List ℕ → Type 0

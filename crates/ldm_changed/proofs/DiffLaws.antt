@@ -10,7 +10,7 @@ use Rattle.ldm_records.specs.Views.{plain_of}
 use Rattle.ldm_frags.specs.Blocks.{count}
 use Rattle.ldm_frags.specs.Written.{block_at}
 use Rattle.ldm_group.specs.Room.{own_len}
-use Rattle.ldm_changed.specs.Plan.{differs}
+use Rattle.ldm_changed.specs.Plan.{block_differs}
 
 pub block_piece : (xs : List ℕ) (k : ℕ) → slice_range xs (128 * k) (128 * k + 128) ≡ block_at xs (k + 4)
 block_piece xs k =
@@ -19,7 +19,7 @@ block_piece xs k =
     ap (λ (n : ℕ). take n (drop (128 * k) xs)) size ∙ ap (λ (n : ℕ). take 128 (drop n xs)) at
 
 -- where the old blocks end the new ones differ
-pub short_differs : (old new : List ℕ) (k : ℕ) → length old < 128 * k + 128 → k < count new → differs old new (k + 4) ≡ true
+pub short_differs : (old new : List ℕ) (k : ℕ) → length old < 128 * k + 128 → k < count new → block_differs old new (k + 4) ≡ true
 short_differs old new k short within =
     not_from_false (bytes_eq (block_at old (k + 4)) (block_at new (k + 4))) (false_from_ne_true (bytes_eq (block_at old (k + 4)) (block_at new (k + 4))) (λ yes.
     let same : block_at old (k + 4) ≡ block_at new (k + 4) = (bytes_eq-Decides (block_at old (k + 4)) (block_at new (k + 4))).0 yes in

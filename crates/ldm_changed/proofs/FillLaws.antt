@@ -6,7 +6,7 @@ use Rattle.std.proofs.lemmas.List.Elements.{All-nil}
 use Rattle.ldm_host.specs.Seen.{Seen, image}
 use Rattle.ldm_host.specs.Moves.{Torn, Writes, Changes}
 use Rattle.ldm_host.proofs.ChangeLaws.{writes_change, changes_trans}
-use Rattle.ldm_changed.specs.Change.{IsChange, ChangesFrom}
+use Rattle.ldm_changed.specs.Change.{IsChangedBody, ChangesFrom}
 
 -- the bytes of the body stand behind the gate, but for those in blocks that are still to be written
 abbrev pub HasAllBut : ℕ → List ℕ → List ℕ → List ℕ → Type 0
@@ -53,7 +53,7 @@ module _ (gate : ℕ) (body : List ℕ) where
   all_there x has j low high = has j low high (All-nil (λ m. m ≢ j / 128))
 
 -- numbers that follow one another are those of blocks of the body
-pub run_within : (body numbers : List ℕ) (k m : ℕ) → IsChange body numbers → 1 ≤ m → k + m ≤ length numbers → ((i : ℕ) → i < m → slice_index numbers (k + i) ≡ slice_index numbers k + i)
+pub run_within : (body numbers : List ℕ) (k m : ℕ) → IsChangedBody body numbers → 1 ≤ m → k + m ≤ length numbers → ((i : ℕ) → i < m → slice_index numbers (k + i) ≡ slice_index numbers k + i)
     → (4 ≤ slice_index numbers k) × (128 * slice_index numbers k + 128 * m ≤ length body)
 run_within body numbers k m is some within run =
     let first = is.within k 0 (omega (arith, some, within)) in

@@ -7,7 +7,7 @@ use Rattle.std.proofs.lemmas.List.Sorted.{IsPermutation-map, IsPermutation-middl
 use Rattle.ldm_records.specs.declared.types.Record.{Record}
 use Rattle.ldm_frags.specs.Written.{Holds, IsPlaced, IsInUse, block_at}
 use Rattle.ldm_copy.specs.Body.{Stored, placed_of}
-use Rattle.ldm_changed.specs.Plan.{has_record, stays, goes, Avoids, KeepsOrFrees}
+use Rattle.ldm_changed.specs.Plan.{has_record, record_stays, record_goes, Avoids, KeepsOrFrees}
 use Rattle.ldm_frags.proofs.ApartLaws.{hold_permuted}
 use Rattle.ldm_frags.proofs.HoldEdits.{hold_less}
 
@@ -19,10 +19,10 @@ all_front P (y ∷ ys) x all =
 
 -- the records below i were looked at
 pub record IsFreedUpTo (S : List Stored) (new : List Record) (i : ℕ) (before out : List ℕ) (kept : List (List ℕ)) : Type 0 where
-  pub kept_is : kept ≡ map (λ (s : Stored). s.slots) (filter (stays new) (take i S))
-  pub holds : Holds out (map placed_of (filter (stays new) (take i S) ++ drop i S))
-  pub others : (b : ℕ) → 4 ≤ b → All (Avoids b) (filter (goes new) (take i S)) → block_at out b ≡ block_at before b
-  pub there : All (λ (s : Stored). Contains new s.record_is) (filter (stays new) (take i S))
+  pub kept_is : kept ≡ map (λ (s : Stored). s.slots) (filter (record_stays new) (take i S))
+  pub holds : Holds out (map placed_of (filter (record_stays new) (take i S) ++ drop i S))
+  pub others : (b : ℕ) → 4 ≤ b → All (Avoids b) (filter (record_goes new) (take i S)) → block_at out b ≡ block_at before b
+  pub there : All (λ (s : Stored). Contains new s.record_is) (filter (record_stays new) (take i S))
 
 -- none was looked at
 pub freed_none : (S : List Stored) (new : List Record) (before : List ℕ) → Holds before (map placed_of S) → IsFreedUpTo S new 0 before before []
@@ -47,27 +47,27 @@ module _ (S : List Stored) (new : List Record) (i : ℕ) (x : Stored) (lt : i < 
       → has_record new x.record_is ≡ b → (b ≡ true → Contains new x.record_is) → KeepsOrFrees b x.slots kept kept' out out'
       → IsFreedUpTo S new i before out kept → IsFreedUpTo S new (i + 1) before out' kept'
   freed_step before out out' kept kept' true size small e contains (more, same) w =
-      let F : List Stored = filter (stays new) (take i S) in
-      let F' : filter (stays new) (take (i + 1) S) ≡ F ++ x ∷ [] = filter_step (stays new) true e in
-      let G' : filter (goes new) (take (i + 1) S) ≡ filter (goes new) (take i S) = filter_step (goes new) false (ap not e) ∙ append-nil (filter (goes new) (take i S)) in
-      let joined : F ++ drop i S ≡ filter (stays new) (take (i + 1) S) ++ drop (i + 1) S =
+      let F : List Stored = filter (record_stays new) (take i S) in
+      let F' : filter (record_stays new) (take (i + 1) S) ≡ F ++ x ∷ [] = filter_step (record_stays new) true e in
+      let G' : filter (record_goes new) (take (i + 1) S) ≡ filter (record_goes new) (take i S) = filter_step (record_goes new) false (ap not e) ∙ append-nil (filter (record_goes new) (take i S)) in
+      let joined : F ++ drop i S ≡ filter (record_stays new) (take (i + 1) S) ++ drop (i + 1) S =
       ap (λ (l : List Stored). F ++ l) drop_step ∙ sym (append_assoc F (x ∷ []) (drop (i + 1) S)) ∙ ap (λ (l : List Stored). l ++ drop (i + 1) S) (sym F') in
       record {
         kept_is =
             more ∙ ap (λ (l : List (List ℕ)). l ++ x.slots ∷ []) w.kept_is ∙ sym (map_push (λ (s : Stored). s.slots) F x)
             ∙ ap (map (λ (s : Stored). s.slots)) (sym F');
         holds =
-            subst (λ (o : List ℕ). Holds o (map placed_of (filter (stays new) (take (i + 1) S) ++ drop (i + 1) S))) (sym same)
+            subst (λ (o : List ℕ). Holds o (map placed_of (filter (record_stays new) (take (i + 1) S) ++ drop (i + 1) S))) (sym same)
             (subst (λ (l : List Stored). Holds out (map placed_of l)) joined w.holds);
         others = λ c low avoid. ap (λ (l : List ℕ). block_at l c) same ∙ w.others c low (subst (λ (l : List Stored). All (Avoids c) l) G' avoid);
         there = subst (λ (l : List Stored). All (λ (s : Stored). Contains new s.record_is) l) (sym F') (All-push (λ (s : Stored). Contains new s.record_is) F x w.there (contains refl));
       }
   freed_step before out out' kept kept' false size small e contains (more, freed) w =
-      let F : List Stored = filter (stays new) (take i S) in
-      let G : List Stored = filter (goes new) (take i S) in
+      let F : List Stored = filter (record_stays new) (take i S) in
+      let G : List Stored = filter (record_goes new) (take i S) in
       let D : List Stored = drop (i + 1) S in
-      let F' : filter (stays new) (take (i + 1) S) ≡ F = filter_step (stays new) false e ∙ append-nil F in
-      let G' : filter (goes new) (take (i + 1) S) ≡ G ++ x ∷ [] = filter_step (goes new) true (ap not e) in
+      let F' : filter (record_stays new) (take (i + 1) S) ≡ F = filter_step (record_stays new) false e ∙ append-nil F in
+      let G' : filter (record_goes new) (take (i + 1) S) ≡ G ++ x ∷ [] = filter_step (record_goes new) true (ap not e) in
       let before_it : Holds out (map placed_of (F ++ x ∷ D)) = subst (λ (l : List Stored). Holds out (map placed_of (F ++ l))) drop_step w.holds in
       let first : Holds out (placed_of x ∷ map placed_of (F ++ D)) =
       hold_permuted out (map placed_of (F ++ x ∷ D)) (map placed_of (x ∷ (F ++ D))) (IsPermutation-map placed_of (F ++ x ∷ D) (x ∷ (F ++ D)) (IsPermutation-middle F x D)) before_it in
@@ -85,7 +85,7 @@ module _ (S : List Stored) (new : List Record) (i : ℕ) (x : Stored) (lt : i < 
   -- the slots of the next record are in use
   pub slots_used : (before out : List ℕ) (kept : List (List ℕ)) → IsFreedUpTo S new i before out kept → All (IsInUse out) x.slots
   slots_used before out kept w =
-      let F : List Stored = filter (stays new) (take i S) in
+      let F : List Stored = filter (record_stays new) (take i S) in
       let D : List Stored = drop (i + 1) S in
       let before_it : Holds out (map placed_of (F ++ x ∷ D)) = subst (λ (l : List Stored). Holds out (map placed_of (F ++ l))) drop_step w.holds in
       let first : Holds out (placed_of x ∷ map placed_of (F ++ D)) =
@@ -95,19 +95,19 @@ module _ (S : List Stored) (new : List Record) (i : ℕ) (x : Stored) (lt : i < 
 
 -- all were looked at
 pub record AreFreedAll (S : List Stored) (new : List Record) (before out : List ℕ) (kept : List (List ℕ)) : Type 0 where
-  pub kept_is : kept ≡ map (λ (s : Stored). s.slots) (filter (stays new) S)
-  pub holds : Holds out (map placed_of (filter (stays new) S))
-  pub others : (b : ℕ) → 4 ≤ b → All (Avoids b) (filter (goes new) S) → block_at out b ≡ block_at before b
-  pub there : All (λ (s : Stored). Contains new s.record_is) (filter (stays new) S)
+  pub kept_is : kept ≡ map (λ (s : Stored). s.slots) (filter (record_stays new) S)
+  pub holds : Holds out (map placed_of (filter (record_stays new) S))
+  pub others : (b : ℕ) → 4 ≤ b → All (Avoids b) (filter (record_goes new) S) → block_at out b ≡ block_at before b
+  pub there : All (λ (s : Stored). Contains new s.record_is) (filter (record_stays new) S)
 
 pub freed_all : (S : List Stored) (new : List Record) (n : ℕ) (before out : List ℕ) (kept : List (List ℕ)) → length S ≤ n → IsFreedUpTo S new n before out kept → AreFreedAll S new before out kept
 freed_all S new n before out kept le w =
     let all : take n S ≡ S = take_all n S le in
-    let none : filter (stays new) (take n S) ++ drop n S ≡ filter (stays new) S =
-    ap (λ (l : List Stored). filter (stays new) (take n S) ++ l) (drop_all n S le) ∙ append-nil (filter (stays new) (take n S)) ∙ ap (filter (stays new)) all in
+    let none : filter (record_stays new) (take n S) ++ drop n S ≡ filter (record_stays new) S =
+    ap (λ (l : List Stored). filter (record_stays new) (take n S) ++ l) (drop_all n S le) ∙ append-nil (filter (record_stays new) (take n S)) ∙ ap (filter (record_stays new)) all in
     record {
-      kept_is = w.kept_is ∙ ap (λ (l : List Stored). map (λ (s : Stored). s.slots) (filter (stays new) l)) all;
+      kept_is = w.kept_is ∙ ap (λ (l : List Stored). map (λ (s : Stored). s.slots) (filter (record_stays new) l)) all;
       holds = subst (λ (l : List Stored). Holds out (map placed_of l)) none w.holds;
-      others = λ b low avoid. w.others b low (subst (λ (l : List Stored). All (Avoids b) (filter (goes new) l)) (sym all) avoid);
-      there = subst (λ (l : List Stored). All (λ (s : Stored). Contains new s.record_is) (filter (stays new) l)) all w.there;
+      others = λ b low avoid. w.others b low (subst (λ (l : List Stored). All (Avoids b) (filter (record_goes new) l)) (sym all) avoid);
+      there = subst (λ (l : List Stored). All (λ (s : Stored). Contains new s.record_is) (filter (record_stays new) l)) all w.there;
     }

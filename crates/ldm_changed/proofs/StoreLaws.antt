@@ -21,7 +21,7 @@ use Rattle.ldm_group.proofs.KinLaws.{filter_has, filter_keeps}
 use Rattle.ldm_group.proofs.LookLaws.{found_again}
 use Rattle.ldm_group.proofs.OneOrder.{one_order}
 use Rattle.ldm_copy.specs.Body.{Stored, placed_of, Store}
-use Rattle.ldm_changed.specs.Plan.{is_spelled_as, has_record, lacks, touched_blocks, stays, goes, Avoids, differs, changed_numbers}
+use Rattle.ldm_changed.specs.Plan.{is_spelled_as, has_record, lacks, touched_blocks, record_stays, record_goes, Avoids, block_differs, changed_numbers}
 use Rattle.ldm_copy.specs.Body.{stored_at}
 use Rattle.ldm_frags.specs.Free.{free_numbers}
 use Rattle.ldm_frags.proofs.HoldLaws.{find_number}
@@ -67,13 +67,13 @@ filter_records p (s ∷ S) =
     elim (p s.record_is) as (λ (t : Bool). map record_of (if t then s ∷ filter (λ (s : Stored). p s.record_is) S else filter (λ (s : Stored). p s.record_is) S) ≡ (if t then s.record_is ∷ filter p (map record_of S) else filter p (map record_of S)))
     [ true ↦ ap (λ (l : List Record). s.record_is ∷ l) rest | false ↦ rest ]
 
-pub kept_records_of : (old new : List Record) (table : List (List ℕ)) → length table ≡ length old → map record_of (filter (stays new) (stored_at old table)) ≡ filter (has_record new) old
+pub kept_records_of : (old new : List Record) (table : List (List ℕ)) → length table ≡ length old → map record_of (filter (record_stays new) (stored_at old table)) ≡ filter (has_record new) old
 kept_records_of old new table one_each = filter_records (has_record new) (stored_at old table) ∙ ap (filter (has_record new)) (stored_records old table one_each)
 
-pub kept_there_of : (old new : List Record) (table : List (List ℕ)) → length table ≡ length old → All (λ (s : Stored). Contains new s.record_is) (filter (stays new) (stored_at old table))
+pub kept_there_of : (old new : List Record) (table : List (List ℕ)) → length table ≡ length old → All (λ (s : Stored). Contains new s.record_is) (filter (record_stays new) (stored_at old table))
     → All (Contains new) (filter (has_record new) old)
 kept_there_of old new table one_each there =
-    subst (λ (l : List Record). All (Contains new) l) (kept_records_of old new table one_each) (mapped_all record_of (Contains new) (filter (stays new) (stored_at old table)) there)
+    subst (λ (l : List Record). All (Contains new) l) (kept_records_of old new table one_each) (mapped_all record_of (Contains new) (filter (record_stays new) (stored_at old table)) there)
 
 -- the slots of records that are placed are as many as these need
 pub slots_need : (blocks : List ℕ) (S : List Stored) → All (λ s. IsPlaced blocks (placed_of s)) S → length (slots_in (map placed_of S)) ≡ need_of (map record_of S)
@@ -95,17 +95,17 @@ module _ (old new : List Record) (table : List (List ℕ)) (one_each : length ta
   abbrev S : List Stored
   S = stored_at old table
 
-  pub kept_records : map record_of (filter (stays new) S) ≡ filter (has_record new) old
+  pub kept_records : map record_of (filter (record_stays new) S) ≡ filter (has_record new) old
   kept_records = filter_records (has_record new) S ∙ ap (filter (has_record new)) (stored_records old table one_each)
 
-  pub gone_records : map record_of (filter (goes new) S) ≡ filter (lacks new) old
+  pub gone_records : map record_of (filter (record_goes new) S) ≡ filter (lacks new) old
   gone_records = filter_records (lacks new) S ∙ ap (filter (lacks new)) (stored_records old table one_each)
 
-  pub kept_there : All (λ (s : Stored). Contains new s.record_is) (filter (stays new) S) → All (Contains new) (filter (has_record new) old)
-  kept_there there = subst (λ (l : List Record). All (Contains new) l) kept_records (mapped_all record_of (Contains new) (filter (stays new) S) there)
+  pub kept_there : All (λ (s : Stored). Contains new s.record_is) (filter (record_stays new) S) → All (Contains new) (filter (has_record new) old)
+  kept_there there = subst (λ (l : List Record). All (Contains new) l) kept_records (mapped_all record_of (Contains new) (filter (record_stays new) S) there)
 
   -- the records that are kept need no more than those of the new database that the old one has
-  pub kept_need : All (λ (s : Stored). Contains new s.record_is) (filter (stays new) S) → need_of (filter (has_record new) old) ≤ need_of (filter (has_record old) new)
+  pub kept_need : All (λ (s : Stored). Contains new s.record_is) (filter (record_stays new) S) → need_of (filter (has_record new) old) ≤ need_of (filter (has_record old) new)
   kept_need there =
       few_sum (λ (r : Record). parts_of (own_len r)) (filter (has_record new) old) (filter (has_record old) new)
       (λ i j d below lt e. let less : place_of _ < place_of _ = AllPairs-filter (λ a b. place_of a < place_of b) (has_record new) old up i j d below lt in let same = ap place_of e in absurd (omega (arith, less, same)))
@@ -114,11 +114,11 @@ module _ (old new : List Record) (table : List (List ℕ)) (one_each : length ta
       filter_keeps (has_record old) new _ (kept_there there k d lt) (has_own old _ up in_old.0))
 
   -- there are blocks enough for those that are new
-  pub room_left : (out : List ℕ) → length out ≤ 1048576 → need_of new ≤ count out → count out ≤ length (free_numbers out) + length (slots_in (map placed_of (filter (stays new) S)))
-      → Holds out (map placed_of (filter (stays new) S)) → All (λ (s : Stored). Contains new s.record_is) (filter (stays new) S)
+  pub room_left : (out : List ℕ) → length out ≤ 1048576 → need_of new ≤ count out → count out ≤ length (free_numbers out) + length (slots_in (map placed_of (filter (record_stays new) S)))
+      → Holds out (map placed_of (filter (record_stays new) S)) → All (λ (s : Stored). Contains new s.record_is) (filter (record_stays new) S)
       → need_of (filter (lacks old) new) ≤ length (free_numbers out)
   room_left out small room enough holds there =
-      let K : List Stored = filter (stays new) S in
+      let K : List Stored = filter (record_stays new) S in
       let slots : length (slots_in (map placed_of K)) ≡ need_of (filter (has_record new) old) =
       slots_need out K (all_mapped placed_of (IsPlaced out) K holds.placed) ∙ ap need_of kept_records in
       let kept = kept_need there in
@@ -129,11 +129,11 @@ module _ (old new : List Record) (table : List (List ℕ)) (one_each : length ta
       omega (arith, slots, kept, whole, split, room, enough)
 
   pub next_store : (out : List ℕ) (made : List (List ℕ)) → length made ≡ length (filter (lacks old) new)
-      → Holds out (map placed_of (stored_at (filter (lacks old) new) made ++ filter (stays new) S))
+      → Holds out (map placed_of (stored_at (filter (lacks old) new) made ++ filter (record_stays new) S))
       → All (λ r. IsRecord (plain_of r)) old → All (λ r. IsRecord (plain_of r)) (filter (lacks old) new)
-      → All (λ (s : Stored). Contains new s.record_is) (filter (stays new) S) → All (Contains old) (filter (has_record old) new) → Store out new
+      → All (λ (s : Stored). Contains new s.record_is) (filter (record_stays new) S) → All (Contains old) (filter (has_record old) new) → Store out new
   next_store out made many holds sound_old sound_new there back =
-      let K : List Stored = filter (stays new) S in
+      let K : List Stored = filter (record_stays new) S in
       let T : List Stored = stored_at (filter (lacks old) new) made in
       let records : map record_of (T ++ K) ≡ filter (lacks old) new ++ filter (has_record new) old =
       map-append record_of T K ∙ ap (λ (l : List Record). l ++ map record_of K) (stored_records (filter (lacks old) new) made many)
@@ -155,23 +155,23 @@ module _ (old new : List Record) (table : List (List ℕ)) (one_each : length ta
 
   -- the blocks that were freed or taken
   abbrev pub touched_numbers : List ℕ → List ℕ
-  touched_numbers free = slots_in (map placed_of (filter (goes new) S)) ++ take (need_of (filter (lacks old) new)) free
+  touched_numbers free = slots_in (map placed_of (filter (record_goes new) S)) ++ take (need_of (filter (lacks old) new)) free
 
   pub touched_few : (blocks free : List ℕ) → Holds blocks (map placed_of S) → length (touched_numbers free) ≤ touched_blocks old new
   touched_few blocks free holds =
-      let G : List Stored = filter (goes new) S in
+      let G : List Stored = filter (record_goes new) S in
       let n : ℕ = need_of (filter (lacks old) new) in
       let gone : length (slots_in (map placed_of G)) ≡ need_of (filter (lacks new) old) =
-      slots_need blocks G (All-filter (goes new) (λ s. IsPlaced blocks (placed_of s)) S (all_mapped placed_of (IsPlaced blocks) S holds.placed)) ∙ ap need_of gone_records in
+      slots_need blocks G (All-filter (record_goes new) (λ s. IsPlaced blocks (placed_of s)) S (all_mapped placed_of (IsPlaced blocks) S holds.placed)) ∙ ap need_of gone_records in
       omega (arith, gone, length-append (slots_in (map placed_of G)) (take n free), length-take n free)
 
   pub touched_others : (before middle after free : List ℕ)
-      → ((b : ℕ) → 4 ≤ b → All (Avoids b) (filter (goes new) S) → block_at middle b ≡ block_at before b)
+      → ((b : ℕ) → 4 ≤ b → All (Avoids b) (filter (record_goes new) S) → block_at middle b ≡ block_at before b)
       → ((b : ℕ) → 4 ≤ b → All (λ n. n ≢ b) (take (need_of (filter (lacks old) new)) free) → block_at after b ≡ block_at middle b)
       → (b : ℕ) → 4 ≤ b → All (λ n. n ≢ b) (touched_numbers free) → block_at after b ≡ block_at before b
   touched_others before middle after free first second b low avoid =
-      let both = all_split (λ n. n ≢ b) (slots_in (map placed_of (filter (goes new) S))) (take (need_of (filter (lacks old) new)) free) avoid in
-      second b low both.1 ∙ first b low (avoid_in b (filter (goes new) S) both.0)
+      let both = all_split (λ n. n ≢ b) (slots_in (map placed_of (filter (record_goes new) S))) (take (need_of (filter (lacks old) new)) free) avoid in
+      second b low both.1 ∙ first b low (avoid_in b (filter (record_goes new) S) both.0)
 
 -- ---- the blocks that differ
 
@@ -184,15 +184,15 @@ pub changed_few : (old new numbers : List ℕ) → ((b : ℕ) → 4 ≤ b → b 
     → length (changed_numbers old new) ≤ length numbers
 changed_few old new numbers others =
     let all : List ℕ = numbers_from 4 (count new) in
-    few (changed_numbers old new) numbers (AllPairs-filter (λ a b. a ≢ b) (differs old new) all (numbers_apart 4 (count new)))
-    (λ k d lt. listed (get_or (changed_numbers old new) k d) (filter_has (differs old new) all (get_or (changed_numbers old new) k d) (Contains-get_or (changed_numbers old new) k d lt)))
+    few (changed_numbers old new) numbers (AllPairs-filter (λ a b. a ≢ b) (block_differs old new) all (numbers_apart 4 (count new)))
+    (λ k d lt. listed (get_or (changed_numbers old new) k d) (filter_has (block_differs old new) all (get_or (changed_numbers old new) k d) (Contains-get_or (changed_numbers old new) k d lt)))
   where
     number_read : (xs : List ℕ) (i b : ℕ) → i < length xs → get_or xs i 0 ≡ b → get_or xs i b ≡ b
     number_read [] i b lt e = absurd (omega (arith, lt))
     number_read (x ∷ xs) zero b lt e = e
     number_read (x ∷ xs) (suc i) b lt e = number_read xs i b (omega (arith, lt)) e
 
-    listed : (x : ℕ) → Contains (numbers_from 4 (count new)) x × (differs old new x ≡ true) → Contains numbers x
+    listed : (x : ℕ) → Contains (numbers_from 4 (count new)) x × (block_differs old new x ≡ true) → Contains numbers x
     listed x there =
         elim (find_number numbers x) [
           | inl found ↦ (found.0, found.1, number_read numbers found.0 x found.1 found.2)

@@ -32,8 +32,8 @@ use Rattle.ldm_copy.proofs.MadeLaws.{head_of, rest_of}
 use Rattle.ldm_copy.proofs.OneCopy.{one_copy}
 use Rattle.ldm_copy.proofs.WrittenLaws.{begun_is}
 use Rattle.ldm_copy.specs.Body.{stored_at}
-use Rattle.ldm_changed.specs.Plan.{has_record, lacks, stays, differs, changed_numbers}
-use Rattle.ldm_changed.specs.Change.{Changed, ChangesFrom, IsNext}
+use Rattle.ldm_changed.specs.Plan.{has_record, lacks, record_stays, block_differs, changed_numbers}
+use Rattle.ldm_changed.specs.Change.{Changed, ChangesFrom, IsNextBody}
 use Rattle.ldm_frags.proofs.HoldLaws.{find_number}
 use Rattle.ldm_frags.proofs.ApartLaws.{hold_permuted}
 use Rattle.ldm_frags.proofs.FewLaws.{few, numbers_apart, number_within}
@@ -100,7 +100,7 @@ unlisted_same old new b low high none =
       | inl same ↦ (bytes_eq-Decides (block_at old b) (block_at new b)).0 same
       | inr differ ↦
           let there : Contains (numbers_from 4 (count new)) b = number_there 4 (count new) b low (omega (arith, high)) in
-          let listed : Contains (changed_numbers old new) b = filter_keeps (differs old new) (numbers_from 4 (count new)) b there (not_from_false (bytes_eq (block_at old b) (block_at new b)) differ) in
+          let listed : Contains (changed_numbers old new) b = filter_keeps (block_differs old new) (numbers_from 4 (count new)) b there (not_from_false (bytes_eq (block_at old b) (block_at new b)) differ) in
           absurd (All-contains (λ n. n ≢ b) (changed_numbers old new) b none listed refl)
     ]
 
@@ -161,13 +161,13 @@ added_listed old change from some n low high = elim (find_number change.numbers 
 
 -- the blocks hold the new records at the slots of the woven table
 pub next_holds : (old new slice : List Record) (table kept kept' made made' next : List (List ℕ)) (out : List ℕ) → length table ≡ length old → slice ≡ new
-    → kept' ≡ kept → kept ≡ map (λ (s : Stored). s.slots) (filter (stays new) (stored_at old table)) → made' ≡ made
+    → kept' ≡ kept → kept ≡ map (λ (s : Stored). s.slots) (filter (record_stays new) (stored_at old table)) → made' ≡ made
     → filter (has_record new) old ≡ filter (has_record old) new
-    → Holds out (map placed_of (stored_at (filter (lacks old) new) made ++ filter (stays new) (stored_at old table)))
+    → Holds out (map placed_of (stored_at (filter (lacks old) new) made ++ filter (record_stays new) (stored_at old table)))
     → IsPermutation (stored_at slice next) (stored_at (filter (lacks old) slice) made' ++ stored_at (filter (has_record old) slice) kept')
     → Holds out (map placed_of (stored_at new next))
 next_holds old new slice table kept kept' made made' next out one_each is kept_same kept_is made_same same holds woven =
-    let K : List Stored = filter (stays new) (stored_at old table) in
+    let K : List Stored = filter (record_stays new) (stored_at old table) in
     let stored : stored_at (filter (has_record old) new) kept' ≡ K =
     ap (λ (k : List (List ℕ)). stored_at (filter (has_record old) new) k) (kept_same ∙ kept_is)
     ∙ ap (λ (l : List Record). stored_at l (map (λ (s : Stored). s.slots) K)) (sym (kept_records_of old new table one_each ∙ same)) ∙ stored_again K in
@@ -185,7 +185,7 @@ pub next_is : (old : List ℕ) (last : ℕ) (db : Database) (header : Header) (s
     → ((sectors : ℕ) → header.last ≤ 4 * sectors → vmdb_fault sector sectors ≡ None)
     → length blocks ≡ 128 * room_of db.header.last → Store blocks db.records → numbers ≡ changed_numbers (take (length old - 512) (drop 512 old)) blocks
     → length table ≡ length db.records → Holds blocks (map placed_of (stored_at db.records table)) → blocks' ≡ blocks → bytes ≡ sector ++ blocks'
-    → IsNext old db bytes numbers table
+    → IsNextBody old db bytes numbers table
 next_is old last db header slice counts sector blocks blocks' numbers bytes table size some rises high rising same_header same_records counted whole wrote reads faultless room store changed one_each holds same_blocks is =
     let low : 4 ≤ db.header.last = omega (arith, some, rises) in
     let rest : take (length old - 512) (drop 512 old) ≡ drop 512 old = take_rest old 512 in
@@ -200,7 +200,7 @@ next_is old last db header slice counts sector blocks blocks' numbers bytes tabl
     let numbers_are : numbers ≡ changed_numbers (drop 512 old) blocks = changed ∙ ap (λ (l : List ℕ). changed_numbers l blocks) rest in
     let total : length (sector ++ blocks) ≡ 512 + length blocks = omega (arith, length-append sector blocks, whole) in
     let from = changes_from old sector blocks numbers whole (omega (arith, size, some)) even full numbers_are in
-    subst (λ (l : List ℕ). IsNext old db l numbers table) (sym bytes_are) (record {
+    subst (λ (l : List ℕ). IsNextBody old db l numbers table) (sym bytes_are) (record {
       body = body;
       tabled = record {
         db = db;
@@ -213,11 +213,11 @@ next_is old last db header slice counts sector blocks blocks' numbers bytes tabl
       header = head_of sector blocks whole ∙ wrote';
       from = from;
       added = added_listed old (record { body = sector ++ blocks; numbers = numbers }) from (omega (arith, size, some));
-      apart = subst (λ (l : List ℕ). AllPairs (λ a b. a ≢ b) l) (sym numbers_are) (AllPairs-filter (λ a b. a ≢ b) (differs (drop 512 old) blocks) (numbers_from 4 (count blocks)) (numbers_apart 4 (count blocks)));
+      apart = subst (λ (l : List ℕ). AllPairs (λ a b. a ≢ b) l) (sym numbers_are) (AllPairs-filter (λ a b. a ≢ b) (block_differs (drop 512 old) blocks) (numbers_from 4 (count blocks)) (numbers_apart 4 (count blocks)));
       change = record {
         some = omega (arith, total);
         within = subst (λ (l : List ℕ). All (λ n. (4 ≤ n) × (128 * n + 128 ≤ length (sector ++ blocks))) l) (sym numbers_are) (λ k d lt.
-            let there = filter_has (differs (drop 512 old) blocks) (numbers_from 4 (count blocks)) (get_or (changed_numbers (drop 512 old) blocks) k d) (Contains-get_or (changed_numbers (drop 512 old) blocks) k d lt) in
+            let there = filter_has (block_differs (drop 512 old) blocks) (numbers_from 4 (count blocks)) (get_or (changed_numbers (drop 512 old) blocks) k d) (Contains-get_or (changed_numbers (drop 512 old) blocks) k d lt) in
             let in_range = number_within 4 (count blocks) (get_or (changed_numbers (drop 512 old) blocks) k d) there.0 in
             let top = in_range.1 in
             (in_range.0, omega (arith, top, total, full)));

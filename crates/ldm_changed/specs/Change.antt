@@ -12,7 +12,7 @@ pub record Changed : Type 0 where
   pub numbers : List ℕ
 
 -- the body has a header sector, and each number is that of one of its blocks
-pub record IsChange (body numbers : List ℕ) : Type 0 where
+pub record IsChangedBody (body numbers : List ℕ) : Type 0 where
   pub some : 512 ≤ length body
   pub within : All (λ n. (4 ≤ n) × (128 * n + 128 ≤ length body)) numbers
 
@@ -22,11 +22,11 @@ pub record ChangesFrom (old : List ℕ) (change : Changed) : Type 0 where
       → (k < length old) × (slice_index change.body k ≡ slice_index old k)
 
 -- these bytes and numbers are a change of the old body to one of the database, and the table has the slots of its records
-pub record IsNext (old : List ℕ) (db : Database) (bytes numbers : List ℕ) (table : List (List ℕ)) : Type 0 where
+pub record IsNextBody (old : List ℕ) (db : Database) (bytes numbers : List ℕ) (table : List (List ℕ)) : Type 0 where
   pub body : IsBodyOf db bytes
   pub tabled : IsTabled bytes table
   pub header : header_sector bytes ≡ written db.header db.header.seq (counts_of db.records)
   pub from : ChangesFrom old (record { body = bytes; numbers = numbers })
   pub added : (n : ℕ) → length old ≤ 128 * n → 128 * n + 128 ≤ length bytes → Contains numbers n
   pub apart : AllPairs (λ a b. a ≢ b) numbers
-  pub change : IsChange bytes numbers
+  pub change : IsChangedBody bytes numbers

@@ -32,12 +32,12 @@ added_blocks old new = 4 * (new / 4 - old / 4)
 
 -- ---- records that stay or go
 
--- the record stays, or goes
-abbrev pub stays : List Record → Stored → Bool
-stays new s = has_record new s.record_is
+-- the record record_stays, or record_goes
+abbrev pub record_stays : List Record → Stored → Bool
+record_stays new s = has_record new s.record_is
 
-abbrev pub goes : List Record → Stored → Bool
-goes new s = not (has_record new s.record_is)
+abbrev pub record_goes : List Record → Stored → Bool
+record_goes new s = not (has_record new s.record_is)
 
 -- no block of the record has this number
 abbrev pub Avoids : ℕ → Stored → Type 0
@@ -48,7 +48,7 @@ pub record AreFreed (slots : List ℕ) (old new : List ℕ) : Type 0 where
   pub unused : All (λ b. block_at new b ≡ unused_block b) slots
   pub others : (b : ℕ) → 4 ≤ b → All (λ n. n ≢ b) slots → block_at new b ≡ block_at old b
 
--- where a record stays its slots are kept, else its blocks are freed
+-- where a record record_stays its slots are kept, else its blocks are freed
 abbrev pub KeepsOrFrees : Bool → List ℕ → List (List ℕ) → List (List ℕ) → List ℕ → List ℕ → Type 0
 KeepsOrFrees true slots kept next old new = (next ≡ kept ++ slots ∷ []) × (new ≡ old)
 KeepsOrFrees false slots kept next old new = (next ≡ kept) × AreFreed slots old new
@@ -74,12 +74,12 @@ LeavesOrAdds false r free at next made more old new = IsAdded r free at next mad
 
 -- ---- blocks that differ
 
-abbrev pub differs : List ℕ → List ℕ → ℕ → Bool
-differs old new b = not (bytes_eq (block_at old b) (block_at new b))
+abbrev pub block_differs : List ℕ → List ℕ → ℕ → Bool
+block_differs old new b = not (bytes_eq (block_at old b) (block_at new b))
 
 -- the numbers of the blocks that differ, in rising order
 abbrev pub changed_numbers : List ℕ → List ℕ → List ℕ
-changed_numbers old new = filter (differs old new) (numbers_from 4 (count new))
+changed_numbers old new = filter (block_differs old new) (numbers_from 4 (count new))
 
 -- ---- the slots of all records, from two lists
 

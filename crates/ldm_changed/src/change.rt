@@ -1,7 +1,7 @@
 //! A change of a body: the new body, and the numbers of the blocks that differ.
 ghost use Rattle.std.specs.Prelude.{◌≡◌, ◌≢◌, ◌↔◌, ℕ, ◌+◌, ◌-◌, ◌*◌, ◌≤◌, ◌<◌, ◌++◌, IsTrue};
-ghost use Rattle.std.specs.Prelude.{length, drop, map};
-ghost use Rattle.std.specs.Prelude.{count_by, IfOk, OnOk, All, AllPairs, Contains};
+ghost use Rattle.std.specs.Prelude.{length, drop, map, count_by, IfOk, OnOk, All, AllPairs};
+ghost use Rattle.std.specs.Prelude.{Contains};
 ghost use Rattle.ldm_vmdb.specs.Sectors.{last_of};
 ghost use Rattle.ldm_vmdb.specs.Headers.{written};
 ghost use Rattle.ldm_frags.specs.Blocks.{count};
@@ -14,7 +14,7 @@ ghost use Rattle.ldm_copy.specs.Copy.{header_sector};
 ghost use Rattle.ldm_copy.specs.Body.{placed_of, Store, IsBodyOf, IsSomeBody, count_of, counts_of};
 ghost use Rattle.ldm_changed.specs.Plan.{added_blocks, touched_blocks, changed_numbers};
 ghost use Rattle.ldm_copy.specs.Body.{stored_at};
-ghost use Rattle.ldm_changed.specs.Change.{ChangesFrom, IsNext};
+ghost use Rattle.ldm_changed.specs.Change.{ChangesFrom, IsNextBody};
 
 use crate::planning::{changed, rewrite_blocks};
 use crate::weaving::weave;
@@ -34,13 +34,13 @@ pub struct Change {
 }
 
 impl Model for Change {
-    ghost use Rattle.ldm_changed.specs.Change.{Changed, IsChange};
+    ghost use Rattle.ldm_changed.specs.Change.{Changed, IsChangedBody};
 
     ghost Value = { Changed };
 
     ghost view = { λ c. record { body = c.body; numbers = c.numbers } };
 
-    ghost invariant = { λ c. IsChange c.body c.numbers };
+    ghost invariant = { λ c. IsChangedBody c.body c.numbers };
 }
 
 impl Change {
@@ -107,7 +107,7 @@ fn next_bytes(
     requires last { last_of (header_sector body.now) ≤ new.now.header.last }
     requires high { new.now.header.last ≤ 8192 }
     requires room { FitsHeader new.now }
-    ensures next { IfOk result (λ next. IsNext body.now new.now next.0 next.1 next.2.items) }
+    ensures next { IfOk result (λ next. IsNextBody body.now new.now next.0 next.1 next.2.items) }
     ensures few { IfOk result (λ next. length next.1
         ≤ touched_blocks old.now.records new.now.records
         + added_blocks (last_of (header_sector body.now)) new.now.header.last) }

@@ -1,18 +1,16 @@
 //! The next body from the one that is there: which blocks are freed and which are taken.
 ghost use Rattle.std.specs.Prelude.{◌≡◌, ◌≢◌, ◌↔◌, ℕ, ◌+◌, ◌*◌, ◌≤◌, ◌<◌, ◌++◌, ◌∷◌, [], List};
-ghost use Rattle.std.specs.Prelude.{length, take, map};
-ghost use Rattle.std.specs.Prelude.{filter, bytes_eq, if◌then◌else◌, IsTrue, IfOk, OnOk, All};
-ghost use Rattle.std.specs.Prelude.{AllPairs, Contains};
+ghost use Rattle.std.specs.Prelude.{length, take, map, filter, bytes_eq, if◌then◌else◌, IsTrue};
+ghost use Rattle.std.specs.Prelude.{IfOk, OnOk, All, AllPairs, Contains};
 ghost use Rattle.ldm_frags.specs.Blocks.{count};
 ghost use Rattle.ldm_frags.specs.Written.{parts_of, block_at, IsInUse, IsPlaced, Holds};
 ghost use Rattle.ldm_records.specs.Plain.{own_spelling, IsRecord};
 ghost use Rattle.ldm_records.specs.Views.{plain_of};
 ghost use Rattle.ldm_group.specs.Room.{own_len, IsFitting, need_of};
 ghost use Rattle.ldm_copy.specs.Body.{Stored, placed_of, Store};
-ghost use Rattle.ldm_changed.specs.Plan.{has_record, lacks, touched_blocks, stays, goes, Avoids};
-ghost use Rattle.ldm_changed.specs.Plan.{AreFreed};
-ghost use Rattle.ldm_changed.specs.Plan.{KeepsOrFrees, slots_from, IsAdded, LeavesOrAdds, differs};
-ghost use Rattle.ldm_changed.specs.Plan.{changed_numbers};
+ghost use Rattle.ldm_changed.specs.Plan.{has_record, lacks, touched_blocks, record_stays};
+ghost use Rattle.ldm_changed.specs.Plan.{record_goes, Avoids, AreFreed, KeepsOrFrees, slots_from};
+ghost use Rattle.ldm_changed.specs.Plan.{IsAdded, LeavesOrAdds, block_differs, changed_numbers};
 ghost use Rattle.ldm_copy.specs.Body.{stored_at};
 ghost use Rattle.ldm_frags.specs.Free.{is_free, free_numbers};
 
@@ -64,7 +62,7 @@ fn keep_or_free(
     kept: &mut Vec<Slots>,
 ) -> Result<(), NoMemory>
     requires within { All (IsInUse out.old) slots.now }
-    ensures { OnOk result (KeepsOrFrees stays slots.now kept.old.items kept.new.items
+    ensures { OnOk result (KeepsOrFrees record_stays slots.now kept.old.items kept.new.items
         out.old out.new) }
 {
     if stays {
@@ -88,14 +86,15 @@ pub fn free_gone(
     requires small { length out.old ≤ 1048576 }
     requires holds { Holds out.old (map placed_of (stored_at records.now table.now)) }
     ensures kept { IfOk result (λ kept. kept.items
-        ≡ map (λ s. s.slots) (filter (stays new.now.records) (stored_at records.now table.now))) }
+        ≡ map (λ s. s.slots) (filter (record_stays new.now.records)
+        (stored_at records.now table.now))) }
     ensures holds { OnOk result (Holds out.new (map placed_of
-        (filter (stays new.now.records) (stored_at records.now table.now)))) }
+        (filter (record_stays new.now.records) (stored_at records.now table.now)))) }
     ensures others { OnOk result ((b : ℕ) → 4 ≤ b
-        → All (Avoids b) (filter (goes new.now.records) (stored_at records.now table.now))
+        → All (Avoids b) (filter (record_goes new.now.records) (stored_at records.now table.now))
         → block_at out.new b ≡ block_at out.old b) }
     ensures there { OnOk result (All (λ s. Contains new.now.records s.record_is)
-        (filter (stays new.now.records) (stored_at records.now table.now))) }
+        (filter (record_stays new.now.records) (stored_at records.now table.now))) }
 {
     let mut kept = Vec::new(alloc);
     for i in 0..records.len() {
@@ -230,7 +229,7 @@ pub fn write_made(
 fn differs(old: &[u8], new: &[u8], k: usize) -> bool
     requires within { k < count new.now }
     requires small { length new.now ≤ 1048576 }
-    ensures { result ≡ differs old.now new.now (k + 4) }
+    ensures { result ≡ block_differs old.now new.now (k + 4) }
 {
     let at = 128 * k;
     old.len() < at + 128 || old[at..at + 128] != new[at..at + 128]
@@ -264,13 +263,13 @@ pub fn rewrite_blocks(
     requires fits { All IsFitting new.now.records }
     requires room { need_of new.now.records ≤ count out.old }
     ensures kept { IfOk result (λ slots. slots.0.items
-        ≡ map (λ s. s.slots) (filter (stays new.now.records)
+        ≡ map (λ s. s.slots) (filter (record_stays new.now.records)
         (stored_at old.now.records table.now))) }
     ensures made { IfOk result (λ slots. length slots.1.items
         ≡ length (filter (lacks old.now.records) new.now.records)) }
     ensures holds { IfOk result (λ slots. Holds out.new
         (map placed_of (stored_at (filter (lacks old.now.records) new.now.records) slots.1.items
-        ++ filter (stays new.now.records) (stored_at old.now.records table.now)))) }
+        ++ filter (record_stays new.now.records) (stored_at old.now.records table.now)))) }
     ensures same { OnOk result (filter (has_record new.now.records) old.now.records
         ≡ filter (has_record old.now.records) new.now.records) }
     ensures store { OnOk result (Store out.new new.now.records) }

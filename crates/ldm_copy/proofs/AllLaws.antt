@@ -17,7 +17,7 @@ use Rattle.ldm_frags.specs.Written.{Placed, slot, IsPlaced, Holds, IsInUse, bloc
 use Rattle.ldm_frags.proofs.Fields.{HasFields, fields_of}
 use Rattle.ldm_frags.proofs.OrderLaws.{numbers_length}
 use Rattle.ldm_copy.specs.Body.{Stored, placed_of}
-use Rattle.ldm_copy.specs.Finding.{part_at, slots_by, payloads, IsFirst, IsLater, IsFoundAt}
+use Rattle.ldm_copy.specs.Finding.{part_at, slots_by, payloads, IsFirstPart, IsLater, IsFoundAt}
 use Rattle.ldm_frags.proofs.HoldLaws.{few_slots, part_fields}
 use Rattle.ldm_copy.proofs.FindLaws.{map_at, payload_whole, held_first}
 
@@ -184,7 +184,7 @@ module _ (blocks : List ℕ) (k : ℕ) (small : length blocks ≤ 1048576) (lt :
           | inr ne ↦ ⊎_elim (λ a. inl a) (λ b. inr (⊎_elim (λ c. inl c) (λ d. inr (d.0, Contains-append_left S (s ∷ []) d.0 d.1, d.2)) b)) (w.seen j (omega (arith, l, ne)))
         ];
         complete = λ ss sound holds.
-            let first : IsFirst blocks (k + 4) = found.first in
+            let first : IsFirstPart blocks (k + 4) = found.first in
             let some : 1 ≤ parts blocks k = (let e : parts blocks (k + 4 - 4) ≡ parts blocks k = ap (parts blocks) at_k in let l = found.some in omega (arith, e, l)) in
             let h = held_first blocks ss k small lt sound holds first some in
             let slots : s.slots ≡ h.s.slots = found.slots_are ∙ ap (slots_by blocks (k + 4)) (ap (parts blocks) at_k) ∙ h.slots_are in

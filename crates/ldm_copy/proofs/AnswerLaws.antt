@@ -16,7 +16,7 @@ use Rattle.ldm_copy.specs.declared.answer.CopyError.{CopyError}
 use Rattle.ldm_copy.specs.declared.answer.CopyError.TheVariants.{Fault, Disk, NoMemory}
 use Rattle.ldm_copy.specs.Records.{SpellRecords, HoldRecords}
 use Rattle.ldm_copy.specs.Copy.{header_sector, blocks_in_use, IsOpen, HasHeader, IsCopyOf}
-use Rattle.ldm_copy.specs.Answers.{IsAnswer, Answers}
+use Rattle.ldm_copy.specs.Answers.{IsAnswer, AnswersCopy}
 use Rattle.ldm_copy.specs.Steps.{OpensHeader, ReadsRecord, ReadsRecords, MakesDatabase}
 use Rattle.ldm_records.specs.declared.types.Record.{Record}
 use Rattle.ldm_copy.proofs.RecordLaws.{fault_at}
@@ -97,7 +97,7 @@ module _ (area : List ℕ) (sectors : ℕ) where
   passed r e h a = let p = err_from_is_err_and r h in rw (p.1, p.2) a
 
   -- what is the copy is answered
-  pub answers_only : (r : Result CopyState CopyError) → IsAnswer area sectors r → (copy : Result CopyState CopyFault) → IsCopyOf area sectors copy → Answers r copy
+  pub answers_only : (r : Result CopyState CopyError) → IsAnswer area sectors r → (copy : Result CopyState CopyFault) → IsCopyOf area sectors copy → AnswersCopy r copy
   answers_only (Ok state) a copy h = one_copy area sectors copy (Ok state) h a
   answers_only (Err (Fault f)) a copy h = one_copy area sectors copy (Err f) h a
   answers_only (Err Disk) a copy h = tt

@@ -12,7 +12,7 @@ use Rattle.ldm_frags.proofs.Below.{least_is, least_none, none_from}
 use Rattle.ldm_frags.proofs.Below as below
 use Rattle.ldm_frags.proofs.OrderLaws.{numbers_length}
 use Rattle.ldm_copy.specs.Body.{Stored, placed_of}
-use Rattle.ldm_copy.specs.Finding.{part_at, slots_by, payloads, IsFirst, IsLater}
+use Rattle.ldm_copy.specs.Finding.{part_at, slots_by, payloads, IsFirstPart, IsLater}
 use Rattle.ldm_frags.proofs.HoldLaws.{nowhere, record_at, few_held, few_slots, part_fields, Stands, in_record, free, stands, place_of, least_of, parts_more, filled_length}
 
 pub slots_more : (f : ℕ → ℕ) (number part x : ℕ) (before after : List ℕ) → 1 ≤ part → before ≡ number ∷ map f (numbers_from 1 (part - 1))
@@ -97,7 +97,7 @@ pub record HeldFirst (blocks : List ℕ) (ss : List Stored) (k : ℕ) : Type 0 w
   pub sound : IsRecord (plain_of s.record_is)
 
 pub held_first : (blocks : List ℕ) (ss : List Stored) (k : ℕ) → length blocks ≤ 1048576 → k < count blocks → All (λ s. IsRecord (plain_of s.record_is)) ss → Holds blocks (map placed_of ss)
-    → IsFirst blocks (k + 4) → 1 ≤ parts blocks k → HeldFirst blocks ss k
+    → IsFirstPart blocks (k + 4) → 1 ≤ parts blocks k → HeldFirst blocks ss k
 held_first blocks ss k small lt sound holds first some = by (stands blocks (map placed_of ss) small holds k lt)
   where
     at_k : k + 4 - 4 ≡ k
@@ -122,7 +122,7 @@ held_first blocks ss k small lt sound holds first some = by (stands blocks (map 
 
 -- where a block is in use and begins no record, it is a later part
 pub held_later : (blocks : List ℕ) (ss : List Stored) (k : ℕ) → length blocks ≤ 1048576 → k < count blocks → Holds blocks (map placed_of ss)
-    → 1 ≤ parts blocks k → (IsFirst blocks (k + 4) → ⊥) → IsLater blocks (k + 4)
+    → 1 ≤ parts blocks k → (IsFirstPart blocks (k + 4) → ⊥) → IsLater blocks (k + 4)
 unfolding part_at
 held_later blocks ss k small lt holds some not_first = by (stands blocks (map placed_of ss) small holds k lt)
   where
@@ -145,13 +145,13 @@ held_later blocks ss k small lt holds some not_first = by (stands blocks (map pl
         let g : group blocks (k + 4 - 4) ≡ slot r 0 = ap (group blocks) at_k ∙ has.group in
         let p : part blocks (k + 4 - 4) ≡ suc i = ap (part blocks) at_k ∙ has.part in
         let first = part_fields blocks r 0 (slot r 0 - 4) small is (omega (arith, li)) (omega (arith, low)) in
-        let head : IsFirst blocks (slot r 0) = record { part_is = first.part; group_is = first.group } in
+        let head : IsFirstPart blocks (slot r 0) = record { part_is = first.part; group_is = first.group } in
         let many : parts blocks (slot r 0 - 4) ≡ length r.slots = first.parts in
         let least : least_below (count blocks) (is_part blocks (slot r 0) (suc i)) ≡ k = least_of blocks (map placed_of ss) m (suc i) k small holds lm li (omega (arith, li)) lt e in
         record {
           low = omega (arith, g, low);
           high = omega (arith, g, high);
-          first = subst (IsFirst blocks) (sym g) head;
+          first = subst (IsFirstPart blocks) (sym g) head;
           some = omega (arith, p);
           few = (let four = (few_slots blocks r is).1 in omega (arith, p, li, four));
           below = subst (λ (b : ℕ). part blocks (k + 4 - 4) < parts blocks (b - 4)) (sym g) (omega (arith, p, many, li));

@@ -9,7 +9,7 @@ use Rattle.ldm_records.specs.declared.types.Record.{Record}
 use Rattle.ldm_records.specs.Plain.{Plain, own_spelling, IsRecord}
 use Rattle.ldm_records.specs.Views.{plain_of}
 use Rattle.ldm_frags.specs.Blocks.{numbers_from}
-use Rattle.ldm_frags.specs.Written.{Placed, Holds, parts_of, in_order}
+use Rattle.ldm_frags.specs.Written.{Placed, Holds, parts_of, laid_in_order}
 use Rattle.ldm_vmdb.specs.Headers.{vmdb_fault, written, IsHeaderOf, ReadsBack}
 use Rattle.ldm_vmdb.specs.declared.header.Header.{Header}
 use Rattle.ldm_vmdb.specs.declared.header.Counts.{Counts}
@@ -42,7 +42,7 @@ stored_from number (r ∷ records) =
     let n = parts_of (length (own_spelling (plain_of r))) in
     record { record_is = r; slots = numbers_from number n } ∷ stored_from (number + n) records
 
-stored_placed : (number : ℕ) (records : List Record) → map placed_of (stored_from number records) ≡ in_order number (spellings records)
+stored_placed : (number : ℕ) (records : List Record) → map placed_of (stored_from number records) ≡ laid_in_order number (spellings records)
 stored_placed number [] = refl
 stored_placed number (r ∷ records) =
     let n = parts_of (length (own_spelling (plain_of r))) in
@@ -58,7 +58,7 @@ stored_sound number (r ∷ records) sound zero d lt = sound 0 r (omega arith)
 stored_sound number (r ∷ records) sound (suc k) d lt =
     stored_sound (number + parts_of (length (own_spelling (plain_of r)))) records (λ j e le. sound (suc j) e (omega arith)) k d (omega arith)
 
-store_of : (blocks : List ℕ) (records : List Record) → All (λ r. IsRecord (plain_of r)) records → Holds blocks (in_order 4 (spellings records)) → Store blocks records
+store_of : (blocks : List ℕ) (records : List Record) → All (λ r. IsRecord (plain_of r)) records → Holds blocks (laid_in_order 4 (spellings records)) → Store blocks records
 store_of blocks records sound holds = record {
   stored = stored_from 4 records;
   once = subst (λ (l : List Record). IsPermutation l records) (sym (stored_records 4 records)) (IsPermutation-refl records);
@@ -77,7 +77,7 @@ module _ (sector blocks : List ℕ) (whole : length sector ≡ 512) where
 
   pub made_body : (db : Database) → ReadsBack db.header db.header.seq sector
       → ((sectors : ℕ) → db.header.last ≤ 4 * sectors → vmdb_fault sector sectors ≡ None)
-      → All (λ r. IsRecord (plain_of r)) db.records → Holds blocks (in_order 4 (spellings db.records)) → length blocks ≡ 128 * room_of db.header.last
+      → All (λ r. IsRecord (plain_of r)) db.records → Holds blocks (laid_in_order 4 (spellings db.records)) → length blocks ≡ 128 * room_of db.header.last
       → 4 ≤ db.header.last → Rising db.records → IsBodyOf db (sector ++ blocks)
   made_body db reads faultless sound holds size low rising = record {
     is = record {
@@ -102,12 +102,12 @@ module _ (sector blocks : List ℕ) (whole : length sector ≡ 512) where
 -- what the parts of the code make
 pub made_of : (db : Database) (header : Header) (records : List Record) (counts : Counts) (payloads : List (List ℕ)) (room : ℕ) (sector blocks bytes : List ℕ)
     → header ≡ db.header → records ≡ db.records → Rising db.records → 4 ≤ db.header.last
-    → payloads ≡ spellings records → All (λ r. IsRecord (plain_of r)) records → room ≡ room_of db.header.last → length blocks ≡ 128 * room → Holds blocks (in_order 4 payloads)
+    → payloads ≡ spellings records → All (λ r. IsRecord (plain_of r)) records → room ≡ room_of db.header.last → length blocks ≡ 128 * room → Holds blocks (laid_in_order 4 payloads)
     → counts ≡ counts_of records → length sector ≡ 512 → sector ≡ written header header.seq counts → ReadsBack header header.seq sector
     → ((sectors : ℕ) → header.last ≤ 4 * sectors → vmdb_fault sector sectors ≡ None) → bytes ≡ sector ++ blocks → IsBodyOf db bytes × IsMadeOf db bytes
 made_of db header records counts payloads room sector blocks bytes same_header same_records rising low spelled sound has_room size holds counted whole wrote reads faultless is =
     let sound' = subst (λ (l : List Record). All (λ r. IsRecord (plain_of r)) l) same_records sound in
-    let holds' = subst (λ (l : List (List ℕ)). Holds blocks (in_order 4 l)) (spelled ∙ ap spellings same_records) holds in
+    let holds' = subst (λ (l : List (List ℕ)). Holds blocks (laid_in_order 4 l)) (spelled ∙ ap spellings same_records) holds in
     let reads' = subst (λ (h : Header). ReadsBack h h.seq sector) same_header reads in
     let faultless' = subst (λ (h : Header). (sectors : ℕ) → h.last ≤ 4 * sectors → vmdb_fault sector sectors ≡ None) same_header faultless in
     let wrote' : sector ≡ written db.header db.header.seq (counts_of db.records) =
@@ -116,7 +116,7 @@ made_of db header records counts payloads room sector blocks bytes same_header s
       made_body sector blocks whole db reads' faultless' sound' holds' (size ∙ ap (λ (n : ℕ). 128 * n) has_room) low rising,
       record {
         header_is = head_of sector blocks whole ∙ wrote';
-        blocks_are = subst (λ (l : List ℕ). Holds l (in_order 4 (spellings db.records))) (sym (rest_of sector blocks whole)) holds';
+        blocks_are = subst (λ (l : List ℕ). Holds l (laid_in_order 4 (spellings db.records))) (sym (rest_of sector blocks whole)) holds';
       },
     ) in
     subst (λ (l : List ℕ). IsBodyOf db l × IsMadeOf db l) (sym is) both

@@ -5,7 +5,7 @@ use Rattle.std.proofs.Props.{props}
 use mathlib.Core.HLevel.{is_prop→PathP}
 use Rattle.ldm_bytes.proofs.NumberLaws.{some_is}
 use Rattle.ldm_vmdb.specs.declared.header.Header.{Header}
-use Rattle.ldm_vmdb.specs.Sectors.{IsKept}
+use Rattle.ldm_vmdb.specs.Sectors.{IsKeptHeader}
 use Rattle.ldm_vmdb.specs.Headers.{vmdb_fault, IsHeaderOf}
 use Rattle.ldm_frags.specs.declared.faults.Joined.{Joined}
 use Rattle.ldm_frags.specs.declared.faults.FragFault.{FragFault}
@@ -30,7 +30,7 @@ use Rattle.ldm_group.proofs.OneOrder.{one_rising}
 
 -- ---- headers and databases
 
-kept_prop : (name : List ℕ) (guid : ℕ) (raw : List ℕ) → IsProp (IsKept name guid raw)
+kept_prop : (name : List ℕ) (guid : ℕ) (raw : List ℕ) → IsProp (IsKeptHeader name guid raw)
 kept_prop name guid raw = hlevel props
 
 same_header : (a b : Header) → a.last ≡ b.last → a.seq ≡ b.seq → a.name ≡ b.name → a.guid ≡ b.guid → a.raw ≡ b.raw → a ≡ b
@@ -40,7 +40,7 @@ same_header a b last seq name guid raw = λ i. record {
   name = name i;
   guid = guid i;
   raw = raw i;
-  kept = is_prop→PathP (λ j. IsKept (name j) (guid j) (raw j)) (λ j. kept_prop (name j) (guid j) (raw j)) a.kept b.kept i;
+  kept = is_prop→PathP (λ j. IsKeptHeader (name j) (guid j) (raw j)) (λ j. kept_prop (name j) (guid j) (raw j)) a.kept b.kept i;
 }
 
 pub one_header : (a b : Header) (sector : List ℕ) → IsHeaderOf a sector → IsHeaderOf b sector → a ≡ b

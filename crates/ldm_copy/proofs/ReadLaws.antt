@@ -25,7 +25,7 @@ use Rattle.ldm_copy.specs.Alike.{sectors_from}
 use Rattle.ldm_copy.specs.Errors.{of_frag}
 use Rattle.ldm_copy.specs.Copy.{config_area, header_sector, blocks_in_use, IsOpen, IsCopyOf}
 use Rattle.ldm_copy.specs.Answers.{IsAnswer, FitsArea}
-use Rattle.ldm_copy.specs.Steps.{OpensHeader, ReadsHeader, JoinsBlocks, IsRead, MakesDatabase, ReadsDatabase}
+use Rattle.ldm_copy.specs.Steps.{OpensHeader, ReadsFirstSector, JoinsBlocks, IsRead, MakesDatabase, ReadsDatabase}
 use Rattle.ldm_copy.proofs.AnswerLaws.{closed_is, header_failed, database_failed, database_is, passed}
 use Rattle.ldm_copy.proofs.SoundLaws.{fits_area_of}
 use Rattle.ldm_copy.proofs.AreaLaws.{split, chunk_is, header_there, behind_header, blocks_there}
@@ -36,7 +36,7 @@ block_fault blocks (frag_errors.Fault f) found = found
 block_fault blocks frag_errors.NoMemory found = tt
 
 -- what the blocks answer, joined, they answer for the copy
-join_answers : (blocks : List ℕ) (e : FragError) → frag_answers.Answers blocks (Err e) → JoinsBlocks blocks (Err (of_frag e))
+join_answers : (blocks : List ℕ) (e : FragError) → frag_answers.AnswersBlocks blocks (Err e) → JoinsBlocks blocks (Err (of_frag e))
 join_answers blocks (frag_errors.Fault f) found = found
 join_answers blocks frag_errors.NoMemory found = tt
 
@@ -50,13 +50,13 @@ module _ (told : Type 0) (image : List ℕ) (from : ℕ) where
       none = omega arith
 
   -- what a joiner of all that was read answers
-  pub all_joined : (n : ℕ) (joiner : Fed) (list : Vec Joined) → IsRead told image from n (IsFed joiner) → ((blocks : List ℕ) → IsFed joiner blocks → frag_answers.Answers blocks (Ok list))
+  pub all_joined : (n : ℕ) (joiner : Fed) (list : Vec Joined) → IsRead told image from n (IsFed joiner) → ((blocks : List ℕ) → IsFed joiner blocks → frag_answers.AnswersBlocks blocks (Ok list))
       → IsRead told image from n (λ blocks. Joins blocks list.items)
   all_joined n joiner list read answers = record { bytes = read.bytes; size = read.size; there = read.there; passes = answers read.bytes read.passes }
 
-  pub fault_joined : (n : ℕ) (joiner : Fed) (e : FragError) → IsRead told image from n (IsFed joiner) → ((blocks : List ℕ) → IsFed joiner blocks → frag_answers.Answers blocks (Err e))
+  pub fault_joined : (n : ℕ) (joiner : Fed) (e : FragError) → IsRead told image from n (IsFed joiner) → ((blocks : List ℕ) → IsFed joiner blocks → frag_answers.AnswersBlocks blocks (Err e))
       → told → JoinsBlocks (sectors_from from n image) (Err (of_frag e))
-  fault_joined n joiner e read answers tells = join_answers (sectors_from from n image) e (subst (λ (x : List ℕ). frag_answers.Answers x (Err e)) (read.there tells) (answers read.bytes read.passes))
+  fault_joined n joiner e read answers tells = join_answers (sectors_from from n image) e (subst (λ (x : List ℕ). frag_answers.AnswersBlocks x (Err e)) (read.there tells) (answers read.bytes read.passes))
 
   -- a few sectors more
   module _ (k n : ℕ) (before : Fed) (read : IsRead told image from k (IsFed before)) where
@@ -86,7 +86,7 @@ module _ (told : Type 0) (image : List ℕ) (from : ℕ) where
 
 -- ---- the header and the database of a disk
 
-pub header_read : (first : List ℕ) (sectors : ℕ) (r : Result (Option Header) CopyError) → OpensHeader first sectors r → ReadsHeader first sectors r
+pub header_read : (first : List ℕ) (sectors : ℕ) (r : Result (Option Header) CopyError) → OpensHeader first sectors r → ReadsFirstSector first sectors r
 header_read first sectors (Ok header) h = h
 header_read first sectors (Err (Fault f)) h = h
 header_read first sectors (Err Disk) h = tt
@@ -131,14 +131,14 @@ module _ (disk : List ℕ) (label : Label) (some : label.area_sectors ≢ 0) (st
       ap (λ (k : ℕ). sectors_from k 1 disk) start_is ∙ sym (chunk_is disk (label.config_start + label.area_start) 1 512 refl)
       ∙ header_there disk (label.config_start + label.area_start) label.area_sectors (omega arith)
 
-  opened_at : (header found : Option Header) → header ≡ found → ReadsHeader first_sector label.area_sectors (Ok header) → OpensHeader (header_sector area) label.area_sectors (Ok found)
+  opened_at : (header found : Option Header) → header ≡ found → ReadsFirstSector first_sector label.area_sectors (Ok header) → OpensHeader (header_sector area) label.area_sectors (Ok found)
   opened_at header found is h =
       subst (λ (s : List ℕ). OpensHeader s label.area_sectors (Ok found)) header_is (subst (λ (o : Option Header). OpensHeader first_sector label.area_sectors (Ok o)) is h)
 
-  pub closed_found : (found : Option Header) → found ≡ None → ReadsHeader first_sector label.area_sectors (Ok found) → IsOpen area → ⊥
+  pub closed_found : (found : Option Header) → found ≡ None → ReadsFirstSector first_sector label.area_sectors (Ok found) → IsOpen area → ⊥
   closed_found found is h = closed_is area label.area_sectors (opened_at found None is h)
 
-  pub header_found : (r : Result CopyState CopyError) (e : CopyError) → ReadsHeader first_sector label.area_sectors (Err e) → IsErrAnd r (λ x. x ≡ e) → IsAnswer area label.area_sectors r
+  pub header_found : (r : Result CopyState CopyError) (e : CopyError) → ReadsFirstSector first_sector label.area_sectors (Err e) → IsErrAnd r (λ x. x ≡ e) → IsAnswer area label.area_sectors r
   header_found r (Fault f) h same =
       passed area label.area_sectors r (Fault f) same
       (header_failed area label.area_sectors (Fault f) (subst (λ (s : List ℕ). OpensHeader s label.area_sectors (Err (Fault f))) header_is h))
@@ -146,7 +146,7 @@ module _ (disk : List ℕ) (label : Label) (some : label.area_sectors ≢ 0) (st
   header_found r NoMemory h same = passed area label.area_sectors r NoMemory same tt
 
   module _ (found : Option Header) (header : Header) (is : found ≡ Some header) (small : header.last ≤ 4 * label.area_sectors)
-      (opened : ReadsHeader first_sector label.area_sectors (Ok found)) where
+      (opened : ReadsFirstSector first_sector label.area_sectors (Ok found)) where
     opened_there : OpensHeader (header_sector area) label.area_sectors (Ok (Some header))
     opened_there = opened_at found (Some header) is opened
 

@@ -9,7 +9,7 @@ use Rattle.std.proofs.lemmas.Slice.Eq.{bytes_eq-Decides}
 use Rattle.std.proofs.lemmas.List.Sorted.{sum_by-IsPermutation, All-permutation}
 use Rattle.ldm_vmdb.specs.declared.header.Header.{Header}
 use Rattle.ldm_vmdb.specs.declared.header.VmdbFault.{VmdbFault}
-use Rattle.ldm_vmdb.specs.Sectors.{has_magic, has_version, has_block_size, has_first_block, is_settled, last_of, fits_area}
+use Rattle.ldm_vmdb.specs.Sectors.{has_vmdb_magic, has_vmdb_version, has_block_size, has_first_block, is_settled, last_of, fits_area}
 use Rattle.ldm_vmdb.specs.Headers.{vmdb_fault}
 use Rattle.ldm_frags.specs.declared.faults.Joined.{Joined}
 use Rattle.ldm_frags.specs.Blocks.{count}
@@ -35,8 +35,8 @@ passed false fault others e = absurd cc
 pub last_fits : (sector : List ℕ) (sectors : ℕ) → vmdb_fault sector sectors ≡ None → last_of sector ≤ 4 * sectors
 unfolding vmdb_fault fits_area
 last_fits sector sectors none =
-    let a = passed (has_magic sector) _ _ none in
-    let b = passed (has_version sector) _ _ a.1 in
+    let a = passed (has_vmdb_magic sector) _ _ none in
+    let b = passed (has_vmdb_version sector) _ _ a.1 in
     let c = passed (has_block_size sector) _ _ b.1 in
     let d = passed (has_first_block sector) _ _ c.1 in
     let e = passed (is_settled sector) _ _ d.1 in
@@ -46,9 +46,9 @@ last_fits sector sectors none =
 
 -- a sector without a fault begins with the letter V
 pub magic_of : (sector : List ℕ) (sectors : ℕ) → vmdb_fault sector sectors ≡ None → slice_index sector 0 ≡ 0x56
-unfolding vmdb_fault has_magic
+unfolding vmdb_fault has_vmdb_magic
 magic_of sector sectors none =
-    let magic : bytes_eq (take 4 sector) (codes "VMDB") ≡ true = (passed (has_magic sector) _ _ none).0 in
+    let magic : bytes_eq (take 4 sector) (codes "VMDB") ≡ true = (passed (has_vmdb_magic sector) _ _ none).0 in
     let text : take 4 sector ≡ codes "VMDB" = (bytes_eq-Decides (take 4 sector) (codes "VMDB")).0 magic in
     sym (get_or-take 4 sector 0 0 (omega arith)) ∙ ap (λ (l : List ℕ). slice_index l 0) text
 

@@ -17,11 +17,11 @@ IsAnswer area sectors (Err Disk) = Unit {0}
 IsAnswer area sectors (Err NoMemory) = Unit {0}
 
 -- this copy was answered, unless a call of the disk failed or memory ran out
-abbrev pub Answers : Result CopyState CopyError → Result CopyState CopyFault → Type 0
-Answers (Ok state) copy = copy ≡ Ok state
-Answers (Err (Fault fault)) copy = copy ≡ Err fault
-Answers (Err Disk) copy = Unit {0}
-Answers (Err NoMemory) copy = Unit {0}
+abbrev pub AnswersCopy : Result CopyState CopyError → Result CopyState CopyFault → Type 0
+AnswersCopy (Ok state) copy = copy ≡ Ok state
+AnswersCopy (Err (Fault fault)) copy = copy ≡ Err fault
+AnswersCopy (Err Disk) copy = Unit {0}
+AnswersCopy (Err NoMemory) copy = Unit {0}
 
 -- the last VBLK sequence lies in an area of so many sectors, and the records fit the header
 pub record FitsArea (db : Database) (sectors : ℕ) : Type 0 where

@@ -6,7 +6,7 @@ use Rattle.std.specs.List.{All}
 use Rattle.std.specs.List.Sorted.{IsPermutation}
 use Rattle.ldm_vmdb.specs.Headers.{vmdb_fault, IsHeaderOf, written}
 use Rattle.ldm_vmdb.specs.declared.header.Counts.{Counts}
-use Rattle.ldm_frags.specs.Written.{Placed, Holds, in_order}
+use Rattle.ldm_frags.specs.Written.{Placed, Holds, laid_in_order}
 use Rattle.ldm_records.specs.declared.types.Record.{Record}
 use Rattle.ldm_records.specs.Plain.{own_spelling, IsRecord}
 use Rattle.ldm_records.specs.Views.{plain_of}
@@ -76,7 +76,7 @@ spellings records = map (λ r. own_spelling (plain_of r)) records
 -- the header sector with the database's own sequence, and the records one after the other from block 4 on
 pub record IsMadeOf (db : Database) (body : List ℕ) : Type 0 where
   pub header_is : header_sector body ≡ written db.header db.header.seq (counts_of db.records)
-  pub blocks_are : Holds (drop 512 body) (in_order 4 (spellings db.records))
+  pub blocks_are : Holds (drop 512 body) (laid_in_order 4 (spellings db.records))
 
 -- ---- on a disk
 

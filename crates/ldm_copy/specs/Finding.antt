@@ -22,23 +22,23 @@ unfoldable pub slots_by : List ℕ → ℕ → ℕ → List ℕ
 slots_by blocks number n = number ∷ map (part_at blocks number) (numbers_from 1 (n - 1))
 
 -- the number of the first block that passes, or that of the end
-abbrev pub number_of : Option ℕ → ℕ → ℕ
-number_of None end = end
-number_of (Some k) end = k + 4
+abbrev pub first_number : Option ℕ → ℕ → ℕ
+first_number None end = end
+first_number (Some k) end = k + 4
 
 -- what a list of places says of this part of a group: four places stand there for each group
-abbrev pub place_in : List ℕ → ℕ → ℕ → ℕ
-place_in places g p = slice_index places (4 * (g - 4) + p)
+abbrev pub table_place : List ℕ → ℕ → ℕ → ℕ
+table_place places g p = slice_index places (4 * (g - 4) + p)
 
 -- the places say of each part of each group which of the first k blocks it is
 pub record HasPlaces (blocks : List ℕ) (k : ℕ) (places : List ℕ) : Type 0 where
   pub size : length places ≡ 4 * count blocks
   pub at : (g p : ℕ) → 4 ≤ g → g < count blocks + 4 → p < 4
-      → place_in places g p ≡ number_of (first_passing k (is_part blocks g p)) (count blocks + 4)
+      → table_place places g p ≡ first_number (first_passing k (is_part blocks g p)) (count blocks + 4)
 
 -- the blocks of the record that begins in this block and has so many parts, by the places
 abbrev pub slots_in : List ℕ → ℕ → ℕ → List ℕ
-slots_in places number n = number ∷ map (place_in places number) (numbers_from 1 (n - 1))
+slots_in places number n = number ∷ map (table_place places number) (numbers_from 1 (n - 1))
 
 -- what so many blocks hold
 abbrev pub payloads : List ℕ → List ℕ → List ℕ
@@ -48,7 +48,7 @@ abbrev pub stored_of : Found → Stored
 stored_of f = record { record_is = f.content; slots = f.slots }
 
 -- block b is part 0 of a record, or a whole one
-pub record IsFirst (blocks : List ℕ) (b : ℕ) : Type 0 where
+pub record IsFirstPart (blocks : List ℕ) (b : ℕ) : Type 0 where
   pub part_is : part blocks (b - 4) ≡ 0
   pub group_is : group blocks (b - 4) ≡ b
 
@@ -56,7 +56,7 @@ pub record IsFirst (blocks : List ℕ) (b : ℕ) : Type 0 where
 pub record IsLater (blocks : List ℕ) (b : ℕ) : Type 0 where
   pub low : 4 ≤ group blocks (b - 4)
   pub high : group blocks (b - 4) < count blocks + 4
-  pub first : IsFirst blocks (group blocks (b - 4))
+  pub first : IsFirstPart blocks (group blocks (b - 4))
   pub some : 1 ≤ part blocks (b - 4)
   pub few : part blocks (b - 4) < 4
   pub below : part blocks (b - 4) < parts blocks (group blocks (b - 4) - 4)
@@ -64,7 +64,7 @@ pub record IsLater (blocks : List ℕ) (b : ℕ) : Type 0 where
 
 -- this record begins in block b, and stands in written blocks
 pub record IsFoundAt (blocks : List ℕ) (b : ℕ) (s : Stored) : Type 0 where
-  pub first : IsFirst blocks b
+  pub first : IsFirstPart blocks b
   pub some : 1 ≤ parts blocks (b - 4)
   pub slots_are : s.slots ≡ slots_by blocks b (parts blocks (b - 4))
   pub placed : IsPlaced blocks (placed_of s)
@@ -75,10 +75,10 @@ abbrev pub HoldNone : List ℕ → Type 0
 HoldNone blocks = (stored : List Stored) → All (λ s. IsRecord (plain_of s.record_is)) stored → Holds blocks (map placed_of stored) → ⊥
 
 -- what stands in block k
-abbrev pub Looks : List ℕ → ℕ → Look → Type 0
-Looks blocks k looks.Nothing = (block_at blocks (k + 4) ≡ unused_block (k + 4)) ⊎ IsLater blocks (k + 4)
-Looks blocks k looks.Wrong = HoldNone blocks
-Looks blocks k (looks.Record f) = IsFoundAt blocks (k + 4) (stored_of f)
+abbrev pub StandsAt : List ℕ → ℕ → Look → Type 0
+StandsAt blocks k looks.Nothing = (block_at blocks (k + 4) ≡ unused_block (k + 4)) ⊎ IsLater blocks (k + 4)
+StandsAt blocks k looks.Wrong = HoldNone blocks
+StandsAt blocks k (looks.Record f) = IsFoundAt blocks (k + 4) (stored_of f)
 
 -- the blocks hold these records, and no others
 pub record AreFound (blocks : List ℕ) (found : List Stored) : Type 0 where

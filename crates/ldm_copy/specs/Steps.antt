@@ -26,11 +26,11 @@ OpensHeader first sectors (Err NoMemory) = Unit {0}
 OpensHeader first sectors (Err _) = ⊥
 
 -- the header of the copy that begins with this sector of a disk, or nothing of a closed one
-abbrev pub ReadsHeader : List ℕ → ℕ → Result (Option Header) CopyError → Type 0
-ReadsHeader first sectors (Ok header) = OpensHeader first sectors (Ok header)
-ReadsHeader first sectors (Err (Fault fault)) = OpensHeader first sectors (Err (Fault fault))
-ReadsHeader first sectors (Err Disk) = Unit {0}
-ReadsHeader first sectors (Err NoMemory) = Unit {0}
+abbrev pub ReadsFirstSector : List ℕ → ℕ → Result (Option Header) CopyError → Type 0
+ReadsFirstSector first sectors (Ok header) = OpensHeader first sectors (Ok header)
+ReadsFirstSector first sectors (Err (Fault fault)) = OpensHeader first sectors (Err (Fault fault))
+ReadsFirstSector first sectors (Err Disk) = Unit {0}
+ReadsFirstSector first sectors (Err NoMemory) = Unit {0}
 
 -- the records that blocks hold, joined, or the first fault of a block
 abbrev pub JoinsBlocks : List ℕ → Result (Vec Joined) CopyError → Type 0

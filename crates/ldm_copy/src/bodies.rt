@@ -1,7 +1,6 @@
 //! A body with the blocks of each of its records, made or read from a disk.
 ghost use Rattle.std.specs.Prelude.{◌≡◌, ◌+◌, ◌*◌, ◌/◌, ◌<◌, ◌≤◌, IsTrue, false, None, length};
-ghost use Rattle.std.specs.Prelude.{slice_index};
-ghost use Rattle.std.specs.Prelude.{slice_range, drop, IfOk, IfSome, IsErrOf};
+ghost use Rattle.std.specs.Prelude.{slice_index, slice_range, drop, IfOk, IfSome, IsErrOf};
 ghost use Rattle.ldm_host.specs.Moves.{Looks};
 ghost use Rattle.ldm_host.specs.Seen.{image};
 ghost use Rattle.ldm_label.specs.LabelOf.{Fits};

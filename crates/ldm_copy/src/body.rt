@@ -1,6 +1,6 @@
 //! The body of a copy: the header sector of a database, and its blocks.
 ghost use Rattle.std.specs.Prelude.{◌≡◌, ◌≤◌, ◌*◌, ◌++◌, length, All, IfOk, OnOk};
-ghost use Rattle.ldm_frags.specs.Written.{IsSized, Holds, in_order};
+ghost use Rattle.ldm_frags.specs.Written.{IsSized, Holds, laid_in_order};
 ghost use Rattle.ldm_frags.specs.Written as written;
 ghost use Rattle.ldm_records.specs.Plain.{IsRecord};
 ghost use Rattle.ldm_records.specs.Views.{plain_of};
@@ -110,9 +110,9 @@ fn spellings(alloc: Global, records: &[Record]) -> Result<Vec<Bytes>, NoMemory>
 fn blocks_of(alloc: Global, payloads: &[Bytes], blocks: u32) -> Result<Bytes, NoMemory>
     requires sized { All IsSized payloads.now }
     requires few { blocks ≤ 8192 }
-    requires room { written.need_of payloads.now ≤ blocks }
+    requires room { written.blocks_needed payloads.now ≤ blocks }
     ensures size { IfOk result (λ out. length out ≡ 128 * blocks) }
-    ensures holds { IfOk result (λ out. Holds out (in_order 4 payloads.now)) }
+    ensures holds { IfOk result (λ out. Holds out (laid_in_order 4 payloads.now)) }
 {
     match split(alloc, payloads, blocks) {
         Ok(out) => Ok(out),
@@ -127,7 +127,7 @@ fn blocks_with(alloc: Global, records: &[Record], blocks: u32) -> Result<Bytes, 
     requires few { blocks ≤ 8192 }
     requires room { need_of records.now ≤ blocks }
     ensures size { IfOk result (λ out. length out ≡ 128 * blocks) }
-    ensures holds { IfOk result (λ out. Holds out (in_order 4 (spellings records.now))) }
+    ensures holds { IfOk result (λ out. Holds out (laid_in_order 4 (spellings records.now))) }
     ensures sound { OnOk result (All (λ r. IsRecord (plain_of r)) records.now) }
 {
     let payloads = spellings(alloc, records)?;

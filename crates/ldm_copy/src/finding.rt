@@ -5,9 +5,9 @@ ghost use Rattle.ldm_frags.specs.Blocks.{count, parts};
 ghost use Rattle.ldm_frags.specs.Written.{IsInUse};
 ghost use Rattle.ldm_group.specs.Order.{place_of, Rising};
 ghost use Rattle.ldm_copy.specs.Body.{Store};
-ghost use Rattle.ldm_copy.specs.Finding.{HoldsTable, place_in, HasPlaces, slots_in, payloads};
-ghost use Rattle.ldm_copy.specs.Finding.{IsFirst, IsLater};
-ghost use Rattle.ldm_copy.specs.Finding.{IsFoundAt, HoldNone, Looks, AreFound, stored_of};
+ghost use Rattle.ldm_copy.specs.Finding.{HoldsTable, table_place, HasPlaces, slots_in, payloads};
+ghost use Rattle.ldm_copy.specs.Finding.{IsFirstPart, IsLater, IsFoundAt, HoldNone, StandsAt};
+ghost use Rattle.ldm_copy.specs.Finding.{AreFound, stored_of};
 
 use ldm_bytes::{Bytes, NoMemory, get_u16, get_u32};
 use ldm_frags::{Slots, is_unused, is_written};
@@ -39,7 +39,7 @@ pub enum Look {
 fn place_in(places: &[u32], number: u32, part: u16) -> u32
     requires low { 4 ≤ number }
     requires within { 4 * (number - 4) + part < length places.now }
-    ensures { result ≡ place_in places.now number part }
+    ensures { result ≡ table_place places.now number part }
 {
     places[4 * (number as usize - 4) + part as usize]
 }
@@ -136,8 +136,8 @@ fn record_at(
     requires places { HasPlaces blocks.now (count blocks.now) places.now }
     requires many { many ≡ parts blocks.now k }
     requires some { 1 ≤ many }
-    requires first { IsFirst blocks.now (k + 4) }
-    ensures { IfOk result (λ look. Looks blocks.now k look) }
+    requires first { IsFirstPart blocks.now (k + 4) }
+    ensures { IfOk result (λ look. StandsAt blocks.now k look) }
 {
     if many > 4 {
         return Ok(Look::Wrong);
@@ -187,7 +187,7 @@ fn look_at(alloc: Global, blocks: &[u8], places: &[u32], k: usize) -> Result<Loo
     requires within { k < count blocks.now }
     requires small { length blocks.now ≤ 1048576 }
     requires places { HasPlaces blocks.now (count blocks.now) places.now }
-    ensures { IfOk result (λ look. Looks blocks.now k look) }
+    ensures { IfOk result (λ look. StandsAt blocks.now k look) }
 {
     let at = 128 * k;
     let parts = get_u16(blocks, at + 14);

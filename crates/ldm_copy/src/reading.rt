@@ -1,7 +1,7 @@
 //! Reads the copy on a disk.
 ghost use Rattle.std.specs.Prelude.{◌≡◌, ◌+◌, ◌-◌, ◌*◌, ◌/◌, ◌^◌, ◌<◌, ◌≤◌, ◌++◌, ℕ, List, []};
-ghost use Rattle.std.specs.Prelude.{Result, Err, length};
-ghost use Rattle.std.specs.Prelude.{slice_index, IfOk, IfErr, IfSome, OnOk, IsErrOf};
+ghost use Rattle.std.specs.Prelude.{Result, Err, length, slice_index, IfOk, IfErr, IfSome, OnOk};
+ghost use Rattle.std.specs.Prelude.{IsErrOf};
 ghost use Rattle.ldm_host.specs.Moves.{Looks};
 ghost use Rattle.ldm_host.specs.Seen.{image};
 ghost use Rattle.ldm_label.specs.LabelOf.{Fits};
@@ -11,9 +11,9 @@ ghost use Rattle.ldm_frags.specs.Joins.{Joins};
 ghost use Rattle.ldm_copy.specs.declared.answer.CopyState.{CopyState};
 ghost use Rattle.ldm_copy.specs.declared.answer.CopyFault.{CopyFault};
 ghost use Rattle.ldm_copy.specs.Copy.{config_area, IsCopyOf};
-ghost use Rattle.ldm_copy.specs.Answers.{IsAnswer, Answers, FitsArea, IsSoundState};
+ghost use Rattle.ldm_copy.specs.Answers.{IsAnswer, AnswersCopy, FitsArea, IsSoundState};
 ghost use Rattle.ldm_copy.specs.Alike.{sectors_from};
-ghost use Rattle.ldm_copy.specs.Steps.{ReadsHeader, JoinsBlocks, IsRead, ReadsDatabase};
+ghost use Rattle.ldm_copy.specs.Steps.{ReadsFirstSector, JoinsBlocks, IsRead, ReadsDatabase};
 
 use crate::alike::{CHUNK, area_start};
 use crate::answer::{CopyError, CopyState};
@@ -116,7 +116,7 @@ fn header_at<H: Host>(
     requires disk { disk < length (H.seen host.old).sizes }
     requires inside { start < slice_index (H.seen host.old).sizes disk }
     requires few { start < 2 ^ 55 }
-    ensures opens { H.tells_disks → ReadsHeader (sectors_from start 1
+    ensures opens { H.tells_disks → ReadsFirstSector (sectors_from start 1
         (image (H.seen host.old).content disk)) area_sectors result }
     ensures last { IfOk result (λ header. IfSome header (λ h. h.last ≤ 4 * area_sectors)) }
     ensures looks { Looks (H.seen host.old) (H.seen host.new) (IsErrOf result CopyError.Disk) }
@@ -196,7 +196,7 @@ pub fn read_copy<H: Host>(
     ensures only { H.tells_disks → (copy : Result CopyState CopyFault)
         → IsCopyOf
         (config_area label.now (image (H.seen host.old).content disk)) label.now.area_sectors copy
-        → Answers result copy }
+        → AnswersCopy result copy }
     // There is one copy at most.
     ensures one { (a b : Result CopyState CopyFault)
         → IsCopyOf (config_area label.now (image (H.seen host.old).content disk))

@@ -9,7 +9,7 @@ use Rattle.ldm_host.specs.Seen.{image}
 use Rattle.ldm_layout.specs.Layouts.{Layout}
 use Rattle.ldm_found.specs.declared.found.Found.{Found}
 use Rattle.ldm_dump.specs.Sources.{sources_of}
-use Rattle.ldm_dump.specs.Bytes.{byte_at, xor_all, joined_byte, joined_sector, sector_of, bytes_of, text_of_sectors}
+use Rattle.ldm_dump.specs.Bytes.{byte_at, xor_all, joined_byte, joined_sector, sector_of, bytes_of, bytes_of_sectors}
 use Rattle.ldm_dump.specs.Runs.{behind}
 use Rattle.ldm_dump.specs.declared.spots.Spot.{Spot}
 use Rattle.ldm_dump.proofs.RangeLaws.{range_append}
@@ -54,8 +54,8 @@ sector_in_run images found l x i spots moves is =
 
 pub run_text : (images : List (List ℕ)) (found : Found) (l : Layout) (x n : ℕ) (spots : List Spot) (out : List ℕ)
     → ((i : ℕ) → i < n → sources_of found l (x + i) ≡ option_map (map (behind i)) (sources_of found l x)) → sources_of found l x ≡ Some spots
-    → length out ≡ 512 * n → ((j : ℕ) → j < length out → slice_index out j ≡ joined_byte images spots j) → out ≡ text_of_sectors images found l x n
-unfolding text_of_sectors
+    → length out ≡ 512 * n → ((j : ℕ) → j < length out → slice_index out j ≡ joined_byte images spots j) → out ≡ bytes_of_sectors images found l x n
+unfolding bytes_of_sectors
 run_text images found l x n spots out moves is size bytes =
     flat_sectors (bytes_of images found l) n x out size
     (λ i lt. ap length (sector_in_run images found l x i spots (moves i lt) is) ∙ length-map-range_with_len (joined_byte images (map (behind i) spots)) 0 512)
@@ -64,13 +64,13 @@ run_text images found l x n spots out moves is size bytes =
     ∙ (sym (get_or-map-range_with_len (joined_byte images (map (behind i) spots)) 0 512 k k 0 low (omega arith))
     ∙ sym (ap (λ (s : List ℕ). get_or s k 0) (sector_in_run images found l x i spots (moves i lt) is)))))
 
-pub text_append : (images : List (List ℕ)) (found : Found) (l : Layout) (x m n : ℕ) → text_of_sectors images found l x (m + n) ≡ text_of_sectors images found l x m ++ text_of_sectors images found l (x + m) n
-unfolding text_of_sectors
+pub text_append : (images : List (List ℕ)) (found : Found) (l : Layout) (x m n : ℕ) → bytes_of_sectors images found l x (m + n) ≡ bytes_of_sectors images found l x m ++ bytes_of_sectors images found l (x + m) n
+unfolding bytes_of_sectors
 text_append images found l x m n =
     ap (λ (r : List ℕ). flat_map (bytes_of images found l) r) (range_append x m n) ∙ flat_map-append (bytes_of images found l) (range_with_len x m) (range_with_len (x + m) n)
 
-pub no_text : (images : List (List ℕ)) (found : Found) (l : Layout) (x : ℕ) → text_of_sectors images found l x 0 ≡ []
-unfolding text_of_sectors
+pub no_text : (images : List (List ℕ)) (found : Found) (l : Layout) (x : ℕ) → bytes_of_sectors images found l x 0 ≡ []
+unfolding bytes_of_sectors
 no_text images found l x = refl
 
 -- one sector, read whole

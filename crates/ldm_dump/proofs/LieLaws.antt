@@ -16,7 +16,7 @@ use Rattle.ldm_layout.proofs.PlaceLaws.{raid5_inside}
 use Rattle.ldm_layout.proofs.VolumeLaws.{IsExtentOf}
 use Rattle.ldm_layout.specs.Parts.{least}
 use Rattle.ldm_layout.specs.Places.{raid5_capacity, raid5_offset}
-use Rattle.ldm_layout.specs.Layouts.{Layout, is_tiled, fewest, plex_capacity, sector_of, copies_of, copies_by}
+use Rattle.ldm_layout.specs.Layouts.{Layout, is_tiled, fewest, plex_capacity, place_at, copies_of, copies_by}
 use Rattle.ldm_layout.specs.Columns.{columns_of, own_column, column_spot, column_in}
 use Rattle.ldm_layout.specs.declared.parts.Extent.{Extent}
 use Rattle.ldm_layout.specs.declared.shape.Shape.{Shape}
@@ -64,7 +64,7 @@ has_image found disk image is = go (disk_in (by_id 2 disk found.db.records)) ref
 
 -- a sector within a partition of the group is on the image of its disk
 pub spot_on : (found : Found) (on : List ℕ) (component : ℕ) (e : Extent) (o : ℕ) (s : Spot) → IsSoundGroup found → LieOn found.labels on → IsExtentOf found.db.records component e → o < e.size
-    → spot_of found (sector_of (e, o)) ≡ Some s → IsOn on s
+    → spot_of found (place_at (e, o)) ≡ Some s → IsOn on s
 spot_on found on component e o s sound lies part within is = go (image_of e.disk found.db.records found.labels) refl is
   where
     go : (i : Option ℕ) → image_of e.disk found.db.records found.labels ≡ i
@@ -102,7 +102,7 @@ module _ (found : Found) (on : List ℕ) (v : Volume) (l : Layout) (sound : IsSo
       let size : l.size ≡ v.size = facts.size in
       let spot = (sector_spot found.db.records v l x copy (record { volume = has; within = omega (arith, lt, size); copied = copied })).inside in
       spot_on found on (plex_at found.db.records v copy).id spot.part spot.offset s sound lies spot.has spot.within
-      (sym (ap (λ (p : Option (Extent × ℕ)). spot_at found (option_map sector_of p)) spot.is) ∙ is)
+      (sym (ap (λ (p : Option (Extent × ℕ)). spot_at found (option_map place_at p)) spot.is) ∙ is)
 
   pub rows_lie_on : RowsLieOn found l on
   rows_lie_on x column s lt raid5 other =
@@ -115,17 +115,17 @@ module _ (found : Found) (on : List ℕ) (v : Volume) (l : Layout) (sound : IsSo
       let room : l.size ≤ raid5_capacity (length es) l.chunk (least (sizes es)) = subst (λ (t : Shape). l.size ≤ plex_capacity t l.chunk es) raid5 facts.facts.holds in
       let inside = raid5_inside (length es) l.chunk (least (sizes es)) x (facts.facts.chunked untiled) (omega (arith, many)) (omega (arith, lt, room)) in
       let off = raid5_offset (length es) l.chunk x in
-      let by : spot_at found (option_map sector_of (column_spot es l.chunk x column)) ≡ Some s =
-      sym (ap (λ (fs : List Extent). spot_at found (option_map sector_of (column_spot fs l.chunk x column))) are) ∙ other in
+      let by : spot_at found (option_map place_at (column_spot es l.chunk x column)) ≡ Some s =
+      sym (ap (λ (fs : List Extent). spot_at found (option_map place_at (column_spot fs l.chunk x column))) are) ∙ other in
       elim (cases_lt column (length es)) [
         | inl within ↦ (
             let e = get_or es column none in
             let least_low : least (sizes es) ≤ e.size = least_at (λ (f : Extent). f.size) es column none within in
             spot_on found on (plex_at found.db.records v 0).id e off s sound lies (facts.own column none within) (omega (arith, inside.2, least_low))
-            (sym (ap (λ (g : Option Extent). spot_at found (option_map sector_of (option_map {U = Extent × ℕ} (λ f. (f, off)) g))) (get_at es column none within)) ∙ by))
+            (sym (ap (λ (g : Option Extent). spot_at found (option_map place_at (option_map {U = Extent × ℕ} (λ f. (f, off)) g))) (get_at es column none within)) ∙ by))
         | inr past ↦ absurd (
             let nothing : slice_get es column ≡ None = slice_get_past es column past in
-            let no : spot_at found None ≡ Some s = sym (ap (λ (g : Option Extent). spot_at found (option_map sector_of (option_map {U = Extent × ℕ} (λ f. (f, off)) g))) nothing) ∙ by in
+            let no : spot_at found None ≡ Some s = sym (ap (λ (g : Option Extent). spot_at found (option_map place_at (option_map {U = Extent × ℕ} (λ f. (f, off)) g))) nothing) ∙ by in
             cc)
       ]
 

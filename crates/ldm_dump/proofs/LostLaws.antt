@@ -8,7 +8,7 @@ use Rattle.std.proofs.lemmas.Bool.{cases_lt, eq-eqb, or_parts, ne_eqb, true≢fa
 use Rattle.std.proofs.lemmas.Nat.{div-mul-add, mod_below, mul-le}
 use Rattle.ldm_layout.proofs.StretchLaws.{place_by}
 use Rattle.ldm_layout.specs.Places.{stripe_column, stripe_offset, raid5_offset}
-use Rattle.ldm_layout.specs.Layouts.{Layout, is_tiled, plex_spot, sector_of, place_in, copies_of, copies_by}
+use Rattle.ldm_layout.specs.Layouts.{Layout, is_tiled, plex_spot, place_at, place_in, copies_of, copies_by}
 use Rattle.ldm_layout.specs.Columns.{columns_of, chunk_of, own_column, column_in, IsColumned}
 use Rattle.ldm_layout.specs.declared.parts.Extent.{Extent}
 use Rattle.ldm_layout.specs.declared.shape.Place.{Place}
@@ -43,9 +43,9 @@ kept_more found l x run is before here y lt = elim (cases_lt y x) [
 
 -- the disk of a column is there
 abbrev pub is_column_here : Found → List Extent → ℕ → Bool
-is_column_here found es c = is_here found (option_map sector_of (option_map {U = Extent × ℕ} (λ e. (e, 0)) (slice_get es c)))
+is_column_here found es c = is_here found (option_map place_at (option_map {U = Extent × ℕ} (λ e. (e, 0)) (slice_get es c)))
 
-here_at : (found : Found) (g : Option Extent) (o : ℕ) → is_here found (option_map sector_of (option_map {U = Extent × ℕ} (λ e. (e, o)) g)) ≡ is_here found (option_map sector_of (option_map {U = Extent × ℕ} (λ e. (e, 0)) g))
+here_at : (found : Found) (g : Option Extent) (o : ℕ) → is_here found (option_map place_at (option_map {U = Extent × ℕ} (λ e. (e, o)) g)) ≡ is_here found (option_map place_at (option_map {U = Extent × ℕ} (λ e. (e, 0)) g))
 here_at found None o = refl
 here_at found (Some e) o = refl
 
@@ -102,7 +102,7 @@ module _ (found : Found) (l : Layout) (shape_is : l.shape ≡ Stripe) (columned 
 
   stripe_here : (x : ℕ) → is_here found (place_in l x 0) ≡ is_column_here found es (stripe_column (length es) l.chunk x)
   stripe_here x =
-      ap (λ (p : Option Place). is_here found p) (place_by l 0 x es columned.first ∙ ap (λ (s : Shape). option_map sector_of (plex_spot s l.chunk es x)) shape_is)
+      ap (λ (p : Option Place). is_here found p) (place_by l 0 x es columned.first ∙ ap (λ (s : Shape). option_map place_at (plex_spot s l.chunk es x)) shape_is)
       ∙ here_at found (slice_get es (stripe_column (length es) l.chunk x)) (stripe_offset (length es) l.chunk x)
 
   stripe_none : (x : ℕ) → can_rebuild found l x ≡ false
@@ -144,7 +144,7 @@ module _ (found : Found) (l : Layout) (shape_is : l.shape ≡ Raid5) (columned :
 
   raid5_here : (x : ℕ) → is_here found (place_in l x 0) ≡ is_column_here found cs (own_column l x)
   raid5_here x =
-      ap (λ (p : Option Place). is_here found p) (place_by l 0 x cs columned.first ∙ ap (λ (s : Shape). option_map sector_of (plex_spot s l.chunk cs x)) shape_is)
+      ap (λ (p : Option Place). is_here found p) (place_by l 0 x cs columned.first ∙ ap (λ (s : Shape). option_map place_at (plex_spot s l.chunk cs x)) shape_is)
       ∙ here_at found (slice_get cs (own_column l x)) (raid5_offset (length cs) l.chunk x)
 
   raid5_beside : (x c : ℕ) → is_here found (column_in l x c) ≡ is_column_here found cs c

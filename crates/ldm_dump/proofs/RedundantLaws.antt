@@ -1,4 +1,4 @@
--- A redundant volume reads the same without an image.
+-- A redundant volume reads the same without_place an image.
 use Rattle.std.proofs.Common.{◌≡◌, ℕ, zero, suc, ◌+◌, ◌*◌, ◌<◌, ◌≤◌, ◌==◌, inl, inr, Bool, true, false, List, [], ◌∷◌, map, fold, bit_xor, length, slice_index, refl, ap, sym, subst, ◌∙◌, arith, Option, Some, None, if◌then◌else◌, filter_map, is_some}
 use Rattle.std.specs.List.{range_with_len, cons_option}
 use Rattle.std.specs.Option.{option_map, option_to_list}
@@ -8,7 +8,7 @@ use Rattle.std.proofs.lemmas.Bool.{cases_lt, eq-eqb}
 use Rattle.ldm_group.specs.Database.{IsSameCore}
 use Rattle.ldm_host.specs.Seen.{image}
 use Rattle.ldm_layout.proofs.StretchLaws.{place_by}
-use Rattle.ldm_layout.specs.Layouts.{Layout, copies_of, copies_by, place_in, plex_spot, sector_of as place_sector}
+use Rattle.ldm_layout.specs.Layouts.{Layout, copies_of, copies_by, place_in, plex_spot, place_at as place_sector}
 use Rattle.ldm_layout.specs.Columns.{columns_of, own_column, column_in, IsColumned}
 use Rattle.ldm_layout.specs.declared.shape.Place.{Place}
 use Rattle.ldm_layout.specs.declared.shape.Shape.{Shape}
@@ -19,7 +19,7 @@ use Rattle.ldm_found.specs.Opening.{IsGroupIn}
 use Rattle.std.proofs.Common.{Ok}
 use Rattle.ldm_dump.specs.Sources.{is_here, data_start, spot_of, spot_at, first_copy, copy_spot, other_spot, other_spots, sources_of, is_lost}
 use Rattle.ldm_dump.specs.Bytes.{byte_at, joined_byte, joined_sector, sector_of}
-use Rattle.ldm_dump.specs.Redundant.{without, IsComplete, IsRedundant}
+use Rattle.ldm_dump.specs.Redundant.{without_place, IsComplete, IsRedundant}
 use Rattle.ldm_dump.specs.declared.spots.Spot.{Spot}
 use Rattle.ldm_dump.proofs.RangeLaws.{find_first}
 use Rattle.ldm_dump.proofs.RunLaws.{others_here}
@@ -95,11 +95,11 @@ there_is found (Some place) here = go (image_of place.disk found.db.records foun
 
 -- ---- a group on fewer images
 
-module _ (images : List (List ℕ)) (i : ℕ) (found fewer : Found) (is : IsGroupIn images (Ok found)) (less : IsGroupIn (without i images) (Ok fewer)) (core : IsSameCore found.db fewer.db) where
+module _ (images : List (List ℕ)) (i : ℕ) (found fewer : Found) (is : IsGroupIn images (Ok found)) (less : IsGroupIn (without_place i images) (Ok fewer)) (core : IsSameCore found.db fewer.db) where
   abbrev some : List (List ℕ)
-  some = without i images
+  some = without_place i images
 
-  -- a place that is there without the image reads the same
+  -- a place that is there without_place the image reads the same
   place_same : (p : Option Place) (j : ℕ) → is_here fewer p ≡ true → byte_of some j (spot_at fewer p) ≡ byte_of images j (spot_at found p)
   place_same None j here = absurd cc
   place_same (Some place) j here = go (image_of place.disk fewer.db.records fewer.labels) refl here

@@ -5,7 +5,7 @@ use Rattle.std.proofs.Math.Seq.{take-append-add}
 use Rattle.ldm_host.specs.Moves.{Begins}
 use Rattle.ldm_layout.specs.Layouts.{Layout}
 use Rattle.ldm_found.specs.declared.found.Found.{Found}
-use Rattle.ldm_dump.specs.Bytes.{text_of_sectors}
+use Rattle.ldm_dump.specs.Bytes.{bytes_of_sectors}
 use Rattle.ldm_dump.proofs.ByteLaws.{text_append}
 
 -- a front of a text was said after some other
@@ -13,8 +13,8 @@ begins_front : (before text : List ℕ) (n : ℕ) → Begins (before ++ take n t
 begins_front before text n = (drop n text, ap (λ (l : List ℕ). before ++ l) (sym (take-append-drop n text)) ∙ sym (append_assoc before (take n text) (drop n text)))
 
 -- the sectors so far, and those of a run
-pub text_next : (images : List (List ℕ)) (found : Found) (l : Layout) (x n : ℕ) → text_of_sectors images found l 0 (x + n) ≡ text_of_sectors images found l 0 x ++ text_of_sectors images found l x n
-text_next images found l x n = text_append images found l 0 x n ∙ ap (λ (y : ℕ). text_of_sectors images found l 0 x ++ text_of_sectors images found l y n) (zero-add x)
+pub text_next : (images : List (List ℕ)) (found : Found) (l : Layout) (x n : ℕ) → bytes_of_sectors images found l 0 (x + n) ≡ bytes_of_sectors images found l 0 x ++ bytes_of_sectors images found l x n
+text_next images found l x n = text_append images found l 0 x n ∙ ap (λ (y : ℕ). bytes_of_sectors images found l 0 x ++ bytes_of_sectors images found l y n) (zero-add x)
 
 -- any text of places, so many from one on, that is said piece by piece
 module _ (T : List (List ℕ) → ℕ → ℕ → List ℕ) (more : (images : List (List ℕ)) (x n : ℕ) → T images 0 (x + n) ≡ T images 0 x ++ T images x n) where
@@ -50,8 +50,8 @@ begins_of old text made new same part = subst (λ (s : List ℕ). Begins s (old 
 
 -- sectors that are read so far, and those of a run behind them in the same buffer
 pub text_step : (images now : List (List ℕ)) (found : Found) (l : Layout) (x c n : ℕ) (out part post : List ℕ) → now ≡ images → 512 * c ≤ length out → 512 * n ≤ length part
-    → take (512 * c) out ≡ text_of_sectors images found l x c → take (512 * n) part ≡ text_of_sectors now found l (x + c) n
-    → take (512 * (c + n)) (take (512 * c) out ++ (part ++ post)) ≡ text_of_sectors images found l x (c + n)
+    → take (512 * c) out ≡ bytes_of_sectors images found l x c → take (512 * n) part ≡ bytes_of_sectors now found l (x + c) n
+    → take (512 * (c + n)) (take (512 * c) out ++ (part ++ post)) ≡ bytes_of_sectors images found l x (c + n)
 text_step images now found l x c n out part post same long enough first next =
     let front : List ℕ = take (512 * c) out in
     let split : 512 * (c + n) ≡ length front + 512 * n = omega (arith, length-take-le (512 * c) out long) in
@@ -59,5 +59,5 @@ text_step images now found l x c n out part post same long enough first next =
     ∙ (take-append-add front (part ++ post) (512 * n)
     ∙ (ap (λ (t : List ℕ). front ++ t) (take-append-le (512 * n) part post enough)
     ∙ (ap (λ (t : List ℕ). t ++ take (512 * n) part) first
-    ∙ (ap (λ (t : List ℕ). text_of_sectors images found l x c ++ t) (next ∙ ap (λ (i : List (List ℕ)). text_of_sectors i found l (x + c) n) same)
+    ∙ (ap (λ (t : List ℕ). bytes_of_sectors images found l x c ++ t) (next ∙ ap (λ (i : List (List ℕ)). bytes_of_sectors i found l (x + c) n) same)
     ∙ sym (text_append images found l x c n)))))

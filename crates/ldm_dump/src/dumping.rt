@@ -3,7 +3,7 @@ ghost use Rattle.std.specs.Prelude.{◌≡◌, ◌+◌, ◌*◌, ◌++◌, ◌<�
 ghost use Rattle.std.specs.Prelude.{OnOk, IsErr, IsErrOf};
 ghost use Rattle.ldm_host.specs.Moves.{Still, Begins, DiskFailed, TalkFailed, Looks};
 ghost use Rattle.ldm_dump.specs.Sources.{is_lost};
-ghost use Rattle.ldm_dump.specs.Bytes.{text_of_sectors, text_of_volume};
+ghost use Rattle.ldm_dump.specs.Bytes.{bytes_of_sectors, bytes_of_volume};
 ghost use Rattle.ldm_dump.specs.Runs.{LiesOn};
 ghost use Rattle.ldm_dump.specs.Saying.{SameInput};
 
@@ -41,7 +41,7 @@ fn read_some<H: Host>(
     ensures fits { IfOk result (λ n. sector + n ≤ plan.now.size) }
     ensures room { IfOk result (λ n. 512 * n ≤ length out.old) }
     ensures bytes { H.tells_disks → IfOk result (λ n. take (512 * n) out.new
-        ≡ text_of_sectors (H.seen host.old).content found.now plan.now sector n) }
+        ≡ bytes_of_sectors (H.seen host.old).content found.now plan.now sector n) }
     ensures looks { Looks (H.seen host.old) (H.seen host.new) (IsErr result) }
 {
     let run = run_at(found, plan, sector);
@@ -78,7 +78,7 @@ fn read_many<H: Host>(
     ensures fits { IfOk result (λ n. sector + n ≤ plan.now.size) }
     ensures room { IfOk result (λ n. 512 * n ≤ length out.old) }
     ensures bytes { H.tells_disks → IfOk result (λ n. take (512 * n) out.new
-        ≡ text_of_sectors (H.seen host.old).content found.now plan.now sector n) }
+        ≡ bytes_of_sectors (H.seen host.old).content found.now plan.now sector n) }
     ensures looks { Looks (H.seen host.old) (H.seen host.new) (IsErr result) }
 {
     let most = (plan.size() - sector).min(out.len() as u64 / 512);
@@ -115,11 +115,11 @@ fn say_many<H: Host>(
     ensures some { IfOk result (λ n. 0 < n) }
     ensures fits { IfOk result (λ n. sector + n ≤ plan.now.size) }
     ensures said { H.tells_disks → IfOk result (λ n. (H.seen host.new).said
-        ≡ (H.seen host.old).said ++ text_of_sectors (H.seen host.old).content found.now
+        ≡ (H.seen host.old).said ++ bytes_of_sectors (H.seen host.old).content found.now
         plan.now sector n) }
     ensures front { H.tells_disks → (n : ℕ) × (sector + n ≤ plan.now.size)
         × Begins (H.seen host.new).said
-        ((H.seen host.old).said ++ text_of_sectors (H.seen host.old).content found.now
+        ((H.seen host.old).said ++ bytes_of_sectors (H.seen host.old).content found.now
         plan.now sector n) }
     ensures still { Still (H.seen host.old) (H.seen host.new) }
     ensures input { SameInput (H.seen host.old) (H.seen host.new) }
@@ -149,9 +149,9 @@ pub fn dump_volume<H: Host>(
     requires kept { (y : ℕ) → y < plan.now.size → is_lost found.now plan.now y ≡ false }
     requires lies { LiesOn found.now plan.now (H.seen host.old).sizes }
     ensures said { H.tells_disks → OnOk result ((H.seen host.new).said
-        ≡ (H.seen host.old).said ++ text_of_volume (H.seen host.old).content found.now plan.now) }
+        ≡ (H.seen host.old).said ++ bytes_of_volume (H.seen host.old).content found.now plan.now) }
     ensures front { H.tells_disks → Begins (H.seen host.new).said
-        ((H.seen host.old).said ++ text_of_volume (H.seen host.old).content found.now plan.now) }
+        ((H.seen host.old).said ++ bytes_of_volume (H.seen host.old).content found.now plan.now) }
     ensures still { Still (H.seen host.old) (H.seen host.new) }
     ensures input { SameInput (H.seen host.old) (H.seen host.new) }
     ensures disk { IsErrOf result DumpError.Disk → DiskFailed (H.seen host.old) (H.seen host.new) }

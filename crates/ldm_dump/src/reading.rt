@@ -1,7 +1,6 @@
 //! Bytes of a volume, read from the images.
 ghost use Rattle.std.specs.Prelude.{◌≡◌, ◌*◌, ◌<◌, ◌≤◌, ℕ, List, length, map, fold, bit_xor};
-ghost use Rattle.std.specs.Prelude.{slice_index, false};
-ghost use Rattle.std.specs.Prelude.{OnOk, IsErr, Some};
+ghost use Rattle.std.specs.Prelude.{slice_index, false, OnOk, IsErr, Some};
 ghost use Rattle.std.specs.Option.{option_to_list};
 ghost use Rattle.ldm_host.specs.Moves.{Looks};
 ghost use Rattle.ldm_layout.specs.Columns.{columns_of};

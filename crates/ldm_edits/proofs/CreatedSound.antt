@@ -17,7 +17,7 @@ use Rattle.ldm_rules.proofs.HeadLaws.{SameHeads, AreNamed, names_next}
 use Rattle.ldm_rules.proofs.SoundLaws.{EachRule}
 use Rattle.ldm_space.specs.declared.taken.Taken.{Taken}
 use Rattle.ldm_space.specs.Free.{taken_in}
-use Rattle.ldm_space.specs.Placed.{AreApart, AllEndWithin}
+use Rattle.ldm_space.specs.Placed.{AreDisjoint, AllEndWithin}
 use Rattle.ldm_edits.proofs.PlacedRules.{placed_carried}
 use Rattle.ldm_edits.proofs.CreatedRules.{MakesNew, MayCreate, volume_above, component_above, made_keeps}
 use Rattle.ldm_edits.proofs.Longer.{parts_of}
@@ -87,12 +87,12 @@ module _ {old made next : List Record} {id : ℕ} {name : List ℕ} {ts : List T
           subst (λ (n : List ℕ). bytes_eq w.head.name n ≡ false) own (free (kinds.Volume w) at));
     }
 
-    pub created_each : AreApart (taken_in old) ts → AllEndWithin (data_size labels old) ts → EachRule next labels
+    pub created_each : AreDisjoint (taken_in old) ts → AllEndWithin (data_size labels old) ts → EachRule next labels
     created_each apart within =
         placed_carried labels old next (parts_of new.ss) carries each
         (record {
           members = λ p at. elim (may.adds.from (kinds.Partition p) at) [ inl o ↦ inl o | inr m ↦ (let s = new.listed (kinds.Partition p) m in inr (part_listed new.ss s.0 p s.1 s.2)) ];
           within = subst (AllEndWithin (data_size labels old)) (sym new.taken_are) within;
-          free = subst (AreApart (taken_in old)) (sym new.taken_are) apart;
+          free = subst (AreDisjoint (taken_in old)) (sym new.taken_are) apart;
         })
         (names_next old next (Some new.volume.head) may.adds.rising names each.names)

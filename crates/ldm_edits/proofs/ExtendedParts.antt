@@ -38,11 +38,11 @@ use Rattle.ldm_rules.specs.Facts.{IsSoundOn}
 use Rattle.ldm_space.specs.declared.taken.Taken.{Taken}
 use Rattle.ldm_space.specs.Free.{taken_of, taken_in}
 use Rattle.ldm_space.specs.declared.placed.Wanted.{Wanted}
-use Rattle.ldm_space.specs.Placed.{AreFirstFits, AllEndWithin, AreApart}
+use Rattle.ldm_space.specs.Placed.{AreFirstFits, AllEndWithin, AreDisjoint}
 use Rattle.ldm_space.proofs.PlacedLaws.{placed_fit, as_many, fits_apart, fits_within}
 use Rattle.ldm_edits.specs.Asked.{is_much}
 use Rattle.ldm_edits.specs.Changes.{changed}
-use Rattle.ldm_edits.specs.Extending.{changes, lengthened, held, component_in, component_of, MayExtend, longer_parts}
+use Rattle.ldm_edits.specs.Extending.{span_changes, lengthened, held, component_in, component_of, MayExtend, longer_parts}
 use Rattle.ldm_volumes.specs.Volumes.{span_parts, there}
 use Rattle.ldm_edits.proofs.AskedLaws.{are_found}
 use Rattle.ldm_edits.proofs.CreatedNext.{alone_rises}
@@ -230,7 +230,7 @@ module _ {db : Database} {labels : List Label} {v : Volume} {c : Component} {wan
   }
 
   -- a component has the id of the span's where it is of the span
-  other : (r : Record) → Contains db.records r → changes v c r ≡ false → IsOther v r
+  other : (r : Record) → Contains db.records r → span_changes v c r ≡ false → IsOther v r
   other (kinds.Group g) at fails = tt
   other (kinds.Disk d) at fails = tt
   other (kinds.Partition p) at fails = tt
@@ -242,7 +242,7 @@ module _ {db : Database} {labels : List Label} {v : Volume} {c : Component} {wan
         let none : (x.head.id == c.head.id) ≡ false = fails in absurd cc)
   ]
 
-  stays : (r : Record) → Contains db.records r → IsOther v r → changes v c r ≡ false
+  stays : (r : Record) → Contains db.records r → IsOther v r → span_changes v c r ≡ false
   stays (kinds.Group g) at off = refl
   stays (kinds.Disk d) at off = refl
   stays (kinds.Partition p) at off = refl
@@ -259,7 +259,7 @@ module _ {db : Database} {labels : List Label} {v : Volume} {c : Component} {wan
       let all : parts ≡ parts_of (share ∷ []) = sym (append-nil parts) in
       let takes_all : map taken_of (parts_of (share ∷ [])) ≡ taken = ap (map taken_of) (append-nil parts) ∙ taken_are in
       record {
-        t = changes v c;
+        t = span_changes v c;
         stay = refl;
         other = other;
         stays = stays;
@@ -279,7 +279,7 @@ module _ {db : Database} {labels : List Label} {v : Volume} {c : Component} {wan
           each = λ s at. subst (IsShare db.records v (sum_by (λ (t : Taken). t.size) taken)) (only_one share s at) is_share;
           within = subst (λ (l : List Taken). AllEndWithin (data_size labels db.records) l) {x = taken} (sym takes_all)
               (fits_within (data_size labels db.records) wanted (taken_in db.records) spots (λ k e lt. (on_disks (get_or wanted k e) (Contains-get_or wanted k e lt)).limit) fits);
-          free = subst (λ (l : List Taken). AreApart (taken_in db.records) l) {x = taken} (sym takes_all) (fits_apart wanted (taken_in db.records) spots fits);
+          free = subst (λ (l : List Taken). AreDisjoint (taken_in db.records) l) {x = taken} (sym takes_all) (fits_apart wanted (taken_in db.records) spots fits);
         };
       }
 

@@ -28,11 +28,11 @@ use Rattle.ldm_rules.specs.Facts.{IsSoundOn}
 use Rattle.ldm_space.specs.declared.taken.Taken.{Taken}
 use Rattle.ldm_space.specs.Free.{taken_in}
 use Rattle.ldm_space.specs.declared.placed.Wanted.{Wanted}
-use Rattle.ldm_space.specs.Placed.{AllEndWithin, AreApart, AreFirstFits}
+use Rattle.ldm_space.specs.Placed.{AllEndWithin, AreDisjoint, AreFirstFits}
 use Rattle.ldm_space.proofs.PlacedLaws.{placed_fit, as_many, fits_apart, fits_within}
 use Rattle.ldm_edits.specs.Changes.{Change, changed}
 use Rattle.ldm_edits.specs.Extending.{held}
-use Rattle.ldm_edits.specs.Mirroring.{changes, components_of, grown, MayGrow}
+use Rattle.ldm_edits.specs.Mirroring.{mirror_changes, components_of, grown, MayGrow}
 use Rattle.ldm_edits.proofs.AskedLaws.{are_found}
 use Rattle.ldm_edits.proofs.GrownMade.{IsReady, MakesShares, makes_shares, made_are, named_components, olds_are}
 use Rattle.ldm_edits.proofs.LimitLaws.{spelled_by}
@@ -136,14 +136,14 @@ module _ {db : Database} {labels : List Label} {v : Volume} {len : ℕ} {wanted 
       makes_shares db.records v len (max_id db.records + 1) (components_of v db.records) taken (omega arith) (omega arith) (omega arith)
       (λ c at. ((component_is db.records v c at).1, ready c at)) takes
 
-  other : (r : Record) → changes v r ≡ false → IsOther v r
+  other : (r : Record) → mirror_changes v r ≡ false → IsOther v r
   other (kinds.Group g) fails = tt
   other (kinds.Disk d) fails = tt
   other (kinds.Partition p) fails = tt
   other (kinds.Volume x) fails = (or_parts (x.head.id == v.head.id) false fails).0
   other (kinds.Component x) fails = fails
 
-  stays : (r : Record) → IsOther v r → changes v r ≡ false
+  stays : (r : Record) → IsOther v r → mirror_changes v r ≡ false
   stays (kinds.Group g) off = refl
   stays (kinds.Disk d) off = refl
   stays (kinds.Partition p) off = refl
@@ -152,7 +152,7 @@ module _ {db : Database} {labels : List Label} {v : Volume} {len : ℕ} {wanted 
 
   pub lengthens : Lengthens labels db.records change v volume.volume len shares.ss
   lengthens = record {
-    t = changes v;
+    t = mirror_changes v;
     stay = refl;
     other = λ r at fails. other r fails;
     stays = λ r at is. stays r is;
@@ -171,7 +171,7 @@ module _ {db : Database} {labels : List Label} {v : Volume} {len : ℕ} {wanted 
       each = shares.each;
       within = subst (λ (l : List Taken). AllEndWithin (data_size labels db.records) l) (sym shares.taken_are)
           (fits_within (data_size labels db.records) wanted (taken_in db.records) spots (λ k e lt. (on_disks (get_or wanted k e) (Contains-get_or wanted k e lt)).limit) fits);
-      free = subst (λ (l : List Taken). AreApart (taken_in db.records) l) (sym shares.taken_are) (fits_apart wanted (taken_in db.records) spots fits);
+      free = subst (λ (l : List Taken). AreDisjoint (taken_in db.records) l) (sym shares.taken_are) (fits_apart wanted (taken_in db.records) spots fits);
     };
   }
 

@@ -24,7 +24,7 @@ use Rattle.ldm_space.specs.declared.taken.Taken.{Taken}
 use Rattle.ldm_volumes.specs.Volumes.{there}
 use Rattle.ldm_edits.proofs.StayLaws.{walk_more}
 use Rattle.ldm_edits.specs.Mirroring.{held_in}
-use Rattle.ldm_edits.specs.Mirroring.{component_at, component_holds, grown_components, grown_parts}
+use Rattle.ldm_edits.specs.Mirroring.{component_in_record, component_holds, grown_components, grown_parts}
 
 -- ---- a walk over the records
 
@@ -33,21 +33,21 @@ map_push f [] x = refl
 map_push {X} {Y} f (y ∷ xs) x = ap (λ (l : List Y). f y ∷ l) (map_push f xs x)
 
 pub component_more : (rs : List Record) (at q : ℕ) (r : Record) (c : Component) (found pushed : List (Bor Component)) (b : Bor Component) → at < length rs → r ≡ get_or rs at r → r ≡ kinds.Component c → c.parent ≡ q
-    → map (λ (x : Bor Component). x.now) found ≡ filter_map component_at (filter (is_child 3 q) (take at rs)) → pushed ≡ found ++ b ∷ [] → b.now ≡ c
-    → map (λ (x : Bor Component). x.now) pushed ≡ filter_map component_at (filter (is_child 3 q) (take (at + 1) rs))
+    → map (λ (x : Bor Component). x.now) found ≡ filter_map component_in_record (filter (is_child 3 q) (take at rs)) → pushed ≡ found ++ b ∷ [] → b.now ≡ c
+    → map (λ (x : Bor Component). x.now) pushed ≡ filter_map component_in_record (filter (is_child 3 q) (take (at + 1) rs))
 component_more rs at q r c found pushed b lt is kind parent so_far push same =
     let passes : is_child 3 q r ≡ true = ap (is_child 3 q) kind ∙ eq-eqb c.parent q parent in
     ap (map (λ (x : Bor Component). x.now)) push ∙ map_push (λ (x : Bor Component). x.now) found b
     ∙ (λ i. so_far i ++ same i ∷ [])
-    ∙ ap (λ (s : Record). filter_map component_at (filter (is_child 3 q) (take at rs)) ++ filter_map component_at (s ∷ [])) (sym kind)
-    ∙ sym (filter_map-append component_at (filter (is_child 3 q) (take at rs)) (r ∷ []))
-    ∙ ap (filter_map component_at) (sym (walk_more (is_child 3 q) rs at r true lt is passes))
+    ∙ ap (λ (s : Record). filter_map component_in_record (filter (is_child 3 q) (take at rs)) ++ filter_map component_in_record (s ∷ [])) (sym kind)
+    ∙ sym (filter_map-append component_in_record (filter (is_child 3 q) (take at rs)) (r ∷ []))
+    ∙ ap (filter_map component_in_record) (sym (walk_more (is_child 3 q) rs at r true lt is passes))
 
 pub component_same : (rs : List Record) (at q : ℕ) (r : Record) (found : List (Bor Component)) → at < length rs → r ≡ get_or rs at r → is_child 3 q r ≡ false
-    → map (λ (x : Bor Component). x.now) found ≡ filter_map component_at (filter (is_child 3 q) (take at rs))
-    → map (λ (x : Bor Component). x.now) found ≡ filter_map component_at (filter (is_child 3 q) (take (at + 1) rs))
+    → map (λ (x : Bor Component). x.now) found ≡ filter_map component_in_record (filter (is_child 3 q) (take at rs))
+    → map (λ (x : Bor Component). x.now) found ≡ filter_map component_in_record (filter (is_child 3 q) (take (at + 1) rs))
 component_same rs at q r found lt is fails so_far =
-    so_far ∙ ap (filter_map component_at) (sym (append-nil (filter (is_child 3 q) (take at rs)))) ∙ ap (filter_map component_at) (sym (walk_more (is_child 3 q) rs at r false lt is fails))
+    so_far ∙ ap (filter_map component_in_record) (sym (append-nil (filter (is_child 3 q) (take at rs)))) ∙ ap (filter_map component_in_record) (sym (walk_more (is_child 3 q) rs at r false lt is fails))
 
 -- a record that isn't one of them
 pub no_component : (q : ℕ) (r : Record) → ((c : Component) → r ≡ kinds.Component c → ⊥) → is_child 3 q r ≡ false

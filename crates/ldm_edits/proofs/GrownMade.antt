@@ -20,7 +20,7 @@ use Rattle.ldm_layout.specs.Parts.{extent_of}
 use Rattle.ldm_space.specs.declared.taken.Taken.{Taken}
 use Rattle.ldm_space.specs.Free.{taken_of}
 use Rattle.ldm_volumes.specs.Volumes.{there}
-use Rattle.ldm_edits.specs.Mirroring.{component_at, components_of, component_holds, grown_components, grown_parts, grown_made}
+use Rattle.ldm_edits.specs.Mirroring.{component_in_record, components_of, component_holds, grown_components, grown_parts, grown_made}
 use Rattle.ldm_edits.proofs.CreatedNext.{alone_rises}
 use Rattle.ldm_edits.proofs.ExtendedParts.{plex_is}
 use Rattle.ldm_edits.proofs.Longer.{Share, olds, news, parts_of, longer_records, IsNewPart, IsShare}
@@ -120,12 +120,12 @@ made_are records v w size len id ts made is =
 
 -- the components of a volume are the records that name it
 pub named_components : (q : ℕ) (records : List Record)
-    → filter (is_child 3 q) records ≡ map (λ (c : Component). kinds.Component c) (filter_map component_at (filter (is_child 3 q) records))
+    → filter (is_child 3 q) records ≡ map (λ (c : Component). kinds.Component c) (filter_map component_in_record (filter (is_child 3 q) records))
 named_components q [] = refl
 named_components q (kinds.Component c ∷ records) =
     let rest = named_components q records in
     elim (c.parent == q) as (λ (b : Bool). (if b then kinds.Component c ∷ filter (is_child 3 q) records else filter (is_child 3 q) records)
-    ≡ map (λ (x : Component). kinds.Component x) (filter_map component_at (if b then kinds.Component c ∷ filter (is_child 3 q) records else filter (is_child 3 q) records))) [
+    ≡ map (λ (x : Component). kinds.Component x) (filter_map component_in_record (if b then kinds.Component c ∷ filter (is_child 3 q) records else filter (is_child 3 q) records))) [
       | true ↦ ap (λ (l : List Record). kinds.Component c ∷ l) rest
       | false ↦ rest
     ]

@@ -16,7 +16,7 @@ use Rattle.ldm_layout.specs.Volumes.{layout_of, shape_of}
 use Rattle.ldm_rules.specs.Ends.{data_size}
 use Rattle.ldm_rules.proofs.CarryLaws.{HasDisk}
 use Rattle.ldm_space.specs.Free.{taken_of, taken_in}
-use Rattle.ldm_space.specs.Placed.{AllEndWithin, AreApart}
+use Rattle.ldm_space.specs.Placed.{AllEndWithin, AreDisjoint}
 use Rattle.ldm_edits.specs.Extending.{held}
 use Rattle.ldm_edits.specs.Mirroring.{held_in}
 use Rattle.ldm_edits.proofs.SingleLists.{records_of}
@@ -90,7 +90,7 @@ pub record IsWider (labels : List Label) (old : List Record) (v w : Volume) (len
   pub size : w.size ≡ held (layout_of old v) + len
   pub each : (s : Share) → Contains ss s → IsShare old v len s
   pub within : AllEndWithin (data_size labels old) (map taken_of (parts_of ss))
-  pub free : AreApart (taken_in old) (map taken_of (parts_of ss))
+  pub free : AreDisjoint (taken_in old) (map taken_of (parts_of ss))
 
 -- the next records: the volume and its components, changed, and the new partitions
 pub record IsLonger (labels : List Label) (old next : List Record) (v w : Volume) (len : ℕ) (ss : List Share) : Type 0 where

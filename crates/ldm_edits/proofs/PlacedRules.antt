@@ -19,7 +19,7 @@ use Rattle.ldm_rules.proofs.MeetLaws.{NoneMeet, none_meet}
 use Rattle.ldm_rules.proofs.SoundLaws.{EachRule}
 use Rattle.ldm_space.specs.declared.taken.Taken.{Taken}
 use Rattle.ldm_space.specs.Free.{taken_of, taken_by, taken_in, clash}
-use Rattle.ldm_space.specs.Placed.{AreApart, AllEndWithin}
+use Rattle.ldm_space.specs.Placed.{AreDisjoint, AllEndWithin}
 use Rattle.ldm_space.proofs.PlacedLaws.{apart_old, apart_new, clash_back}
 
 map_at : {X Y : Type 0} (f : X → Y) (xs : List X) (k : ℕ) (x : X) (y : Y) → k < length xs → get_or xs k x ≡ x → get_or (map f xs) k y ≡ f x
@@ -56,7 +56,7 @@ taken_there records p (k, lt, is) = named_there taken_by records (kinds.Partitio
 
 -- the next group meets nowhere, where the old one doesn't and the new partitions lie apart
 pub meetings_next : (old next : List Record) (new : List Partition) → NoneMeet old → IsOldOrNew old next new
-    → AreApart (taken_in old) (map taken_of new) → NoneMeet next
+    → AreDisjoint (taken_in old) (map taken_of new) → NoneMeet next
 meetings_next old next new apart members free p q at_p at_q =
     elim (members p at_p) [
       | inl old_p ↦ elim (members q at_q) [
@@ -90,7 +90,7 @@ meetings_next old next new apart members free p q at_p at_q =
 pub record ArePlaced (labels : List Label) (old next : List Record) (new : List Partition) : Type 0 where
   pub members : IsOldOrNew old next new
   pub within : AllEndWithin (data_size labels old) (map taken_of new)
-  pub free : AreApart (taken_in old) (map taken_of new)
+  pub free : AreDisjoint (taken_in old) (map taken_of new)
 
 -- so what a change carries over keeps the rules, where no two volumes have one name
 pub placed_carried : (labels : List Label) (old next : List Record) (new : List Partition) → Carries old next

@@ -35,8 +35,8 @@ use Rattle.ldm_volumes.specs.Volumes.{span_parts, there}
 -- ---- the records
 
 -- the volume, and its component
-abbrev pub changes : Volume → Component → Record → Bool
-changes v c r = is_at 3 v.head.id r || is_at 4 c.head.id r
+abbrev pub span_changes : Volume → Component → Record → Bool
+span_changes v c r = is_at 3 v.head.id r || is_at 4 c.head.id r
 
 -- The longer volume and its component, and the new partitions from an id on. These begin behind the capacity of the component,
 -- which has so many partitions more. The volume's size is the new capacity.

@@ -31,16 +31,16 @@ abbrev pub held_in : List Extent → ℕ
 held_in es = sum_by (λ e. e.size) es
 
 -- the volume and its components are changed
-abbrev pub changes : Volume → Record → Bool
-changes v r = is_at 3 v.head.id r || is_child 3 v.head.id r
+abbrev pub mirror_changes : Volume → Record → Bool
+mirror_changes v r = is_at 3 v.head.id r || is_child 3 v.head.id r
 
-abbrev pub component_at : Record → Option Component
-component_at (kinds.Component c) = Some c
-component_at _ = None
+abbrev pub component_in_record : Record → Option Component
+component_in_record (kinds.Component c) = Some c
+component_in_record _ = None
 
 -- the components of a volume, in rising id
 abbrev pub components_of : Volume → List Record → List Component
-components_of v records = filter_map component_at (filter (is_child 3 v.head.id) records)
+components_of v records = filter_map component_in_record (filter (is_child 3 v.head.id) records)
 
 -- what a component holds: where its new partition begins
 abbrev pub component_holds : List Record → Component → ℕ

@@ -9,8 +9,7 @@ ghost use Rattle.ldm_edits.specs.declared.reply.Refusal.{Refusal as Reason};
 ghost use Rattle.ldm_edits.specs.declared.stepping.Outcome.TheVariants.{Next};
 ghost use Rattle.ldm_edits.specs.Changes.{AreasFit};
 ghost use Rattle.ldm_edits.specs.Steps.{StepsAs, Keeps, IsDraftOf, VerdictKeeps, at_once, held_at};
-ghost use Rattle.ldm_edits.specs.Steps.{change_in, begun};
-ghost use Rattle.ldm_edits.specs.Steps.{committed, cancelled, verdict_of};
+ghost use Rattle.ldm_edits.specs.Steps.{change_in, begun, committed, cancelled, verdict_of};
 
 use crate::batch::{Draft, Turn};
 use crate::reply::Refusal;

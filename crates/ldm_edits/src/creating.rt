@@ -7,8 +7,8 @@ ghost use Rattle.ldm_edits.specs.Answers.{FindsAs, StepsTo};
 ghost use Rattle.ldm_edits.specs.Changes.{AreasFit, change_to};
 ghost use Rattle.ldm_edits.specs.Spots.{wanted_by, open_wanted, CanBePlaced, ArePlaced};
 ghost use Rattle.ldm_edits.specs.Creating.{words_of, is_same_disk, is_bad_column, is_bad_size};
-ghost use Rattle.ldm_edits.specs.Creating.{made_for, fresh_for};
-ghost use Rattle.ldm_edits.specs.Creating.{change_for, against_layout, created_new, created};
+ghost use Rattle.ldm_edits.specs.Creating.{made_for, fresh_for, change_for, against_layout};
+ghost use Rattle.ldm_edits.specs.Creating.{created_new, created};
 
 use crate::asked::{asked_disks, asked_pieces, has_twins, is_bad_length};
 use crate::changing::change;

@@ -7,9 +7,8 @@ ghost use Rattle.ldm_records.specs.declared.types.Record.TheVariants as kinds;
 ghost use Rattle.ldm_made.specs.Made.{resized, with_children};
 ghost use Rattle.ldm_group.specs.Looks.{is_child};
 ghost use Rattle.ldm_volumes.specs.Volumes.{there};
-ghost use Rattle.ldm_edits.specs.Mirroring.{component_at, component_holds, grown_components};
-ghost use Rattle.ldm_edits.specs.Mirroring.{grown_parts};
-ghost use Rattle.ldm_edits.specs.Mirroring.{held_in};
+ghost use Rattle.ldm_edits.specs.Mirroring.{component_in_record, component_holds, grown_components};
+ghost use Rattle.ldm_edits.specs.Mirroring.{grown_parts, held_in};
 ghost use Rattle.ldm_layout.specs.Parts.{extents_of, by_offset};
 
 use ldm_bytes::NoMemory;
@@ -22,7 +21,7 @@ use std::alloc::Global;
 /// The components of a volume, in rising id.
 pub fn components_of(alloc: Global, db: &Db, volume: u64) -> Result<Vec<&Component>, NoMemory>
     ensures { IfOk result (λ v. map (λ c. c.now) v.items
-        ≡ filter_map component_at (filter (is_child 3 volume) db.now.records)) }
+        ≡ filter_map component_in_record (filter (is_child 3 volume) db.now.records)) }
 {
     let mut found = Vec::new(alloc);
     for r in db.as_slice() {

@@ -14,7 +14,7 @@ use Rattle.ldm_found.specs.Gathers.{IsFirst}
 use Rattle.ldm_found.specs.Copies.{newer, newest, Disagrees, note_of}
 use Rattle.ldm_found.specs.Editing.{reasons, blocked_in}
 use Rattle.ldm_found.specs.Opening.{group_faults, found_with, group_at, IsNewestGroup}
-use Rattle.ldm_found.specs.Alike.{AreAlike, AllAlike, TellsSame, AnswerAlike}
+use Rattle.ldm_found.specs.Alike.{AreSameState, AllAlike, TellsSame, AnswerAlike}
 use Rattle.ldm_found.proofs.FirstLaws.{first_one}
 use Rattle.ldm_found.proofs.NewestLaws.{behind}
 
@@ -60,7 +60,7 @@ by_test true false p q a b e at later here = absurd (cc)
 by_test false true p q a b e at later here = absurd (cc)
 by_test false false p q a b e at later here = (refl, here)
 
-newer_alike : (x y : CopyState) (l m : Option (ℕ × Database)) → AreAlike x y → NewestAlike l m → NewestAlike (newer x (behind l)) (newer y (behind m))
+newer_alike : (x y : CopyState) (l m : Option (ℕ × Database)) → AreSameState x y → NewestAlike l m → NewestAlike (newer x (behind l)) (newer y (behind m))
 newer_alike Closed Closed None None here later = tt
 newer_alike Closed Closed None (Some q) here later = absurd later
 newer_alike Closed Closed (Some p) None here later = absurd later
@@ -82,13 +82,13 @@ newest_alike (x ∷ xs) (y ∷ ys) all = newer_alike x y (newest xs) (newest ys)
 
 -- ---- another of its sequence
 
-alike_back : (x y : CopyState) → AreAlike x y → AreAlike y x
+alike_back : (x y : CopyState) → AreSameState x y → AreSameState y x
 alike_back Closed Closed same = tt
 alike_back Closed (Valid b) same = absurd same
 alike_back (Valid a) Closed same = absurd same
 alike_back (Valid a) (Valid b) same = sym same
 
-disagrees_alike : (d e : Database) (x y : CopyState) → IsSameCore d e → AreAlike x y → Disagrees d x → Disagrees e y
+disagrees_alike : (d e : Database) (x y : CopyState) → IsSameCore d e → AreSameState x y → Disagrees d x → Disagrees e y
 disagrees_alike d e Closed Closed same here differs = differs
 disagrees_alike d e Closed (Valid b) same here differs = absurd here
 disagrees_alike d e (Valid a) Closed same here differs = absurd here
@@ -107,7 +107,7 @@ first_alike d e (x ∷ xs) (y ∷ ys) (Some (suc at)) same all first =
 
 -- ---- the answers
 
-note_alike : (x y : CopyState) → AreAlike x y → note_of x ≡ note_of y
+note_alike : (x y : CopyState) → AreSameState x y → note_of x ≡ note_of y
 note_alike Closed Closed same = refl
 note_alike Closed (Valid b) same = absurd same
 note_alike (Valid a) Closed same = absurd same

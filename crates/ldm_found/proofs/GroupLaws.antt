@@ -27,7 +27,7 @@ use Rattle.ldm_found.specs.Copies.{IsCopyIn, newest, Disagrees, note_of}
 use Rattle.ldm_found.specs.Opening.{group_faults, found_with, group_at, IsNewestGroup, IsGroupOfCopies, IsGroupOfDisks, IsGroupOfLabels, IsGroupIn}
 use Rattle.ldm_found.specs.Facts.{LieOn}
 use Rattle.ldm_found.specs.Answers.{FindsIn}
-use Rattle.ldm_found.specs.Steps.{ReadsCopies, IsNewestOf, ChecksGroup, newest_faults, group_from, Gives}
+use Rattle.ldm_found.specs.Steps.{ReadsCopies, IsNewestOf, ChecksGroup, newest_faults, group_from, GivesGroup}
 use Rattle.ldm_found.proofs.GatherLaws.{gathers_one}
 use Rattle.ldm_found.proofs.FirstLaws.{first_one}
 use Rattle.ldm_found.proofs.DiskLaws.{one_twins}
@@ -91,7 +91,7 @@ found_copies : (images : List (List ℕ)) (labels : List Label) (read : Copies) 
 found_copies images labels read group (copies, all, is, noted) from = (Ok copies, all, found_newest copies read.newest labels read.notes group is noted from)
 
 pub finds : (images : List (List ℕ)) (labels : List Label) (read : Copies) (r : Result Found OpenError) → Gathers IsLabelOf images (Ok labels) → AreApart labels
-    → ReadsCopies labels images (Ok read) → Gives r (group_from read.newest labels read.notes) → FindsIn images r
+    → ReadsCopies labels images (Ok read) → GivesGroup r (group_from read.newest labels read.notes) → FindsIn images r
 finds images labels read (Ok found) all apart of_copies from = found_disks images labels (Ok found) all apart (found_copies images labels read (Ok found) of_copies from)
 finds images labels read (Err (Fault fault)) all apart of_copies from = found_disks images labels (Err fault) all apart (found_copies images labels read (Err fault) of_copies from)
 finds images labels read (Err Disk) all apart of_copies from = tt
@@ -127,16 +127,16 @@ module _ (n : Newest) (labels : List Label) (notes : List Note) where
   group_with : (fault : Option OpenFault) → first_of (newest_faults n labels) ≡ fault → group_at n.image n.db n.other labels notes ≡ unless fault (found_with n.db labels notes)
   group_with fault is = group_by n.image n.db n.other labels notes ∙ ap (λ (o : Option OpenFault). unless o (found_with n.db labels notes)) is
 
-  failed : (e : OpenError) → ChecksGroup (Err e) (first_of (newest_faults n labels)) → Gives (Err e) (group_at n.image n.db n.other labels notes)
+  failed : (e : OpenError) → ChecksGroup (Err e) (first_of (newest_faults n labels)) → GivesGroup (Err e) (group_at n.image n.db n.other labels notes)
   failed (Fault fault) is = group_with (Some fault) is
   failed Disk is = absurd is
   failed NoMemory is = tt
 
   pub newest_failed : (r : Result Found OpenError) (e : OpenError) → IsErrAnd r (λ x. x ≡ e) → ChecksGroup (Err e) (first_of (newest_faults n labels))
-      → Gives r (group_at n.image n.db n.other labels notes)
+      → GivesGroup r (group_at n.image n.db n.other labels notes)
   newest_failed r e same is = let p = err_from_is_err_and r same in rw (p.1, p.2) (failed e is)
 
-  pub newest_found : (found : Found) → found ≡ found_with n.db labels notes → first_of (newest_faults n labels) ≡ None → Gives (Ok found) (group_at n.image n.db n.other labels notes)
+  pub newest_found : (found : Found) → found ≡ found_with n.db labels notes → first_of (newest_faults n labels) ≡ None → GivesGroup (Ok found) (group_at n.image n.db n.other labels notes)
   newest_found found same none = group_with None none ∙ ap (λ (f : Found). Ok f) (sym same)
 
 pub lies_on : (r : Result Found OpenError) (labels : List Label) (sizes : List ℕ) → IfOk r (λ found. found.labels ≡ labels) → LieOn labels sizes → IfOk r (λ found. LieOn found.labels sizes)

@@ -7,15 +7,15 @@ use Rattle.ldm_found.specs.declared.fault.OpenFault.{OpenFault}
 use Rattle.ldm_found.specs.declared.found.Found.{Found}
 
 -- both are closed, or open with the same group
-abbrev pub AreAlike : CopyState → CopyState → Type 0
-AreAlike Closed Closed = Unit {0}
-AreAlike (Valid a) (Valid b) = IsSameCore a b
-AreAlike _ _ = ⊥
+abbrev pub AreSameState : CopyState → CopyState → Type 0
+AreSameState Closed Closed = Unit {0}
+AreSameState (Valid a) (Valid b) = IsSameCore a b
+AreSameState _ _ = ⊥
 
 -- each copy and the one in its place are alike
 abbrev pub AllAlike : List CopyState → List CopyState → Type 0
 AllAlike [] [] = Unit {0}
-AllAlike (x ∷ xs) (y ∷ ys) = AreAlike x y × AllAlike xs ys
+AllAlike (x ∷ xs) (y ∷ ys) = AreSameState x y × AllAlike xs ys
 AllAlike _ _ = ⊥
 
 -- all but the carried bytes of the header is the same

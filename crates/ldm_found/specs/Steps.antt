@@ -103,8 +103,8 @@ group_from None labels notes = Err faults.NoCopy
 group_from (Some n) labels notes = group_at n.image n.db n.other labels notes
 
 -- exactly this group or fault, or want of memory
-abbrev pub Gives : Result Found OpenError → Result Found OpenFault → Type 0
-Gives (Ok found) group = group ≡ Ok found
-Gives (Err (Fault fault)) group = group ≡ Err fault
-Gives (Err Disk) group = ⊥
-Gives (Err NoMemory) group = Unit {0}
+abbrev pub GivesGroup : Result Found OpenError → Result Found OpenFault → Type 0
+GivesGroup (Ok found) group = group ≡ Ok found
+GivesGroup (Err (Fault fault)) group = group ≡ Err fault
+GivesGroup (Err Disk) group = ⊥
+GivesGroup (Err NoMemory) group = Unit {0}

@@ -7,7 +7,7 @@ ghost use Rattle.ldm_rules.specs.Disjoint.{AllLaidOut};
 ghost use Rattle.ldm_found.specs.Labels.{AreApart, stranger};
 ghost use Rattle.ldm_found.specs.Opening.{group_at, group_faults};
 ghost use Rattle.ldm_found.specs.Facts.{IsSoundGroup};
-ghost use Rattle.ldm_found.specs.Steps.{ChecksGroup, Gives, newest_faults, group_from};
+ghost use Rattle.ldm_found.specs.Steps.{ChecksGroup, GivesGroup, newest_faults, group_from};
 
 use crate::copies::Newest;
 use crate::editing::blocked;
@@ -64,7 +64,7 @@ fn group_of(alloc: Global, newest: Newest, labels: Labels, notes: Notes) -> Resu
     requires room { FitsHeader newest.db }
     requires apart { AreApart labels }
     requires one_note { length notes ≡ length labels }
-    ensures is { Gives result (group_at newest.image newest.db newest.other labels notes) }
+    ensures is { GivesGroup result (group_at newest.image newest.db newest.other labels notes) }
     ensures sound { IfOk result (λ found. IsSoundGroup found) }
     ensures same { IfOk result (λ found. found.labels ≡ labels) }
 {
@@ -88,7 +88,7 @@ pub fn choose(
     requires room { IfSome newest (λ n. FitsHeader n.db) }
     requires apart { AreApart labels }
     requires one_note { length notes ≡ length labels }
-    ensures is { Gives result (group_from newest labels notes) }
+    ensures is { GivesGroup result (group_from newest labels notes) }
     ensures sound { IfOk result (λ found. IsSoundGroup found) }
     ensures same { IfOk result (λ found. found.labels ≡ labels) }
 {

@@ -1,7 +1,6 @@
 //! The copies of several images: the newest, and whether another differs from it.
 ghost use Rattle.std.specs.Prelude.{◌≡◌, ◌+◌, ◌<◌, [], ◌∷◌, ◌++◌, List, length, take, zip};
-ghost use Rattle.std.specs.Prelude.{slice_index, Ok, IfOk};
-ghost use Rattle.std.specs.Prelude.{IfErr, IfSome, IsErrOf};
+ghost use Rattle.std.specs.Prelude.{slice_index, Ok, IfOk, IfErr, IfSome, IsErrOf};
 ghost use Rattle.ldm_host.specs.Seen.{image};
 ghost use Rattle.ldm_host.specs.Moves.{Looks};
 ghost use Rattle.ldm_label.specs.LabelOf.{Fits};

@@ -7,7 +7,7 @@ use Rattle.ldm_frags.specs.declared.faults.FragFault.TheVariants.{NoMagic, Parts
 use Rattle.std.specs.Global.{Vec}
 use Rattle.ldm_frags.specs.declared.faults.FragError.{FragError}
 use Rattle.ldm_frags.specs.declared.faults.FragError.TheVariants.{Fault, NoMemory}
-use Rattle.ldm_frags.specs.Answers.{Answers, Gives, Refuses, IsFault}
+use Rattle.ldm_frags.specs.Answers.{AnswersBlocks, GivesList, Refuses, IsFault}
 use Rattle.ldm_frags.specs.Blocks.{count, has_magic, group, part, parts, payload, is_fragment, is_of, is_part, is_mixed, some_below, is_there, has_parts, least_below}
 use Rattle.ldm_frags.specs.declared.faults.Joined.{Joined}
 use Rattle.ldm_frags.specs.Faults.{block_fault, has_all, missing_fault, first_below, first_block_fault}
@@ -245,11 +245,11 @@ unfolding first_block_fault
 group_first blocks f e g = rw (e, g) refl
 
 -- an error of the blocks is handed on
-pub fault_answers : (blocks : List ℕ) (r : Result (Vec Joined) FragError) (e : FragError) → IsErrAnd r (λ given. given ≡ e) → IsFault e (first_block_fault blocks) → Answers blocks r
+pub fault_answers : (blocks : List ℕ) (r : Result (Vec Joined) FragError) (e : FragError) → IsErrAnd r (λ given. given ≡ e) → IsFault e (first_block_fault blocks) → AnswersBlocks blocks r
 fault_answers blocks (Ok v) e is found = absurd is
 fault_answers blocks (Err given) e is found = go given (subst (λ (x : FragError). IsFault x (first_block_fault blocks)) (sym is) found)
   where
-    go : (x : FragError) → IsFault x (first_block_fault blocks) → Answers blocks (Err x)
+    go : (x : FragError) → IsFault x (first_block_fault blocks) → AnswersBlocks blocks (Err x)
     go NoMemory h = tt
     go (Fault f) h = h
 
@@ -258,12 +258,12 @@ fault_answers blocks (Err given) e is found = go given (subst (λ (x : FragError
 some_none : (f : FragFault) (o : Option FragFault) → o ≡ Some f → o ≡ None → ⊥
 some_none f o e g = cc
 
-pub answers_gives : (blocks : List ℕ) (r : Result (Vec Joined) FragError) → Answers blocks r → (list : List Joined) → Joins blocks list → Gives r list
+pub answers_gives : (blocks : List ℕ) (r : Result (Vec Joined) FragError) → AnswersBlocks blocks r → (list : List Joined) → Joins blocks list → GivesList r list
 answers_gives blocks (Ok v) a list joins = one_list blocks v.items list a joins
 answers_gives blocks (Err NoMemory) a list joins = tt
 answers_gives blocks (Err (Fault f)) a list joins = some_none f (first_block_fault blocks) a (joins_clean blocks list joins)
 
-pub answers_refuses : (blocks : List ℕ) (r : Result (Vec Joined) FragError) → Answers blocks r → (f : FragFault) → first_block_fault blocks ≡ Some f → Refuses r f
+pub answers_refuses : (blocks : List ℕ) (r : Result (Vec Joined) FragError) → AnswersBlocks blocks r → (f : FragFault) → first_block_fault blocks ≡ Some f → Refuses r f
 answers_refuses blocks (Ok v) a f e = some_none f (first_block_fault blocks) e (joins_clean blocks v.items a)
 answers_refuses blocks (Err NoMemory) a f e = tt
 answers_refuses blocks (Err (Fault g)) a f e = cc

@@ -18,12 +18,12 @@ use Rattle.ldm_frags.specs.declared.faults.FragFault.{FragFault}
 use Rattle.ldm_frags.specs.declared.faults.FragError.TheVariants.{Fault, NoMemory}
 use Rattle.ldm_frags.specs.declared.faults.Joined.{Joined}
 use Rattle.ldm_frags.specs.declared.groups.Group.{Group}
-use Rattle.ldm_frags.specs.Answers.{Answers, IsFault}
+use Rattle.ldm_frags.specs.Answers.{AnswersBlocks, IsFault}
 use Rattle.ldm_frags.specs.Blocks.{count, has_magic, group, part, parts, payload, is_fragment, is_of, is_part, some_below, all_below, least_below, has_parts}
 use Rattle.ldm_frags.specs.Faults.{fault_by, block_fault, missing_fault, has_all, first_below, first_block_fault, or_else}
 use Rattle.ldm_frags.specs.Fed.{Fed, IsSameBlock, IsFed}
-use Rattle.ldm_frags.specs.Groups.{place_in, has_other, Knows, IsTable}
-use Rattle.ldm_frags.specs.Kept.{head_at, IsNext, IsPiece, IsWhole, block_of, blocks_of, IsKept}
+use Rattle.ldm_frags.specs.Groups.{part_place, has_other, Knows, IsTable}
+use Rattle.ldm_frags.specs.Kept.{head_at, IsNextPiece, IsPiece, IsWholePiece, block_of, blocks_of, IsKeptTable}
 use Rattle.ldm_frags.proofs.Below.{faultless_below, faultless_from, first_there, least_passes}
 use Rattle.ldm_frags.proofs.Fields.{HasFields, fields_of}
 use Rattle.ldm_frags.proofs.JoinLaws.{sound_of, both_of, frag_is, few_parts}
@@ -65,7 +65,7 @@ block_there (piece ∷ rest) (suc k) d lt =
     ∙ block_there rest k d (omega arith)
 
 -- what the block of a piece says
-fields_at : (pieces : List Piece) (k : ℕ) (d : Piece) → k < length pieces → IsWhole (get_or pieces k d)
+fields_at : (pieces : List Piece) (k : ℕ) (d : Piece) → k < length pieces → IsWholePiece (get_or pieces k d)
     → HasFields (blocks_of pieces) k (get_or pieces k d).head.group (get_or pieces k d).head.part (get_or pieces k d).head.parts (take 112 ((get_or pieces k d).payload ++ replicate 112 0))
 fields_at pieces k d lt whole =
     let piece : Piece = get_or pieces k d in
@@ -75,7 +75,7 @@ fields_at pieces k d lt whole =
 same_head : {g h p q m n : ℕ} → g ≡ h → p ≡ q → m ≡ n → (let a : Head = record { group = g; part = p; parts = m } in a) ≡ record { group = h; part = q; parts = n }
 same_head e f s = λ i. record { group = e i; part = f i; parts = s i }
 
-pub piece_read : (pieces : List Piece) (k : ℕ) (d : Piece) → k < length pieces → All IsWhole pieces → IsPiece (blocks_of pieces) k (get_or pieces k d)
+pub piece_read : (pieces : List Piece) (k : ℕ) (d : Piece) → k < length pieces → All IsWholePiece pieces → IsPiece (blocks_of pieces) k (get_or pieces k d)
 piece_read pieces k d lt whole =
     let has = fields_at pieces k d lt (whole k d lt) in
     record {
@@ -95,14 +95,14 @@ pub payload_length : (block : List ℕ) → length block ≡ 128 → length (pay
 payload_length block len = let rest = length-drop 16 block in length-take-le 112 (drop 16 block) (omega arith)
 
 -- the piece of a block reads like it
-last_same : (pieces : List Piece) (piece : Piece) (block : List ℕ) → IsWhole piece → IsPiece block 0 piece → has_magic block 0 ≡ true → IsSameBlock (blocks_of (pieces ++ piece ∷ [])) (length pieces) block 0
+last_same : (pieces : List Piece) (piece : Piece) (block : List ℕ) → IsWholePiece piece → IsPiece block 0 piece → has_magic block 0 ≡ true → IsSameBlock (blocks_of (pieces ++ piece ∷ [])) (length pieces) block 0
 last_same pieces piece block whole is magic =
     let all : List Piece = pieces ++ piece ∷ [] in
     let long = length_push pieces piece in
     let last : get_or all (length pieces) piece ≡ piece = get_or_push pieces piece piece (length pieces) refl in
     let has : HasFields (blocks_of all) (length pieces) piece.head.group piece.head.part piece.head.parts (take 112 (piece.payload ++ replicate 112 0)) =
     subst (λ (x : Piece). HasFields (blocks_of all) (length pieces) x.head.group x.head.part x.head.parts (take 112 (x.payload ++ replicate 112 0))) last
-    (fields_at all (length pieces) piece (omega arith) (subst IsWhole (sym last) whole)) in
+    (fields_at all (length pieces) piece (omega arith) (subst IsWholePiece (sym last) whole)) in
     let parts = ap (λ (h : Head). h.parts) is.head in
     record {
       magic = has.magic ∙ sym magic;
@@ -112,11 +112,11 @@ last_same pieces piece block whole is magic =
       payload = λ used. has.payload ∙ take_at piece.payload (replicate 112 0) 112 (whole.full (omega arith)) ∙ is.payload (omega arith);
     }
 
-next_magic : (pieces : List Piece) (piece : Piece) (block : List ℕ) → IsNext pieces piece block → has_magic block 0 ≡ true
+next_magic : (pieces : List Piece) (piece : Piece) (block : List ℕ) → IsNextPiece pieces piece block → has_magic block 0 ≡ true
 next_magic pieces piece block next =
     sym (end_same (blocks_of pieces) block (length pieces) (blocks_length pieces) next.len).magic ∙ (sound_of (blocks_of pieces ++ block) (length pieces) next.clean).magic
 
-next_last : (pieces : List Piece) (piece : Piece) (block : List ℕ) → IsNext pieces piece block → IsSameBlock (blocks_of (pieces ++ piece ∷ [])) (length pieces) block 0
+next_last : (pieces : List Piece) (piece : Piece) (block : List ℕ) → IsNextPiece pieces piece block → IsSameBlock (blocks_of (pieces ++ piece ∷ [])) (length pieces) block 0
 next_last pieces piece block next = last_same pieces piece block next.whole next.is (next_magic pieces piece block next)
 
 -- those before stay
@@ -125,7 +125,7 @@ before_same pieces piece k lt =
     let many = count_of pieces in
     subst (λ (x : List ℕ). IsSameBlock x k (blocks_of pieces) k) (sym (blocks_push pieces piece)) (same_before (blocks_of pieces) (block_of piece) k (omega arith))
 
-next_clean : (pieces : List Piece) (piece : Piece) (block : List ℕ) → IsNext pieces piece block → block_fault (blocks_of (pieces ++ piece ∷ [])) (length pieces) ≡ None
+next_clean : (pieces : List Piece) (piece : Piece) (block : List ℕ) → IsNextPiece pieces piece block → block_fault (blocks_of (pieces ++ piece ∷ [])) (length pieces) ≡ None
 next_clean pieces piece block next =
     let n : ℕ = length pieces in
     let kept : List ℕ = blocks_of pieces in
@@ -138,7 +138,7 @@ next_clean pieces piece block next =
     ∙ next.clean
 
 -- a fragment's part is below 4
-pub next_part : (pieces : List Piece) (piece : Piece) (block : List ℕ) → IsNext pieces piece block → 2 ≤ piece.head.parts → piece.head.part < 4
+pub next_part : (pieces : List Piece) (piece : Piece) (block : List ℕ) → IsNextPiece pieces piece block → 2 ≤ piece.head.parts → piece.head.part < 4
 next_part pieces piece block next two =
     let end = end_same (blocks_of pieces) block (length pieces) (blocks_length pieces) next.len in
     let sound = sound_of (blocks_of pieces ++ block) (length pieces) next.clean in
@@ -149,11 +149,11 @@ next_part pieces piece block next two =
     omega arith
 
 -- the table says the fault of the block behind those that are kept
-pub kept_fault : (pieces : List Piece) (groups : BTreeMap ℕ Group) (block : List ℕ) (number : ℕ) → IsKept pieces groups → length block ≡ 128 → number ≡ length pieces + 4
-    → fault_by number (has_magic block 0) (part block 0) (parts block 0) (has_other (get nat_cmp groups (group block 0)) (parts block 0)) (is_some (place_in (get nat_cmp groups (group block 0)) (part block 0)))
+pub kept_fault : (pieces : List Piece) (groups : BTreeMap ℕ Group) (block : List ℕ) (number : ℕ) → IsKeptTable pieces groups → length block ≡ 128 → number ≡ length pieces + 4
+    → fault_by number (has_magic block 0) (part block 0) (parts block 0) (has_other (get nat_cmp groups (group block 0)) (parts block 0)) (is_some (part_place (get nat_cmp groups (group block 0)) (part block 0)))
     ≡ block_fault (blocks_of pieces ++ block) (length pieces)
 kept_fault pieces groups block number kept len e =
-    ap (λ (n : ℕ). fault_by n (has_magic block 0) (part block 0) (parts block 0) (has_other (get nat_cmp groups (group block 0)) (parts block 0)) (is_some (place_in (get nat_cmp groups (group block 0)) (part block 0)))) e
+    ap (λ (n : ℕ). fault_by n (has_magic block 0) (part block 0) (parts block 0) (has_other (get nat_cmp groups (group block 0)) (parts block 0)) (is_some (part_place (get nat_cmp groups (group block 0)) (part block 0)))) e
     ∙ fault_is (blocks_of pieces) block (length pieces) groups (sym (count_of pieces)) (end_same (blocks_of pieces) block (length pieces) (blocks_length pieces) len)
     (subst (λ (m : ℕ). IsTable (blocks_of pieces) m groups) (count_of pieces) kept.table)
 
@@ -161,13 +161,13 @@ kept_fault pieces groups block number kept len e =
 abbrev pub Notes : Head → ℕ → BTreeMap ℕ Group → BTreeMap ℕ Group → Type 0
 Notes head n old new = (blocks : List ℕ) → head ≡ head_at blocks n → block_fault blocks n ≡ None → IsTable blocks n old → IsTable blocks (n + 1) new
 
-pub kept_more : (pieces : List Piece) (piece : Piece) (block : List ℕ) (old new : BTreeMap ℕ Group) → IsKept pieces old → IsNext pieces piece block
-    → Notes piece.head (length pieces) old new → IsKept (pieces ++ piece ∷ []) new
+pub kept_more : (pieces : List Piece) (piece : Piece) (block : List ℕ) (old new : BTreeMap ℕ Group) → IsKeptTable pieces old → IsNextPiece pieces piece block
+    → Notes piece.head (length pieces) old new → IsKeptTable (pieces ++ piece ∷ []) new
 kept_more pieces piece block old new kept next noted = record {
   table = subst (λ (m : ℕ). IsTable (blocks_of (pieces ++ piece ∷ [])) m new) (sym many_all)
       (noted (blocks_of (pieces ++ piece ∷ [])) head clean (table_same (blocks_of pieces) (blocks_of (pieces ++ piece ∷ [])) (length pieces) old (λ k lt. same_turned (blocks_of (pieces ++ piece ∷ [])) k (blocks_of pieces) k (before_same pieces piece k lt)) (subst (λ (m : ℕ). IsTable (blocks_of pieces) m old) many kept.table)));
   sound = faultless_from (count (blocks_of (pieces ++ piece ∷ []))) (block_fault (blocks_of (pieces ++ piece ∷ []))) sound_at;
-  whole = All-push IsWhole pieces piece kept.whole next.whole;
+  whole = All-push IsWholePiece pieces piece kept.whole next.whole;
 }
   where
     many : count (blocks_of pieces) ≡ length pieces
@@ -196,19 +196,19 @@ kept_more pieces piece block old new kept next noted = record {
 no_group : (groups : BTreeMap ℕ Group) (g : ℕ) → groups.entries ≡ [] → get nat_cmp groups g ≡ None
 no_group groups g none = rw none refl
 
-kept_empty : (groups : BTreeMap ℕ Group) → groups.entries ≡ [] → IsKept [] groups
+kept_empty : (groups : BTreeMap ℕ Group) → groups.entries ≡ [] → IsKeptTable [] groups
 unfolding blocks_of
 kept_empty groups none = record {
   table = record {
     known = λ g. subst (Knows [] 0 g) (sym (no_group groups g none)) refl;
-    places = λ g p lt. ap (λ (o : Option Group). place_in o p) (no_group groups g none);
+    places = λ g p lt. ap (λ (o : Option Group). part_place o p) (no_group groups g none);
   };
   sound = refl;
   whole = λ k d lt. absurd (omega arith);
 }
 
-pub kept_none : (pieces : List Piece) (groups : BTreeMap ℕ Group) → pieces ≡ [] → groups.entries ≡ [] → IsKept pieces groups
-kept_none pieces groups e none = subst (λ (x : List Piece). IsKept x groups) (sym e) (kept_empty groups none)
+pub kept_none : (pieces : List Piece) (groups : BTreeMap ℕ Group) → pieces ≡ [] → groups.entries ≡ [] → IsKeptTable pieces groups
+kept_none pieces groups e none = subst (λ (x : List Piece). IsKeptTable x groups) (sym e) (kept_empty groups none)
 
 pub blocks_none : (pieces : List Piece) → pieces ≡ [] → blocks_of pieces ≡ []
 unfolding blocks_of
@@ -243,7 +243,7 @@ fed_fault joiner pieces blocks block e len fed =
     (same_through (joiner.blocks ++ block) n block 0 (blocks ++ block) n (end_same joiner.blocks block n whole len)
     (same_turned (blocks ++ block) n block 0 (end_same blocks block n fed.whole len)))
 
-pub fed_more : (old new : Fed) (pieces : List Piece) (piece : Piece) (blocks block : List ℕ) → old.blocks ≡ blocks_of pieces → new.blocks ≡ blocks_of (pieces ++ piece ∷ []) → new.failed ≡ None → IsNext pieces piece block → IsFed old blocks → IsFed new (blocks ++ block)
+pub fed_more : (old new : Fed) (pieces : List Piece) (piece : Piece) (blocks block : List ℕ) → old.blocks ≡ blocks_of pieces → new.blocks ≡ blocks_of (pieces ++ piece ∷ []) → new.failed ≡ None → IsNextPiece pieces piece block → IsFed old blocks → IsFed new (blocks ++ block)
 fed_more old new pieces piece blocks block e f going next fed = record {
   whole = let whole = fed.whole in omega (arith, length-append blocks block, next.len);
   many = ap count f ∙ count_of (pieces ++ piece ∷ []) ∙ length_push pieces piece ∙ ap (λ (m : ℕ). m + 1) many ∙ sym longer;
@@ -294,17 +294,17 @@ part_payload blocks g p k piece there e is =
     is.payload (omega arith) ∙ ap (payload blocks) e
 
 -- the table says whether every part of a block's group is there
-pub kept_all : (pieces : List Piece) (groups : BTreeMap ℕ Group) (k : ℕ) (head : Head) → IsKept pieces groups → head ≡ head_at (blocks_of pieces) k → head.parts ≤ 4
-    → has_all (blocks_of pieces) k ≡ all_below head.parts (λ p. is_some (place_in (get nat_cmp groups head.group) p))
+pub kept_all : (pieces : List Piece) (groups : BTreeMap ℕ Group) (k : ℕ) (head : Head) → IsKeptTable pieces groups → head ≡ head_at (blocks_of pieces) k → head.parts ≤ 4
+    → has_all (blocks_of pieces) k ≡ all_below head.parts (λ p. is_some (part_place (get nat_cmp groups head.group) p))
 kept_all pieces groups k head kept e few =
     ap (λ (h : Head). has_parts (blocks_of pieces) h.group h.parts) (sym e) ∙ sym (all_is (blocks_of pieces) groups head.group head.parts kept.table few)
 
-pub kept_few : (pieces : List Piece) (groups : BTreeMap ℕ Group) (k : ℕ) (head : Head) → IsKept pieces groups → head ≡ head_at (blocks_of pieces) k → k < count (blocks_of pieces) → head.parts ≤ 4
+pub kept_few : (pieces : List Piece) (groups : BTreeMap ℕ Group) (k : ℕ) (head : Head) → IsKeptTable pieces groups → head ≡ head_at (blocks_of pieces) k → k < count (blocks_of pieces) → head.parts ≤ 4
 kept_few pieces groups k head kept e lt = subst (λ (h : Head). h.parts ≤ 4) (sym e) (few_parts (blocks_of pieces) k kept.sound lt)
 
 -- what a joiner answers of the blocks that it keeps, it answers of those that it was fed
-pub fed_answers : (joiner : Fed) (kept blocks : List ℕ) (r : Result (Vec Joined) FragError) → joiner.blocks ≡ kept → IsFed joiner blocks → Answers kept r → Answers blocks r
-fed_answers joiner kept blocks r e fed answers = answers_same joiner.blocks blocks r fed.many fed.same (subst (λ (x : List ℕ). Answers x r) (sym e) answers)
+pub fed_answers : (joiner : Fed) (kept blocks : List ℕ) (r : Result (Vec Joined) FragError) → joiner.blocks ≡ kept → IsFed joiner blocks → AnswersBlocks kept r → AnswersBlocks blocks r
+fed_answers joiner kept blocks r e fed answers = answers_same joiner.blocks blocks r fed.many fed.same (subst (λ (x : List ℕ). AnswersBlocks x r) (sym e) answers)
 
 pub same_kept : (a b : Fed) → a ≡ b → b.blocks ≡ a.blocks
 same_kept a b e = ap (λ (x : Fed). x.blocks) (sym e)

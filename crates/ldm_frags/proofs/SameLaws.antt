@@ -13,7 +13,7 @@ use Rattle.ldm_frags.specs.declared.faults.FragError.{FragError}
 use Rattle.ldm_frags.specs.declared.faults.FragError.TheVariants.{Fault, NoMemory}
 use Rattle.ldm_frags.specs.declared.faults.Joined.{Joined}
 use Rattle.ldm_frags.specs.declared.groups.Group.{Group}
-use Rattle.ldm_frags.specs.Answers.{Answers}
+use Rattle.ldm_frags.specs.Answers.{AnswersBlocks}
 use Rattle.ldm_frags.specs.Blocks.{count, group, part, parts, payload, is_fragment, is_of, is_part, is_mixed, is_there, has_parts, some_below, all_below, least_below}
 use Rattle.ldm_frags.specs.Faults.{fault_by, block_fault, missing_fault, or_else, first_below, first_block_fault}
 use Rattle.ldm_frags.specs.Fed.{IsSameBlock}
@@ -257,7 +257,7 @@ joins_same a b list many same joins =
     subst (Joins b) (sym listed) (faultless_joins b clean)
 
 -- blocks that read alike have the same answer
-pub answers_same : (a b : List ℕ) (r : Result (Vec Joined) FragError) → count a ≡ count b → AreSame (count b) a b → Answers a r → Answers b r
+pub answers_same : (a b : List ℕ) (r : Result (Vec Joined) FragError) → count a ≡ count b → AreSame (count b) a b → AnswersBlocks a r → AnswersBlocks b r
 answers_same a b (Ok v) many same answers = joins_same a b v.items many same answers
 answers_same a b (Err NoMemory) many same answers = tt
 answers_same a b (Err (Fault f)) many same answers = sym (first_fault_same a b many same) ∙ answers

@@ -11,7 +11,7 @@ use Rattle.ldm_frags.specs.Blocks.{count, has_magic, group, part, parts, is_frag
 use Rattle.ldm_frags.specs.Faults.{fault_by, block_fault, has_all, missing_fault}
 use Rattle.ldm_frags.specs.declared.faults.FragFault.TheVariants.{Missing}
 use Rattle.ldm_frags.specs.Fed.{IsSameBlock}
-use Rattle.ldm_frags.specs.Groups.{empty_group, place_in, has_other, first_passing, IsMet, Knows, IsTable}
+use Rattle.ldm_frags.specs.Groups.{empty_group, part_place, has_other, first_passing, IsMet, Knows, IsTable}
 use Rattle.ldm_frags.proofs.Below.{some_there, none_there, none_from, least_passes, some_more, passing_skip, passing_here, passing_some}
 use Rattle.ldm_frags.proofs.JoinLaws.{Sound}
 use Rattle.ldm_frags.proofs.SameLaws.{same_turned, same_before, some_same, all_same, part_same, mixed_same}
@@ -19,7 +19,7 @@ use Rattle.ldm_frags.proofs.SameLaws.{same_turned, same_before, some_same, all_s
 -- ---- what a table answers
 
 -- whether a part of a group is there
-pub part_in : (blocks : List ℕ) (groups : BTreeMap ℕ Group) (g p : ℕ) (place : Option ℕ) → IsTable blocks (count blocks) groups → p < 4 → place ≡ place_in (get nat_cmp groups g) p → is_some place ≡ is_there blocks g p
+pub part_in : (blocks : List ℕ) (groups : BTreeMap ℕ Group) (g p : ℕ) (place : Option ℕ) → IsTable blocks (count blocks) groups → p < 4 → place ≡ part_place (get nat_cmp groups g) p → is_some place ≡ is_there blocks g p
 part_in blocks groups g p place table lt e = ap is_some (e ∙ table.places g p lt) ∙ passing_some (count blocks) (is_part blocks g p)
 
 pub mixed_none : (blocks : List ℕ) (k g n : ℕ) → Knows blocks k g None → some_below k (is_mixed blocks g n) ≡ false
@@ -50,9 +50,9 @@ other_is blocks k g n None known = sym (mixed_none blocks k g n known)
 other_is blocks k g n (Some s) known = mixed_some blocks k g n s known
 
 -- every part of a group was met
-pub all_is : (blocks : List ℕ) (groups : BTreeMap ℕ Group) (g n : ℕ) → IsTable blocks (count blocks) groups → n ≤ 4 → all_below n (λ p. is_some (place_in (get nat_cmp groups g) p)) ≡ has_parts blocks g n
+pub all_is : (blocks : List ℕ) (groups : BTreeMap ℕ Group) (g n : ℕ) → IsTable blocks (count blocks) groups → n ≤ 4 → all_below n (λ p. is_some (part_place (get nat_cmp groups g) p)) ≡ has_parts blocks g n
 unfolding has_parts
-all_is blocks groups g n table few = all_same n (λ p. is_some (place_in (get nat_cmp groups g) p)) (is_there blocks g) (λ p lt. part_in blocks groups g p _ table (omega arith) refl)
+all_is blocks groups g n table few = all_same n (λ p. is_some (part_place (get nat_cmp groups g) p)) (is_there blocks g) (λ p lt. part_in blocks groups g p _ table (omega arith) refl)
 
 -- whether a part was met counts only of a part below 4
 fault_lazy : (number : ℕ) (magic : Bool) (part parts : ℕ) (mixed again other : Bool) → (part < 4 → again ≡ other) → fault_by number magic part parts mixed again ≡ fault_by number magic part parts mixed other
@@ -67,11 +67,11 @@ fault_lazy number magic part parts mixed again other h =
 
 -- the table of the blocks before it says the fault of a block
 pub fault_is : (blocks block : List ℕ) (k : ℕ) (groups : BTreeMap ℕ Group) → k ≡ count blocks → IsSameBlock (blocks ++ block) k block 0 → IsTable blocks k groups
-    → fault_by (k + 4) (has_magic block 0) (part block 0) (parts block 0) (has_other (get nat_cmp groups (group block 0)) (parts block 0)) (is_some (place_in (get nat_cmp groups (group block 0)) (part block 0)))
+    → fault_by (k + 4) (has_magic block 0) (part block 0) (parts block 0) (has_other (get nat_cmp groups (group block 0)) (parts block 0)) (is_some (part_place (get nat_cmp groups (group block 0)) (part block 0)))
     ≡ block_fault (blocks ++ block) k
 unfolding block_fault
 fault_is blocks block k groups e s table =
-    fault_lazy (k + 4) (has_magic block 0) (part block 0) (parts block 0) (has_other (get nat_cmp groups (group block 0)) (parts block 0)) (is_some (place_in (get nat_cmp groups (group block 0)) (part block 0)))
+    fault_lazy (k + 4) (has_magic block 0) (part block 0) (parts block 0) (has_other (get nat_cmp groups (group block 0)) (parts block 0)) (is_some (part_place (get nat_cmp groups (group block 0)) (part block 0)))
     (some_below k (is_part (blocks ++ block) (group (blocks ++ block) k) (part (blocks ++ block) k))) again
     ∙ (λ i. fault_by (k + 4) (sym s.magic i) (sym s.part i) (sym s.parts i) (mixed i) (some_below k (is_part (blocks ++ block) (group (blocks ++ block) k) (part (blocks ++ block) k))))
   where
@@ -83,7 +83,7 @@ fault_is blocks block k groups e s table =
         other_is blocks k (group block 0) (parts block 0) (get nat_cmp groups (group block 0)) (table.known (group block 0))
         ∙ some_same k (is_mixed blocks (group block 0) (parts block 0)) (is_mixed (blocks ++ block) (group (blocks ++ block) k) (parts (blocks ++ block) k)) (λ j lt. mixed_same blocks (blocks ++ block) j (same j lt) (sym s.group) (sym s.parts))
 
-    again : part block 0 < 4 → is_some (place_in (get nat_cmp groups (group block 0)) (part block 0)) ≡ some_below k (is_part (blocks ++ block) (group (blocks ++ block) k) (part (blocks ++ block) k))
+    again : part block 0 < 4 → is_some (part_place (get nat_cmp groups (group block 0)) (part block 0)) ≡ some_below k (is_part (blocks ++ block) (group (blocks ++ block) k) (part (blocks ++ block) k))
     again lt =
         ap is_some (table.places (group block 0) (part block 0) lt) ∙ passing_some k (is_part blocks (group block 0) (part block 0))
         ∙ some_same k (is_part blocks (group block 0) (part block 0)) (is_part (blocks ++ block) (group (blocks ++ block) k) (part (blocks ++ block) k)) (λ j lj. part_same blocks (blocks ++ block) j (same j lj) (sym s.group) (sym s.part))
@@ -170,7 +170,7 @@ nothing n (suc (suc (suc (suc i)))) = refl
 
 -- the parts of the group: block k is one more
 places_more : (blocks : List ℕ) (k g q p : ℕ) (found : Option Group) → Sound blocks k → g ≡ group blocks k → q ≡ part blocks k → is_fragment blocks k ≡ true → q < 4 → p < 4 → Knows blocks k g found
-    → place_in found p ≡ first_passing k (is_part blocks g p) → get_or (set (unwrap_or found (empty_group (parts blocks k))).places q (Some k)) p None ≡ first_passing (k + 1) (is_part blocks g p)
+    → part_place found p ≡ first_passing k (is_part blocks g p) → get_or (set (unwrap_or found (empty_group (parts blocks k))).places q (Some k)) p None ≡ first_passing (k + 1) (is_part blocks g p)
 places_more blocks k g q p found sound e f frag lq lp known before =
     elim (cases_eq p q) [
       | inl same ↦
@@ -193,7 +193,7 @@ places_more blocks k g q p found sound e f frag lq lp known before =
     and_false true b h = h
     and_false false b h = refl
 
-    at_first : (f : Option Group) → place_in f p ≡ first_passing k (is_part blocks g p) → get_or (unwrap_or f (empty_group (parts blocks k))).places p None ≡ first_passing k (is_part blocks g p)
+    at_first : (f : Option Group) → part_place f p ≡ first_passing k (is_part blocks g p) → get_or (unwrap_or f (empty_group (parts blocks k))).places p None ≡ first_passing k (is_part blocks g p)
     at_first None h = nothing (parts blocks k) p ∙ h
     at_first (Some s) h = h
 
@@ -207,13 +207,13 @@ table_add blocks k g q n old new table sound frag e f m lq updates = record {
   ];
   places = λ h p lp. elim (cases_eq h g) [
     | inl same ↦
-        ap (λ (x : ℕ). place_in (get nat_cmp new x) p) same ∙ ap (λ (o : Option Group). place_in o p) at_g
+        ap (λ (x : ℕ). part_place (get nat_cmp new x) p) same ∙ ap (λ (o : Option Group). part_place o p) at_g
         ∙ ap (λ (c : ℕ). get_or (set (found_of old g c).places q (Some k)) p None) m
         ∙ places_more blocks k g q p (get nat_cmp old g) sound e f frag lq lp (table.known g) (table.places g p lp)
         ∙ ap (λ (x : ℕ). first_passing (k + 1) (is_part blocks x p)) (sym same)
     | inr apart ↦
         let of : is_of blocks h k ≡ false = not_of h apart in
-        ap (λ (o : Option Group). place_in o p) (others h apart) ∙ table.places h p lp ∙ sym (passing_skip k (is_part blocks h p) (rw of refl))
+        ap (λ (o : Option Group). part_place o p) (others h apart) ∙ table.places h p lp ∙ sym (passing_skip k (is_part blocks h p) (rw of refl))
   ];
 }
   where

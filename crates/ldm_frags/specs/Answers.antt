@@ -9,19 +9,19 @@ use Rattle.ldm_frags.specs.declared.faults.SplitError.{SplitError}
 use Rattle.ldm_frags.specs.declared.faults.SplitError.TheVariants as split_errors
 use Rattle.ldm_frags.specs.Faults.{first_block_fault}
 use Rattle.ldm_frags.specs.Joins.{Joins}
-use Rattle.ldm_frags.specs.Written.{Holds, in_order, need_of}
+use Rattle.ldm_frags.specs.Written.{Holds, laid_in_order, blocks_needed}
 
 -- a list that is answered is joined, and a fault is the first
-abbrev pub Answers : List ℕ → Result (Vec Joined) FragError → Type 0
-Answers blocks (Ok list) = Joins blocks list.items
-Answers blocks (Err NoMemory) = Unit {0}
-Answers blocks (Err (Fault fault)) = first_block_fault blocks ≡ Some fault
+abbrev pub AnswersBlocks : List ℕ → Result (Vec Joined) FragError → Type 0
+AnswersBlocks blocks (Ok list) = Joins blocks list.items
+AnswersBlocks blocks (Err NoMemory) = Unit {0}
+AnswersBlocks blocks (Err (Fault fault)) = first_block_fault blocks ≡ Some fault
 
 -- the answer is this list
-abbrev pub Gives : Result (Vec Joined) FragError → List Joined → Type 0
-Gives (Ok given) list = given.items ≡ list
-Gives (Err NoMemory) list = Unit {0}
-Gives (Err (Fault fault)) list = ⊥
+abbrev pub GivesList : Result (Vec Joined) FragError → List Joined → Type 0
+GivesList (Ok given) list = given.items ≡ list
+GivesList (Err NoMemory) list = Unit {0}
+GivesList (Err (Fault fault)) list = ⊥
 
 -- the answer is this fault
 abbrev pub Refuses : Result (Vec Joined) FragError → FragFault → Type 0
@@ -42,7 +42,7 @@ list_of (Some joined) = joined ∷ []
 -- so many blocks, which hold the records of the payloads in their order, or no room, with both numbers
 abbrev pub SplitAnswers : List (List ℕ) → ℕ → Result (List ℕ) SplitError → Type 0
 SplitAnswers payloads blocks (Ok out) =
-    (need_of payloads ≤ blocks) × (length out ≡ 128 * blocks) × Holds out (in_order 4 payloads)
+    (blocks_needed payloads ≤ blocks) × (length out ≡ 128 * blocks) × Holds out (laid_in_order 4 payloads)
 SplitAnswers payloads blocks (Err split_errors.NoMemory) = Unit {0}
 SplitAnswers payloads blocks (Err (split_errors.NoRoom need have)) =
-    (need ≡ need_of payloads) × (have ≡ blocks) × (blocks < need_of payloads)
+    (need ≡ blocks_needed payloads) × (have ≡ blocks) × (blocks < blocks_needed payloads)

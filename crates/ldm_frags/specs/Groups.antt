@@ -10,9 +10,9 @@ abbrev pub empty_group : ℕ → Group
 empty_group count = record { parts = count; places = None ∷ None ∷ None ∷ None ∷ [] }
 
 -- where a part of a group stands
-abbrev pub place_in : Option Group → ℕ → Option ℕ
-place_in None part = None
-place_in (Some group) part = slice_index_or group.places part None
+abbrev pub part_place : Option Group → ℕ → Option ℕ
+part_place None part = None
+part_place (Some group) part = slice_index_or group.places part None
 
 -- the group has another number of parts
 abbrev pub has_other : Option Group → ℕ → Bool
@@ -36,4 +36,4 @@ Knows blocks k g (Some group) = IsMet blocks k g group
 -- the table has each group that was met, and where its parts stand
 pub record IsTable (blocks : List ℕ) (k : ℕ) (groups : BTreeMap ℕ Group) : Type 0 where
   pub known : (g : ℕ) → Knows blocks k g (get nat_cmp groups g)
-  pub places : (g p : ℕ) → p < 4 → place_in (get nat_cmp groups g) p ≡ first_passing k (is_part blocks g p)
+  pub places : (g p : ℕ) → p < 4 → part_place (get nat_cmp groups g) p ≡ first_passing k (is_part blocks g p)

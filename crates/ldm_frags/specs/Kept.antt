@@ -30,22 +30,22 @@ unfoldable pub blocks_of : List Piece → List ℕ
 blocks_of pieces = flat_map block_of pieces
 
 -- a piece as it is kept of a block: the numbers of its head fit their fields, and in use it has a payload
-pub record IsWhole (piece : Piece) : Type 0 where
+pub record IsWholePiece (piece : Piece) : Type 0 where
   pub group : piece.head.group < 256 ^ 4
   pub part : piece.head.part < 256 ^ 2
   pub parts : piece.head.parts < 256 ^ 2
   pub full : 1 ≤ piece.head.parts → length piece.payload ≡ 112
 
 -- the pieces of blocks without a fault, with the table of their groups
-pub record IsKept (pieces : List Piece) (groups : BTreeMap ℕ Group) : Type 0 where
+pub record IsKeptTable (pieces : List Piece) (groups : BTreeMap ℕ Group) : Type 0 where
   pub table : IsTable (blocks_of pieces) (count (blocks_of pieces)) groups
   pub sound : first_below (count (blocks_of pieces)) (block_fault (blocks_of pieces)) ≡ None
-  pub whole : All IsWhole pieces
+  pub whole : All IsWholePiece pieces
 
 -- the piece is what is kept of a block that has no fault behind those of the pieces
-pub record IsNext (pieces : List Piece) (piece : Piece) (block : List ℕ) : Type 0 where
+pub record IsNextPiece (pieces : List Piece) (piece : Piece) (block : List ℕ) : Type 0 where
   pub len : length block ≡ 128
-  pub whole : IsWhole piece
+  pub whole : IsWholePiece piece
   pub is : IsPiece block 0 piece
   pub clean : block_fault (blocks_of pieces ++ block) (length pieces) ≡ None
 
@@ -53,4 +53,4 @@ pub record IsNext (pieces : List Piece) (piece : Piece) (block : List ℕ) : Typ
 pub record IsJoiner (limit : ℕ) (pieces : List Piece) (groups : BTreeMap ℕ Group) (failed : Option FragError) : Type 0 where
   pub few : limit ≤ 8192
   pub within : length pieces ≤ limit
-  pub kept : failed ≡ None → IsKept pieces groups
+  pub kept : failed ≡ None → IsKeptTable pieces groups

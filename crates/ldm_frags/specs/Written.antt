@@ -77,16 +77,16 @@ joined_below records n =
     flat_map (λ k. map joined_of (filter (λ r. slot r 0 == k + 4) records)) (numbers_from 0 n)
 
 -- the records of these payloads one after the other without gaps, from this block on
-abbrev pub in_order : ℕ → List (List ℕ) → List Placed
-in_order number [] = []
-in_order number (bytes ∷ more) =
+abbrev pub laid_in_order : ℕ → List (List ℕ) → List Placed
+laid_in_order number [] = []
+laid_in_order number (bytes ∷ more) =
     record { payload = bytes; slots = numbers_from number (parts_of (length bytes)) }
-    ∷ in_order (number + parts_of (length bytes)) more
+    ∷ laid_in_order (number + parts_of (length bytes)) more
 
 -- a payload that a record may have: 1 to 448 bytes, which take 1 to 4 blocks
 abbrev pub IsSized : List ℕ → Type 0
 IsSized bytes = (1 ≤ length bytes) × (length bytes ≤ 448)
 
 -- how many blocks the payloads take together
-abbrev pub need_of : List (List ℕ) → ℕ
-need_of payloads = sum_by (λ bytes. parts_of (length bytes)) payloads
+abbrev pub blocks_needed : List (List ℕ) → ℕ
+blocks_needed payloads = sum_by (λ bytes. parts_of (length bytes)) payloads

@@ -1,7 +1,7 @@
 //! Blocks (VBLKs) as they are read: the head, and the payload of one in use.
 ghost use Rattle.std.specs.Prelude.{◌≡◌, ◌≤◌, ◌<◌, All, length, IfOk};
 ghost use Rattle.ldm_frags.specs.Blocks.{count, parts, payload, has_magic};
-ghost use Rattle.ldm_frags.specs.Kept.{head_at, blocks_of, IsPiece, IsWhole};
+ghost use Rattle.ldm_frags.specs.Kept.{head_at, blocks_of, IsPiece, IsWholePiece};
 
 use ldm_bytes::{Bytes, NoMemory, get_u16, get_u32};
 use std::alloc::Global;
@@ -53,7 +53,7 @@ fn payload(block: &[u8; 128]) -> &[u8]
 /// What is kept of the block.
 pub fn piece_of(alloc: Global, block: &[u8; 128]) -> Result<Piece, NoMemory>
     ensures kept { IfOk result (λ piece. IsPiece block.now 0 piece) }
-    ensures whole { IfOk result (λ piece. IsWhole piece) }
+    ensures whole { IfOk result (λ piece. IsWholePiece piece) }
 {
     let head = head_of(block);
     let kept = if head.parts > 0 { payload(block) } else { &[] };
@@ -65,7 +65,7 @@ pub fn piece_of(alloc: Global, block: &[u8; 128]) -> Result<Piece, NoMemory>
 pub fn piece_at(pieces: &[Piece], k: usize) -> &Piece
     requires within { k < count (blocks_of pieces.now) }
     requires small { length pieces.now ≤ 8192 }
-    requires whole { All IsWhole pieces.now }
+    requires whole { All IsWholePiece pieces.now }
     ensures { IsPiece (blocks_of pieces.now) k result.now }
 {
     &pieces[k]

@@ -5,7 +5,7 @@ ghost use Rattle.std.specs.Ordering.{nat_cmp};
 ghost use Rattle.std.specs.BTreeMap.{get};
 ghost use Rattle.ldm_frags.specs.Blocks.{count, is_part, all_below, least_below};
 ghost use Rattle.ldm_frags.specs.Faults.{block_fault};
-ghost use Rattle.ldm_frags.specs.Groups.{empty_group, place_in, has_other, IsTable};
+ghost use Rattle.ldm_frags.specs.Groups.{empty_group, part_place, has_other, IsTable};
 ghost use Rattle.ldm_frags.specs.Kept.{head_at, blocks_of};
 
 use crate::blocks::{Head, Piece};
@@ -27,7 +27,7 @@ pub type Groups = BTreeMap<u32, Group>;
 /// The index of the block that is this part of the group, if it was met.
 pub fn place(groups: &Groups, number: u32, part: u16) -> Option<u32>
     requires { part < 4 }
-    ensures { result ≡ place_in (get nat_cmp groups.now number) part }
+    ensures { result ≡ part_place (get nat_cmp groups.now number) part }
 {
     match groups.get(&number) {
         Some(found) => found.places[part as usize],
@@ -48,7 +48,8 @@ pub fn has_other(groups: &Groups, number: u32, parts: u16) -> bool
 /// Whether every part of the group below this one was met.
 pub fn has_all(groups: &Groups, number: u32, parts: u16) -> bool
     requires { parts ≤ 4 }
-    ensures { result ≡ all_below parts (λ p. is_some (place_in (get nat_cmp groups.now number) p)) }
+    ensures { result ≡ all_below parts (λ p. is_some
+        (part_place (get nat_cmp groups.now number) p)) }
 {
     for part in 0..parts {
         if place(groups, number, part).is_none() {

@@ -11,10 +11,10 @@ ghost use Rattle.ldm_frags.specs.declared.blocks.Piece.{Piece};
 ghost use Rattle.ldm_frags.specs.Blocks.{count, has_magic, group, part, parts};
 ghost use Rattle.ldm_frags.specs.Faults.{fault_by, block_fault, first_block_fault};
 ghost use Rattle.ldm_frags.specs.Joins.{Joins};
-ghost use Rattle.ldm_frags.specs.Groups.{place_in, has_other};
+ghost use Rattle.ldm_frags.specs.Groups.{part_place, has_other};
 ghost use Rattle.ldm_frags.specs.Written.{Placed, Holds, joined_below};
-ghost use Rattle.ldm_frags.specs.Answers.{Answers, Gives, Refuses, IsFault};
-ghost use Rattle.ldm_frags.specs.Kept.{blocks_of, IsKept, IsNext};
+ghost use Rattle.ldm_frags.specs.Answers.{AnswersBlocks, GivesList, Refuses, IsFault};
+ghost use Rattle.ldm_frags.specs.Kept.{blocks_of, IsKeptTable, IsNextPiece};
 ghost use Rattle.ldm_frags.specs.Fed.{IsFed};
 
 use crate::blocks::{Piece, has_magic, head_of, piece_of};
@@ -55,7 +55,7 @@ fn fault_of(groups: &Groups, number: u32, block: &[u8; 128]) -> Option<FragFault
     ensures { result ≡ fault_by number (has_magic block.now 0) (part block.now 0)
         (parts block.now 0)
         (has_other (get nat_cmp groups.now (group block.now 0)) (parts block.now 0))
-        (is_some (place_in (get nat_cmp groups.now (group block.now 0)) (part block.now 0))) }
+        (is_some (part_place (get nat_cmp groups.now (group block.now 0)) (part block.now 0))) }
 {
     if !has_magic(block) {
         return Some(FragFault::NoMagic(number));
@@ -87,13 +87,13 @@ fn keep(
     block: &[u8; 128],
 ) -> Result<(), NoMemory>
     requires few { vec_len pieces.old < 8192 }
-    requires kept { IsKept pieces.old.items groups.old }
+    requires kept { IsKeptTable pieces.old.items groups.old }
     requires sound { block_fault (blocks_of pieces.old.items ++ block.now)
         (length pieces.old.items) ≡ None }
-    ensures kept { OnOk result (IsKept pieces.new.items groups.new) }
+    ensures kept { OnOk result (IsKeptTable pieces.new.items groups.new) }
     ensures added { OnOk result ((piece : Piece) × (pieces.new.items
         ≡ pieces.old.items ++ piece ∷ [])
-        × IsNext pieces.old.items piece block.now) }
+        × IsNextPiece pieces.old.items piece block.now) }
     ensures stays { OnErr result (pieces.new.items ≡ pieces.old.items) }
 {
     let piece = piece_of(alloc, block)?;
@@ -110,11 +110,11 @@ fn add(
     block: &[u8; 128],
 ) -> Result<(), FragError>
     requires few { vec_len pieces.old < 8192 }
-    requires kept { IsKept pieces.old.items groups.old }
-    ensures kept { OnOk result (IsKept pieces.new.items groups.new) }
+    requires kept { IsKeptTable pieces.old.items groups.old }
+    ensures kept { OnOk result (IsKeptTable pieces.new.items groups.new) }
     ensures added { OnOk result ((piece : Piece) × (pieces.new.items
         ≡ pieces.old.items ++ piece ∷ [])
-        × IsNext pieces.old.items piece block.now) }
+        × IsNextPiece pieces.old.items piece block.now) }
     ensures stays { OnErr result (pieces.new.items ≡ pieces.old.items) }
     ensures fault { IfErr result (λ error. IsFault error
         (block_fault (blocks_of pieces.old.items ++ block.now) (length pieces.old.items))) }
@@ -132,7 +132,7 @@ impl Joiner {
     ghost use Rattle.ldm_frags.specs.declared.faults.FragError.{FragError};
     ghost use Rattle.ldm_frags.specs.Blocks.{count};
     ghost use Rattle.ldm_frags.specs.Faults.{block_fault, first_block_fault};
-    ghost use Rattle.ldm_frags.specs.Answers.{Answers, IsFault};
+    ghost use Rattle.ldm_frags.specs.Answers.{AnswersBlocks, IsFault};
     ghost use Rattle.ldm_frags.specs.Fed.{IsFed};
 
     /// A joiner of so many blocks, for all of which it takes room at once.
@@ -209,7 +209,7 @@ impl Joiner {
     /// The records that the blocks hold, in the order of their whole blocks and blocks of part 0,
     /// or the first block whose group lacks a part.
     pub fn finish(self) -> Result<Vec<Joined>, FragError>
-        ensures answers { (blocks : List ℕ) → IsFed self blocks → Answers blocks result }
+        ensures answers { (blocks : List ℕ) → IsFed self blocks → AnswersBlocks blocks result }
         ensures failed { (error : FragError) → self.failed ≡ Some error → result ≡ Err error }
     {
         if let Some(error) = self.failed {
@@ -223,7 +223,7 @@ impl Joiner {
 fn join_each(alloc: Global, blocks: &[u8]) -> Result<Vec<Joined>, FragError>
     requires whole { length blocks.now % 128 ≡ 0 }
     requires small { length blocks.now ≤ 1048576 }
-    ensures { Answers blocks.now result }
+    ensures { AnswersBlocks blocks.now result }
 {
     let mut joiner = Joiner::new(alloc, (blocks.len() / 128) as u32)?;
     joiner.feed_all(blocks)?;
@@ -235,9 +235,9 @@ fn join_each(alloc: Global, blocks: &[u8]) -> Result<Vec<Joined>, FragError>
 pub fn join(alloc: Global, blocks: &[u8]) -> Result<Vec<Joined>, FragError>
     requires whole { length blocks.now % 128 ≡ 0 }
     requires small { length blocks.now ≤ 1048576 }
-    ensures answers { Answers blocks.now result }
+    ensures answers { AnswersBlocks blocks.now result }
     // A list is answered exactly where it is joined.
-    ensures joined { (list : List Joined) → Joins blocks.now list → Gives result list }
+    ensures joined { (list : List Joined) → Joins blocks.now list → GivesList result list }
     // Each fault is answered exactly where it is the first.
     ensures refused { (fault : FragFault) → first_block_fault blocks.now ≡ Some fault
         → Refuses result fault }

@@ -3,8 +3,8 @@ ghost use Rattle.std.specs.Prelude.{◌≡◌, ◌≤◌, ◌<◌, ◌++◌, tru
 ghost use Rattle.ldm_frags.specs.Blocks.{count, has_parts};
 ghost use Rattle.ldm_frags.specs.Faults.{missing_fault, first_below};
 ghost use Rattle.ldm_frags.specs.Joins.{gathered, entry, entries};
-ghost use Rattle.ldm_frags.specs.Kept.{blocks_of, IsKept};
-ghost use Rattle.ldm_frags.specs.Answers.{Answers, list_of};
+ghost use Rattle.ldm_frags.specs.Kept.{blocks_of, IsKeptTable};
+ghost use Rattle.ldm_frags.specs.Answers.{AnswersBlocks, list_of};
 
 use crate::blocks::{Piece, piece_at};
 use crate::groups::{Groups, has_all, place_of};
@@ -14,7 +14,7 @@ use std::alloc::Global;
 
 // Whether block `k` is of a group that lacks a part.
 fn missing_of(groups: &Groups, pieces: &[Piece], k: usize) -> Option<FragFault>
-    requires kept { IsKept pieces.now groups.now }
+    requires kept { IsKeptTable pieces.now groups.now }
     requires within { k < count (blocks_of pieces.now) }
     requires small { length pieces.now ≤ 8192 }
     ensures { result ≡ missing_fault (blocks_of pieces.now) k }
@@ -28,7 +28,7 @@ fn missing_of(groups: &Groups, pieces: &[Piece], k: usize) -> Option<FragFault>
 
 // The first block whose group lacks a part.
 fn first_missing(groups: &Groups, pieces: &[Piece]) -> Option<FragFault>
-    requires kept { IsKept pieces.now groups.now }
+    requires kept { IsKeptTable pieces.now groups.now }
     requires small { length pieces.now ≤ 8192 }
     ensures { result ≡ first_below (count (blocks_of pieces.now))
         (missing_fault (blocks_of pieces.now)) }
@@ -49,7 +49,7 @@ fn gather(
     number: u32,
     parts: u16,
 ) -> Result<Bytes, NoMemory>
-    requires kept { IsKept pieces.now groups.now }
+    requires kept { IsKeptTable pieces.now groups.now }
     requires small { length pieces.now ≤ 8192 }
     requires few { parts ≤ 4 }
     requires complete { has_parts (blocks_of pieces.now) number parts ≡ true }
@@ -70,7 +70,7 @@ fn entry_of(
     pieces: &[Piece],
     k: usize,
 ) -> Result<Option<Joined>, NoMemory>
-    requires kept { IsKept pieces.now groups.now }
+    requires kept { IsKeptTable pieces.now groups.now }
     requires within { k < count (blocks_of pieces.now) }
     requires small { length pieces.now ≤ 8192 }
     requires complete { missing_fault (blocks_of pieces.now) k ≡ None }
@@ -98,7 +98,7 @@ fn push_entry(
     pieces: &[Piece],
     k: usize,
 ) -> Result<(), NoMemory>
-    requires kept { IsKept pieces.now groups.now }
+    requires kept { IsKeptTable pieces.now groups.now }
     requires within { k < count (blocks_of pieces.now) }
     requires small { length pieces.now ≤ 8192 }
     requires complete { missing_fault (blocks_of pieces.now) k ≡ None }
@@ -112,7 +112,7 @@ fn push_entry(
 
 // The list of all blocks, which have no fault.
 fn all_entries(alloc: Global, groups: &Groups, pieces: &[Piece]) -> Result<Vec<Joined>, NoMemory>
-    requires kept { IsKept pieces.now groups.now }
+    requires kept { IsKeptTable pieces.now groups.now }
     requires small { length pieces.now ≤ 8192 }
     requires complete { first_below (count (blocks_of pieces.now))
         (missing_fault (blocks_of pieces.now)) ≡ None }
@@ -128,9 +128,9 @@ fn all_entries(alloc: Global, groups: &Groups, pieces: &[Piece]) -> Result<Vec<J
 
 /// The list of all blocks, or the first whose group lacks a part.
 pub fn join_all(alloc: Global, groups: &Groups, pieces: &[Piece]) -> Result<Vec<Joined>, FragError>
-    requires kept { IsKept pieces.now groups.now }
+    requires kept { IsKeptTable pieces.now groups.now }
     requires small { length pieces.now ≤ 8192 }
-    ensures { Answers (blocks_of pieces.now) result }
+    ensures { AnswersBlocks (blocks_of pieces.now) result }
 {
     if let Some(fault) = first_missing(groups, pieces) {
         return Err(FragError::Fault(fault));

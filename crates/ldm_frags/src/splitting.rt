@@ -2,8 +2,8 @@
 ghost use Rattle.std.specs.Prelude.{◌≡◌, ◌+◌, ◌*◌, ◌≤◌, ◌<◌, length, map, All, IfOk};
 ghost use Rattle.ldm_frags.specs.Blocks.{count};
 ghost use Rattle.ldm_frags.specs.Joins.{Joins};
-ghost use Rattle.ldm_frags.specs.Written.{parts_of, need_of, IsSized, IsPlaced, Holds, AddsUnused};
-ghost use Rattle.ldm_frags.specs.Written.{in_order, joined_of};
+ghost use Rattle.ldm_frags.specs.Written.{parts_of, blocks_needed, IsSized, IsPlaced, Holds};
+ghost use Rattle.ldm_frags.specs.Written.{AddsUnused, laid_in_order, joined_of};
 ghost use Rattle.ldm_frags.specs.Answers.{SplitAnswers};
 
 use crate::SplitError;
@@ -23,7 +23,7 @@ pub fn parts_of(len: usize) -> u32
 // How many blocks the payloads take together.
 fn need_of(payloads: &[Bytes]) -> u64
     requires { All IsSized payloads.now }
-    ensures { result ≡ need_of payloads.now }
+    ensures { result ≡ blocks_needed payloads.now }
 {
     let mut need = 0;
     for payload in payloads {
@@ -36,9 +36,9 @@ fn need_of(payloads: &[Bytes]) -> u64
 fn write_records(out: &mut [u8], payloads: &[Bytes]) -> u32
     requires sized { All IsSized payloads.now }
     requires small { length out.old ≤ 1048576 }
-    requires room { need_of payloads.now ≤ count out.old }
-    ensures next { result ≡ 4 + need_of payloads.now }
-    ensures placed { All (IsPlaced out.new) (in_order 4 payloads.now) }
+    requires room { blocks_needed payloads.now ≤ count out.old }
+    ensures next { result ≡ 4 + blocks_needed payloads.now }
+    ensures placed { All (IsPlaced out.new) (laid_in_order 4 payloads.now) }
 {
     let mut number = 4;
     for payload in payloads {
@@ -53,8 +53,8 @@ fn write_records(out: &mut [u8], payloads: &[Bytes]) -> u32
 fn write_all(out: &mut [u8], payloads: &[Bytes])
     requires sized { All IsSized payloads.now }
     requires small { length out.old ≤ 1048576 }
-    requires room { need_of payloads.now ≤ count out.old }
-    ensures { Holds out.new (in_order 4 payloads.now) }
+    requires room { blocks_needed payloads.now ≤ count out.old }
+    ensures { Holds out.new (laid_in_order 4 payloads.now) }
 {
     let next = write_records(out, payloads);
     let end = (out.len() / 128) as u32 + 4;
@@ -68,7 +68,7 @@ pub fn split(alloc: Global, payloads: &[Bytes], blocks: u32) -> Result<Bytes, Sp
     requires few { blocks ≤ 8192 }
     ensures answers { SplitAnswers payloads.now blocks result }
     // What is written joins to the payloads in their order, each filled with zeros.
-    ensures joins { IfOk result (λ out. Joins out (map joined_of (in_order 4 payloads.now))) }
+    ensures joins { IfOk result (λ out. Joins out (map joined_of (laid_in_order 4 payloads.now))) }
 {
     let need = need_of(payloads);
     let have = u64::from(blocks);

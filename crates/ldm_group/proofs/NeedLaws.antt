@@ -11,7 +11,7 @@ use Rattle.ldm_frags.specs.Written as written
 use Rattle.ldm_group.specs.Room.{own_len, IsFitting, need_of}
 
 -- the payloads take as many blocks as the records need
-pub need_of-spellings : (records : List Record) → written.need_of (map (λ r. own_spelling (plain_of r)) records) ≡ need_of records
+pub need_of-spellings : (records : List Record) → written.blocks_needed (map (λ r. own_spelling (plain_of r)) records) ≡ need_of records
 unfolding own_len
 need_of-spellings [] = refl
 need_of-spellings (r ∷ rest) =

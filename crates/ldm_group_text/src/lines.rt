@@ -3,8 +3,8 @@ ghost use Rattle.std.specs.Prelude.{◌≡◌, ◌==◌, ◌++◌, ℕ, [], nat_
 ghost use Rattle.std.specs.Prelude.{if◌then◌else◌};
 ghost use Rattle.std.specs.HashMap as hash;
 ghost use Rattle.ldm_group_text.specs.Volumes.{text_of_index, text_of_partition};
-ghost use Rattle.ldm_group_text.specs.Volumes.{text_of_partitions};
-ghost use Rattle.ldm_group_text.specs.Volumes.{text_of_striping, text_of_layout, text_of_component};
+ghost use Rattle.ldm_group_text.specs.Volumes.{text_of_partitions, text_of_striping};
+ghost use Rattle.ldm_group_text.specs.Volumes.{text_of_layout, text_of_component};
 ghost use Rattle.ldm_group_text.specs.Volumes.{text_of_components};
 
 use ldm_bytes::NoMemory;

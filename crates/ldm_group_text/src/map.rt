@@ -3,9 +3,9 @@ ghost use Rattle.std.specs.Prelude.{◌≡◌, ◌++◌, ◌+◌, ◌<◌, ◌�
 ghost use Rattle.std.specs.HashMap as hash;
 ghost use Rattle.std.specs.List.{range_with_len};
 ghost use Rattle.ldm_layout.specs.Layouts.{copies_of};
-ghost use Rattle.ldm_group_text.specs.Map.{text_of_image_sector, text_of_sector_on, text_of_copy};
-ghost use Rattle.ldm_group_text.specs.Map.{text_of_parity};
-ghost use Rattle.ldm_group_text.specs.Map.{text_of_sector, text_of_sectors, text_of_map};
+ghost use Rattle.ldm_group_text.specs.Map.{text_of_image_sector, text_of_sector_on};
+ghost use Rattle.ldm_group_text.specs.Map.{text_of_copy_number, text_of_parity, text_of_sector};
+ghost use Rattle.ldm_group_text.specs.Map.{text_of_sectors, text_of_map};
 
 use crate::mapped::{MappedDisk, mapped_disks};
 use ldm_bytes::{Bytes, NoMemory};
@@ -40,7 +40,7 @@ fn push_sector_on(text: &mut Text, disk: &MappedDisk, sector: u64) -> Result<(),
 }
 
 // The line of a copy of a sector.
-#[tactic(auto, unfolding(crate::specs::Map::text_of_copy))]
+#[tactic(auto, unfolding(crate::specs::Map::text_of_copy_number))]
 fn push_copy(
     text: &mut Text,
     disks: &HashMap<u64, MappedDisk>,
@@ -50,7 +50,7 @@ fn push_copy(
 ) -> Result<(), NoMemory>
     requires within { sector < plan.now.size }
     requires copied { copy < copies_of plan.now }
-    ensures { OnOk result (text.new ≡ text.old ++ text_of_copy
+    ensures { OnOk result (text.new ≡ text.old ++ text_of_copy_number
         (λ id. hash.get nat_eq disks.now id) plan.now sector copy) }
 {
     let place = plan.place(sector, copy);
@@ -71,7 +71,7 @@ fn push_copies(
 ) -> Result<(), NoMemory>
     requires { sector < plan.now.size }
     ensures { OnOk result (text.new ≡ text.old
-        ++ flat_map (text_of_copy (λ id. hash.get nat_eq disks.now id) plan.now sector)
+        ++ flat_map (text_of_copy_number (λ id. hash.get nat_eq disks.now id) plan.now sector)
         (range_with_len 0 (copies_of plan.now))) }
 {
     for copy in 0..plan.copies() {

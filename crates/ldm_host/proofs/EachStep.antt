@@ -12,7 +12,7 @@ use Rattle.ldm_bytes.specs.Places.{put}
 use Rattle.ldm_host.proofs.Relations.{torn_itself, torn_at_itself, torn_from}
 use Rattle.ldm_host.specs.declared.call.Call.{Call}
 use Rattle.ldm_host.specs.declared.call.Call.TheVariants.{Write, Sync, Hear, Say, Nothing}
-use Rattle.ldm_host.specs.Story.{Disk, State, Agrees, MayLeave, LeftSince, Counts, disk_at, no_disk, written_disk, synced_disk, sizes_of, contents, after, run, seen_from}
+use Rattle.ldm_host.specs.Story.{Disk, StoryState, Agrees, MayLeave, LeftSince, Counts, disk_at, no_disk, written_disk, synced_disk, sizes_of, contents, after, run, seen_from}
 use Rattle.ldm_host.specs.StoryLaws.{image_at, one_each, stays, begins_both, counts_now, only_now, begins_itself}
 use Rattle.ldm_host.proofs.Grows.{CountsRise, run_push, moments, later}
 use Rattle.ldm_host.proofs.Ranges.{unwritten, torn_agrees, torn_put}
@@ -34,8 +34,8 @@ disk_there disks disk d lt = let there : disk < length disks = omega (arith, len
 disk_other : (disks : List Disk) (disk other : ℕ) (d : Disk) → other ≢ disk → disk_at (set disks disk d) other ≡ disk_at disks other
 disk_other disks disk other d ne = get_or-set_other disks disk other d no_disk ne
 
-module _ (first : State) (calls : List Call) (script : List ℕ) (old new : Counts) (rise : CountsRise old new) where
-  abbrev now : State
+module _ (first : StoryState) (calls : List Call) (script : List ℕ) (old new : Counts) (rise : CountsRise old new) where
+  abbrev now : StoryState
   now = run first calls
 
   abbrev before : Seen
@@ -79,13 +79,13 @@ module _ (first : State) (calls : List Call) (script : List ℕ) (old new : Coun
       subst (λ (d : List Disk). Agrees (disk_at d disk) c) (sym disks_same),
     );
     moments = λ images said left. ⊎_elim
-        (λ start. (record { one_each = start.0.one_each; each = start.0.each }, start.1, subst (λ (s : State). Begins said s.said) (sym (run_push first calls call)) start.2))
-        (λ done. (was images done.0, subst (λ (l : List ℕ). Begins now.said l) (sym done.1) (said_later call), subst (λ (s : State). Begins said s.said) (sym (run_push first calls call)) (subst (λ (l : List ℕ). Begins l (after now call).said) (sym done.1) (begins_itself (after now call).said))))
+        (λ start. (record { one_each = start.0.one_each; each = start.0.each }, start.1, subst (λ (s : StoryState). Begins said s.said) (sym (run_push first calls call)) start.2))
+        (λ done. (was images done.0, subst (λ (l : List ℕ). Begins now.said l) (sym done.1) (said_later call), subst (λ (s : StoryState). Begins said s.said) (sym (run_push first calls call)) (subst (λ (l : List ℕ). Begins l (after now call).said) (sym done.1) (begins_itself (after now call).said))))
         (moments first calls call images said left);
   }
     where
       disks_same : (run first (calls ++ call ∷ [])).disks ≡ now.disks
-      disks_same = ap (λ (s : State). s.disks) (run_push first calls call) ∙ same
+      disks_same = ap (λ (s : StoryState). s.disks) (run_push first calls call) ∙ same
 
       was : (images : List (List ℕ)) → MayLeave (after now call) images → Leaves before images
       was images may = record {
@@ -114,7 +114,7 @@ module _ (first : State) (calls : List Call) (script : List ℕ) (old new : Coun
     pushed = run_push first calls call
 
     disks_are : (run first (calls ++ call ∷ [])).disks ≡ set now.disks disk wrote_to
-    disks_are = ap (λ (s : State). s.disks) pushed
+    disks_are = ap (λ (s : StoryState). s.disks) pushed
 
     whole : length wrote_to.content ≡ length (disk_at now.disks disk).content
     whole = length-put (disk_at now.disks disk).content at bytes.items (omega (arith, short, fits))
@@ -154,12 +154,12 @@ module _ (first : State) (calls : List Call) (script : List ℕ) (old new : Coun
         (torn_agrees (disk_at now.disks disk) at asked bytes.items was is short fits left torn are)
 
     left_there : (images : List (List ℕ)) → MayLeave (after now call) images → Leaves later_seen images
-    left_there images may = let there : MayLeave (run first (calls ++ call ∷ [])) images = subst (λ (s : State). MayLeave s images) (sym pushed) may in record { one_each = there.one_each; each = there.each }
+    left_there images may = let there : MayLeave (run first (calls ++ call ∷ [])) images = subst (λ (s : StoryState). MayLeave s images) (sym pushed) may in record { one_each = there.one_each; each = there.each }
 
     pub writes_push : slice_index new.wrote disk ≤ slice_index old.wrote disk + asked → ((other : ℕ) → other ≢ disk → slice_index new.wrote other ≡ slice_index old.wrote other) → Writes disk at asked before later_seen
     writes_push wrote wrote_others = record {
       later = later_here;
-      quiet = record { said = ap (λ (s : State). s.said) pushed; heard = ap (λ (s : State). take s.heard script) pushed; input = ap (λ (s : State). drop s.heard script) pushed };
+      quiet = record { said = ap (λ (s : StoryState). s.said) pushed; heard = ap (λ (s : StoryState). take s.heard script) pushed; input = ap (λ (s : StoryState). drop s.heard script) pushed };
       content = content_torn;
       wrote = wrote;
       wrote_others = wrote_others;
@@ -188,12 +188,12 @@ module _ (first : State) (calls : List Call) (script : List ℕ) (old new : Coun
   pub writes_nothing : (disk at n : ℕ) → slice_index new.wrote disk ≤ slice_index old.wrote disk + n → ((other : ℕ) → other ≢ disk → slice_index new.wrote other ≡ slice_index old.wrote other) → Writes disk at n before (seen_from first (calls ++ Nothing ∷ []) script new)
   writes_nothing disk at n wrote wrote_others = record {
     later = later first calls Nothing script old new rise refl;
-    quiet = record { said = ap (λ (s : State). s.said) same; heard = ap (λ (s : State). take s.heard script) same; input = ap (λ (s : State). drop s.heard script) same };
-    content = subst (λ (s : State). TornAt disk at n (contents now.disks) (contents s.disks)) (sym same) (torn_at_itself disk at n (contents now.disks));
+    quiet = record { said = ap (λ (s : StoryState). s.said) same; heard = ap (λ (s : StoryState). take s.heard script) same; input = ap (λ (s : StoryState). drop s.heard script) same };
+    content = subst (λ (s : StoryState). TornAt disk at n (contents now.disks) (contents s.disks)) (sym same) (torn_at_itself disk at n (contents now.disks));
     wrote = wrote;
     wrote_others = wrote_others;
-    left = λ c left. (c, subst (λ (s : State). Agrees (disk_at s.disks disk) c) same left, torn_itself at n c);
-    left_others = λ other c ne. (subst (λ (s : State). Agrees (disk_at s.disks other) c) same, subst (λ (s : State). Agrees (disk_at s.disks other) c) (sym same));
+    left = λ c left. (c, subst (λ (s : StoryState). Agrees (disk_at s.disks disk) c) same left, torn_itself at n c);
+    left_others = λ other c ne. (subst (λ (s : StoryState). Agrees (disk_at s.disks other) c) same, subst (λ (s : StoryState). Agrees (disk_at s.disks other) c) (sym same));
     moments = λ images said left. ⊎_elim
         (λ start. (images, record { one_each = start.0.one_each; each = start.0.each }, torn_at_itself disk at n images, begins_both now.said said start.1 start.2))
         (λ done. (images, record { one_each = done.0.one_each; each = done.0.each }, torn_at_itself disk at n images, done.1))
@@ -206,9 +206,9 @@ module _ (first : State) (calls : List Call) (script : List ℕ) (old new : Coun
   -- a call that is kept and takes nothing
   pub nothing_push : TakesNothing before (seen_from first (calls ++ Nothing ∷ []) script new)
   nothing_push = record {
-    content = ap (λ (s : State). contents s.disks) same;
-    left = λ disk c. (subst (λ (s : State). Agrees (disk_at s.disks disk) c) same, subst (λ (s : State). Agrees (disk_at s.disks disk) c) (sym same));
-    quiet = record { said = ap (λ (s : State). s.said) same; heard = ap (λ (s : State). take s.heard script) same; input = ap (λ (s : State). drop s.heard script) same };
+    content = ap (λ (s : StoryState). contents s.disks) same;
+    left = λ disk c. (subst (λ (s : StoryState). Agrees (disk_at s.disks disk) c) same, subst (λ (s : StoryState). Agrees (disk_at s.disks disk) c) (sym same));
+    quiet = record { said = ap (λ (s : StoryState). s.said) same; heard = ap (λ (s : StoryState). take s.heard script) same; input = ap (λ (s : StoryState). drop s.heard script) same };
   }
     where
       same : run first (calls ++ Nothing ∷ []) ≡ now
@@ -234,7 +234,7 @@ module _ (first : State) (calls : List Call) (script : List ℕ) (old new : Coun
     sync_pushed = run_push first calls (Sync disk)
 
     sync_disks : (run first (calls ++ Sync disk ∷ [])).disks ≡ set now.disks disk (synced_disk (disk_at now.disks disk))
-    sync_disks = ap (λ (s : State). s.disks) sync_pushed
+    sync_disks = ap (λ (s : StoryState). s.disks) sync_pushed
 
     sync_here : disk_at (run first (calls ++ Sync disk ∷ [])).disks disk ≡ synced_disk (disk_at now.disks disk)
     sync_here = ap (λ (l : List Disk). disk_at l disk) sync_disks ∙ disk_there now.disks disk (synced_disk (disk_at now.disks disk)) in_range
@@ -260,7 +260,7 @@ module _ (first : State) (calls : List Call) (script : List ℕ) (old new : Coun
     pub syncs_push : Syncs disk before sync_seen
     syncs_push = record {
       later = later first calls (Sync disk) script old new rise (sizes_set now.disks disk (synced_disk (disk_at now.disks disk)) refl);
-      quiet = record { said = ap (λ (s : State). s.said) sync_pushed; heard = ap (λ (s : State). take s.heard script) sync_pushed; input = ap (λ (s : State). drop s.heard script) sync_pushed };
+      quiet = record { said = ap (λ (s : StoryState). s.said) sync_pushed; heard = ap (λ (s : StoryState). take s.heard script) sync_pushed; input = ap (λ (s : StoryState). drop s.heard script) sync_pushed };
       content = sync_content;
       wrote = wrote;
       left = sync_left;
@@ -278,7 +278,7 @@ module _ (first : State) (calls : List Call) (script : List ℕ) (old new : Coun
         was images may = record { one_each = there.one_each ∙ ap length longer_sizes; each = each }
           where
             there : MayLeave (run first (calls ++ Sync disk ∷ [])) images
-            there = subst (λ (s : State). MayLeave s images) (sym sync_pushed) may
+            there = subst (λ (s : StoryState). MayLeave s images) (sym sync_pushed) may
 
             longer_sizes : sizes_of (run first (calls ++ Sync disk ∷ [])).disks ≡ sizes_of now.disks
             longer_sizes = ap sizes_of sync_disks ∙ sizes_same

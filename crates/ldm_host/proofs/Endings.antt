@@ -3,8 +3,8 @@ use Rattle.std.proofs.Common.{◌≡◌, ◌⊎◌, ◌↔◌, inl, inr, ℕ, �
 use Rattle.ldm_host.specs.Acts.{Act}
 use Rattle.ldm_host.specs.declared.memory.MemoryHost.{MemoryHost}
 use Rattle.ldm_host.specs.Plan.{next, is_past, is_chosen}
-use Rattle.ldm_host.specs.Memory.{memory_seen, counts_of, plan_of}
-use Rattle.ldm_host.specs.Ending.{Ends, TakesNothing, is_talk, is_read}
+use Rattle.ldm_host.specs.Memory.{memory_seen, host_counts, plan_of}
+use Rattle.ldm_host.specs.Ending.{EndsCall, TakesNothing, is_talk, is_read}
 
 -- the count of dry calls, and whether it rose
 rises : (dry : Bool) (old new : ℕ) → new ≡ (if dry then next old else old) → old < 2 ^ 64 - 1 → IsTrue dry ↔ (old < new)
@@ -32,10 +32,10 @@ none_taken true false dry is = refl
 none_taken false true dry is = ap not is
 none_taken false false dry is = refl
 
-module _ (act : Act) (old new : MemoryHost) (ok : Bool) (ends : Ends act old new ok) where
+module _ (act : Act) (old new : MemoryHost) (ok : Bool) (ends : EndsCall act old new ok) where
   -- Where the count of dry calls is below its last value, a call fails exactly where it was chosen, or is past the stop,
   -- or that count rose.
-  pub fails_exactly : (counts_of old).dry < 2 ^ 64 - 1 → IsFalse ok ↔ (IsTrue (is_past (plan_of new) || is_chosen (plan_of new)) ⊎ ((counts_of old).dry < (counts_of new).dry))
+  pub fails_exactly : (host_counts old).dry < 2 ^ 64 - 1 → IsFalse ok ↔ (IsTrue (is_past (plan_of new) || is_chosen (plan_of new)) ⊎ ((host_counts old).dry < (host_counts new).dry))
   fails_exactly below = (
     λ failed. elim (either past chosen ends.ran_dry (ends.fails.0 failed)) [
       | inl planned ↦ inl planned
@@ -54,7 +54,7 @@ module _ (act : Act) (old new : MemoryHost) (ok : Bool) (ends : Ends act old new
       chosen = is_chosen (plan_of new)
 
   -- A call in which that count rose has failed, is no read, and took nothing.
-  pub dry_took_nothing : (counts_of old).dry < (counts_of new).dry → IsFalse ok × IsFalse (is_read act) × TakesNothing (memory_seen old) (memory_seen new)
+  pub dry_took_nothing : (host_counts old).dry < (host_counts new).dry → IsFalse ok × IsFalse (is_read act) × TakesNothing (memory_seen old) (memory_seen new)
   dry_took_nothing lt = (failed, no_read (is_read act) ends.read, ends.took_nothing failed (none_taken (is_past (plan_of new)) (is_chosen (plan_of new)) ends.ran_dry is))
     where
       is : IsTrue ends.ran_dry
@@ -68,7 +68,7 @@ module _ (act : Act) (old new : MemoryHost) (ok : Bool) (ends : Ends act old new
       no_read false found = refl
 
   -- The count falls in no call.
-  pub dry_stays : (counts_of old).dry ≤ 2 ^ 64 - 1 → (counts_of old).dry ≤ (counts_of new).dry
+  pub dry_stays : (host_counts old).dry ≤ 2 ^ 64 - 1 → (host_counts old).dry ≤ (host_counts new).dry
   dry_stays le = stays ends.ran_dry ends.dry
     where
       stays : (dry : Bool) → new.dry ≡ (if dry then next old.dry else old.dry) → old.dry ≤ new.dry
@@ -76,7 +76,7 @@ module _ (act : Act) (old new : MemoryHost) (ok : Bool) (ends : Ends act old new
       stays false is = omega (arith, is)
 
   -- A call that is Ok raises no count of failures.
-  pub ok_counts : IsTrue ok → ((counts_of new).disk_faults ≡ (counts_of old).disk_faults) × ((counts_of new).talk_faults ≡ (counts_of old).talk_faults)
+  pub ok_counts : IsTrue ok → ((host_counts new).disk_faults ≡ (host_counts old).disk_faults) × ((host_counts new).talk_faults ≡ (host_counts old).talk_faults)
   ok_counts is = (
     ends.disk_faults ∙ ap (λ (b : Bool). if b || is_talk act then old.disk_faults else next old.disk_faults) is,
     ends.talk_faults ∙ ap (λ (b : Bool). if b || not (is_talk act) then old.talk_faults else next old.talk_faults) is,

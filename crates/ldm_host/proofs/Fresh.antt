@@ -6,7 +6,7 @@ use Rattle.ldm_bytes.specs.Numbers.{IsBytes}
 use Rattle.ldm_host.specs.Seen.{image}
 use Rattle.ldm_host.specs.declared.call.Call.{Call}
 use Rattle.ldm_host.specs.Images.{items_of}
-use Rattle.ldm_host.specs.Kept.{IsKept}
+use Rattle.ldm_host.specs.Kept.{IsKeptHost}
 use Rattle.ldm_host.specs.Story.{fresh_state, Agrees, Outside, contents, disk_at, run}
 use Rattle.ldm_host.specs.StoryLaws.{image_at}
 use Rattle.ldm_host.proofs.HeldLaws.{held_fresh}
@@ -29,9 +29,9 @@ fresh_settled images calls is disk c agrees =
     whole a = ext_get_or 0 c (disk_at (fresh_state images).disks disk).content a.size (λ k lt. a.outside k (subst (λ (l : List (ℕ × ℕ)). Outside l k) (sym (none_pending images disk)) tt))
 
 pub fresh_kept : (images : List (List ℕ)) (calls : List Call) (script : List ℕ) (held : List (Vec ℕ Global)) (said : List ℕ) (handed : List ℕ)
-    → calls ≡ [] → said ≡ [] → images ≡ items_of held → length handed ≡ length held → ((disk : ℕ) → IsBytes (image images disk)) → IsKept images calls script held said 0 handed
+    → calls ≡ [] → said ≡ [] → images ≡ items_of held → length handed ≡ length held → ((disk : ℕ) → IsBytes (image images disk)) → IsKeptHost images calls script held said 0 handed
 fresh_kept images calls script held said handed none silent same counts bytes =
-    subst (λ (l : List Call). IsKept images l script held said 0 handed) (sym none) (record {
+    subst (λ (l : List Call). IsKeptHost images l script held said 0 handed) (sym none) (record {
       content = sym same ∙ sym (contents_fresh images);
       said_is = silent;
       heard_is = refl;

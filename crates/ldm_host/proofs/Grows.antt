@@ -5,14 +5,14 @@ use Rattle.ldm_host.specs.Moves.{Begins, Later}
 use Rattle.ldm_host.proofs.Relations.{begins_trans}
 use Rattle.ldm_host.specs.declared.call.Call.{Call}
 use Rattle.ldm_host.specs.declared.call.Call.TheVariants.{Write, Sync, Hear, Say, Nothing}
-use Rattle.ldm_host.specs.Story.{State, MayLeave, LeftSince, Counts, sizes_of, after, run, state_at, seen_from}
+use Rattle.ldm_host.specs.Story.{StoryState, MayLeave, LeftSince, Counts, sizes_of, after, run, state_at, seen_from}
 use Rattle.ldm_host.specs.StoryLaws.{begins_both, all_calls, begins_itself}
 
-pub run_push : (first : State) (calls : List Call) (call : Call) → run first (calls ++ call ∷ []) ≡ after (run first calls) call
+pub run_push : (first : StoryState) (calls : List Call) (call : Call) → run first (calls ++ call ∷ []) ≡ after (run first calls) call
 run_push first [] call = refl
 run_push first (c ∷ calls) call = run_push (after first c) calls call
 
-pub said_after : (s : State) (call : Call) → Begins s.said (after s call).said
+pub said_after : (s : StoryState) (call : Call) → Begins s.said (after s call).said
 said_after s (Write disk at bytes asked) = begins_itself s.said
 said_after s (Sync disk) = begins_itself s.said
 said_after s (Hear count) = begins_itself s.said
@@ -24,7 +24,7 @@ pub record CountsRise (old new : Counts) : Type 0 where
   pub disk_faults : old.disk_faults ≤ new.disk_faults
   pub talk_faults : old.talk_faults ≤ new.talk_faults
 
-module _ (first : State) (calls : List Call) (call : Call) where
+module _ (first : StoryState) (calls : List Call) (call : Call) where
   abbrev longer : List Call
   longer = calls ++ call ∷ []
 
@@ -43,9 +43,9 @@ module _ (first : State) (calls : List Call) (call : Call) where
   -- with one call more, no less was said by any time
   said_grows : (k : ℕ) → k ≤ length calls → Begins (state_at first calls (k + 1)).said (state_at first longer (k + 1)).said
   said_grows k le = ⊎_elim
-      (λ less. subst (λ (s : State). Begins (state_at first calls (k + 1)).said s.said) (sym (sooner (k + 1) less)) (begins_itself (state_at first calls (k + 1)).said))
-      (λ more. subst (λ (s : State). Begins s.said (state_at first longer (k + 1)).said) (sym (all_calls first calls (k + 1) (omega (arith, more))))
-      (subst (λ (s : State). Begins (run first calls).said s.said) (sym (last (k + 1) more)) (said_after (run first calls) call)))
+      (λ less. subst (λ (s : StoryState). Begins (state_at first calls (k + 1)).said s.said) (sym (sooner (k + 1) less)) (begins_itself (state_at first calls (k + 1)).said))
+      (λ more. subst (λ (s : StoryState). Begins s.said (state_at first longer (k + 1)).said) (sym (all_calls first calls (k + 1) (omega (arith, more))))
+      (subst (λ (s : StoryState). Begins (run first calls).said s.said) (sym (last (k + 1) more)) (said_after (run first calls) call)))
       (cases (k + 1) (length calls))
     where
       cases : (a b : ℕ) → (a ≤ b) ⊎ (b < a)
@@ -56,8 +56,8 @@ module _ (first : State) (calls : List Call) (call : Call) where
     k = left.k;
     from = left.from;
     to = omega (arith, left.to, count);
-    may = subst (λ (s : State). MayLeave s images) (sym (sooner left.k left.to)) left.may;
-    said_before = subst (λ (s : State). Begins s.said said) (sym (sooner left.k left.to)) left.said_before;
+    may = subst (λ (s : StoryState). MayLeave s images) (sym (sooner left.k left.to)) left.may;
+    said_before = subst (λ (s : StoryState). Begins s.said said) (sym (sooner left.k left.to)) left.said_before;
     said_after = begins_trans said (state_at first calls (left.k + 1)).said (state_at first longer (left.k + 1)).said left.said_after (said_grows left.k left.to);
   }
 
@@ -70,9 +70,9 @@ module _ (first : State) (calls : List Call) (call : Call) where
         k = left.k;
         from = left.from;
         to = omega (arith, less);
-        may = subst (λ (s : State). MayLeave s images) (sooner left.k (omega (arith, less))) left.may;
-        said_before = subst (λ (s : State). Begins s.said said) (sooner left.k (omega (arith, less))) left.said_before;
-        said_after = subst (λ (s : State). Begins said s.said) (sooner (left.k + 1) less) left.said_after;
+        may = subst (λ (s : StoryState). MayLeave s images) (sooner left.k (omega (arith, less))) left.may;
+        said_before = subst (λ (s : StoryState). Begins s.said said) (sooner left.k (omega (arith, less))) left.said_before;
+        said_after = subst (λ (s : StoryState). Begins said s.said) (sooner (left.k + 1) less) left.said_after;
       }))
       (λ more. inr (record { k = left.k; from = omega (arith, more); to = left.to; may = left.may; said_before = left.said_before; said_after = left.said_after }))
       (cases (left.k + 1) (length calls))
@@ -86,13 +86,13 @@ module _ (first : State) (calls : List Call) (call : Call) where
       ⊎ (MayLeave (after (run first calls) call) images × (said ≡ (after (run first calls) call).said))
   moments images said left = ⊎_elim
       (λ now. let here : state_at first longer left.k ≡ run first calls = ap (λ (k : ℕ). state_at first longer k) now ∙ before_last in inl (
-        subst (λ (s : State). MayLeave s images) here left.may,
-        subst (λ (s : State). Begins s.said said) here left.said_before,
-        subst (λ (s : State). Begins said s.said) (last (left.k + 1) (omega (arith, now))) left.said_after,
+        subst (λ (s : StoryState). MayLeave s images) here left.may,
+        subst (λ (s : StoryState). Begins s.said said) here left.said_before,
+        subst (λ (s : StoryState). Begins said s.said) (last (left.k + 1) (omega (arith, now))) left.said_after,
       ))
       (λ done. inr (
-        subst (λ (s : State). MayLeave s images) (last left.k done) left.may,
-        begins_both (after (run first calls) call).said said (subst (λ (s : State). Begins s.said said) (last left.k done) left.said_before) (subst (λ (s : State). Begins said s.said) (last (left.k + 1) (omega (arith, done))) left.said_after),
+        subst (λ (s : StoryState). MayLeave s images) (last left.k done) left.may,
+        begins_both (after (run first calls) call).said said (subst (λ (s : StoryState). Begins s.said said) (last left.k done) left.said_before) (subst (λ (s : StoryState). Begins said s.said) (last (left.k + 1) (omega (arith, done))) left.said_after),
       ))
       (cases left.k (length calls) left.from)
     where
@@ -101,10 +101,10 @@ module _ (first : State) (calls : List Call) (call : Call) where
 
   pub later : (script : List ℕ) (old new : Counts) → CountsRise old new → sizes_of (after (run first calls) call).disks ≡ sizes_of (run first calls).disks → Later (seen_from first calls script old) (seen_from first longer script new)
   later script old new rise sizes = record {
-    sizes = ap (λ (s : State). sizes_of s.disks) (run_push first calls call) ∙ sizes;
+    sizes = ap (λ (s : StoryState). sizes_of s.disks) (run_push first calls call) ∙ sizes;
     disk_faults = rise.disk_faults;
     talk_faults = rise.talk_faults;
-    said = subst (λ (s : State). Begins (run first calls).said s.said) (sym (run_push first calls call)) (said_after (run first calls) call);
+    said = subst (λ (s : StoryState). Begins (run first calls).said s.said) (sym (run_push first calls call)) (said_after (run first calls) call);
     clock = omega (arith, count);
     keeps = λ t images said le left. keeps t images said left;
     adds = adds;

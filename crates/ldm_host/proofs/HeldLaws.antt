@@ -8,7 +8,7 @@ use Rattle.ldm_bytes.proofs.ByteLaws.{bytes_put}
 use Rattle.ldm_host.specs.Seen.{image}
 use Rattle.ldm_host.specs.Kept.{IsHeld}
 use Rattle.ldm_host.specs.declared.call.Call.{Call}
-use Rattle.ldm_host.specs.Story.{Disk, State, disk_at, written_disk, synced_disk, after, run, state_at, fresh_state}
+use Rattle.ldm_host.specs.Story.{Disk, StoryState, disk_at, written_disk, synced_disk, after, run, state_at, fresh_state}
 use Rattle.ldm_host.proofs.Relations.{torn_itself}
 use Rattle.ldm_host.proofs.Grows.{sooner, last}
 use Rattle.ldm_host.proofs.Ranges.{torn_agrees}
@@ -35,12 +35,12 @@ held_set (e ∷ disks) (suc disk) d all is zero = all zero
 held_set (e ∷ disks) (suc disk) d all is (suc other) = held_set disks disk d (λ o. all (suc o)) is other
 
 -- with one call more
-pub held_push : (first : State) (calls : List Call) (call : Call) → ((k disk : ℕ) → IsHeld (disk_at (state_at first calls k).disks disk))
+pub held_push : (first : StoryState) (calls : List Call) (call : Call) → ((k disk : ℕ) → IsHeld (disk_at (state_at first calls k).disks disk))
     → ((disk : ℕ) → IsHeld (disk_at (after (run first calls) call).disks disk)) → (k disk : ℕ) → IsHeld (disk_at (state_at first (calls ++ call ∷ []) k).disks disk)
 held_push first calls call all then k disk =
     elim (cases_lt (length calls) k) [
-      | inl lt ↦ subst (λ (s : State). IsHeld (disk_at s.disks disk)) (sym (last first calls call k lt)) (then disk)
-      | inr le ↦ subst (λ (s : State). IsHeld (disk_at s.disks disk)) (sym (sooner first calls call k le)) (all k disk)
+      | inl lt ↦ subst (λ (s : StoryState). IsHeld (disk_at s.disks disk)) (sym (last first calls call k lt)) (then disk)
+      | inr le ↦ subst (λ (s : StoryState). IsHeld (disk_at s.disks disk)) (sym (sooner first calls call k le)) (all k disk)
     ]
 
 held_disk : (images : List (List ℕ)) → ((disk : ℕ) → IsBytes (image images disk)) → (disk : ℕ) → IsHeld (disk_at (fresh_state images).disks disk)

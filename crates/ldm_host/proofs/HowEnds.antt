@@ -10,7 +10,7 @@ use Rattle.ldm_host.specs.declared.outcome.Outcome.{Outcome}
 use Rattle.ldm_host.specs.declared.outcome.Outcome.TheVariants.{Whole, Half, Nothing}
 use Rattle.ldm_host.specs.Plan.{Plan, next, next_plan, is_past, is_chosen, outcome_of}
 use Rattle.ldm_host.specs.Memory.{memory_seen, plan_of}
-use Rattle.ldm_host.specs.Ending.{Ends, Pends, TakesNothing, TakesHalf, is_talk, is_read}
+use Rattle.ldm_host.specs.Ending.{EndsCall, Pends, TakesNothing, TakesHalf, is_talk, is_read}
 use Rattle.ldm_host.specs.Steps.{is_whole}
 use Rattle.ldm_host.proofs.Done.{Took}
 
@@ -87,7 +87,7 @@ module _ (act : Act) (m new : MemoryHost) (outcome : Outcome) (found ok : Bool) 
 
   pub ends : outcome_of (next_plan (plan_of m)) ≡ outcome → ok ≡ is_whole outcome && found → (IsTrue (is_read act) → IsTrue found)
       → new.disk_faults ≡ (if ok || is_talk act then m.disk_faults else next m.disk_faults) → new.talk_faults ≡ (if ok || not (is_talk act) then m.talk_faults else next m.talk_faults)
-      → new.dry ≡ (if not found then next m.dry else m.dry) → Took act outcome found (memory_seen m) (memory_seen new) → Ends act m new ok
+      → new.dry ≡ (if not found then next m.dry else m.dry) → Took act outcome found (memory_seen m) (memory_seen new) → EndsCall act m new ok
   ends is ok_is read disk talk dry took = record {
     ran_dry = not found;
     plan = plan;

@@ -16,27 +16,27 @@ use Rattle.ldm_host.specs.declared.call.Call.{Call}
 use Rattle.ldm_host.specs.declared.call.Call.TheVariants.{Write, Sync, Hear, Say, Nothing}
 use Rattle.ldm_host.specs.declared.left.Filling.{Filling}
 use Rattle.ldm_host.specs.declared.left.Filling.TheVariants.{Old, New, Fill}
-use Rattle.ldm_host.specs.Story.{Disk, State, Agrees, Outside, disk_at, no_disk, written_disk, synced_disk, after, run, state_at, fresh_state, contents, sizes_of}
+use Rattle.ldm_host.specs.Story.{Disk, StoryState, Agrees, Outside, disk_at, no_disk, written_disk, synced_disk, after, run, state_at, fresh_state, contents, sizes_of}
 use Rattle.ldm_host.specs.StoryLaws.{image_at, stays, all_calls}
 use Rattle.ldm_host.specs.Laws.{held_now}
 use Rattle.ldm_host.specs.Memory.{memory_seen, story_of}
 use Rattle.ldm_host.specs.Kept.{IsHeld, reach}
-use Rattle.ldm_host.specs.Left.{filled, left_on, left_of, IsLastSync, taken_on, filled_on}
+use Rattle.ldm_host.specs.Left.{overlaid, left_on, left_of, IsLastSync, written_on, filled_on}
 use Rattle.ldm_host.proofs.Grows.{run_push}
 
--- ---- ranges filled with one byte
+-- ---- ranges overlaid with one byte
 
-pub length-filled : (byte : ℕ) (ranges : List (ℕ × ℕ)) (bytes : List ℕ) → reach ranges ≤ length bytes → length (filled byte ranges bytes) ≡ length bytes
+pub length-filled : (byte : ℕ) (ranges : List (ℕ × ℕ)) (bytes : List ℕ) → reach ranges ≤ length bytes → length (overlaid byte ranges bytes) ≡ length bytes
 length-filled byte [] bytes within = refl
 length-filled byte (range ∷ ranges) bytes within =
     let whole = length-filled byte ranges bytes (omega (arith, within)) in
-    length-put (filled byte ranges bytes) range.0 (replicate range.1 byte) (omega (arith, within, whole, length-replicate range.1 byte)) ∙ whole
+    length-put (overlaid byte ranges bytes) range.0 (replicate range.1 byte) (omega (arith, within, whole, length-replicate range.1 byte)) ∙ whole
 
-filled_bytes : (byte : ℕ) (ranges : List (ℕ × ℕ)) (bytes : List ℕ) → byte < 256 → reach ranges ≤ length bytes → IsBytes bytes → IsBytes (filled byte ranges bytes)
+filled_bytes : (byte : ℕ) (ranges : List (ℕ × ℕ)) (bytes : List ℕ) → byte < 256 → reach ranges ≤ length bytes → IsBytes bytes → IsBytes (overlaid byte ranges bytes)
 filled_bytes byte [] bytes small within are = are
 filled_bytes byte (range ∷ ranges) bytes small within are =
     let whole = length-filled byte ranges bytes (omega (arith, within)) in
-    bytes_put (filled byte ranges bytes) (replicate range.1 byte) range.0 (omega (arith, within, whole, length-replicate range.1 byte))
+    bytes_put (overlaid byte ranges bytes) (replicate range.1 byte) range.0 (omega (arith, within, whole, length-replicate range.1 byte))
     (filled_bytes byte ranges bytes small (omega (arith, within)) are) (same range.1)
   where
     same : (n : ℕ) → IsBytes (replicate n byte)
@@ -44,15 +44,15 @@ filled_bytes byte (range ∷ ranges) bytes small within are =
     same (suc n) zero = small
     same (suc n) (suc k) = same n k
 
-filled_outside : (byte : ℕ) (ranges : List (ℕ × ℕ)) (bytes : List ℕ) → reach ranges ≤ length bytes → (k : ℕ) → Outside ranges k → slice_index (filled byte ranges bytes) k ≡ slice_index bytes k
+filled_outside : (byte : ℕ) (ranges : List (ℕ × ℕ)) (bytes : List ℕ) → reach ranges ≤ length bytes → (k : ℕ) → Outside ranges k → slice_index (overlaid byte ranges bytes) k ≡ slice_index bytes k
 filled_outside byte [] bytes within k out = refl
 filled_outside byte (range ∷ ranges) bytes within k out =
     let whole = length-filled byte ranges bytes (omega (arith, within)) in
     let many = length-replicate range.1 byte in
-    let fits : range.0 + length (replicate range.1 byte) ≤ length (filled byte ranges bytes) = omega (arith, within, whole, many) in
+    let fits : range.0 + length (replicate range.1 byte) ≤ length (overlaid byte ranges bytes) = omega (arith, within, whole, many) in
     ⊎_elim
-    (λ lt. put_before (filled byte ranges bytes) (replicate range.1 byte) range.0 fits k lt)
-    (λ ge. put_behind (filled byte ranges bytes) (replicate range.1 byte) range.0 fits k (omega (arith, ge, many)))
+    (λ lt. put_before (overlaid byte ranges bytes) (replicate range.1 byte) range.0 fits k lt)
+    (λ ge. put_behind (overlaid byte ranges bytes) (replicate range.1 byte) range.0 fits k (omega (arith, ge, many)))
     out.0
     ∙ filled_outside byte ranges bytes (omega (arith, within)) k out.1
 
@@ -87,14 +87,14 @@ fresh_disk (bytes ∷ images) (suc disk) = fresh_disk images disk
 fresh_count : (images : List (List ℕ)) → length (fresh_state images).disks ≡ length images
 fresh_count images = length-map images (λ bytes. record { content = bytes; synced = bytes; pending = [] })
 
-count_after : (s : State) (call : Call) → length (after s call).disks ≡ length s.disks
+count_after : (s : StoryState) (call : Call) → length (after s call).disks ≡ length s.disks
 count_after s (Write written at bytes asked) = length-set s.disks written (written_disk (disk_at s.disks written) at bytes.items asked)
 count_after s (Sync synced) = length-set s.disks synced (synced_disk (disk_at s.disks synced))
 count_after s (Hear count) = refl
 count_after s (Say bytes) = refl
 count_after s Nothing = refl
 
-pub count_run : (s : State) (calls : List Call) → length (run s calls).disks ≡ length s.disks
+pub count_run : (s : StoryState) (calls : List Call) → length (run s calls).disks ≡ length s.disks
 count_run s [] = refl
 count_run s (call ∷ calls) = count_run (after s call) calls ∙ count_after s call
 
@@ -126,7 +126,7 @@ module _ (disk : ℕ) where
         | inr ne ↦ get_or-set_other disks other disk (f (disk_at disks other)) no_disk (λ is. ne (sym is)) ∙ sym (ap (λ (b : Bool). if b then f (disk_at disks disk) else disk_at disks disk) (ne_eqb other disk ne))
       ]
 
-  disk_after : (s : State) (call : Call) → disk < length s.disks → disk_at (after s call).disks disk ≡ after_on (disk_at s.disks disk) call
+  disk_after : (s : StoryState) (call : Call) → disk < length s.disks → disk_at (after s call).disks disk ≡ after_on (disk_at s.disks disk) call
   disk_after s (Write written at bytes asked) lt = set_on s.disks written (λ d. written_disk d at bytes.items asked) lt
   disk_after s (Sync synced) lt = set_on s.disks synced synced_disk lt
   disk_after s (Hear count) lt = refl
@@ -137,7 +137,7 @@ module _ (disk : ℕ) where
   either f true x y = refl
   either f false x y = refl
 
-  content_on : (d : Disk) (call : Call) → (after_on d call).content ≡ taken_on disk call d.content
+  content_on : (d : Disk) (call : Call) → (after_on d call).content ≡ written_on disk call d.content
   content_on d (Write written at bytes asked) = either (λ x. x.content) (written == disk) (written_disk d at bytes.items asked) d
   content_on d (Sync synced) = same (synced == disk)
     where
@@ -148,9 +148,9 @@ module _ (disk : ℕ) where
   content_on d (Say bytes) = refl
   content_on d Nothing = refl
 
-  pending_on : (byte : ℕ) (c : List ℕ) (d : Disk) (call : Call) → call ≢ Sync disk → filled byte (after_on d call).pending c ≡ filled_on disk byte call (filled byte d.pending c)
-  pending_on byte c d (Write written at bytes asked) ne = either (λ x. filled byte x.pending c) (written == disk) (written_disk d at bytes.items asked) d
-  pending_on byte c d (Sync synced) ne = ap (λ (b : Bool). filled byte (if b then synced_disk d else d).pending c) (ne_eqb synced disk (λ is. ne (ap Sync is)))
+  pending_on : (byte : ℕ) (c : List ℕ) (d : Disk) (call : Call) → call ≢ Sync disk → overlaid byte (after_on d call).pending c ≡ filled_on disk byte call (overlaid byte d.pending c)
+  pending_on byte c d (Write written at bytes asked) ne = either (λ x. overlaid byte x.pending c) (written == disk) (written_disk d at bytes.items asked) d
+  pending_on byte c d (Sync synced) ne = ap (λ (b : Bool). overlaid byte (if b then synced_disk d else d).pending c) (ne_eqb synced disk (λ is. ne (ap Sync is)))
   pending_on byte c d (Hear count) ne = refl
   pending_on byte c d (Say bytes) ne = refl
   pending_on byte c d Nothing ne = refl
@@ -194,7 +194,7 @@ module _ (disk : ℕ) where
     pub step : (k : ℕ) → k < length calls → at_time (k + 1) ≡ after_on (at_time k) (call_at k)
     step k less =
         ap (λ (l : List Call). disk_at (run (fresh_state first) l).disks disk) (one_more k less)
-        ∙ ap (λ (s : State). disk_at s.disks disk) (run_push (fresh_state first) (take k calls) (call_at k))
+        ∙ ap (λ (s : StoryState). disk_at s.disks disk) (run_push (fresh_state first) (take k calls) (call_at k))
         ∙ disk_after (state_at (fresh_state first) calls k) (call_at k) (there k)
 
     pub starts : at_time 0 ≡ record { content = image first disk; synced = image first disk; pending = [] }
@@ -251,16 +251,16 @@ module _ (disk : ℕ) where
           sym (ap (λ (k : ℕ). (at_time k).synced) (sym all) ∙ since (length calls - count) (omega (arith, is.within)))
 
       -- one call more behind the last sync
-      pub fills : (byte : ℕ) (c : List ℕ) (k : ℕ) → count ≤ k → k < length calls → filled byte (at_time (k + 1)).pending c ≡ filled_on disk byte (call_at k) (filled byte (at_time k).pending c)
-      fills byte c k from less = ap (λ (d : Disk). filled byte d.pending c) (step k less) ∙ pending_on byte c (at_time k) (call_at k) (is.none_since k from less)
+      pub fills : (byte : ℕ) (c : List ℕ) (k : ℕ) → count ≤ k → k < length calls → overlaid byte (at_time (k + 1)).pending c ≡ filled_on disk byte (call_at k) (overlaid byte (at_time k).pending c)
+      fills byte c k from less = ap (λ (d : Disk). overlaid byte d.pending c) (step k less) ∙ pending_on byte c (at_time k) (call_at k) (is.none_since k from less)
 
     -- one call more
-    pub takes : (k : ℕ) → k < length calls → (at_time (k + 1)).content ≡ taken_on disk (call_at k) (at_time k).content
+    pub takes : (k : ℕ) → k < length calls → (at_time (k + 1)).content ≡ written_on disk (call_at k) (at_time k).content
     takes k less = ap (λ (d : Disk). d.content) (step k less) ∙ content_on (at_time k) (call_at k)
 
     -- the disk now
     pub now_is : at_time (length calls) ≡ disk_at (run (fresh_state first) calls).disks disk
-    now_is = ap (λ (s : State). disk_at s.disks disk) (all_calls (fresh_state first) calls (length calls) (omega arith))
+    now_is = ap (λ (s : StoryState). disk_at s.disks disk) (all_calls (fresh_state first) calls (length calls) (omega arith))
 
 -- a call at the front of a slice of all calls
 pub front_call : (calls slice : List Call) (n i : ℕ) (call : Call) → slice ≡ calls → i < length (take n slice) → call ≡ get_or (take n slice) i call → (i < length calls) × (get_or calls i Nothing ≡ call)

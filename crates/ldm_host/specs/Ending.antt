@@ -7,7 +7,7 @@ use Rattle.ldm_host.specs.Moves.{Quiet, SameLeft, Torn}
 use Rattle.ldm_host.specs.Acts.{Act, Read, Write, Sync, Hear, Say}
 use Rattle.ldm_host.specs.declared.memory.MemoryHost.{MemoryHost}
 use Rattle.ldm_host.specs.Plan.{Plan, next, next_plan, is_past, is_chosen}
-use Rattle.ldm_host.specs.Memory.{counts_of, plan_of, memory_seen}
+use Rattle.ldm_host.specs.Memory.{host_counts, plan_of, memory_seen}
 
 -- the call hears or says
 abbrev pub is_talk : Act → Bool
@@ -56,7 +56,7 @@ abbrev pub takes_half : Plan → Bool → Bool
 takes_half plan ran_dry = is_chosen plan && not (is_past plan || ran_dry)
 
 -- How a call ends, and whether it was Ok. The trait's clauses say the rest of what an Ok call does.
-pub record Ends (act : Act) (old new : MemoryHost) (ok : Bool) : Type 0 where
+pub record EndsCall (act : Act) (old new : MemoryHost) (ok : Bool) : Type 0 where
   -- the call found no memory
   pub ran_dry : Bool
   -- it was counted
@@ -64,11 +64,11 @@ pub record Ends (act : Act) (old new : MemoryHost) (ok : Bool) : Type 0 where
   -- it failed exactly where it is past the stop, was chosen, or found no memory
   pub fails : IsFalse ok ↔ IsTrue (is_past (plan_of new) || is_chosen (plan_of new) || ran_dry)
   -- that it found no memory was counted, up to the counter's last value, and never befalls a read
-  pub dry : (counts_of new).dry ≡ (if ran_dry then next (counts_of old).dry else (counts_of old).dry)
+  pub dry : (host_counts new).dry ≡ (if ran_dry then next (host_counts old).dry else (host_counts old).dry)
   pub read : IsTrue (is_read act) → IsFalse ran_dry
   -- that it failed was counted among the calls of a disk, or of the talk
-  pub disk_faults : (counts_of new).disk_faults ≡ (if ok || is_talk act then (counts_of old).disk_faults else next (counts_of old).disk_faults)
-  pub talk_faults : (counts_of new).talk_faults ≡ (if ok || not (is_talk act) then (counts_of old).talk_faults else next (counts_of old).talk_faults)
+  pub disk_faults : (host_counts new).disk_faults ≡ (if ok || is_talk act then (host_counts old).disk_faults else next (host_counts old).disk_faults)
+  pub talk_faults : (host_counts new).talk_faults ≡ (if ok || not (is_talk act) then (host_counts old).talk_faults else next (host_counts old).talk_faults)
   -- a write that took any bytes leaves its whole range pending
   pub pending : IsTrue (ok || takes_half (plan_of new) ran_dry) → Pends act (memory_seen old) (memory_seen new)
   -- what a failing call took

@@ -20,7 +20,7 @@ pub record IsHeld (disk : Disk) : Type 0 where
   -- a stop may leave what was last synced
   pub old : Agrees disk disk.synced
 
-pub record IsKept (first : List (List ℕ)) (calls : List Call) (script : List ℕ) (now : List (Vec ℕ Global)) (said : List ℕ) (heard : ℕ) (handed : List ℕ) : Type 0 where
+pub record IsKeptHost (first : List (List ℕ)) (calls : List Call) (script : List ℕ) (now : List (Vec ℕ Global)) (said : List ℕ) (heard : ℕ) (handed : List ℕ) : Type 0 where
   -- the images
   pub content : items_of now ≡ contents (run (fresh_state first) calls).disks
   -- the bytes said, and how many bytes of the script were heard

@@ -6,9 +6,9 @@ use Rattle.ldm_bytes.specs.Numbers.{IsBytes}
 use Rattle.ldm_host.specs.Images.{items_of}
 use Rattle.ldm_host.specs.Seen.{Leaves, image}
 use Rattle.ldm_host.specs.declared.memory.MemoryHost.{MemoryHost}
-use Rattle.ldm_host.specs.Memory.{memory_seen, counts_of}
+use Rattle.ldm_host.specs.Memory.{memory_seen, host_counts}
 use Rattle.ldm_host.specs.Kept.{IsHeld}
-use Rattle.ldm_host.specs.Story.{State, Agrees, disk_at, fresh_state, run}
+use Rattle.ldm_host.specs.Story.{StoryState, Agrees, disk_at, fresh_state, run}
 use Rattle.ldm_host.specs.StoryLaws.{image_at, size_at, one_each, stays, all_calls, counts_now, only_now, bytes_since}
 
 pub law_one_each : (m : MemoryHost) → length (memory_seen m).content ≡ length (memory_seen m).sizes
@@ -27,7 +27,7 @@ law_same_length m disk c left = left.size ∙ sym (ap length (image_at (run (fre
 -- each disk as it is now
 pub held_now : (m : MemoryHost) (disk : ℕ) → IsHeld (disk_at (run (fresh_state (items_of m.first.items)) m.calls.items).disks disk)
 held_now m disk =
-    subst (λ (s : State). IsHeld (disk_at s.disks disk)) (all_calls (fresh_state (items_of m.first.items)) m.calls.items (length m.calls.items) (le_refl (length m.calls.items)))
+    subst (λ (s : StoryState). IsHeld (disk_at s.disks disk)) (all_calls (fresh_state (items_of m.first.items)) m.calls.items (length m.calls.items) (le_refl (length m.calls.items)))
     (m.kept.held (length m.calls.items) disk)
 
 pub law_may_stay : (m : MemoryHost) (disk : ℕ) → (memory_seen m).may_leave disk (image (memory_seen m).content disk)
@@ -42,7 +42,7 @@ pub law_bytes_since : (m : MemoryHost) (t : ℕ) (images : List (List ℕ)) (sai
 law_bytes_since m t images said left = bytes_since (fresh_state (items_of m.first.items)) m.calls.items t images said left
 
 pub law_counts_now : (m : MemoryHost) (t : ℕ) (images : List (List ℕ)) → t ≤ (memory_seen m).clock → Leaves (memory_seen m) images → (memory_seen m).left_since t images (memory_seen m).said
-law_counts_now m t images le left = counts_now (fresh_state (items_of m.first.items)) m.calls.items m.script.items (counts_of m) t images le left
+law_counts_now m t images le left = counts_now (fresh_state (items_of m.first.items)) m.calls.items m.script.items (host_counts m) t images le left
 
 pub law_only_now : (m : MemoryHost) (images : List (List ℕ)) (said : List ℕ) → (memory_seen m).left_since (memory_seen m).clock images said → Leaves (memory_seen m) images × (said ≡ (memory_seen m).said)
-law_only_now m images said left = only_now (fresh_state (items_of m.first.items)) m.calls.items m.script.items (counts_of m) images said left
+law_only_now m images said left = only_now (fresh_state (items_of m.first.items)) m.calls.items m.script.items (host_counts m) images said left

@@ -8,15 +8,15 @@ use Rattle.ldm_host.specs.declared.left.Filling.TheVariants.{Old, New, Fill}
 use Rattle.ldm_host.specs.Story.{Disk, Story, run, fresh_state}
 
 -- the bytes, with one byte throughout these ranges
-abbrev pub filled : ℕ → List (ℕ × ℕ) → List ℕ → List ℕ
-filled byte [] bytes = bytes
-filled byte (range ∷ ranges) bytes = put (filled byte ranges bytes) range.0 (replicate range.1 byte)
+abbrev pub overlaid : ℕ → List (ℕ × ℕ) → List ℕ → List ℕ
+overlaid byte [] bytes = bytes
+overlaid byte (range ∷ ranges) bytes = put (overlaid byte ranges bytes) range.0 (replicate range.1 byte)
 
 -- of one disk
 abbrev pub left_on : Filling → Disk → List ℕ
 left_on Old disk = disk.synced
 left_on New disk = disk.content
-left_on (Fill byte) disk = filled byte disk.pending disk.content
+left_on (Fill byte) disk = overlaid byte disk.pending disk.content
 
 -- of each disk after a story
 abbrev pub left_of : Filling → Story → List (List ℕ)
@@ -29,12 +29,12 @@ pub record IsLastSync (calls : List Call) (disk count : ℕ) : Type 0 where
   pub none_since : (k : ℕ) → count ≤ k → k < length calls → get_or calls k Nothing ≢ Sync disk
 
 -- the bytes of a disk, with what a call wrote there
-abbrev pub taken_on : ℕ → Call → List ℕ → List ℕ
-taken_on disk (Write written at bytes asked) image = if written == disk then put image at bytes.items else image
-taken_on disk (Sync synced) image = image
-taken_on disk (Hear count) image = image
-taken_on disk (Say bytes) image = image
-taken_on disk Nothing image = image
+abbrev pub written_on : ℕ → Call → List ℕ → List ℕ
+written_on disk (Write written at bytes asked) image = if written == disk then put image at bytes.items else image
+written_on disk (Sync synced) image = image
+written_on disk (Hear count) image = image
+written_on disk (Say bytes) image = image
+written_on disk Nothing image = image
 
 -- the bytes, with one byte throughout the range of a write to the disk
 abbrev pub filled_on : ℕ → ℕ → Call → List ℕ → List ℕ

@@ -10,12 +10,12 @@ abbrev pub story_of : MemoryHost → Story
 story_of m = record { first = items_of m.first.items; calls = m.calls.items; script = m.script.items }
 
 -- its counts of failures and of bytes handed
-abbrev pub counts_of : MemoryHost → Counts
-counts_of m = record { disk_faults = m.disk_faults; talk_faults = m.talk_faults; dry = m.dry; wrote = m.handed.items }
+abbrev pub host_counts : MemoryHost → Counts
+host_counts m = record { disk_faults = m.disk_faults; talk_faults = m.talk_faults; dry = m.dry; wrote = m.handed.items }
 
 -- which of its calls fail
 abbrev pub plan_of : MemoryHost → Plan
 plan_of m = record { number = m.number; chosen = m.chosen.items; stop = m.stop }
 
 abbrev pub memory_seen : MemoryHost → Seen
-memory_seen m = seen_of (story_of m) (counts_of m)
+memory_seen m = seen_of (story_of m) (host_counts m)

@@ -10,9 +10,9 @@ use Rattle.ldm_host.specs.Seen.{image}
 use Rattle.ldm_host.specs.Ending.{first_half}
 
 -- A call of this kind was kept in the list, or it found no memory and the list is as it was.
-abbrev pub Adds : Bool → (Call → Type 0) → List Call → List Call → Type 0
-Adds true is old new = (call : Call) × is call × (new ≡ old ++ call ∷ [])
-Adds false is old new = new ≡ old
+abbrev pub AddsCall : Bool → (Call → Type 0) → List Call → List Call → Type 0
+AddsCall true is old new = (call : Call) × is call × (new ≡ old ++ call ∷ [])
+AddsCall false is old new = new ≡ old
 
 abbrev pub IsNothing : Call → Type 0
 IsNothing call = call ≡ Call.Nothing
@@ -60,14 +60,14 @@ is_whole Whole = true
 is_whole Half = false
 is_whole Nothing = false
 
--- the images, with bytes placed in one where it found memory
-abbrev pub placed : Bool → ℕ → ℕ → List ℕ → List (List ℕ) → List (List ℕ)
-placed found disk at taken held = if found then set held disk (put (image held disk) at taken) else held
+-- the images, with bytes bytes_placed in one where it found memory
+abbrev pub bytes_placed : Bool → ℕ → ℕ → List ℕ → List (List ℕ) → List (List ℕ)
+bytes_placed found disk at taken held = if found then set held disk (put (image held disk) at taken) else held
 
 -- with so many of the bytes as the outcome says
 abbrev pub held_after : Outcome → Bool → ℕ → ℕ → List ℕ → List (List ℕ) → List (List ℕ)
-held_after Whole found disk at bytes held = placed found disk at bytes held
-held_after Half found disk at bytes held = placed found disk at (first_half bytes) held
+held_after Whole found disk at bytes held = bytes_placed found disk at bytes held
+held_after Half found disk at bytes held = bytes_placed found disk at (first_half bytes) held
 held_after Nothing found disk at bytes held = held
 
 -- what was said, and these bytes where it found memory

@@ -15,7 +15,7 @@ pub record Disk : Type 0 where
   pub pending : List (ℕ × ℕ)
 
 -- the disks, what was said, and how many bytes of the script were heard
-pub record State : Type 0 where
+pub record StoryState : Type 0 where
   pub disks : List Disk
   pub said : List ℕ
   pub heard : ℕ
@@ -46,7 +46,7 @@ abbrev pub synced_disk : Disk → Disk
 synced_disk disk = record { content = disk.content; synced = disk.content; pending = [] }
 
 -- after one call more
-abbrev pub after : State → Call → State
+abbrev pub after : StoryState → Call → StoryState
 after s (Write disk at bytes asked) = record { disks = set s.disks disk (written_disk (disk_at s.disks disk) at bytes.items asked); said = s.said; heard = s.heard }
 after s (Sync disk) = record { disks = set s.disks disk (synced_disk (disk_at s.disks disk)); said = s.said; heard = s.heard }
 after s (Hear count) = record { disks = s.disks; said = s.said; heard = s.heard + count }
@@ -54,7 +54,7 @@ after s (Say bytes) = record { disks = s.disks; said = s.said ++ bytes.items; he
 after s Nothing = s
 
 -- after these calls
-abbrev pub run : State → List Call → State
+abbrev pub run : StoryState → List Call → StoryState
 run s [] = s
 run s (call ∷ calls) = run (after s call) calls
 
@@ -66,17 +66,17 @@ abbrev pub contents : List Disk → List (List ℕ)
 contents disks = map (λ disk. disk.content) disks
 
 -- a stop in this state may leave these images
-pub record MayLeave (s : State) (images : List (List ℕ)) : Type 0 where
+pub record MayLeave (s : StoryState) (images : List (List ℕ)) : Type 0 where
   pub one_each : length images ≡ length (sizes_of s.disks)
   pub each : (disk : ℕ) → disk < length (sizes_of s.disks) → Agrees (disk_at s.disks disk) (image images disk)
 
 -- the state after the first k calls
-abbrev pub state_at : State → List Call → ℕ → State
+abbrev pub state_at : StoryState → List Call → ℕ → StoryState
 state_at first calls k = run first (take k calls)
 
 -- After some number of calls, t at least, a stop could leave these images. By then was said what those calls said, and
 -- some of what the next call said.
-pub record LeftSince (first : State) (calls : List Call) (t : ℕ) (images : List (List ℕ)) (said : List ℕ) : Type 0 where
+pub record LeftSince (first : StoryState) (calls : List Call) (t : ℕ) (images : List (List ℕ)) (said : List ℕ) : Type 0 where
   pub k : ℕ
   pub from : t ≤ k
   pub to : k ≤ length calls
@@ -93,7 +93,7 @@ pub record Counts : Type 0 where
   pub wrote : List ℕ
 
 -- What is seen after these calls. What a stop may leave is all that agrees with the content outside what is pending.
-abbrev pub seen_from : State → List Call → List ℕ → Counts → Seen
+abbrev pub seen_from : StoryState → List Call → List ℕ → Counts → Seen
 seen_from first calls script counts = record {
   sizes = sizes_of (run first calls).disks;
   content = contents (run first calls).disks;
@@ -109,7 +109,7 @@ seen_from first calls script counts = record {
 }
 
 -- these images, with nothing pending, said or heard
-abbrev pub fresh_state : List (List ℕ) → State
+abbrev pub fresh_state : List (List ℕ) → StoryState
 fresh_state images = record { disks = map (λ bytes. record { content = bytes; synced = bytes; pending = [] }) images; said = []; heard = 0 }
 
 -- the images and the input at the start, and the calls since

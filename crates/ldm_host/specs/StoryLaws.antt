@@ -7,7 +7,7 @@ use Rattle.ldm_bytes.specs.Numbers.{IsBytes}
 use Rattle.ldm_host.specs.Seen.{Leaves, image}
 use Rattle.ldm_host.specs.Moves.{Begins}
 use Rattle.ldm_host.specs.declared.call.Call.{Call}
-use Rattle.ldm_host.specs.Story.{Disk, State, Agrees, MayLeave, LeftSince, Counts, disk_at, sizes_of, contents, run, state_at, seen_from}
+use Rattle.ldm_host.specs.Story.{Disk, StoryState, Agrees, MayLeave, LeftSince, Counts, disk_at, sizes_of, contents, run, state_at, seen_from}
 
 pub image_at : (disks : List Disk) (disk : ℕ) → image (contents disks) disk ≡ (disk_at disks disk).content
 image_at [] disk = refl
@@ -40,18 +40,18 @@ begins_both x y one two = one.1 ∙ ap (λ (l : List ℕ). x ++ l) (empty one.0 
     empty (n ∷ a) b is = absurd (suc-ne-zero (length (a ++ b)) (ap length is))
 
 -- all calls, and more than all
-pub all_calls : (first : State) (calls : List Call) (k : ℕ) → length calls ≤ k → state_at first calls k ≡ run first calls
+pub all_calls : (first : StoryState) (calls : List Call) (k : ℕ) → length calls ≤ k → state_at first calls k ≡ run first calls
 all_calls first calls k le = ap (λ (l : List Call). run first l) (take_all k calls le)
 
-pub counts_now : (first : State) (calls : List Call) (script : List ℕ) (counts : Counts) (t : ℕ) (images : List (List ℕ)) → t ≤ length calls
+pub counts_now : (first : StoryState) (calls : List Call) (script : List ℕ) (counts : Counts) (t : ℕ) (images : List (List ℕ)) → t ≤ length calls
     → Leaves (seen_from first calls script counts) images → LeftSince first calls t images (run first calls).said
 counts_now first calls script counts t images le left = record {
   k = length calls;
   from = le;
   to = le_refl (length calls);
-  may = subst (λ (s : State). MayLeave s images) (sym here) (record { one_each = left.one_each; each = left.each });
-  said_before = subst (λ (s : State). Begins s.said (run first calls).said) (sym here) (begins_itself (run first calls).said);
-  said_after = subst (λ (s : State). Begins (run first calls).said s.said) (sym next) (begins_itself (run first calls).said);
+  may = subst (λ (s : StoryState). MayLeave s images) (sym here) (record { one_each = left.one_each; each = left.each });
+  said_before = subst (λ (s : StoryState). Begins s.said (run first calls).said) (sym here) (begins_itself (run first calls).said);
+  said_after = subst (λ (s : StoryState). Begins (run first calls).said s.said) (sym next) (begins_itself (run first calls).said);
 }
   where
     here : state_at first calls (length calls) ≡ run first calls
@@ -60,11 +60,11 @@ counts_now first calls script counts t images le left = record {
     next : state_at first calls (length calls + 1) ≡ run first calls
     next = all_calls first calls (length calls + 1) (le-add_right (length calls) 1)
 
-pub only_now : (first : State) (calls : List Call) (script : List ℕ) (counts : Counts) (images : List (List ℕ)) (said : List ℕ)
+pub only_now : (first : StoryState) (calls : List Call) (script : List ℕ) (counts : Counts) (images : List (List ℕ)) (said : List ℕ)
     → LeftSince first calls (length calls) images said → Leaves (seen_from first calls script counts) images × (said ≡ (run first calls).said)
 only_now first calls script counts images said left = (
   record { one_each = may.one_each; each = may.each },
-  begins_both (run first calls).said said (subst (λ (s : State). Begins s.said said) here left.said_before) (subst (λ (s : State). Begins said s.said) next left.said_after),
+  begins_both (run first calls).said said (subst (λ (s : StoryState). Begins s.said said) here left.said_before) (subst (λ (s : StoryState). Begins said s.said) next left.said_after),
 )
   where
     here : state_at first calls left.k ≡ run first calls
@@ -74,10 +74,10 @@ only_now first calls script counts images said left = (
     next = all_calls first calls (left.k + 1) (le_trans left.from (le-add_right left.k 1))
 
     may : MayLeave (run first calls) images
-    may = subst (λ (s : State). MayLeave s images) here left.may
+    may = subst (λ (s : StoryState). MayLeave s images) here left.may
 
 -- images that are left at some moment are bytes
-pub bytes_since : (first : State) (calls : List Call) (t : ℕ) (images : List (List ℕ)) (said : List ℕ) → LeftSince first calls t images said → (disk : ℕ) → IsBytes (image images disk)
+pub bytes_since : (first : StoryState) (calls : List Call) (t : ℕ) (images : List (List ℕ)) (said : List ℕ) → LeftSince first calls t images said → (disk : ℕ) → IsBytes (image images disk)
 bytes_since first calls t images said left disk =
     ⊎_elim
     (λ lt. (left.may.each disk (subst (λ (n : ℕ). disk < n) left.may.one_each lt)).bytes)

@@ -1,8 +1,7 @@
 //! Disks, an input and an output: what each call promises, also of stops.
 ghost use Rattle.std.specs.Prelude.{◌≡◌, ◌^◌, ◌+◌, ◌-◌, ◌*◌, ◌/◌, ◌<◌, ◌≤◌, ◌++◌, min, List, ℕ};
-ghost use Rattle.std.specs.Prelude.{length, take, set};
-ghost use Rattle.std.specs.Prelude.{slice_index, slice_range, IfOk, OnOk, OnErr, IsErr, is_ok};
-ghost use Rattle.std.specs.Prelude.{Bool, ⊤};
+ghost use Rattle.std.specs.Prelude.{length, take, set, slice_index, slice_range, IfOk, OnOk, OnErr};
+ghost use Rattle.std.specs.Prelude.{IsErr, is_ok, Bool, ⊤};
 ghost use Rattle.ldm_bytes.specs.Numbers.{IsBytes};
 ghost use Rattle.ldm_bytes.specs.Places.{put};
 ghost use Rattle.ldm_host.specs.Seen.{Seen, Leaves, image};

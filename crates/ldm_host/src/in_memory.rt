@@ -7,11 +7,10 @@ use crate::{Failed, Host, MemoryHost};
 impl Host for MemoryHost {
     ghost use Rattle.std.specs.Prelude.{⊤};
     ghost use Rattle.ldm_host.specs.Memory.{memory_seen};
-    ghost use Rattle.ldm_host.specs.Ending.{Ends};
+    ghost use Rattle.ldm_host.specs.Ending.{EndsCall};
     ghost use Rattle.ldm_host.specs.Laws.{law_one_each, law_counts_each, law_lengths, law_may_stay};
-    ghost use Rattle.ldm_host.specs.Laws.{law_same_length};
-    ghost use Rattle.ldm_host.specs.Laws.{law_left_bytes, law_bytes_since, law_counts_now};
-    ghost use Rattle.ldm_host.specs.Laws.{law_only_now};
+    ghost use Rattle.ldm_host.specs.Laws.{law_same_length, law_left_bytes, law_bytes_since};
+    ghost use Rattle.ldm_host.specs.Laws.{law_counts_now, law_only_now};
 
     ghost seen = { memory_seen };
 
@@ -19,7 +18,7 @@ impl Host for MemoryHost {
 
     ghost tells_talk = { ⊤ };
 
-    ghost ending = { Ends };
+    ghost ending = { EndsCall };
 
     ghost tells_both = { λ both. both };
 

@@ -5,7 +5,8 @@ ghost use Rattle.std.specs.declared.alloc.Global.{Global};
 ghost use Rattle.ldm_host.specs.declared.call.Call.TheVariants.{Write};
 ghost use Rattle.ldm_host.specs.declared.left.Filling.TheVariants.{Fill};
 ghost use Rattle.ldm_host.specs.Images.{items_of};
-ghost use Rattle.ldm_host.specs.Left.{IsLastSync, filled, filled_on, left_of, left_on, taken_on};
+ghost use Rattle.ldm_host.specs.Left.{IsLastSync, overlaid, filled_on, left_of, left_on};
+ghost use Rattle.ldm_host.specs.Left.{written_on};
 ghost use Rattle.ldm_host.specs.Memory.{memory_seen, story_of};
 ghost use Rattle.ldm_host.specs.Seen.{Leaves, image};
 ghost use Rattle.ldm_host.specs.Story.{fresh_state, run, disk_at};
@@ -47,7 +48,7 @@ fn last_sync(calls: &[Call], disk: usize) -> usize
 fn take_again(image: &mut Vec<u8>, call: &Call, disk: usize)
     requires { (at asked : ℕ) (bytes : Vec ℕ Global) → call.now ≡ Write disk at bytes asked
         → at + length bytes.items ≤ length image.old.items }
-    ensures { image.new.items ≡ taken_on disk call.now image.old.items }
+    ensures { image.new.items ≡ written_on disk call.now image.old.items }
 {
     if let Call::Write {
         disk: written,
@@ -128,7 +129,7 @@ impl MemoryHost {
     fn filled(&self, alloc: Global, disk: usize, byte: u8) -> Result<Vec<u8>, AllocError>
         requires { disk < length self.now.held.items }
         ensures { IfOk result (λ bytes. bytes.items
-            ≡ filled byte (disk_at (run (fresh_state (items_of self.now.first.items))
+            ≡ overlaid byte (disk_at (run (fresh_state (items_of self.now.first.items))
             self.now.calls.items).disks disk).pending (image (items_of self.now.held.items) disk)) }
     {
         let mut image = copy_of(alloc, &self.held[disk])?;

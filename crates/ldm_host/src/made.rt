@@ -5,7 +5,7 @@ ghost use Rattle.std.specs.Prelude.{IfOk, OnOk, Ok, Vec};
 ghost use Rattle.std.specs.declared.alloc.Global.{Global};
 ghost use Rattle.ldm_bytes.specs.Numbers.{IsBytes};
 ghost use Rattle.ldm_host.specs.Images.{items_of};
-ghost use Rattle.ldm_host.specs.Memory.{memory_seen, story_of, counts_of, plan_of};
+ghost use Rattle.ldm_host.specs.Memory.{memory_seen, story_of, host_counts, plan_of};
 ghost use Rattle.ldm_host.specs.Moves.{Settled};
 ghost use Rattle.ldm_host.specs.Plan.{no_failures};
 ghost use Rattle.ldm_host.specs.Seen.{image};
@@ -62,10 +62,10 @@ impl MemoryHost {
         ensures heard { IfOk result (λ host. (memory_seen host).heard ≡ []) }
         ensures input { IfOk result (λ host. (memory_seen host).input ≡ script.items) }
         ensures clock { IfOk result (λ host. (memory_seen host).clock ≡ 0) }
-        ensures disk_faults { IfOk result (λ host. (counts_of host).disk_faults ≡ 0) }
-        ensures talk_faults { IfOk result (λ host. (counts_of host).talk_faults ≡ 0) }
-        ensures dry { IfOk result (λ host. (counts_of host).dry ≡ 0) }
-        ensures wrote { IfOk result (λ host. (counts_of host).wrote
+        ensures disk_faults { IfOk result (λ host. (host_counts host).disk_faults ≡ 0) }
+        ensures talk_faults { IfOk result (λ host. (host_counts host).talk_faults ≡ 0) }
+        ensures dry { IfOk result (λ host. (host_counts host).dry ≡ 0) }
+        ensures wrote { IfOk result (λ host. (host_counts host).wrote
             ≡ replicate (length images.items) 0) }
         ensures plan { IfOk result (λ host. plan_of host ≡ no_failures) }
     {
@@ -100,7 +100,7 @@ impl MemoryHost {
     /// A `write_at` or `say` that fails so takes the first half of its bytes, rounded down.
     pub fn with_failures(self, calls: Vec<u64>) -> MemoryHost
         ensures story { story_of result ≡ story_of self }
-        ensures counts { counts_of result ≡ counts_of self }
+        ensures counts { host_counts result ≡ host_counts self }
         ensures plan { plan_of result ≡ record (plan_of self) { chosen = calls.items } }
     {
         let mut host = self;
@@ -111,7 +111,7 @@ impl MemoryHost {
     /// Each call with a greater number fails and takes nothing.
     pub fn stop_after(self, calls: u64) -> MemoryHost
         ensures story { story_of result ≡ story_of self }
-        ensures counts { counts_of result ≡ counts_of self }
+        ensures counts { host_counts result ≡ host_counts self }
         ensures plan { plan_of result ≡ record (plan_of self) { stop = calls } }
     {
         let mut host = self;
@@ -136,7 +136,7 @@ impl MemoryHost {
 
     /// How many calls found no memory, up to the counter's last value.
     pub fn dry(&self) -> u64
-        ensures { result ≡ (counts_of self.now).dry }
+        ensures { result ≡ (host_counts self.now).dry }
     {
         self.dry
     }

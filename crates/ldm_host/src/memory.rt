@@ -1,6 +1,6 @@
 //! A host in memory, which keeps a list of its calls.
 ghost use Rattle.ldm_host.specs.Images.{items_of};
-ghost use Rattle.ldm_host.specs.Kept.{IsKept};
+ghost use Rattle.ldm_host.specs.Kept.{IsKeptHost};
 
 use crate::call::Call;
 use std::alloc::Global;
@@ -31,5 +31,5 @@ pub struct MemoryHost {
     pub(crate) disk_faults: u64,
     pub(crate) talk_faults: u64,
     pub(crate) dry: u64,
-    ghost kept: { IsKept (items_of first.items) calls.items script.items held.items said.items heard handed.items },
+    ghost kept: { IsKeptHost (items_of first.items) calls.items script.items held.items said.items heard handed.items },
 }

@@ -6,9 +6,9 @@ ghost use Rattle.ldm_host.specs.declared.outcome.Outcome.TheVariants.{Whole};
 ghost use Rattle.ldm_host.specs.Images.{items_of};
 ghost use Rattle.ldm_host.specs.Plan.{next};
 ghost use Rattle.ldm_host.specs.Seen.{image};
-ghost use Rattle.ldm_host.specs.Steps.{Adds, IsHear, IsSay, IsSayOf, IsSync, IsWrite, IsWriteOf};
-ghost use Rattle.ldm_host.specs.Steps.{Moved, held_after};
-ghost use Rattle.ldm_host.specs.Steps.{is_whole, placed, said_after, said_more};
+ghost use Rattle.ldm_host.specs.Steps.{AddsCall, IsHear, IsSay, IsSayOf, IsSync, IsWrite};
+ghost use Rattle.ldm_host.specs.Steps.{IsWriteOf, Moved, held_after, is_whole, bytes_placed};
+ghost use Rattle.ldm_host.specs.Steps.{said_after, said_more};
 
 use crate::Failed;
 use crate::call::Call;
@@ -19,7 +19,7 @@ use std::alloc::Global;
 
 // Keeps a call in the list.
 fn keep(calls: &mut Vec<Call>, call: Call) -> bool
-    ensures { Adds result (λ kept. kept ≡ call) calls.old.items calls.new.items }
+    ensures { AddsCall result (λ kept. kept ≡ call) calls.old.items calls.new.items }
 {
     calls.push(call).is_ok()
 }
@@ -33,7 +33,7 @@ fn keep_write(
     taken: &[u8],
     asked: usize,
 ) -> bool
-    ensures { Adds result (IsWriteOf disk at taken.now asked) calls.old.items calls.new.items }
+    ensures { AddsCall result (IsWriteOf disk at taken.now asked) calls.old.items calls.new.items }
 {
     match taken.to_vec(alloc) {
         Ok(bytes) => keep(
@@ -62,9 +62,9 @@ fn take_bytes(
     requires disk { disk < length held.old.items }
     requires range { at + asked ≤ length (image (items_of held.old.items) disk) }
     requires short { length taken.now ≤ asked }
-    ensures calls { Adds result (IsWriteOf disk at taken.now asked) calls.old.items
+    ensures calls { AddsCall result (IsWriteOf disk at taken.now asked) calls.old.items
         calls.new.items }
-    ensures held { items_of held.new.items ≡ placed result disk at taken.now
+    ensures held { items_of held.new.items ≡ bytes_placed result disk at taken.now
         (items_of held.old.items) }
 {
     if keep_write(calls, alloc, disk, at, taken, asked) {
@@ -87,7 +87,7 @@ pub fn write_part(
 ) -> bool
     requires disk { disk < length held.old.items }
     requires range { at + length bytes.now ≤ length (image (items_of held.old.items) disk) }
-    ensures calls { Adds result (IsWrite outcome disk at bytes.now) calls.old.items
+    ensures calls { AddsCall result (IsWrite outcome disk at bytes.now) calls.old.items
         calls.new.items }
     ensures held { items_of held.new.items ≡ held_after outcome result disk at bytes.now
         (items_of held.old.items) }
@@ -102,7 +102,7 @@ pub fn write_part(
 
 /// Keeps a sync, where the outcome is whole.
 pub fn sync_part(calls: &mut Vec<Call>, outcome: Outcome, disk: usize) -> bool
-    ensures { Adds result (IsSync outcome disk) calls.old.items calls.new.items }
+    ensures { AddsCall result (IsSync outcome disk) calls.old.items calls.new.items }
 {
     match outcome {
         Outcome::Whole => keep(calls, Call::Sync { disk }),
@@ -112,7 +112,7 @@ pub fn sync_part(calls: &mut Vec<Call>, outcome: Outcome, disk: usize) -> bool
 
 // Keeps that these bytes were said.
 fn keep_said(calls: &mut Vec<Call>, alloc: Global, said: &[u8]) -> bool
-    ensures { Adds result (IsSayOf said.now) calls.old.items calls.new.items }
+    ensures { AddsCall result (IsSayOf said.now) calls.old.items calls.new.items }
 {
     match said.to_vec(alloc) {
         Ok(bytes) => keep(calls, Call::Say { bytes }),
@@ -122,7 +122,7 @@ fn keep_said(calls: &mut Vec<Call>, alloc: Global, said: &[u8]) -> bool
 
 // Appends the bytes to what was said.
 fn say_bytes(calls: &mut Vec<Call>, said: &mut Vec<u8>, alloc: Global, bytes: &[u8]) -> bool
-    ensures calls { Adds result (IsSayOf bytes.now) calls.old.items calls.new.items }
+    ensures calls { AddsCall result (IsSayOf bytes.now) calls.old.items calls.new.items }
     ensures said { said.new.items ≡ said_more result bytes.now said.old.items }
 {
     if said.reserve(bytes.len()).is_ok() && keep_said(calls, alloc, bytes) {
@@ -141,7 +141,7 @@ pub fn say_part(
     outcome: Outcome,
     bytes: &[u8],
 ) -> bool
-    ensures calls { Adds result (IsSay outcome bytes.now) calls.old.items calls.new.items }
+    ensures calls { AddsCall result (IsSay outcome bytes.now) calls.old.items calls.new.items }
     ensures said { said.new.items ≡ said_after outcome result bytes.now said.old.items }
 {
     match outcome {
@@ -165,7 +165,7 @@ pub fn hear_part(
     ensures count { IfOk result (λ n. n ≤ length buf.old) }
     ensures taken { outcome ≡ Whole → IfOk result
         (λ n. Moved script.now.items heard.old heard.new n buf.new) }
-    ensures calls { Adds (is_ok result) (IsHear outcome heard.old heard.new) calls.old.items
+    ensures calls { AddsCall (is_ok result) (IsHear outcome heard.old heard.new) calls.old.items
         calls.new.items }
     ensures fits { heard.new ≤ length script.now.items }
     ensures stays { OnErr result (heard.new ≡ heard.old) }

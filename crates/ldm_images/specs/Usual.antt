@@ -10,8 +10,8 @@ use Rattle.ldm_sample_disks.specs.Disks.{guid_with, sample_label}
 
 -- The fields of the database's header, by their offsets: the last VBLK sequence 5924, blocks of 128 bytes from byte 512 on, no
 -- update in hand, version 4.10, the group `Dg0`, sequence 7 in both places, and three disks in both sets of counts.
-abbrev pub header_fields : List (ℕ × List ℕ)
-header_fields =
+abbrev pub usual_header_fields : List (ℕ × List ℕ)
+usual_header_fields =
     (0x00, codes "VMDB")
     ∷ (0x04, big_bytes 4 5924)
     ∷ (0x08, big_bytes 4 128)
@@ -28,7 +28,7 @@ header_fields =
     ∷ []
 
 unfoldable pub usual_header : List ℕ
-usual_header = sector_with header_fields
+usual_header = sector_with usual_header_fields
 
 -- an image of 8192 sectors with the label of its disk, and with that header in the first sector of the config area
 pub record IsUsualImage (disk : ℕ) (image : List ℕ) : Type 0 where

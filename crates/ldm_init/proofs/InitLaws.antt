@@ -43,7 +43,7 @@ quiet_moment old new still quiet images text left =
     let m = still.moments images text left in
     (m.0, begins_both old.said text m.1 (subst (λ (l : List ℕ). Begins text l) quiet.said m.2))
 
-module _ (name : List ℕ) (guid : ℕ) (guids sizes body : List ℕ) (keeps : words.IsNewGroup name guids) (one_each : length guids ≡ length sizes) (is : IsNewBody name guid guids body) where
+module _ (name : List ℕ) (guid : ℕ) (guids sizes body : List ℕ) (keeps : words.AreInitWords name guids) (one_each : length guids ≡ length sizes) (is : IsNewBody name guid guids body) where
   abbrev labels : List Label
   labels = new_labels sizes guids
 

@@ -17,7 +17,7 @@ use Rattle.ldm_init.specs.declared.faults.InitFault.TheVariants.{SameGuid, TooSm
 use Rattle.ldm_init.specs.declared.faults.InitError.{InitError}
 use Rattle.ldm_init.specs.declared.faults.InitError.TheVariants as errors
 use Rattle.ldm_init.specs.Beside.{SameAt, IsUntouched}
-use Rattle.ldm_init.specs.Faults.{are_zero, is_empty, IsSmall, IsFull, IsFaultOf, IsInitFault, ChecksAs, InitAnswers}
+use Rattle.ldm_init.specs.Faults.{are_zero, is_empty, IsSmall, IsFull, IsFaultOf, IsInitFault, ChecksDisks, InitAnswers}
 use Rattle.ldm_init.specs.Images.{IsInitMoment, LackSignature, NothingPending}
 use Rattle.ldm_init.specs.Moments.{IsUnsigned, MayHaveWritten, IsWriting, before_of}
 use Rattle.ldm_init.specs.NewGroup.{new_labels}
@@ -69,7 +69,7 @@ module _ (guids sizes : List ℕ) (images : List (List ℕ)) where
   one_fault None None x y = refl
 
 -- what a check of sizes and contents answers is said of the contents
-pub init_answers : (guids sizes : List ℕ) (images : List (List ℕ)) (result : Result (Unit {0}) InitError) → sizes ≡ map sectors_of images → ChecksAs guids sizes images result
+pub init_answers : (guids sizes : List ℕ) (images : List (List ℕ)) (result : Result (Unit {0}) InitError) → sizes ≡ map sectors_of images → ChecksDisks guids sizes images result
     → InitAnswers guids images result
 init_answers guids sizes images (Ok checked) same is = subst (λ (l : List ℕ). IsFaultOf guids l images None) same is
 init_answers guids sizes images (Err (errors.Fault fault)) same is = subst (λ (l : List ℕ). IsFaultOf guids l images (Some fault)) same is

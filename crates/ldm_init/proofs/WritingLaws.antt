@@ -5,7 +5,7 @@ use Rattle.ldm_host.specs.Seen.{Seen, Leaves, image}
 use Rattle.ldm_host.specs.Moves.{Settled, AtEachMoment}
 use Rattle.ldm_group.specs.Database.{Database}
 use Rattle.ldm_label.specs.declared.Label.{Label}
-use Rattle.ldm_init.specs.Moments.{Before, CanTake, IsReady, IsMaking, IsSigning, IsWriting, MayBeReady}
+use Rattle.ldm_init.specs.Moments.{Before, CanTake, IsReadyToSign, IsMaking, IsSigning, IsWriting, MayBeReady}
 use Rattle.ldm_label.specs.LabelOf.{Fits}
 use Rattle.ldm_init.specs.Bytes.{IsUnsignedImage}
 use Rattle.ldm_init.specs.Beside.{ChangesBeside, IsBeside, IsUntouched}
@@ -24,13 +24,13 @@ module _ (kept : ℕ → Type 0) (signature : kept 0x1FF) (db : Database) (label
       (λ x y was same. record { untouched = untouched_next kept start n beside x y was.untouched same; made = λ label at. inl (kept_unsigned kept x y signature same was.unsigned) })
 
   -- and when it was
-  pub writing_next : Settled new n → ((label : Label) → slice_get labels n ≡ Some label → IsReady db label (image new.content n)) → IsWriting db labels start (n + 1) new
+  pub writing_next : Settled new n → ((label : Label) → slice_get labels n ≡ Some label → IsReadyToSign db label (image new.content n)) → IsWriting db labels start (n + 1) new
   writing_next settled here =
       underway_next db labels start (MayBeReady db labels start n) (ready_made db labels start n) old so kept n new changes (MayBeReady db labels start (n + 1))
       (λ x y was same left. record {
         untouched = untouched_next kept start n beside x y was.untouched same;
         unsigned = kept_unsigned kept x y signature same was.unsigned;
-        ready = λ label at lt. subst (λ (c : List ℕ). IsReady db label c) (sym (settled y left)) (here label at);
+        ready = λ label at lt. subst (λ (c : List ℕ). IsReadyToSign db label c) (sym (settled y left)) (here label at);
       })
       (λ disk c apart was. record { untouched = was.untouched; unsigned = was.unsigned; ready = λ label at lt. was.ready label at (omega (arith, apart, lt)) })
 

@@ -34,11 +34,11 @@ IsFaultOf guids sizes images (Some (NotEmpty i)) = AreTwins (new_labels sizes gu
 IsFaultOf guids sizes images None = AreTwins (new_labels sizes guids) None × IsFirst IsSmall sizes None × IsFirst IsFull images None
 
 -- exactly that is answered, or that a disk failed
-abbrev pub ChecksAs : List ℕ → List ℕ → List (List ℕ) → Result (Unit {0}) InitError → Type 0
-ChecksAs guids sizes images (Ok checked) = IsFaultOf guids sizes images None
-ChecksAs guids sizes images (Err (errors.Fault fault)) = IsFaultOf guids sizes images (Some fault)
-ChecksAs guids sizes images (Err errors.Disk) = Unit {0}
-ChecksAs guids sizes images (Err errors.NoMemory) = ⊥
+abbrev pub ChecksDisks : List ℕ → List ℕ → List (List ℕ) → Result (Unit {0}) InitError → Type 0
+ChecksDisks guids sizes images (Ok checked) = IsFaultOf guids sizes images None
+ChecksDisks guids sizes images (Err (errors.Fault fault)) = IsFaultOf guids sizes images (Some fault)
+ChecksDisks guids sizes images (Err errors.Disk) = Unit {0}
+ChecksDisks guids sizes images (Err errors.NoMemory) = ⊥
 
 -- the same of images of whole disks
 abbrev pub IsInitFault : List ℕ → List (List ℕ) → Option InitFault → Type 0

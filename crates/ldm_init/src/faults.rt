@@ -1,12 +1,11 @@
 //! Why disks are not made a group.
 ghost use Rattle.std.specs.Prelude.{◌≡◌, ◌+◌, ◌*◌, ◌<◌, ◌≤◌, ℕ, length, slice_index, slice_range};
-ghost use Rattle.std.specs.Prelude.{take, None, Some};
-ghost use Rattle.std.specs.Prelude.{OnOk, IfOk, IsErr, IsErrOf};
+ghost use Rattle.std.specs.Prelude.{take, None, Some, OnOk, IfOk, IsErr, IsErrOf};
 ghost use Rattle.ldm_host.specs.Moves.{Looks};
 ghost use Rattle.ldm_host.specs.Seen.{image};
 ghost use Rattle.ldm_found.specs.Gathers.{IsFirst};
 ghost use Rattle.ldm_init.specs.declared.faults.InitError.TheVariants as errors;
-ghost use Rattle.ldm_init.specs.Faults.{are_zero, is_empty, IsSmall, IsFull, ChecksAs};
+ghost use Rattle.ldm_init.specs.Faults.{are_zero, is_empty, IsSmall, IsFull, ChecksDisks};
 ghost use Rattle.ldm_init.specs.NewGroup.{new_labels};
 
 use ldm_bytes::NoMemory;
@@ -132,7 +131,7 @@ pub fn check_disks<H: Host>(
     requires room { length buffer.old ≡ 512 * 2048 }
     ensures fault { H.tells_disks → (guids : _) → labels.now
         ≡ new_labels (H.seen host.old).sizes guids
-        → ChecksAs guids (H.seen host.old).sizes (H.seen host.old).content result }
+        → ChecksDisks guids (H.seen host.old).sizes (H.seen host.old).content result }
     ensures large { OnOk result ((disk : ℕ) → disk < length (H.seen host.old).sizes
         → 2112 ≤ slice_index (H.seen host.old).sizes disk) }
     ensures looks { Looks (H.seen host.old) (H.seen host.new) (IsErrOf result InitError.Disk) }

@@ -1,7 +1,6 @@
 //! A new group, made on disks that are empty.
 ghost use Rattle.std.specs.Prelude.{◌≡◌, ◌*◌, ◌<◌, ◌≤◌, ◌≢◌, ◌⊎◌, ℕ, length, slice_index, All};
-ghost use Rattle.std.specs.Prelude.{Some, None, Err, OnOk};
-ghost use Rattle.std.specs.Prelude.{IfOk, IfErr, IsErrOf};
+ghost use Rattle.std.specs.Prelude.{Some, None, Err, OnOk, IfOk, IfErr, IsErrOf};
 ghost use Rattle.ldm_host.specs.Moves.{Still, Looks, Works, AtEachMoment};
 ghost use Rattle.ldm_label.specs.Written.{IsWritable};
 ghost use Rattle.ldm_words.specs.NewGroup as words;
@@ -59,7 +58,7 @@ fn prepare<H: Host>(
     guid: u128,
     guids: &[u128],
 ) -> Result<Plan, InitError>
-    requires words { words.IsNewGroup name.now guids.now }
+    requires words { words.AreInitWords name.now guids.now }
     requires count { length guids.now ≡ length (H.seen host.old).sizes }
     ensures labels { IfOk result (λ plan. plan.labels.items
         ≡ new_labels (H.seen host.old).sizes guids.now) }
@@ -116,7 +115,7 @@ pub fn init<H: Host>(
     guid: u128,
     disks: &Guids,
 ) -> Result<(), InitError>
-    requires words { words.IsNewGroup name.now disks.now }
+    requires words { words.AreInitWords name.now disks.now }
     requires count { length disks.now ≡ length (H.seen host.old).sizes }
     // Exactly the first fault of the disks is answered.
     ensures answers { H.tells_disks → InitAnswers disks.now (H.seen host.old).content result }

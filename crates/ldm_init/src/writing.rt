@@ -8,7 +8,7 @@ ghost use Rattle.ldm_label.specs.Laws.{IsClearOfLabel};
 ghost use Rattle.ldm_label.specs.Written.{written_sectors};
 ghost use Rattle.ldm_group.specs.Database.{Database};
 ghost use Rattle.ldm_copy.specs.Body.{IsBodyOn};
-ghost use Rattle.ldm_init.specs.Moments.{CanTake, IsReady};
+ghost use Rattle.ldm_init.specs.Moments.{CanTake, IsReadyToSign};
 ghost use Rattle.ldm_init.specs.Bytes.{IsLast, IsUnsignedImage};
 ghost use Rattle.ldm_init.specs.Beside.{IsBeside, ChangesBeside};
 
@@ -85,7 +85,7 @@ pub fn write_disk<H: Host>(
         → OnOk result (IsUnsignedImage label.now body.now (image (H.seen host.old).content disk)
         (image (H.seen host.new).content disk)) }
     ensures ready { H.tells_disks → OnOk result ((db : Database) → IsBodyOn db label.now body.now
-        → IsReady db label.now (image (H.seen host.new).content disk)) }
+        → IsReadyToSign db label.now (image (H.seen host.new).content disk)) }
     ensures settled { OnOk result (Settled (H.seen host.new) disk) }
     ensures changes { ChangesBeside (IsBeside (512 * label.now.config_start) (512 * 2048)) disk
         (H.seen host.old) (H.seen host.new) }

@@ -10,7 +10,7 @@ use Rattle.ldm_label.specs.declared.toc.Toc.{Toc}
 use Rattle.ldm_label.specs.declared.Label.{Label}
 use Rattle.ldm_label.specs.Answer.{answer}
 use Rattle.ldm_label.specs.Fields.{sectors_of, sector, header_of}
-use Rattle.ldm_label.specs.LabelOf.{label_of, label_with, mbr_faults, header_faults, copy_faults, toc_faults, tocs_in, first_toc}
+use Rattle.ldm_label.specs.LabelOf.{label_of, label_from, mbr_faults, header_faults, copy_faults, toc_faults, tocs_in, first_toc}
 use Rattle.ldm_label.proofs.AnswerLaws.{front_err, front_ok, ok_value}
 
 pub short_label : (image : List ℕ) → sectors_of image < 7 → label_of image ≡ Err Short
@@ -39,7 +39,7 @@ module _ (image : List ℕ) (long : 7 ≤ sectors_of image) where
   tocs read = tocs_in read.config_start image
 
   abbrev label : PrivateHeader → Label
-  label read = label_with read (first_toc (tocs read))
+  label read = label_from read (first_toc (tocs read))
 
   abbrev rest : PrivateHeader → List (LabelFault × Bool)
   rest read = copy_faults read image ++ toc_faults (tocs read)
@@ -67,6 +67,6 @@ module _ (image : List ℕ) (long : 7 ≤ sectors_of image) where
       pub toc_err : (fault : LabelFault) → answer (toc_faults (tocs read)) (first_toc (tocs read)) ≡ Err fault → label_of image ≡ Err fault
       toc_err fault e = past_copies ∙ without_value (toc_faults (tocs read)) (first_toc (tocs read)) (label read) fault e
 
-      pub label_is : (toc : Toc) → answer (toc_faults (tocs read)) (first_toc (tocs read)) ≡ Ok toc → label_of image ≡ Ok (label_with read toc)
+      pub label_is : (toc : Toc) → answer (toc_faults (tocs read)) (first_toc (tocs read)) ≡ Ok toc → label_of image ≡ Ok (label_from read toc)
       label_is toc e = past_copies ∙ with_value (toc_faults (tocs read)) (first_toc (tocs read)) toc (label read) e
-          ∙ ap (λ (t : Toc). Ok (label_with read t)) (ok_value (toc_faults (tocs read)) (first_toc (tocs read)) toc e)
+          ∙ ap (λ (t : Toc). Ok (label_from read t)) (ok_value (toc_faults (tocs read)) (first_toc (tocs read)) toc e)

@@ -10,7 +10,7 @@ use Rattle.ldm_label.specs.declared.Label.{Label}
 use Rattle.ldm_label.specs.Answer.{answer}
 use Rattle.ldm_label.specs.Fields.{sectors_of, sector, is_privhead, has_version, config_size, disk_guid, header_of, is_out_of_range, is_out_of_database}
 use Rattle.ldm_label.specs.Parts.{HeaderFits, TocFits}
-use Rattle.ldm_label.specs.LabelOf.{label_of, label_with, mbr_faults, header_faults, copy_faults, toc_faults, tocs_in, first_toc, some_differ, label_faults, Fits, SameOutsideArea}
+use Rattle.ldm_label.specs.LabelOf.{label_of, label_from, mbr_faults, header_faults, copy_faults, toc_faults, tocs_in, first_toc, some_differ, label_faults, Fits, SameOutsideArea}
 use Rattle.ldm_label.proofs.AnswerLaws.{ok_value, both_ok, last_absent}
 use Rattle.ldm_label.proofs.FitLaws.{header_fits, toc_fits}
 
@@ -33,15 +33,15 @@ abbrev head_rows : ℕ → List ℕ → List ℕ → List (LabelFault × Bool)
 head_rows n mbr head = (Short, nat_lt n 7) ∷ mbr_faults mbr ++ header_faults head n
 
 whole : ℕ → List ℕ → List ℕ → List (LabelFault × Bool) → List Toc → Result Label LabelFault
-whole n mbr head copies tocs = answer (head_rows n mbr head ++ copies ++ toc_faults tocs) (label_with (header_of head) (first_toc tocs))
+whole n mbr head copies tocs = answer (head_rows n mbr head ++ copies ++ toc_faults tocs) (label_from (header_of head) (first_toc tocs))
 
 label_whole : (image : List ℕ) → label_of image ≡ whole (sectors_of image) (sector image 0) (sector image 6) (copy_faults (header_of (sector image 6)) image) (tocs_in (header_of (sector image 6)).config_start image)
 unfolding label_of whole
 label_whole image = refl
 
-label_value : (image : List ℕ) (label : Label) → label_of image ≡ Ok label → label_with (header_of (sector image 6)) (first_toc (tocs_in (header_of (sector image 6)).config_start image)) ≡ label
+label_value : (image : List ℕ) (label : Label) → label_of image ≡ Ok label → label_from (header_of (sector image 6)) (first_toc (tocs_in (header_of (sector image 6)).config_start image)) ≡ label
 unfolding label_of
-label_value image label e = ok_value (label_faults image) (label_with (header_of (sector image 6)) (first_toc (tocs_in (header_of (sector image 6)).config_start image))) label e
+label_value image label e = ok_value (label_faults image) (label_from (header_of (sector image 6)) (first_toc (tocs_in (header_of (sector image 6)).config_start image))) label e
 
 header_in_range : {A : Type 0} (head : List ℕ) (n : ℕ) (a value : A) → answer (header_faults head n) a ≡ Ok value → is_out_of_range (header_of head) n ≡ false
 unfolding header_faults
@@ -54,7 +54,7 @@ unfolding toc_faults
 toc_in_database tocs a value e =
     last_absent ((NoToc, nat_eq (length tocs) 0) ∷ (TocsDiffer, some_differ tocs) ∷ []) TocRange (is_out_of_database (first_toc tocs)) a value e
 
-fits_with : (header : PrivateHeader) (toc : Toc) (n : ℕ) → HeaderFits header n → TocFits toc → Fits (label_with header toc) n
+fits_with : (header : PrivateHeader) (toc : Toc) (n : ℕ) → HeaderFits header n → TocFits toc → Fits (label_from header toc) n
 fits_with header toc n head area = record {
   some_data = head.some_data;
   before = head.before;
@@ -74,7 +74,7 @@ label_fits image label is =
     let header = header_of head in
     let copies = copy_faults header image in
     let tocs = tocs_in header.config_start image in
-    let value = label_with header (first_toc tocs) in
+    let value = label_from header (first_toc tocs) in
     let rows = sym (label_whole image) ∙ is in
     let last = both_ok (head_rows n (sector image 0) head ++ copies) (toc_faults tocs) value label rows in
     let first = both_ok (head_rows n (sector image 0) head) copies value value last.0 in

@@ -12,7 +12,7 @@ use Rattle.ldm_label.specs.declared.toc.Toc.{Toc}
 use Rattle.ldm_label.specs.Answer.{answer}
 use Rattle.ldm_label.specs.Fields.{sector, toc_of, same_toc, is_out_of_database}
 use Rattle.ldm_label.specs.LabelOf.{toc_faults, tocs_in, some_differ, first_toc}
-use Rattle.ldm_label.specs.Parts.{joined, in_database}
+use Rattle.ldm_label.specs.Parts.{joined_tables, in_database}
 use Rattle.ldm_label.proofs.AnswerLaws.{ok_value}
 
 -- the places of the four tables of contents
@@ -26,15 +26,15 @@ after (Err fault) more = Err fault
 -- what those at some places say together with what those before them say
 pub all_joined : (ℕ → Option Toc) → Option Toc → List ℕ → Result (Option Toc) LabelFault
 all_joined read common [] = Ok common
-all_joined read common (a ∷ rest) = after (joined common (read a)) (λ next. all_joined read next rest)
+all_joined read common (a ∷ rest) = after (joined_tables common (read a)) (λ next. all_joined read next rest)
 
 pub step_ok : (read : ℕ → Option Toc) (common next : Option Toc) (xs : List ℕ) (i : ℕ) → i < length xs
-    → Ok next ≡ joined common (read (get_or xs i 0)) → all_joined read common (drop i xs) ≡ all_joined read next (drop (i + 1) xs)
+    → Ok next ≡ joined_tables common (read (get_or xs i 0)) → all_joined read common (drop i xs) ≡ all_joined read next (drop (i + 1) xs)
 unfolding all_joined
 step_ok read common next xs i lt e = rw (add-one, drop-cons xs i 0 lt, ← e) refl
 
 pub step_err : (read : ℕ → Option Toc) (common : Option Toc) (xs : List ℕ) (i : ℕ) (fault : LabelFault) → i < length xs
-    → Err fault ≡ joined common (read (get_or xs i 0)) → all_joined read common (drop i xs) ≡ Err fault
+    → Err fault ≡ joined_tables common (read (get_or xs i 0)) → all_joined read common (drop i xs) ≡ Err fault
 unfolding all_joined
 step_err read common xs i fault lt e = rw (drop-cons xs i 0 lt, ← e) refl
 
@@ -83,11 +83,11 @@ one_more false first rest x e = refl
 
 step_first : (first : Toc) (toc : Option Toc) (more : List Toc) (f : Option Toc → Result (Option Toc) LabelFault)
     → f (Some first) ≡ cond (differ_from first more) (Err TocsDiffer) (Ok (Some first))
-    → after (joined (Some first) toc) f ≡ cond (differ_from first (cons_option toc more)) (Err TocsDiffer) (Ok (Some first))
+    → after (joined_tables (Some first) toc) f ≡ cond (differ_from first (cons_option toc more)) (Err TocsDiffer) (Ok (Some first))
 step_first first None more f e = e
 step_first first (Some toc) more f e = by_same (same_toc first toc) refl
   where
-    by_same : (same : Bool) → same_toc first toc ≡ same → after (joined (Some first) (Some toc)) f ≡ cond (differ_from first (toc ∷ more)) (Err TocsDiffer) (Ok (Some first))
+    by_same : (same : Bool) → same_toc first toc ≡ same → after (joined_tables (Some first) (Some toc)) f ≡ cond (differ_from first (toc ∷ more)) (Err TocsDiffer) (Ok (Some first))
     by_same true is = rw (is) e
     by_same false is = rw (is) refl
 
@@ -108,7 +108,7 @@ one_row false value = refl
 step_none : (toc : Option Toc) (more : List Toc) (f : Option Toc → Result (Option Toc) LabelFault)
     → f None ≡ common_of more
     → ((first : Toc) → f (Some first) ≡ cond (differ_from first more) (Err TocsDiffer) (Ok (Some first)))
-    → after (joined None toc) f ≡ common_of (cons_option toc more)
+    → after (joined_tables None toc) f ≡ common_of (cons_option toc more)
 step_none None more f none some = none
 step_none (Some first) more f none some =
     some first ∙ ap (λ (b : Bool). cond b (Err TocsDiffer) (Ok (Some first))) (sym (by_first (differ_from first more) first more refl))
@@ -118,7 +118,7 @@ none_differ : some_differ [] ≡ false
 unfolding some_differ
 none_differ = refl
 
--- where all were joined, all that parse agree, and what they say is what the first says
+-- where all were joined_tables, all that parse agree, and what they say is what the first says
 pub joined_is : (read : ℕ → Option Toc) (xs : List ℕ) → all_joined read None xs ≡ answer ((TocsDiffer, some_differ (filter_map read xs)) ∷ []) (slice_get (filter_map read xs) 0)
 unfolding all_joined
 joined_is read [] = rw (none_differ) refl
@@ -132,18 +132,18 @@ none_left : (read : ℕ → Option Toc) (common : Option Toc) (i : ℕ) → 4 �
 unfolding all_joined
 none_left read common i le = rw (drop_all i places (omega arith)) refl
 
--- what is known of an image where some of the four were joined
+-- what is known of an image where some of the four were joined_tables
 module _ (image : List ℕ) (start : ℕ) (common : Option Toc) (i : ℕ)
     (so_far : all_joined (reads image start) None places ≡ all_joined (reads image start) common (drop i places)) where
-  pub common_next : (toc next : Option Toc) (read : List ℕ) → i < 4 → read ≡ sector image (start + get_or places i 0) → toc ≡ toc_of read → Ok next ≡ joined common toc
+  pub common_next : (toc next : Option Toc) (read : List ℕ) → i < 4 → read ≡ sector image (start + get_or places i 0) → toc ≡ toc_of read → Ok next ≡ joined_tables common toc
       → all_joined (reads image start) None places ≡ all_joined (reads image start) next (drop (i + 1) places)
-  common_next toc next read lt bytes is e = so_far ∙ step_ok (reads image start) common next places i lt (e ∙ ap (λ (t : Option Toc). joined common t) (is ∙ ap (λ (s : List ℕ). toc_of s) bytes))
+  common_next toc next read lt bytes is e = so_far ∙ step_ok (reads image start) common next places i lt (e ∙ ap (λ (t : Option Toc). joined_tables common t) (is ∙ ap (λ (s : List ℕ). toc_of s) bytes))
 
-  pub common_err : (toc : Option Toc) (fault : LabelFault) (read : List ℕ) → i < 4 → read ≡ sector image (start + get_or places i 0) → toc ≡ toc_of read → Err fault ≡ joined common toc
+  pub common_err : (toc : Option Toc) (fault : LabelFault) (read : List ℕ) → i < 4 → read ≡ sector image (start + get_or places i 0) → toc ≡ toc_of read → Err fault ≡ joined_tables common toc
       → answer ((TocsDiffer, some_differ (tocs_in start image)) ∷ []) (slice_get (tocs_in start image) 0) ≡ Err fault
   unfolding tocs_in
   common_err toc fault read lt bytes is e = sym (joined_is (reads image start) places) ∙ so_far
-      ∙ step_err (reads image start) common places i fault lt (e ∙ ap (λ (t : Option Toc). joined common t) (is ∙ ap (λ (s : List ℕ). toc_of s) bytes))
+      ∙ step_err (reads image start) common places i fault lt (e ∙ ap (λ (t : Option Toc). joined_tables common t) (is ∙ ap (λ (s : List ℕ). toc_of s) bytes))
 
   pub common_is : 4 ≤ i → answer ((TocsDiffer, some_differ (tocs_in start image)) ∷ []) (slice_get (tocs_in start image) 0) ≡ Ok common
   unfolding tocs_in

@@ -10,7 +10,7 @@ abbrev pub answer : {A : Type 0} → List (LabelFault × Bool) → A → Result 
 answer rows value = unless (first_fault rows) value
 
 -- A call answers that, or that a call of the disk failed.
-abbrev pub Gives : {A : Type 0} → Result A LabelError → Result A LabelFault → Type 0
-Gives (Ok value) is = is ≡ Ok value
-Gives (Err (Fault fault)) is = is ≡ Err fault
-Gives (Err Disk) is = Unit {0}
+abbrev pub GivesUnlessDisk : {A : Type 0} → Result A LabelError → Result A LabelFault → Type 0
+GivesUnlessDisk (Ok value) is = is ≡ Ok value
+GivesUnlessDisk (Err (Fault fault)) is = is ≡ Err fault
+GivesUnlessDisk (Err Disk) is = Unit {0}

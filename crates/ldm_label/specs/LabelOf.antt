@@ -58,8 +58,8 @@ toc_faults tocs =
 
 -- ---- an image
 
-abbrev pub label_with : PrivateHeader → Toc → Label
-label_with header toc = record {
+abbrev pub label_from : PrivateHeader → Toc → Label
+label_from header toc = record {
   disk_guid = header.disk_guid;
   minor = header.minor;
   data_start = header.data_start;
@@ -84,7 +84,7 @@ label_faults image =
 unfoldable pub label_of : List ℕ → Result Label LabelFault
 label_of image =
     let header = header_of (sector image 6) in
-    answer (label_faults image) (label_with header (first_toc (tocs_in header.config_start image)))
+    answer (label_faults image) (label_from header (first_toc (tocs_in header.config_start image)))
 
 -- A label fits a disk of so many sectors.
 pub record Fits (label : Label) (sectors : ℕ) : Type 0 where

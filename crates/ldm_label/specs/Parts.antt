@@ -7,10 +7,10 @@ use Rattle.ldm_label.specs.declared.LabelFault.TheVariants.{NoToc, TocsDiffer, T
 use Rattle.ldm_label.specs.Fields.{is_out_of_database, same_toc}
 
 -- what two tables of contents say together, where there are two or one
-abbrev pub joined : Option Toc → Option Toc → Result (Option Toc) LabelFault
-joined None other = Ok other
-joined (Some first) None = Ok (Some first)
-joined (Some first) (Some second) = if same_toc first second then Ok (Some first) else Err TocsDiffer
+abbrev pub joined_tables : Option Toc → Option Toc → Result (Option Toc) LabelFault
+joined_tables None other = Ok other
+joined_tables (Some first) None = Ok (Some first)
+joined_tables (Some first) (Some second) = if same_toc first second then Ok (Some first) else Err TocsDiffer
 
 -- those values, where there are some and they are in the database
 abbrev pub in_database : Option Toc → Result Toc LabelFault

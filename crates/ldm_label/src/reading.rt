@@ -3,11 +3,10 @@ ghost use Rattle.std.specs.Prelude.{◌≡◌, ◌+◌, ◌^◌, ◌<◌, ◌≤
 ghost use Rattle.std.specs.Prelude.{slice_get, IfOk, IsErrOf};
 ghost use Rattle.ldm_host.specs.Moves.{Looks};
 ghost use Rattle.ldm_host.specs.Seen.{image};
-ghost use Rattle.ldm_label.specs.Answer.{answer, Gives};
+ghost use Rattle.ldm_label.specs.Answer.{answer, GivesUnlessDisk};
 ghost use Rattle.ldm_label.specs.Fields.{sector, header_of};
 ghost use Rattle.ldm_label.specs.LabelOf.{mbr_faults, header_faults, copy_faults, toc_faults};
-ghost use Rattle.ldm_label.specs.LabelOf.{tocs_in, some_differ};
-ghost use Rattle.ldm_label.specs.LabelOf.{first_toc, label_of, Fits};
+ghost use Rattle.ldm_label.specs.LabelOf.{tocs_in, some_differ, first_toc, label_of, Fits};
 ghost use Rattle.ldm_label.specs.Parts.{HeaderFits, TocFits};
 
 use crate::header::PrivateHeader;
@@ -27,7 +26,8 @@ fn read_header<H: Host>(
     requires size { sectors ≡ slice_index (H.seen host.old).sizes disk }
     requires some { 7 ≤ sectors }
     ensures is { H.tells_disks → (let disk = image (H.seen host.old).content disk in
-        Gives result (answer (mbr_faults (sector disk 0) ++ header_faults (sector disk 6) sectors)
+        GivesUnlessDisk result (answer (mbr_faults (sector disk 0)
+        ++ header_faults (sector disk 6) sectors)
         (header_of (sector disk 6)))) }
     ensures fits { IfOk result (λ header. HeaderFits header sectors) }
     ensures looks { Looks (H.seen host.old) (H.seen host.new) (IsErrOf result LabelError.Disk) }
@@ -46,7 +46,7 @@ fn check_copies<H: Host>(
 ) -> Result<(), LabelError>
     requires disk { disk < length (H.seen host.old).sizes }
     requires inside { header.now.config_start + 2048 ≤ slice_index (H.seen host.old).sizes disk }
-    ensures is { H.tells_disks → Gives result (answer
+    ensures is { H.tells_disks → GivesUnlessDisk result (answer
         (copy_faults header.now (image (H.seen host.old).content disk)) tt) }
     ensures looks { Looks (H.seen host.old) (H.seen host.new) (IsErrOf result LabelError.Disk) }
 {
@@ -68,7 +68,8 @@ fn read_common<H: Host>(host: &mut H, disk: usize, start: u64) -> Result<Option<
     requires inside { start + 2048 ≤ slice_index (H.seen host.old).sizes disk }
     requires few { start + 2048 < 2 ^ 55 }
     ensures is { H.tells_disks → (let tocs = tocs_in start (image (H.seen host.old).content disk) in
-        Gives result (answer ((LabelFault.TocsDiffer, some_differ tocs) ∷ []) (slice_get tocs 0))) }
+        GivesUnlessDisk result (answer ((LabelFault.TocsDiffer, some_differ tocs) ∷ [])
+        (slice_get tocs 0))) }
     ensures looks { Looks (H.seen host.old) (H.seen host.new) (IsErrOf result LabelError.Disk) }
 {
     let mut common = None;
@@ -85,7 +86,7 @@ fn read_toc<H: Host>(host: &mut H, disk: usize, start: u64) -> Result<Toc, Label
     requires inside { start + 2048 ≤ slice_index (H.seen host.old).sizes disk }
     requires few { start + 2048 < 2 ^ 55 }
     ensures is { H.tells_disks → (let tocs = tocs_in start (image (H.seen host.old).content disk) in
-        Gives result (answer (toc_faults tocs) (first_toc tocs))) }
+        GivesUnlessDisk result (answer (toc_faults tocs) (first_toc tocs))) }
     ensures fits { IfOk result (λ toc. TocFits toc) }
     ensures looks { Looks (H.seen host.old) (H.seen host.new) (IsErrOf result LabelError.Disk) }
 {
@@ -97,7 +98,8 @@ fn read_toc<H: Host>(host: &mut H, disk: usize, start: u64) -> Result<Toc, Label
 /// takes no memory, reads sector by sector, and reads no more once a fault is found.
 pub fn read_label<H: Host>(host: &mut H, disk: usize) -> Result<Label, LabelError>
     requires { disk < length (H.seen host.old).sizes }
-    ensures is { H.tells_disks → Gives result (label_of (image (H.seen host.old).content disk)) }
+    ensures is { H.tells_disks → GivesUnlessDisk result
+        (label_of (image (H.seen host.old).content disk)) }
     ensures fits { IfOk result (λ label. Fits label (slice_index (H.seen host.old).sizes disk)) }
     ensures looks { Looks (H.seen host.old) (H.seen host.new) (IsErrOf result LabelError.Disk) }
 {

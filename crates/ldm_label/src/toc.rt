@@ -1,7 +1,7 @@
 //! Tables of contents (TOCBLOCK).
 ghost use Rattle.std.specs.Prelude.{◌≡◌, IfOk};
 ghost use Rattle.ldm_label.specs.Fields.{parses, toc_of, is_out_of_database, same_toc};
-ghost use Rattle.ldm_label.specs.Parts.{joined, in_database, TocFits};
+ghost use Rattle.ldm_label.specs.Parts.{joined_tables, in_database, TocFits};
 
 use crate::LabelFault;
 use crate::sectors::has_text;
@@ -64,7 +64,7 @@ impl Toc {
 
     /// What two tables of contents have in common, where there are two or one.
     pub fn join(common: Option<Toc>, other: Option<Toc>) -> Result<Option<Toc>, LabelFault>
-        ensures { result ≡ joined common other }
+        ensures { result ≡ joined_tables common other }
     {
         match (common, other) {
             (Some(first), Some(second)) if !first.agrees(&second) => Err(LabelFault::TocsDiffer),

@@ -5,8 +5,8 @@ ghost use Rattle.ldm_bytes.specs.Places.{put};
 ghost use Rattle.ldm_label.specs.Fields.{sectors_of};
 ghost use Rattle.ldm_label.specs.LabelOf.{label_of, Fits};
 ghost use Rattle.ldm_label.specs.Written.{written_mbr, written_header, written_toc};
-ghost use Rattle.ldm_label.specs.Written.{written_sectors, HasLabel};
-ghost use Rattle.ldm_label.specs.Written.{SameOutsideLabel, IsKnownMinor};
+ghost use Rattle.ldm_label.specs.Written.{written_sectors, HasLabel, SameOutsideLabel};
+ghost use Rattle.ldm_label.specs.Written.{IsKnownMinor};
 
 use crate::Label;
 use ldm_bytes::{put_bytes, put_u16, put_u64, write_guid};

@@ -2,7 +2,7 @@
 use Rattle.std.proofs.Common.{◌≡◌, ℕ, zero, suc, ◌+◌, ◌^◌, ◌<◌, ◌≤◌, List, [], ◌∷◌, length, get_or, map, refl, ap, arith, Option, Some, slice_get}
 use Rattle.std.specs.Option.{option_map}
 use Rattle.ldm_layout.specs.Answers.{AllEnd}
-use Rattle.ldm_layout.specs.Layouts.{sector_of}
+use Rattle.ldm_layout.specs.Layouts.{place_at}
 use Rattle.ldm_layout.specs.Parts.{least}
 use Rattle.ldm_layout.specs.Places.{stripe_capacity}
 use Rattle.ldm_layout.specs.declared.parts.Extent.{Extent}
@@ -28,8 +28,8 @@ get_at (x ∷ xs) (suc i) d h = get_at xs i d (omega arith)
 abbrev pub at_index : List Extent → ℕ → ℕ → Extent → Place
 at_index es i o d = record { disk = (get_or es i d).disk; sector = (get_or es i d).start + o }
 
-pub place_there : (es : List Extent) (i o : ℕ) (d : Extent) → i < length es → option_map sector_of (option_map {U = Extent × ℕ} (λ e. (e, o)) (slice_get es i)) ≡ Some (at_index es i o d)
-place_there es i o d h = ap (λ (g : Option Extent). option_map sector_of (option_map {U = Extent × ℕ} (λ e. (e, o)) g)) (get_at es i d h)
+pub place_there : (es : List Extent) (i o : ℕ) (d : Extent) → i < length es → option_map place_at (option_map {U = Extent × ℕ} (λ e. (e, o)) (slice_get es i)) ≡ Some (at_index es i o d)
+place_there es i o d h = ap (λ (g : Option Extent). option_map place_at (option_map {U = Extent × ℕ} (λ e. (e, o)) g)) (get_at es i d h)
 
 -- an offset below the least size stays within the numbers of the format
 pub ends_there : (es : List Extent) (i o : ℕ) (d : Extent) → AllEnd es → i < length es → o < least (sizes es) → (get_or es i d).start + o < 2 ^ 64

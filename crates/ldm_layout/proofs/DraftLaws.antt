@@ -11,7 +11,7 @@ use Rattle.ldm_records.specs.declared.types.Record.{Record}
 use Rattle.ldm_records.specs.declared.types.Record.TheVariants as kinds
 use Rattle.ldm_records.specs.declared.types.Volume.{Volume}
 use Rattle.ldm_layout.specs.Answers.{PlansAs, AllEnd, IsPlan}
-use Rattle.ldm_layout.specs.Layouts.{Layout, is_tiled, first_fault, copies_by}
+use Rattle.ldm_layout.specs.Layouts.{Layout, is_tiled, layout_fault, copies_by}
 use Rattle.ldm_group.specs.Partitions.{EndsInRange}
 use Rattle.ldm_layout.specs.Parts.{plexes_of, extent_in, extent_of, extents_of, insert_by, in_rising, by_offset, by_index, tile_key, is_partition_of}
 use Rattle.ldm_layout.specs.Volumes.{is_basic, shape_of, striping_of, laid_out, draft_of, checked, layout_of}
@@ -113,7 +113,7 @@ draft_parts size ps extents l h = go (shape_of ps) refl h
         }
 
 -- a draft without faults is a plan
-pub plan_of_draft : (size : ℕ) (ps : List Plex) (extents : ℕ → List Extent) (l : Layout) → All (λ p. AllEnd (extents p.id)) ps → draft_of size ps extents ≡ Some l → first_fault l ≡ None → IsPlan l
+pub plan_of_draft : (size : ℕ) (ps : List Plex) (extents : ℕ → List Extent) (l : Layout) → All (λ p. AllEnd (extents p.id)) ps → draft_of size ps extents ≡ Some l → layout_fault l ≡ None → IsPlan l
 plan_of_draft size ps extents l ends h sound =
     let parts = draft_parts size ps extents l h in
     let many : length l.plexes ≡ length ps = ap (λ (xs : List (List Extent)). length xs) parts.plexes ∙ length-map ps (λ (p : Plex). laid_out l.shape (extents p.id)) in
@@ -127,7 +127,7 @@ plan_of_draft size ps extents l ends h sound =
 
 -- what a volume with a layout has
 pub record IsLaidOut (records : List Record) (v : Volume) (l : Layout) : Type 0 where
-  pub sound : first_fault l ≡ None
+  pub sound : layout_fault l ≡ None
   pub size : l.size ≡ v.size
   pub parts : IsDraft (plexes_of v.head.id records) (λ c. extents_of c records) l
 
@@ -141,13 +141,13 @@ draft_size size ps extents l h = go (shape_of ps) h
         let same : one ≡ l = cc in
         sym (ap (λ (x : Layout). x.size) same)
 
-checked_ok : (o : Option Layout) (l : Layout) → checked o ≡ Ok l → (o ≡ Some l) × (first_fault l ≡ None)
+checked_ok : (o : Option Layout) (l : Layout) → checked o ≡ Ok l → (o ≡ Some l) × (layout_fault l ≡ None)
 checked_ok None l h = absurd cc
-checked_ok (Some d) l h = go (first_fault d) refl h
+checked_ok (Some d) l h = go (layout_fault d) refl h
   where
-    go : (f : Option LayoutFault) → first_fault d ≡ f → unless f d ≡ Ok l → (Some d ≡ Some l) × (first_fault l ≡ None)
+    go : (f : Option LayoutFault) → layout_fault d ≡ f → unless f d ≡ Ok l → (Some d ≡ Some l) × (layout_fault l ≡ None)
     go (Some f) is e = absurd cc
-    go None is e = (let same : d ≡ l = cc in (ap (λ (x : Layout). Some x) same, ap first_fault (sym same) ∙ is))
+    go None is e = (let same : d ≡ l = cc in (ap (λ (x : Layout). Some x) same, ap layout_fault (sym same) ∙ is))
 
 pub laid_out_volume : (records : List Record) (v : Volume) (l : Layout) → layout_of records v ≡ Ok l → IsLaidOut records v l
 unfolding layout_of

@@ -18,7 +18,7 @@ use Rattle.ldm_layout.specs.declared.shape.LayoutFault.{LayoutFault}
 use Rattle.ldm_layout.specs.declared.shape.Shape.{Shape}
 use Rattle.ldm_layout.specs.declared.shape.Shape.TheVariants.{Span}
 use Rattle.ldm_layout.specs.Parts.{tiles, tiles_from, tile_key, insert_by, in_rising, by_offset, least, plexes_of, extent_of, extents_of}
-use Rattle.ldm_layout.specs.Layouts.{Layout, first_fault, is_short, has_gap, is_tiled, plex_capacity, capacity_of}
+use Rattle.ldm_layout.specs.Layouts.{Layout, layout_fault, is_short, has_gap, is_tiled, plex_capacity, capacity_of}
 use Rattle.ldm_layout.specs.Volumes.{layout_of, shape_of, striping_of, laid_out, draft_of, checked}
 use Rattle.ldm_layout.proofs.PlanLaws.{PlexFacts, plex_facts}
 use Rattle.ldm_layout.proofs.DraftLaws.{laid_out_volume}
@@ -62,7 +62,7 @@ span_laid records v p es plexes shape sorted tiled fits =
     let lay : List Extent → Layout = λ xs. record { shape = Span; size = v.size; chunk = (striping_of (p ∷ [])).chunk; columns = (striping_of (p ∷ [])).columns; plexes = xs ∷ [] } in
     let gap : has_gap (lay es) ≡ false = ap (λ b. not (b && true)) tiled in
     let short : is_short (lay es) ≡ false = le-ltb _ _ fits in
-    let sound : first_fault (lay es) ≡ None = rw (gap, short) in (
+    let sound : layout_fault (lay es) ≡ None = rw (gap, short) in (
       lay es,
       ap (λ (ps : List Plex). checked (draft_of v.size ps (λ c. extents_of c records))) plexes
           ∙ ap (λ (o : Option Shape). checked (option_map {U = Layout} (λ s. record { shape = s; size = v.size; chunk = (striping_of (p ∷ [])).chunk; columns = (striping_of (p ∷ [])).columns; plexes = laid_out s (extents_of p.id records) ∷ [] }) o)) shape

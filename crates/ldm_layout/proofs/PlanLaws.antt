@@ -5,7 +5,7 @@ use Rattle.std.proofs.lemmas.Bool.{and_parts, leb-true, ltb-false, eqb-false}
 use Rattle.ldm_bytes.specs.Tables as tables
 use Rattle.ldm_layout.proofs.ColumnLaws.{least_at}
 use Rattle.ldm_layout.specs.Answers.{IsPlan, IsPlexOf}
-use Rattle.ldm_layout.specs.Layouts.{Layout, is_tiled, has_gap, lacks_chunk, lacks_columns, has_columns, is_short, fewest, plex_capacity, capacity_of, first_fault}
+use Rattle.ldm_layout.specs.Layouts.{Layout, is_tiled, has_gap, lacks_chunk, lacks_columns, has_columns, is_short, fewest, plex_capacity, capacity_of, layout_fault}
 use Rattle.ldm_layout.specs.Parts.{tiles, rises_from, least}
 use Rattle.ldm_layout.specs.declared.parts.Extent.{Extent}
 use Rattle.ldm_layout.specs.declared.shape.LayoutFault.{LayoutFault}
@@ -22,7 +22,7 @@ pub record HasNone (l : Layout) : Type 0 where
   pub columns : lacks_columns l ≡ false
   pub short : is_short l ≡ false
 
-pub has_none : (l : Layout) → first_fault l ≡ None → HasNone l
+pub has_none : (l : Layout) → layout_fault l ≡ None → HasNone l
 has_none l h =
     let one = not_first Gap (has_gap l) ((Chunk, lacks_chunk l) ∷ (Columns, lacks_columns l) ∷ (Short, is_short l) ∷ []) h in
     let two = not_first Chunk (lacks_chunk l) ((Columns, lacks_columns l) ∷ (Short, is_short l) ∷ []) one.1 in
@@ -65,7 +65,7 @@ pub record PlexFacts (l : Layout) (es : List Extent) : Type 0 where
   pub rises : is_tiled l.shape ≡ false → rises_from 0 es ≡ true
   pub holds : l.size ≤ plex_capacity l.shape l.chunk es
 
-pub plex_facts : (l : Layout) (k : ℕ) (d : List Extent) → first_fault l ≡ None → k < length l.plexes → PlexFacts l (get_or l.plexes k d)
+pub plex_facts : (l : Layout) (k : ℕ) (d : List Extent) → layout_fault l ≡ None → k < length l.plexes → PlexFacts l (get_or l.plexes k d)
 plex_facts l k d sound h =
     let none = has_none l sound in
     let es = get_or l.plexes k d in

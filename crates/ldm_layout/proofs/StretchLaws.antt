@@ -9,7 +9,7 @@ use Rattle.ldm_layout.proofs.SpotLaws.{some_same}
 use Rattle.ldm_layout.proofs.TileLaws.{first_tile, begins_behind, tiles_zero}
 use Rattle.ldm_layout.specs.Parts.{tiles, tiles_from}
 use Rattle.ldm_layout.specs.Places.{stripe_column, stripe_offset, raid5_row, raid5_column, raid5_offset}
-use Rattle.ldm_layout.specs.Layouts.{Layout, is_tiled, covers, tile_spot, stripe_spot, raid5_spot, plex_spot, sector_of, place_in}
+use Rattle.ldm_layout.specs.Layouts.{Layout, is_tiled, covers, tile_spot, stripe_spot, raid5_spot, plex_spot, place_at, place_in}
 use Rattle.ldm_layout.specs.Columns.{columns_of, own_column, column_spot, column_in, moved, IsStretch}
 use Rattle.ldm_layout.specs.declared.parts.Extent.{Extent}
 use Rattle.ldm_layout.specs.declared.shape.Place.{Place}
@@ -27,7 +27,7 @@ spot_along : (g : Option Extent) (o p i : ℕ) → o ≡ p + i → option_map {U
 spot_along None o p i e = refl
 spot_along (Some f) o p i e = ap (λ (n : ℕ). spot_at f n) e
 
-pub place_along : (spot : Option (Extent × ℕ)) (i : ℕ) → option_map sector_of (along i spot) ≡ option_map (moved i) (option_map sector_of spot)
+pub place_along : (spot : Option (Extent × ℕ)) (i : ℕ) → option_map place_at (along i spot) ≡ option_map (moved i) (option_map place_at spot)
 place_along None i = refl
 place_along (Some s) i =
     let make : ℕ → Option Place = λ n. Some (record { disk = s.0.disk; sector = n }) in
@@ -126,8 +126,8 @@ get_there (y ∷ xs) zero x d h = some_same h
 get_there (y ∷ xs) (suc k) x d h = get_there xs k x d h
 
 -- the places of a copy are those of its component
-pub place_by : (l : Layout) (copy x : ℕ) (es : List Extent) → slice_get l.plexes copy ≡ Some es → place_in l x copy ≡ option_map sector_of (plex_spot l.shape l.chunk es x)
-place_by l copy x es there = ap (λ (g : Option (List Extent)). option_map sector_of (option_and_then (λ fs. plex_spot l.shape l.chunk fs x) g)) there
+pub place_by : (l : Layout) (copy x : ℕ) (es : List Extent) → slice_get l.plexes copy ≡ Some es → place_in l x copy ≡ option_map place_at (plex_spot l.shape l.chunk es x)
+place_by l copy x es there = ap (λ (g : Option (List Extent)). option_map place_at (option_and_then (λ fs. plex_spot l.shape l.chunk fs x) g)) there
 
 pub raid5_untiled : (s : Shape) → s ≡ Raid5 → is_tiled s ≡ false
 raid5_untiled s is = ap is_tiled is
@@ -143,11 +143,11 @@ stretch_there {l} {k} x copy n m es same there within some spots chunk is =
     subst (λ (j : Layout). IsStretch j x copy m) (sym same) (record {
       some = omega (arith, is, some, low);
       within = omega (arith, is, low);
-      places = λ i lt. place_by k copy (x + i) es at ∙ (ap (λ (s : Option (Extent × ℕ)). option_map sector_of s) (spots i (omega (arith, is, lt)))
+      places = λ i lt. place_by k copy (x + i) es at ∙ (ap (λ (s : Option (Extent × ℕ)). option_map place_at s) (spots i (omega (arith, is, lt)))
           ∙ (place_along (plex_spot k.shape k.chunk es x) i ∙ sym (ap (λ (p : Option Place). option_map (moved i) p) (place_by k copy x es at))));
       own = λ i lt raid5. raid5_column_along (length (columns_of k)) k.chunk x i (in_rest k.chunk x i n (chunk (raid5_untiled k.shape raid5)) (omega (arith, is, lt)));
       columns = λ i column lt raid5.
-          ap (λ (s : Option (Extent × ℕ)). option_map sector_of s) (column_along (columns_of k) k.chunk x i column (in_rest k.chunk x i n (chunk (raid5_untiled k.shape raid5)) (omega (arith, is, lt))))
+          ap (λ (s : Option (Extent × ℕ)). option_map place_at s) (column_along (columns_of k) k.chunk x i column (in_rest k.chunk x i n (chunk (raid5_untiled k.shape raid5)) (omega (arith, is, lt))))
           ∙ place_along (column_spot (columns_of k) k.chunk x column) i;
     })
   where

@@ -1,6 +1,6 @@
 -- What the calls answer.
 use Rattle.std.specs.Prelude.{◌≡◌, ◌+◌, ◌<◌, ◌≤◌, ◌^◌, true, false, All, List, length, None, Result, Ok, Err}
-use Rattle.ldm_layout.specs.Layouts.{Layout, is_tiled, fewest, plex_capacity, first_fault, copies_of}
+use Rattle.ldm_layout.specs.Layouts.{Layout, is_tiled, fewest, plex_capacity, layout_fault, copies_of}
 use Rattle.ldm_layout.specs.Parts.{tiles}
 use Rattle.ldm_layout.specs.declared.parts.Extent.{Extent}
 use Rattle.ldm_layout.specs.declared.shape.LayoutFault.{LayoutFault}
@@ -19,7 +19,7 @@ AllEnd es = All (λ e. e.start + e.size < 2 ^ 64) es
 
 -- what every plan keeps
 pub record IsPlan (l : Layout) : Type 0 where
-  pub sound : first_fault l ≡ None
+  pub sound : layout_fault l ≡ None
   pub copies : length l.plexes ≡ copies_of l
   pub ends : All AllEnd l.plexes
 

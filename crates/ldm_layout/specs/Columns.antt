@@ -2,7 +2,7 @@
 use Rattle.std.specs.Prelude.{◌≡◌, ℕ, ◌+◌, ◌<◌, ◌≤◌, List, [], length, get_or, Option, Some, slice_get, if◌then◌else◌}
 use Rattle.std.specs.Option.{option_map}
 use Rattle.ldm_layout.specs.Places.{raid5_column, raid5_offset}
-use Rattle.ldm_layout.specs.Layouts.{Layout, is_tiled, sector_of, place_in}
+use Rattle.ldm_layout.specs.Layouts.{Layout, is_tiled, place_at, place_in}
 use Rattle.ldm_layout.specs.declared.parts.Extent.{Extent}
 use Rattle.ldm_layout.specs.declared.shape.Place.{Place}
 use Rattle.ldm_layout.specs.declared.shape.Shape.TheVariants.{Raid5}
@@ -30,7 +30,7 @@ abbrev pub column_spot : List Extent → ℕ → ℕ → ℕ → Option (Extent 
 column_spot es u x column = option_map (λ e. (e, raid5_offset (length es) u x)) (slice_get es column)
 
 abbrev pub column_in : Layout → ℕ → ℕ → Option Place
-column_in l x column = option_map sector_of (column_spot (columns_of l) l.chunk x column)
+column_in l x column = option_map place_at (column_spot (columns_of l) l.chunk x column)
 
 -- the place so many sectors behind
 abbrev pub moved : ℕ → Place → Place

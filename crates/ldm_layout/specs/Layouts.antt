@@ -66,8 +66,8 @@ abbrev pub faults_of : Layout → List (LayoutFault × Bool)
 faults_of l = (Gap, has_gap l) ∷ (Chunk, lacks_chunk l) ∷ (Columns, lacks_columns l) ∷ (Short, is_short l) ∷ []
 
 -- the first that there is
-abbrev pub first_fault : Layout → Option LayoutFault
-first_fault l = tables.first_fault (faults_of l)
+abbrev pub layout_fault : Layout → Option LayoutFault
+layout_fault l = tables.first_fault (faults_of l)
 
 -- ---- places
 
@@ -106,14 +106,14 @@ abbrev pub parity_spot_in : Layout → ℕ → Option (Extent × ℕ)
 parity_spot_in l x = option_and_then (λ es. parity_at l.shape l.chunk es x) (slice_get l.plexes 0)
 
 -- the disk, and the sector of its data
-abbrev pub sector_of : Extent × ℕ → Place
-sector_of spot = record { disk = spot.0.disk; sector = spot.0.start + spot.1 }
+abbrev pub place_at : Extent × ℕ → Place
+place_at spot = record { disk = spot.0.disk; sector = spot.0.start + spot.1 }
 
 abbrev pub place_in : Layout → ℕ → ℕ → Option Place
-place_in l x copy = option_map sector_of (spot_in l x copy)
+place_in l x copy = option_map place_at (spot_in l x copy)
 
 abbrev pub parity_in : Layout → ℕ → Option Place
-parity_in l x = option_map sector_of (parity_spot_in l x)
+parity_in l x = option_map place_at (parity_spot_in l x)
 
 -- how many copies there are of each sector: as many as a mirror has components
 abbrev pub copies_by : Shape → ℕ → ℕ

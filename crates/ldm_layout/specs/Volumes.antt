@@ -10,7 +10,7 @@ use Rattle.ldm_records.specs.declared.types.Record.TheVariants as kinds
 use Rattle.ldm_records.specs.declared.types.Volume.{Volume}
 use Rattle.ldm_group.specs.Looks.{by_id, volume_in}
 use Rattle.ldm_layout.specs.Parts.{plexes_of, extents_of, by_offset, by_index}
-use Rattle.ldm_layout.specs.Layouts.{Layout, is_tiled, first_fault, place_in, parity_in}
+use Rattle.ldm_layout.specs.Layouts.{Layout, is_tiled, layout_fault, place_in, parity_in}
 use Rattle.ldm_layout.specs.declared.parts.Plex.{Plex}
 use Rattle.ldm_layout.specs.declared.parts.Extent.{Extent}
 use Rattle.ldm_layout.specs.declared.shape.Place.{Place}
@@ -55,15 +55,15 @@ draft_of size plexes extents = option_map (λ shape. record {
 -- a layout, or its first fault
 abbrev pub checked : Option Layout → Result Layout LayoutFault
 checked None = Err Unknown
-checked (Some l) = unless (first_fault l) l
+checked (Some l) = unless (layout_fault l) l
 
 -- the layout of a volume, or its first fault
 unfoldable pub layout_of : List Record → Volume → Result Layout LayoutFault
 layout_of records v = checked (draft_of v.size (plexes_of v.head.id records) (λ component. extents_of component records))
 
 -- where sector x of a volume lies, in the copy of this number
-abbrev pub place_of : List Record → Volume → ℕ → ℕ → Option Place
-place_of records v x copy = option_and_then (λ l. place_in l x copy) (result_ok (layout_of records v))
+abbrev pub volume_place : List Record → Volume → ℕ → ℕ → Option Place
+volume_place records v x copy = option_and_then (λ l. place_in l x copy) (result_ok (layout_of records v))
 
 -- where its parity does
 abbrev pub parity_of : List Record → Volume → ℕ → Option Place

@@ -3,7 +3,7 @@ ghost use Rattle.std.specs.Prelude.{◌≡◌, ◌<◌, ◌≤◌, Some, map, fo
 ghost use Rattle.std.specs.Option.{option_map};
 ghost use Rattle.ldm_layout.specs.Places.{stripe_capacity, raid5_capacity, raid5_column};
 ghost use Rattle.ldm_layout.specs.Parts.{rises_from, least};
-ghost use Rattle.ldm_layout.specs.Layouts.{stripe_spot, raid5_spot, parity_spot, sector_of};
+ghost use Rattle.ldm_layout.specs.Layouts.{stripe_spot, raid5_spot, parity_spot, place_at};
 ghost use Rattle.ldm_layout.specs.Columns.{column_spot};
 ghost use Rattle.ldm_layout.specs.Answers.{AllEnd};
 
@@ -71,7 +71,7 @@ pub fn stripe_place(columns: &[Extent], chunk: u64, sector: u64) -> Place
     requires ends { AllEnd columns.now }
     requires within { sector < stripe_capacity (length columns.now) chunk
         (least (map (λ e. e.size) columns.now)) }
-    ensures { option_map sector_of (stripe_spot columns.now chunk sector) ≡ Some result }
+    ensures { option_map place_at (stripe_spot columns.now chunk sector) ≡ Some result }
 {
     let count = columns.len() as u64;
     let number = sector / chunk;
@@ -89,7 +89,7 @@ pub fn raid5_place(columns: &[Extent], chunk: u64, sector: u64) -> Place
     requires ends { AllEnd columns.now }
     requires within { sector < raid5_capacity (length columns.now) chunk
         (least (map (λ e. e.size) columns.now)) }
-    ensures { option_map sector_of (raid5_spot columns.now chunk sector) ≡ Some result }
+    ensures { option_map place_at (raid5_spot columns.now chunk sector) ≡ Some result }
 {
     let count = columns.len() as u64;
     let number = sector / chunk;
@@ -109,7 +109,7 @@ pub fn parity_place(columns: &[Extent], chunk: u64, sector: u64) -> Place
     requires ends { AllEnd columns.now }
     requires within { sector < raid5_capacity (length columns.now) chunk
         (least (map (λ e. e.size) columns.now)) }
-    ensures { option_map sector_of (parity_spot columns.now chunk sector) ≡ Some result }
+    ensures { option_map place_at (parity_spot columns.now chunk sector) ≡ Some result }
 {
     let count = columns.len() as u64;
     let row = sector / chunk / (count - 1);
@@ -142,7 +142,7 @@ pub fn column_place(columns: &[Extent], chunk: u64, sector: u64, column: usize) 
     requires within { sector < raid5_capacity (length columns.now) chunk
         (least (map (λ e. e.size) columns.now)) }
     requires there { column < length columns.now }
-    ensures { option_map sector_of (column_spot columns.now chunk sector column) ≡ Some result }
+    ensures { option_map place_at (column_spot columns.now chunk sector column) ≡ Some result }
 {
     let count = columns.len() as u64;
     let row = sector / chunk / (count - 1);

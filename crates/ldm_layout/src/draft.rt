@@ -3,7 +3,7 @@ ghost use Rattle.std.specs.Prelude.{◌≡◌, fold, min};
 ghost use Rattle.std.specs.List.{list_all};
 ghost use Rattle.ldm_layout.specs.Parts.{tiles};
 ghost use Rattle.ldm_layout.specs.Layouts.{is_tiled, fewest, has_columns, plex_capacity};
-ghost use Rattle.ldm_layout.specs.Layouts.{capacity_of, first_fault};
+ghost use Rattle.ldm_layout.specs.Layouts.{capacity_of, layout_fault};
 
 use crate::columns::{raid5_capacity, rises, stripe_capacity};
 use crate::parts::Extent;
@@ -135,7 +135,7 @@ impl Draft {
 
     /// The first fault.
     pub fn first_fault(&self) -> Option<LayoutFault>
-        ensures { result ≡ first_fault self.now }
+        ensures { result ≡ layout_fault self.now }
     {
         let tiled = is_tiled(self.shape);
         if tiled && !self.all_tile() {

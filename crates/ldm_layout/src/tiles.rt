@@ -2,7 +2,7 @@
 ghost use Rattle.std.specs.Prelude.{◌≡◌, ◌<◌, ◌≤◌, ◌+◌, ◌^◌, Some, find, sum_by, IsTrue};
 ghost use Rattle.std.specs.Option.{option_map};
 ghost use Rattle.ldm_layout.specs.Parts.{tiles};
-ghost use Rattle.ldm_layout.specs.Layouts.{covers, tile_spot, sector_of};
+ghost use Rattle.ldm_layout.specs.Layouts.{covers, tile_spot, place_at};
 ghost use Rattle.ldm_layout.specs.Answers.{AllEnd};
 
 use crate::parts::Extent;
@@ -52,7 +52,7 @@ pub fn tile_place(extents: &[Extent], sector: u64) -> Place
     requires tiled { IsTrue (tiles extents.now) }
     requires ends { AllEnd extents.now }
     requires within { sector < sum_by (λ e. e.size) extents.now }
-    ensures { option_map sector_of (tile_spot extents.now sector) ≡ Some result }
+    ensures { option_map place_at (tile_spot extents.now sector) ≡ Some result }
 {
     let e = tile_at(extents, sector);
     Place {

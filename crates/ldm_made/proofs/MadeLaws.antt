@@ -22,7 +22,7 @@ use Rattle.ldm_records.specs.Fields.{component_values, volume_values, number_opt
 use Rattle.ldm_records.specs.Forms.{chunk_value, columns_value}
 use Rattle.ldm_records.specs.Plain.{Plain, own_spelling}
 use Rattle.ldm_records.specs.Views.{plain_volume, plain_component, plain_of}
-use Rattle.ldm_made.specs.Made.{given, given_short, partition_with, component_with, volume_with, new_partition, new_partition_values, part_name, index_flags, IsStriping, new_component, new_component_values, component_name, striping_flags, with_children, new_volume, new_volume_values, volume_kind, volume_fixed21, resized, disk_with, new_disk, new_disk_values, group_with, new_group, new_group_values}
+use Rattle.ldm_made.specs.Made.{given, given_short, partition_with, component_with, made_volume, new_partition, new_partition_values, part_name, index_flags, IsStriping, new_component, new_component_values, component_name, striping_flags, with_children, new_volume, new_volume_values, volume_kind, volume_fixed21, resized, made_disk, new_disk, new_disk_values, group_with, new_group, new_group_values}
 use Rattle.ldm_records.proofs.PlainLaws.{own-len}
 use Rattle.ldm_records.proofs.OneRecord.{one_volume, one_component, one_record}
 
@@ -225,10 +225,10 @@ makes_volume id name guid raid children size a b c d =
     omega (arith, number_len id a, number_len children c, number_len size d, kind_len raid, fixed_len raid, length-bytes_high_first 16 guid) in
     let named = is_named name b in
     let short = is_short (new_volume_values id name guid raid children size) (omega arith) in
-    let v : Volume = volume_with id name guid raid children size (leb-true _ _ named) (ltb-true _ _ short) in
+    let v : Volume = made_volume id name guid raid children size (leb-true _ _ named) (ltb-true _ _ short) in
     record {
       volume = v;
-      made = short_given name (new_volume_values id name guid raid children size) (λ a b. kinds.Volume (volume_with id name guid raid children size a b)) named short;
+      made = short_given name (new_volume_values id name guid raid children size) (λ a b. kinds.Volume (made_volume id name guid raid children size a b)) named short;
       plain_is = refl;
       id_is = refl;
       name_is = refl;
@@ -292,10 +292,10 @@ pub makes_disk : (id : ℕ) (name : List ℕ) (guid : ℕ) → id < 2 ^ 64 → l
 makes_disk id name guid a b =
     let named = is_named name b in
     let short = is_short (new_disk_values id name guid) (omega (arith, number_len id a)) in
-    let d : Disk = disk_with id name guid (leb-true _ _ named) (ltb-true _ _ short) in
+    let d : Disk = made_disk id name guid (leb-true _ _ named) (ltb-true _ _ short) in
     record {
       disk = d;
-      made = short_given name (new_disk_values id name guid) (λ a b. kinds.Disk (disk_with id name guid a b)) named short;
+      made = short_given name (new_disk_values id name guid) (λ a b. kinds.Disk (made_disk id name guid a b)) named short;
       plain_is = refl;
       id_is = refl;
       name_is = refl;

@@ -148,8 +148,8 @@ abbrev pub new_volume_values : (id : ℕ) → List ℕ → (guid : ℕ) → Bool
 new_volume_values id name guid raid children size =
     volume_values id name (volume_kind raid) [] (volume_fixed21 raid) children (replicate 16 0) size (replicate 4 0) 0x07 (big_bytes 16 guid) None None None None
 
-abbrev pub volume_with : (id : ℕ) (name : List ℕ) (guid : ℕ) (raid : Bool) (children size : ℕ) → length name ≤ 255 → values_len (new_volume_values id name guid raid children size) + 0 < 2 ^ 32 → Volume
-volume_with id name guid raid children size named short = record {
+abbrev pub made_volume : (id : ℕ) (name : List ℕ) (guid : ℕ) (raid : Bool) (children size : ℕ) → length name ≤ 255 → values_len (new_volume_values id name guid raid children size) + 0 < 2 ^ 32 → Volume
+made_volume id name guid raid children size named short = record {
   head = record { mark = 0; flags = 0; id = id; name = name; name_short = named };
   kind = volume_kind raid;
   second = [];
@@ -179,7 +179,7 @@ volume_with id name guid raid children size named short = record {
 
 abbrev pub new_volume : (id : ℕ) → List ℕ → (guid : ℕ) → Bool → (children size : ℕ) → Option Record
 new_volume id name guid raid children size =
-    given_short name (new_volume_values id name guid raid children size) (λ named short. kinds.Volume (volume_with id name guid raid children size named short))
+    given_short name (new_volume_values id name guid raid children size) (λ named short. kinds.Volume (made_volume id name guid raid children size named short))
 
 -- a volume of another size
 abbrev pub resized : Volume → ℕ → Option Volume
@@ -193,8 +193,8 @@ resized v size =
 abbrev pub new_disk_values : (id : ℕ) → List ℕ → (guid : ℕ) → List Value
 new_disk_values id name guid = disk_values id name guid (disks.V3 [] (replicate 12 0))
 
-abbrev pub disk_with : (id : ℕ) (name : List ℕ) (guid : ℕ) → length name ≤ 255 → values_len (new_disk_values id name guid) + 0 < 2 ^ 32 → Disk
-disk_with id name guid named short = record {
+abbrev pub made_disk : (id : ℕ) (name : List ℕ) (guid : ℕ) → length name ≤ 255 → values_len (new_disk_values id name guid) + 0 < 2 ^ 32 → Disk
+made_disk id name guid named short = record {
   head = record { mark = 0; flags = 0; id = id; name = name; name_short = named };
   guid = guid;
   form = disks.V3 [] (replicate 12 0);
@@ -205,7 +205,7 @@ disk_with id name guid named short = record {
 
 abbrev pub new_disk : (id : ℕ) → List ℕ → (guid : ℕ) → Option Record
 new_disk id name guid =
-    given_short name (new_disk_values id name guid) (λ named short. kinds.Disk (disk_with id name guid named short))
+    given_short name (new_disk_values id name guid) (λ named short. kinds.Disk (made_disk id name guid named short))
 
 -- ---- the group
 

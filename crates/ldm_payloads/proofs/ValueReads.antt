@@ -11,7 +11,7 @@ use Rattle.ldm_bytes.proofs.GuidLaws.{guid_small}
 use Rattle.ldm_bytes.proofs.BigLaws.{big_back}
 use Rattle.ldm_bytes.proofs.NumberLaws.{guard_some, some_is, number_takes, number_again, text_takes, text_again}
 use Rattle.ldm_bytes.proofs.ByteLaws.{IsBytes-back, IsBytes-front}
-use Rattle.ldm_records.specs.Values.{Value, Fixed, Wide, GuidText, Number, Text, Absent, Kind, FixedKind, WideKind, GuidKind, NumberKind, TextKind, When, HasKind, HasKinds, SpellsValue, SpellsValues}
+use Rattle.ldm_records.specs.Values.{Value, Fixed, Wide, GuidText, Number, Text, Absent, FieldKind, FixedKind, WideKind, GuidKind, NumberKind, TextKind, When, HasKind, HasKinds, SpellsValue, SpellsValues}
 use Rattle.ldm_payloads.specs.Steps.{◌>>=◌, read_value, read_values}
 
 -- the value of a step that did not fail
@@ -30,7 +30,7 @@ number_small v (c ∷ bytes) n h =
 -- ---- one field
 
 -- what was read: the value, its kind and how it is spelled
-abbrev pub Takes : Kind → List ℕ → Value × List ℕ → Type 0
+abbrev pub Takes : FieldKind → List ℕ → Value × List ℕ → Type 0
 Takes k bytes x = (w : List ℕ) × HasKind k x.0 × SpellsValue x.0 w × (bytes ≡ w ++ x.1)
 
 -- a text at the front is short and spelled
@@ -41,7 +41,7 @@ text_front bytes t rest h e =
     let short : length t < 256 = front 0 in
     ((omega arith, refl), whole)
 
-pub value_takes : (k : Kind) (bytes : List ℕ) (x : Value × List ℕ) → IsBytes bytes → read_value k bytes ≡ Some x → Takes k bytes x
+pub value_takes : (k : FieldKind) (bytes : List ℕ) (x : Value × List ℕ) → IsBytes bytes → read_value k bytes ≡ Some x → Takes k bytes x
 unfolding read_value
 value_takes (FixedKind n) bytes x h e =
     let g = guard_some (ltb (length bytes) n) (Some (Fixed (take n bytes), drop n bytes)) x e in
@@ -68,7 +68,7 @@ value_takes TextKind bytes x h e =
 value_takes (When true k) bytes x h e = value_takes k bytes x h e
 value_takes (When false k) bytes x h e = subst (Takes (When false k) bytes) (some_is (Absent, bytes) x e) ([], tt, refl, refl)
 
-pub value_again : (k : Kind) (x : Value) (w rest : List ℕ) → HasKind k x → SpellsValue x w → read_value k (w ++ rest) ≡ Some (x, rest)
+pub value_again : (k : FieldKind) (x : Value) (w rest : List ℕ) → HasKind k x → SpellsValue x w → read_value k (w ++ rest) ≡ Some (x, rest)
 unfolding read_value
 value_again (FixedKind n) (Fixed bytes) w rest h s =
     let len : length w ≡ n = ap length s ∙ h in
@@ -90,10 +90,10 @@ value_again _ _ w rest h s = absurd h
 
 -- ---- all fields
 
-abbrev pub AllTake : List Kind → List ℕ → List Value × List ℕ → Type 0
+abbrev pub AllTake : List FieldKind → List ℕ → List Value × List ℕ → Type 0
 AllTake ks bytes x = (w : List ℕ) × HasKinds ks x.0 × SpellsValues x.0 w × (bytes ≡ w ++ x.1)
 
-pub values_take : (ks : List Kind) (bytes : List ℕ) (x : List Value × List ℕ) → IsBytes bytes → read_values ks bytes ≡ Some x → AllTake ks bytes x
+pub values_take : (ks : List FieldKind) (bytes : List ℕ) (x : List Value × List ℕ) → IsBytes bytes → read_values ks bytes ≡ Some x → AllTake ks bytes x
 unfolding read_values
 values_take [] bytes x h e = subst (AllTake [] bytes) (some_is ([], bytes) x e) ([], tt, refl, refl)
 values_take (k ∷ ks) bytes x h e =
@@ -104,7 +104,7 @@ values_take (k ∷ ks) bytes x h e =
     let whole : bytes ≡ (first.0 ++ others.0) ++ b.0.1 = first.3 ∙ ap (λ (r : List ℕ). first.0 ++ r) others.3 ∙ sym (append_assoc first.0 others.0 b.0.1) in
     subst (AllTake (k ∷ ks) bytes) (some_is (a.0.0 ∷ b.0.0, b.0.1) x b.2) (first.0 ++ others.0, (first.1, others.1), (first.0, others.0, first.2, others.2, refl), whole)
 
-pub values_again : (ks : List Kind) (xs : List Value) (w rest : List ℕ) → HasKinds ks xs → SpellsValues xs w → read_values ks (w ++ rest) ≡ Some (xs, rest)
+pub values_again : (ks : List FieldKind) (xs : List Value) (w rest : List ℕ) → HasKinds ks xs → SpellsValues xs w → read_values ks (w ++ rest) ≡ Some (xs, rest)
 unfolding read_values
 values_again [] [] w rest h s = rw s refl
 values_again (k ∷ ks) (x ∷ xs) w rest h s =

@@ -9,7 +9,7 @@ use Rattle.ldm_payloads.specs.declared.fault.RecordError.TheVariants as errors
 use Rattle.ldm_payloads.specs.declared.fault.RecordFault.TheVariants as faults
 use Rattle.ldm_bytes.specs.Numbers.{IsBytes}
 use Rattle.ldm_bytes.proofs.NumberLaws.{some_is}
-use Rattle.ldm_records.specs.Values.{Kind}
+use Rattle.ldm_records.specs.Values.{FieldKind}
 use Rattle.ldm_records.specs.Table.{is_known, kinds_of}
 use Rattle.ldm_records.specs.Plain.{Plain, Spells}
 use Rattle.ldm_payloads.specs.Steps.{typed_at, plain_at}
@@ -20,11 +20,11 @@ use Rattle.ldm_payloads.proofs.PlainReads.{plain_takes, plain_again}
 use Rattle.ldm_records.proofs.OneRecord.{one_record}
 
 -- a type byte that is none of these has no fields
-known_step : (a b : Bool) (x y : Option (List Kind)) → (a || b) ≡ false → (b ≡ false → y ≡ None) → cond a x y ≡ None
+known_step : (a b : Bool) (x y : Option (List FieldKind)) → (a || b) ≡ false → (b ≡ false → y ≡ None) → cond a x y ≡ None
 known_step true b x y e h = absurd cc
 known_step false b x y e h = h e
 
-known_last : (a : Bool) (x : Option (List Kind)) → a ≡ false → cond a x None ≡ None
+known_last : (a : Bool) (x : Option (List FieldKind)) → a ≡ false → cond a x None ≡ None
 known_last true x e = absurd cc
 known_last false x e = refl
 

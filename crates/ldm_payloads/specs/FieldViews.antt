@@ -8,7 +8,7 @@ use Rattle.ldm_payloads.specs.declared.group.Group4Fields.{Group4Fields}
 use Rattle.ldm_payloads.specs.declared.partition.PartitionFields.{PartitionFields}
 use Rattle.ldm_payloads.specs.declared.volume_text.VolumeMain.{VolumeMain}
 use Rattle.ldm_payloads.specs.declared.volume_text.VolumeMore.{VolumeMore}
-use Rattle.ldm_records.specs.Values.{Value, Fixed, Wide, GuidText, Number, Text, Kind}
+use Rattle.ldm_records.specs.Values.{Value, Fixed, Wide, GuidText, Number, Text, FieldKind}
 use Rattle.ldm_records.specs.Table.{volume_kinds}
 use Rattle.ldm_records.specs.Fields.{number_option, text_option}
 use Rattle.ldm_records.specs.Forms.{chunk_value, columns_value}
@@ -37,7 +37,7 @@ abbrev pub group4_seen : Group4Fields → List Value
 group4_seen f = Fixed f.fixed44 ∷ first_seen f.ids ∷ second_seen f.ids ∷ []
 
 -- the first nine fields of a volume, and their kinds
-abbrev pub main_kinds : List Kind
+abbrev pub main_kinds : List FieldKind
 main_kinds = take 9 (drop 2 (volume_kinds 0))
 
 abbrev pub main_seen : VolumeMain → List Value
@@ -46,7 +46,7 @@ main_seen f =
     ∷ Fixed (f.part_type ∷ []) ∷ Fixed f.guid ∷ []
 
 -- the optional fields of a volume, and their kinds
-abbrev pub more_kinds : ℕ → List Kind
+abbrev pub more_kinds : ℕ → List FieldKind
 more_kinds flags = drop 11 (volume_kinds flags)
 
 abbrev pub more_seen : VolumeMore → List Value

@@ -3,7 +3,7 @@ use Rattle.std.specs.Prelude.{ℕ, List, ◌∷◌, drop, Option, Some, None}
 use Rattle.std.specs.Borrow.{Bor}
 use Rattle.ldm_records.specs.declared.pieces.Head.{Head}
 use Rattle.ldm_payloads.specs.declared.opening.Opening.{Opening}
-use Rattle.ldm_records.specs.Values.{Value, Number, Text, Kind}
+use Rattle.ldm_records.specs.Values.{Value, Number, Text, FieldKind}
 use Rattle.ldm_records.specs.Table.{kinds_of}
 use Rattle.ldm_records.specs.Plain.{Plain, made}
 use Rattle.ldm_payloads.specs.Steps.{◌>>=◌, read_values, with_room}
@@ -17,7 +17,7 @@ abbrev pub ended : ℕ → List Value → Head × List ℕ → Plain
 ended type values x = made x.0.mark x.0.flags type (Number x.0.id ∷ Text x.0.name ∷ values, x.1)
 
 -- the record of these kinds, the first two of which were read
-unfoldable pub rest_at : Opening → ℕ → List Kind → List ℕ → Option Plain
+unfoldable pub rest_at : Opening → ℕ → List FieldKind → List ℕ → Option Plain
 rest_at o type kinds rest = read_values (drop 2 kinds) rest >>= λ x. with_room o.room (opened o type x)
 
 -- the record of this type

@@ -4,7 +4,7 @@ use Rattle.std.specs.Prelude.{ℕ, ◌+◌, ◌^◌, true, false, List, [], ◌�
 use Rattle.byteorder.specs.Endian.{big_number}
 use Rattle.ldm_bytes.specs.Guid.{guid_of}
 use Rattle.ldm_bytes.specs.Numbers.{number_at, text_at}
-use Rattle.ldm_records.specs.Values.{Value, Fixed, Wide, GuidText, Number, Text, Absent, Kind, FixedKind, WideKind, GuidKind, NumberKind, TextKind, When}
+use Rattle.ldm_records.specs.Values.{Value, Fixed, Wide, GuidText, Number, Text, Absent, FieldKind, FixedKind, WideKind, GuidKind, NumberKind, TextKind, When}
 use Rattle.ldm_records.specs.Table.{kinds_of}
 use Rattle.ldm_records.specs.Plain.{Plain, made, body_len}
 
@@ -13,7 +13,7 @@ abbrev pub ◌>>=◌ : {A B : Type 0} → Option A → (A → Option B) → Opti
 (Some x) >>= f = f x
 None >>= f = None
 
-unfoldable pub read_value : Kind → List ℕ → Option (Value × List ℕ)
+unfoldable pub read_value : FieldKind → List ℕ → Option (Value × List ℕ)
 read_value (FixedKind n) bytes = if nat_lt (length bytes) n then None else Some (Fixed (take n bytes), drop n bytes)
 read_value (WideKind n) bytes = if nat_lt (length bytes) n then None else Some (Wide n (big_number n bytes), drop n bytes)
 read_value GuidKind bytes = text_at bytes >>= λ x. guid_of x.0 >>= λ v. Some (GuidText v, x.1)
@@ -22,7 +22,7 @@ read_value TextKind bytes = text_at bytes >>= λ x. Some (Text x.0, x.1)
 read_value (When true k) bytes = read_value k bytes
 read_value (When false k) bytes = Some (Absent, bytes)
 
-unfoldable pub read_values : List Kind → List ℕ → Option (List Value × List ℕ)
+unfoldable pub read_values : List FieldKind → List ℕ → Option (List Value × List ℕ)
 read_values [] bytes = Some ([], bytes)
 read_values (k ∷ ks) bytes = read_value k bytes >>= λ x. read_values ks x.1 >>= λ xs. Some (x.0 ∷ xs.0, xs.1)
 
@@ -33,7 +33,7 @@ with_room room p =
     else if nat_le (2 ^ 32) (body_len p) then None
     else Some p
 
-unfoldable pub fields_at : ℕ → ℕ → ℕ → List Kind → ℕ → List ℕ → Option Plain
+unfoldable pub fields_at : ℕ → ℕ → ℕ → List FieldKind → ℕ → List ℕ → Option Plain
 fields_at mark flags type kinds room body = read_values kinds body >>= λ x. with_room room (made mark flags type x)
 
 -- the fields of a type

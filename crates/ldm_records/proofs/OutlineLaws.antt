@@ -3,9 +3,9 @@ use Rattle.std.proofs.Common.{◌≡◌, ℕ, zero, suc, ◌-◌, ◌+◌, ◌<�
 use Rattle.std.specs.Prelude.{replicate}
 use Rattle.std.proofs.lemmas.List.{take_at}
 use Rattle.byteorder.specs.Endian.{big_bytes}
-use Rattle.ldm_records.specs.Values.{Value, Text, Absent, Kind, HasKind, HasKinds, IsShort, AreShort, own_values, values_len}
+use Rattle.ldm_records.specs.Values.{Value, Text, Absent, FieldKind, HasKind, HasKinds, IsShort, AreShort, own_values, values_len}
 use Rattle.ldm_records.specs.Plain.{Plain, IsRecord, own_spelling, body_len}
-use Rattle.ldm_records.specs.Outlines.{filled, filled_plain}
+use Rattle.ldm_records.specs.Outlines.{padded, filled_plain}
 use Rattle.ldm_records.proofs.ValueLaws.{text_kind}
 use Rattle.ldm_records.proofs.PlainLaws.{own_body_len}
 
@@ -25,7 +25,7 @@ more_len : (xs : List Value) (n : ℕ) → values_len (xs ++ replicate n Absent)
 more_len [] n = absent_len n
 more_len (x ∷ xs) n = omega (arith, more_len xs n)
 
-filled_len : (xs : List Value) → values_len (filled xs) ≡ values_len xs
+filled_len : (xs : List Value) → values_len (padded xs) ≡ values_len xs
 filled_len xs = more_len xs (15 - length xs)
 
 -- the body that is listed is as long
@@ -43,7 +43,7 @@ filled_own p =
 pub listed_own : (p q : Plain) → q ≡ filled_plain p → own_spelling q ≡ own_spelling p
 listed_own p q e = ap own_spelling e ∙ filled_own p
 
-short_kind : (k : Kind) (x : Value) → HasKind k x → IsShort x
+short_kind : (k : FieldKind) (x : Value) → HasKind k x → IsShort x
 short_kind k (Text t) h = text_kind k t h
 short_kind k _ h = tt
 
@@ -51,7 +51,7 @@ absent_short : (n : ℕ) → AreShort (replicate n Absent)
 absent_short zero = tt
 absent_short (suc n) = (tt, absent_short n)
 
-more_short : (ks : List Kind) (xs : List Value) (n : ℕ) → HasKinds ks xs → AreShort (xs ++ replicate n Absent)
+more_short : (ks : List FieldKind) (xs : List Value) (n : ℕ) → HasKinds ks xs → AreShort (xs ++ replicate n Absent)
 more_short [] [] n h = absent_short n
 more_short (k ∷ ks) (x ∷ xs) n h = (short_kind k x h.0, more_short ks xs n h.1)
 more_short _ _ n h = absurd h
@@ -60,12 +60,12 @@ pub listed_short : (p q : Plain) → q ≡ filled_plain p → IsRecord p → Are
 listed_short p q e s =
     subst (λ (x : Plain). AreShort x.fields) (sym e) (more_short s.kinds p.fields (15 - length p.fields) s.fields)
 
-kinds_len : (ks : List Kind) (xs : List Value) → HasKinds ks xs → length ks ≡ length xs
+kinds_len : (ks : List FieldKind) (xs : List Value) → HasKinds ks xs → length ks ≡ length xs
 kinds_len [] [] h = refl
 kinds_len (k ∷ ks) (x ∷ xs) h = omega (arith, kinds_len ks xs h.1)
 kinds_len _ _ h = absurd h
 
-front : (xs : List Value) (n : ℕ) → length xs ≡ n → take n (filled xs) ≡ xs
+front : (xs : List Value) (n : ℕ) → length xs ≡ n → take n (padded xs) ≡ xs
 front xs n len = take_at xs (replicate (15 - length xs) Absent) n len
 
 -- records of one type and the same flags have as many fields

@@ -12,7 +12,7 @@ use Rattle.ldm_records.specs.declared.types.Component.{Component}
 use Rattle.ldm_records.specs.declared.types.Partition.{Partition}
 use Rattle.ldm_records.specs.declared.types.Disk.{Disk}
 use Rattle.ldm_records.specs.declared.types.GroupRec.{GroupRec}
-use Rattle.ldm_records.specs.Values.{Value, Kind, NumberKind, TextKind, When, HasKind, HasKinds}
+use Rattle.ldm_records.specs.Values.{Value, FieldKind, NumberKind, TextKind, When, HasKind, HasKinds}
 use Rattle.ldm_records.specs.Table.{kinds_of, volume_kinds, component_kinds, partition_kinds, disk3_kinds, disk4_kinds, group3_kinds, group4_kinds, has_flag}
 use Rattle.ldm_records.specs.Fields.{number_option, text_option}
 use Rattle.ldm_records.specs.Forms.{chunk_value, columns_value, first_value, second_value, disk_type, alt_of, disk_values, group_type, guid_text_of, group_values}
@@ -128,7 +128,7 @@ abbrev pub GroupFits : GroupForm → Type 0
 GroupFits (groups.V3 guid fixed12) = length fixed12 ≡ 12
 GroupFits (groups.V4 fixed44) = length fixed44 ≡ 44
 
-disk_kinds : DiskForm → List Kind
+disk_kinds : DiskForm → List FieldKind
 disk_kinds (disks.V3 alt fixed12) = disk3_kinds
 disk_kinds (disks.V4 fixed29) = disk4_kinds
 
@@ -151,7 +151,7 @@ disk_sound d mark id guid fits = record {
   short = omega (arith, own_body_len (plain_disk d), d.short);
 }
 
-group_kinds : GroupForm → ℕ → List Kind
+group_kinds : GroupForm → ℕ → List FieldKind
 group_kinds (groups.V3 guid fixed12) flags = group3_kinds flags
 group_kinds (groups.V4 fixed44) flags = group4_kinds flags
 

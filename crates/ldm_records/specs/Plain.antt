@@ -3,7 +3,7 @@
 -- together; 8 + L any filling, which is no part of the record.
 use Rattle.std.specs.Prelude.{◌≡◌, ℕ, ◌+◌, ◌^◌, ◌<◌, ◌≤◌, List, ◌∷◌, ◌++◌, length, Some}
 use Rattle.byteorder.specs.Endian.{big_bytes}
-use Rattle.ldm_records.specs.Values.{Value, Kind, HasKinds, SpellsValues, own_values, values_len}
+use Rattle.ldm_records.specs.Values.{Value, FieldKind, HasKinds, SpellsValues, own_values, values_len}
 use Rattle.ldm_records.specs.Table.{kinds_of}
 
 pub record Plain : Type 0 where
@@ -36,7 +36,7 @@ body_len p = values_len p.fields + length p.tail
 -- spelling's length fits its four bytes
 pub record IsRecord (p : Plain) : Type 0 where
   pub mark : p.mark < 2 ^ 16
-  pub kinds : List Kind
+  pub kinds : List FieldKind
   pub known : kinds_of p.type p.flags ≡ Some kinds
   pub fields : HasKinds kinds p.fields
   pub short : length (own_body p) < 2 ^ 32

@@ -16,15 +16,15 @@ pub data Value : Type 0 where
 
 -- what a field may be: so many fixed bytes, a number in so many bytes, the text of a GUID, a variable
 -- number, a variable text, or one of these that is there exactly where a flag is set
-pub data Kind : Type 0 where
-  FixedKind : ℕ → Kind
-  WideKind : ℕ → Kind
-  GuidKind : Kind
-  NumberKind : Kind
-  TextKind : Kind
-  When : Bool → Kind → Kind
+pub data FieldKind : Type 0 where
+  FixedKind : ℕ → FieldKind
+  WideKind : ℕ → FieldKind
+  GuidKind : FieldKind
+  NumberKind : FieldKind
+  TextKind : FieldKind
+  When : Bool → FieldKind → FieldKind
 
-abbrev pub HasKind : Kind → Value → Type 0
+abbrev pub HasKind : FieldKind → Value → Type 0
 HasKind (FixedKind n) (Fixed bytes) = length bytes ≡ n
 HasKind (WideKind n) (Wide m v) = (m ≡ n) × (v < 256 ^ n)
 HasKind GuidKind (GuidText v) = v < 2 ^ 128
@@ -35,7 +35,7 @@ HasKind (When false k) Absent = Unit {0}
 HasKind _ _ = ⊥
 
 -- the values are of these kinds, each of its own
-abbrev pub HasKinds : List Kind → List Value → Type 0
+abbrev pub HasKinds : List FieldKind → List Value → Type 0
 HasKinds [] [] = Unit {0}
 HasKinds (k ∷ ks) (x ∷ xs) = HasKind k x × HasKinds ks xs
 HasKinds _ _ = ⊥

@@ -4,7 +4,7 @@ ghost use Rattle.ldm_records.specs.Values.{Number, Text, GuidText, Wide, Fixed};
 ghost use Rattle.ldm_records.specs.FieldViews.{value_of, values_of};
 ghost use Rattle.ldm_records.specs.Fields.{number_option, text_option};
 ghost use Rattle.ldm_records.specs.Forms.{chunk_value, columns_value, first_value, second_value};
-ghost use Rattle.ldm_records.specs.Outlines.{filled};
+ghost use Rattle.ldm_records.specs.Outlines.{padded};
 ghost use Rattle.ldm_records.specs.Plain.{IsRecord};
 ghost use Rattle.ldm_records.specs.Views.{plain_volume, plain_component, plain_partition};
 ghost use Rattle.ldm_records.specs.Views.{plain_disk, plain_group, plain_of};
@@ -96,7 +96,7 @@ pub fn volume_fields(v: &Volume) -> [Field<'_>; 15]
 }
 
 pub fn component_fields(c: &Component) -> [Field<'_>; 15]
-    ensures { values_of result ≡ filled (plain_component c.now).fields }
+    ensures { values_of result ≡ padded (plain_component c.now).fields }
 {
     [
         Field::Number(c.head.id),
@@ -118,7 +118,7 @@ pub fn component_fields(c: &Component) -> [Field<'_>; 15]
 }
 
 pub fn partition_fields(p: &Partition) -> [Field<'_>; 15]
-    ensures { values_of result ≡ filled (plain_partition p.now).fields }
+    ensures { values_of result ≡ padded (plain_partition p.now).fields }
 {
     [
         Field::Number(p.head.id),
@@ -141,7 +141,7 @@ pub fn partition_fields(p: &Partition) -> [Field<'_>; 15]
 
 pub fn disk3_fields<'a>(d: &'a Disk, alt: &'a Bytes, fixed12: &'a [u8; 12]) -> [Field<'a>; 15]
     ensures { values_of result
-        ≡ filled (Number d.now.head.id ∷ Text d.now.head.name ∷ GuidText d.now.guid ∷ Text alt.now
+        ≡ padded (Number d.now.head.id ∷ Text d.now.head.name ∷ GuidText d.now.guid ∷ Text alt.now
         ∷ Fixed fixed12.now ∷ []) }
 {
     [
@@ -165,7 +165,7 @@ pub fn disk3_fields<'a>(d: &'a Disk, alt: &'a Bytes, fixed12: &'a [u8; 12]) -> [
 
 pub fn disk4_fields<'a>(d: &'a Disk, fixed29: &'a [u8; 29]) -> [Field<'a>; 15]
     ensures { values_of result
-        ≡ filled (Number d.now.head.id ∷ Text d.now.head.name ∷ Wide 16 d.now.guid
+        ≡ padded (Number d.now.head.id ∷ Text d.now.head.name ∷ Wide 16 d.now.guid
         ∷ Fixed fixed29.now ∷ []) }
 {
     [
@@ -189,7 +189,7 @@ pub fn disk4_fields<'a>(d: &'a Disk, fixed29: &'a [u8; 29]) -> [Field<'a>; 15]
 
 pub fn group3_fields<'a>(g: &'a GroupRec, guid: &'a Bytes, fixed12: &'a [u8; 12]) -> [Field<'a>; 15]
     ensures { values_of result
-        ≡ filled (Number g.now.head.id ∷ Text g.now.head.name ∷ Text guid.now ∷ Fixed fixed12.now
+        ≡ padded (Number g.now.head.id ∷ Text g.now.head.name ∷ Text guid.now ∷ Fixed fixed12.now
         ∷ first_value g.now.ids ∷ second_value g.now.ids ∷ []) }
 {
     [
@@ -213,7 +213,7 @@ pub fn group3_fields<'a>(g: &'a GroupRec, guid: &'a Bytes, fixed12: &'a [u8; 12]
 
 pub fn group4_fields<'a>(g: &'a GroupRec, fixed44: &'a [u8; 44]) -> [Field<'a>; 15]
     ensures { values_of result
-        ≡ filled (Number g.now.head.id ∷ Text g.now.head.name ∷ Fixed fixed44.now
+        ≡ padded (Number g.now.head.id ∷ Text g.now.head.name ∷ Fixed fixed44.now
         ∷ first_value g.now.ids ∷ second_value g.now.ids ∷ []) }
 {
     [

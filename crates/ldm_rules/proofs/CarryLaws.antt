@@ -22,7 +22,7 @@ use Rattle.ldm_layout.specs.declared.parts.Plex.{Plex}
 use Rattle.ldm_layout.proofs.ChildLaws.{same_layout}
 use Rattle.ldm_layout.proofs.VolumeLaws.{plexes_are}
 use Rattle.ldm_rules.specs.Ends.{data_size}
-use Rattle.ldm_rules.specs.Rules.{first_broken, has_namesake, lacks_volume, lacks_component, lacks_disk, miscounts_components, miscounts_partitions, is_empty, is_short, passes_end, has_layout_fault, passes_layout}
+use Rattle.ldm_rules.specs.Rules.{first_broken, has_namesake, lacks_volume, lacks_component, lacks_disk, miscounts_components, miscounts_partitions, has_no_sectors, is_short_fault, passes_end, has_layout_fault, passes_layout}
 use Rattle.ldm_rules.proofs.GroupLaws.{not_broken}
 use Rattle.ldm_rules.proofs.HeadLaws.{SameHeads, none_by, laid_none, ends_kept, group_kept, guids_kept}
 use Rattle.ldm_rules.proofs.MeetLaws.{NoneMeet, meet_none}
@@ -120,7 +120,7 @@ module _ (records : List Record) (labels : List Label) (each : EachRule records 
   pub volume_kept : (v : Volume) → Contains records (kinds.Volume v) → KeepsVolume records v
   volume_kept v at = record {
     counted = eqb-true _ _ (not-false _ (not_broken (miscounts_components (λ id. children_of 3 id records)) records (kinds.Volume v) each.component_counts at));
-    some = not_broken is_empty records (kinds.Volume v) each.sizes at;
+    some = not_broken has_no_sectors records (kinds.Volume v) each.sizes at;
     layout = (let laid = each_laid records labels v each at in (laid.0, laid.1.layout));
   }
 
@@ -140,7 +140,7 @@ module _ (records : List Record) (labels : List Label) (each : EachRule records 
       record {
         parent = (component.0, subst (λ (r : Record). Contains records r) component.1 found.1, component.2);
         disk = disk_there records (kinds.Partition p) p.disk (not_broken (lacks_disk (λ id. count_by (is_at 2 id) records)) records (kinds.Partition p) each.disks at);
-        some = not_broken is_empty records (kinds.Partition p) each.sizes at;
+        some = not_broken has_no_sectors records (kinds.Partition p) each.sizes at;
       }
 
 -- ---- the same kin, as lists
@@ -241,9 +241,9 @@ module _ {old next : List Record} (carries : Carries old next) where
       disks = none_by _ next (λ g. refl) (λ d. refl) (λ v at. refl) (λ c at. refl) disk_counted;
       component_counts = none_by _ next (λ g. refl) (λ d. refl) (λ v at. ap not (eq-eqb v.children _ (volume_next v at).counted)) (λ c at. refl) (λ p at. refl);
       partition_counts = none_by _ next (λ g. refl) (λ d. refl) (λ v at. refl) (λ c at. ap not (eq-eqb c.children _ (component_next c at).counted)) (λ p at. refl);
-      sizes = none_by is_empty next (λ g. refl) (λ d. refl) (λ v at. (volume_next v at).some) (λ c at. refl) (λ p at. (partition_next p at).some);
+      sizes = none_by has_no_sectors next (λ g. refl) (λ d. refl) (λ v at. (volume_next v at).some) (λ c at. refl) (λ p at. (partition_next p at).some);
       ends = ends_kept old next heads labels ends;
       meetings = meet_none next apart;
-      layouts = laid_none next (λ f. not (is_short f)) (λ v at. (volume_next v at).layout) (has_layout_fault next) (λ g. refl) (λ d. refl) (λ c. refl) (λ p. refl) (λ v. refl);
-      capacities = laid_none next is_short (λ v at. (volume_next v at).layout) (passes_layout next) (λ g. refl) (λ d. refl) (λ c. refl) (λ p. refl) (λ v. refl);
+      layouts = laid_none next (λ f. not (is_short_fault f)) (λ v at. (volume_next v at).layout) (has_layout_fault next) (λ g. refl) (λ d. refl) (λ c. refl) (λ p. refl) (λ v. refl);
+      capacities = laid_none next is_short_fault (λ v at. (volume_next v at).layout) (passes_layout next) (λ g. refl) (λ d. refl) (λ c. refl) (λ p. refl) (λ v. refl);
     }

@@ -10,9 +10,9 @@ use Rattle.ldm_layout.proofs.DraftLaws.{laid_out_volume}
 use Rattle.ldm_layout.proofs.PlanLaws.{has_none}
 use Rattle.ldm_layout.proofs.SpotLaws.{plex_spot_apart, parity_beside, parity_spot_shared, parity_spot_same}
 use Rattle.ldm_layout.proofs.VolumeLaws.{plexes_are, one_plex, plex_once, one_volume}
-use Rattle.ldm_layout.specs.Layouts.{Layout, is_tiled, plex_spot, parity_at, parity_spot, spot_in, parity_spot_in, sector_of}
+use Rattle.ldm_layout.specs.Layouts.{Layout, is_tiled, plex_spot, parity_at, parity_spot, spot_in, parity_spot_in, place_at}
 use Rattle.ldm_layout.specs.Parts.{plexes_of, extent_of}
-use Rattle.ldm_layout.specs.Volumes.{layout_of, place_of, parity_of}
+use Rattle.ldm_layout.specs.Volumes.{layout_of, volume_place, parity_of}
 use Rattle.ldm_layout.specs.declared.parts.Extent.{Extent}
 use Rattle.ldm_layout.specs.declared.parts.Plex.{Plex}
 use Rattle.ldm_layout.specs.declared.shape.LayoutFault.{LayoutFault}
@@ -32,14 +32,14 @@ ok_same h e = cc
 
 -- two spots at one place are of one copy of one volume, and one spot
 pub one_place : (records : List Record) (v w : Volume) (c d : ℕ) (s t : Option (Extent × ℕ)) → Rising records → first_broken (meets_another records) records ≡ None
-    → IsSpotOf records v c s → IsSpotOf records w d t → option_map sector_of s ≡ option_map sector_of t → (v ≡ w) × (c ≡ d) × (s ≡ t)
+    → IsSpotOf records v c s → IsSpotOf records w d t → option_map place_at s ≡ option_map place_at t → (v ≡ w) × (c ≡ d) × (s ≡ t)
 one_place records v w c d s t up apart at_v at_w e =
     let a = at_v.inside in
     let b = at_w.inside in
     let p : Partition = a.has.partition in
     let q : Partition = b.has.partition in
-    let place : sector_of (a.part, a.offset) ≡ sector_of (b.part, b.offset) =
-    some_same (sym (ap (λ (z : Option (Extent × ℕ)). option_map sector_of z) a.is) ∙ (e ∙ ap (λ (z : Option (Extent × ℕ)). option_map sector_of z) b.is)) in
+    let place : place_at (a.part, a.offset) ≡ place_at (b.part, b.offset) =
+    some_same (sym (ap (λ (z : Option (Extent × ℕ)). option_map place_at z) a.is) ∙ (e ∙ ap (λ (z : Option (Extent × ℕ)). option_map place_at z) b.is)) in
     let disk : p.disk ≡ q.disk = ap (λ (f : Extent). f.disk) a.has.is ∙ (ap (λ (z : Place). z.disk) place ∙ ap (λ (f : Extent). f.disk) (sym b.has.is)) in
     let sector : a.part.start + a.offset ≡ b.part.start + b.offset = ap (λ (z : Place). z.sector) place in
     let start_p : p.start ≡ a.part.start = ap (λ (f : Extent). f.start) a.has.is in
@@ -73,7 +73,7 @@ one_layout : (records : List Record) (v w : Volume) (l m : Layout) → HasLayout
 one_layout records v w l m at_v at_w same = ok_same (ap (λ (u : Volume). layout_of records u) same ∙ at_w.layout) at_v.layout
 
 pub places_apart : (records : List Record) (v w : Volume) (l m : Layout) (x y c d : ℕ) → Rising records → first_broken (meets_another records) records ≡ None
-    → IsSector records v l x c → IsSector records w m y d → place_of records v x c ≡ place_of records w y d → (v ≡ w) × (x ≡ y) × (c ≡ d)
+    → IsSector records v l x c → IsSector records w m y d → volume_place records v x c ≡ volume_place records w y d → (v ≡ w) × (x ≡ y) × (c ≡ d)
 places_apart records v w l m x y c d up apart at_x at_y e =
     let spot_x = sector_spot records v l x c at_x in
     let spot_y = sector_spot records w m y d at_y in
@@ -88,7 +88,7 @@ places_apart records v w l m x y c d up apart at_x at_y e =
     (one.0, plex_spot_apart l (parts_at l c) x y spot_x.inside.part spot_x.inside.offset here.facts first second, one.1)
 
 pub places_beside : (records : List Record) (v w : Volume) (l m : Layout) (x y d : ℕ) → Rising records → first_broken (meets_another records) records ≡ None
-    → IsRaid5Sector records v l x → IsSector records w m y d → parity_of records v x ≡ place_of records w y d → ⊥
+    → IsRaid5Sector records v l x → IsSector records w m y d → parity_of records v x ≡ volume_place records w y d → ⊥
 places_beside records v w l m x y d up apart at_x at_y e =
     let spot_x = parity_spot_of records v l x at_x in
     let spot_y = sector_spot records w m y d at_y in
@@ -157,12 +157,12 @@ rows_share records v w l m x y at_x at_y same row =
     let spots : parity_spot_in l x ≡ parity_spot_in l y = parity_by records v l x x at_x
     ∙ (parity_spot_same (parts_at l 0) l.chunk x y (here.facts.chunked untiled) rows row.offset ∙ sym (parity_by records v l x y at_x)) in
     parity_is records v l x at_x.volume
-    ∙ (ap (λ (z : Option (Extent × ℕ)). option_map sector_of z) spots
+    ∙ (ap (λ (z : Option (Extent × ℕ)). option_map place_at z) spots
     ∙ (sym (parity_is records v l y at_x.volume) ∙ ap (λ (u : Volume). parity_of records u y) same))
 
 -- ---- inside
 
-pub place_inside : (records : List Record) (v : Volume) (l : Layout) (x copy : ℕ) → IsSector records v l x copy → IsSomeAnd (place_of records v x copy) (LiesInOwn records v)
+pub place_inside : (records : List Record) (v : Volume) (l : Layout) (x copy : ℕ) → IsSector records v l x copy → IsSomeAnd (volume_place records v x copy) (LiesInOwn records v)
 place_inside records v l x copy s = subst (λ (z : Option Place). IsSomeAnd z (LiesInOwn records v)) (sym (place_is records v l x copy s.volume))
     (spot_in_own records v copy (spot_in l x copy) (sector_spot records v l x copy s))
 

@@ -10,7 +10,7 @@ use Rattle.ldm_layout.specs.Layouts.{Layout}
 use Rattle.ldm_layout.specs.Volumes.{layout_of, fault_of, fault_at, layout_faults}
 use Rattle.ldm_layout.specs.declared.shape.LayoutFault.{LayoutFault}
 use Rattle.ldm_layout.specs.declared.faulty.VolumeFault.{VolumeFault}
-use Rattle.ldm_rules.specs.Rules.{first_broken, fails, is_short, has_layout_fault, passes_layout}
+use Rattle.ldm_rules.specs.Rules.{first_broken, fails, is_short_fault, has_layout_fault, passes_layout}
 
 -- a volume whose layout has a fault that passes a test
 abbrev pub fails_at : (LayoutFault → Bool) → List Record → Record → Bool
@@ -42,22 +42,22 @@ first_of_kind test records (kinds.Component c ∷ rs) = first_of_kind test recor
 first_of_kind test records (kinds.Partition p ∷ rs) = first_of_kind test records rs
 
 -- the two kinds of the rules
-other_is : (records : List Record) (r : Record) → fails_at (λ f. not (is_short f)) records r ≡ has_layout_fault records r
+other_is : (records : List Record) (r : Record) → fails_at (λ f. not (is_short_fault f)) records r ≡ has_layout_fault records r
 other_is records (kinds.Volume v) = refl
 other_is records (kinds.Group g) = refl
 other_is records (kinds.Disk d) = refl
 other_is records (kinds.Component c) = refl
 other_is records (kinds.Partition p) = refl
 
-short_is : (records : List Record) (r : Record) → fails_at is_short records r ≡ passes_layout records r
+short_is : (records : List Record) (r : Record) → fails_at is_short_fault records r ≡ passes_layout records r
 short_is records (kinds.Volume v) = refl
 short_is records (kinds.Group g) = refl
 short_is records (kinds.Disk d) = refl
 short_is records (kinds.Component c) = refl
 short_is records (kinds.Partition p) = refl
 
-pub first_faulty : (records : List Record) → first_passing (λ f. not (is_short f)) (layout_faults records) ≡ first_broken (has_layout_fault records) records
-first_faulty records = first_of_kind (λ f. not (is_short f)) records records ∙ ap (λ (test : Record → Bool). first_broken test records) (λ i r. other_is records r i)
+pub first_faulty : (records : List Record) → first_passing (λ f. not (is_short_fault f)) (layout_faults records) ≡ first_broken (has_layout_fault records) records
+first_faulty records = first_of_kind (λ f. not (is_short_fault f)) records records ∙ ap (λ (test : Record → Bool). first_broken test records) (λ i r. other_is records r i)
 
-pub first_too_large : (records : List Record) → first_passing is_short (layout_faults records) ≡ first_broken (passes_layout records) records
-first_too_large records = first_of_kind is_short records records ∙ ap (λ (test : Record → Bool). first_broken test records) (λ i r. short_is records r i)
+pub first_too_large : (records : List Record) → first_passing is_short_fault (layout_faults records) ≡ first_broken (passes_layout records) records
+first_too_large records = first_of_kind is_short_fault records records ∙ ap (λ (test : Record → Bool). first_broken test records) (λ i r. short_is records r i)

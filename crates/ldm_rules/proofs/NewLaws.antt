@@ -20,7 +20,7 @@ use Rattle.ldm_rules.specs.Ends.{data_size}
 use Rattle.ldm_rules.specs.Facts.{AreApart, stranger}
 use Rattle.ldm_rules.specs.New.{IsNewOn}
 use Rattle.ldm_rules.specs.Present.{image_with, has_guid, is_absent}
-use Rattle.ldm_rules.specs.Rules.{first_broken, group_id, group_fault, has_twin_guid, has_namesake, lacks_volume, lacks_component, lacks_disk, miscounts_components, miscounts_partitions, is_empty, passes_end, meets_another, has_layout_fault, passes_layout}
+use Rattle.ldm_rules.specs.Rules.{first_broken, group_id, group_fault, has_twin_guid, has_namesake, lacks_volume, lacks_component, lacks_disk, miscounts_components, miscounts_partitions, has_no_sectors, passes_end, meets_another, has_layout_fault, passes_layout}
 use Rattle.ldm_rules.specs.Table.{IsSound}
 use Rattle.ldm_rules.proofs.SoundLaws.{sound_from}
 
@@ -87,7 +87,7 @@ new_sound records labels new apart =
       disks = other_rule (lacks_disk (λ id. count_by (is_at 2 id) all)) new.group new.disks refl (λ d. refl);
       component_counts = other_rule (miscounts_components (λ id. children_of 3 id all)) new.group new.disks refl (λ d. refl);
       partition_counts = other_rule (miscounts_partitions (λ id. children_of 4 id all)) new.group new.disks refl (λ d. refl);
-      sizes = other_rule is_empty new.group new.disks refl (λ d. refl);
+      sizes = other_rule has_no_sectors new.group new.disks refl (λ d. refl);
       ends = other_rule (passes_end (data_size labels all)) new.group new.disks refl (λ d. refl);
       meetings = other_rule (meets_another all) new.group new.disks refl (λ d. refl);
       layouts = other_rule (has_layout_fault all) new.group new.disks refl (λ d. refl);

@@ -14,9 +14,9 @@ use Rattle.ldm_layout.proofs.DraftLaws.{IsLaidOut, laid_out_volume, laid_all}
 use Rattle.ldm_layout.proofs.PlanLaws.{HasNone, PlexFacts, plex_facts}
 use Rattle.ldm_layout.proofs.SpotLaws.{IsInside, plex_spot_inside, parity_inside}
 use Rattle.ldm_layout.proofs.VolumeLaws.{IsExtentOf, extents_are, plexes_are}
-use Rattle.ldm_layout.specs.Layouts.{Layout, is_tiled, fewest, has_columns, plex_spot, parity_at, spot_in, parity_spot_in, place_in, parity_in, sector_of, copies_by, copies_of}
+use Rattle.ldm_layout.specs.Layouts.{Layout, is_tiled, fewest, has_columns, plex_spot, parity_at, spot_in, parity_spot_in, place_in, parity_in, place_at, copies_by, copies_of}
 use Rattle.ldm_layout.specs.Parts.{plexes_of, extents_of, rises_from}
-use Rattle.ldm_layout.specs.Volumes.{shape_of, laid_out, place_of, parity_of}
+use Rattle.ldm_layout.specs.Volumes.{shape_of, laid_out, volume_place, parity_of}
 use Rattle.ldm_layout.specs.declared.parts.Extent.{Extent}
 use Rattle.ldm_layout.specs.declared.parts.Plex.{Plex}
 use Rattle.ldm_layout.specs.declared.shape.LayoutFault.{LayoutFault}
@@ -120,14 +120,14 @@ parity_spot_of records v l x s =
 
 -- ---- places
 
-pub place_is : (records : List Record) (v : Volume) (l : Layout) (x copy : ℕ) → HasLayout records v l → place_of records v x copy ≡ place_in l x copy
+pub place_is : (records : List Record) (v : Volume) (l : Layout) (x copy : ℕ) → HasLayout records v l → volume_place records v x copy ≡ place_in l x copy
 place_is records v l x copy has = ap (λ (r : Result Layout LayoutFault). option_and_then (λ (m : Layout). place_in m x copy) (result_ok r)) has.layout
 
 pub parity_is : (records : List Record) (v : Volume) (l : Layout) (x : ℕ) → HasLayout records v l → parity_of records v x ≡ parity_in l x
 parity_is records v l x has = ap (λ (r : Result Layout LayoutFault). option_and_then (λ (m : Layout). parity_in m x) (result_ok r)) has.layout
 
 -- a spot of the volume is a place in its own partitions
-pub spot_in_own : (records : List Record) (v : Volume) (copy : ℕ) (spot : Option (Extent × ℕ)) → IsSpotOf records v copy spot → IsSomeAnd (option_map sector_of spot) (LiesInOwn records v)
+pub spot_in_own : (records : List Record) (v : Volume) (copy : ℕ) (spot : Option (Extent × ℕ)) → IsSpotOf records v copy spot → IsSomeAnd (option_map place_at spot) (LiesInOwn records v)
 spot_in_own records v copy spot s =
     let own = plexes_are records v.head.id copy no_plex s.copied in
     let e : Extent = s.inside.part in
@@ -136,7 +136,7 @@ spot_in_own records v copy spot s =
     let start : part.partition.start ≡ s.inside.part.start = ap (λ (f : Extent). f.start) part.is in
     let size : part.partition.size ≡ s.inside.part.size = ap (λ (f : Extent). f.size) part.is in
     let within : s.inside.offset < s.inside.part.size = s.inside.within in
-    let lies : LiesInOwn records v (sector_of (s.inside.part, s.inside.offset)) = record {
+    let lies : LiesInOwn records v (place_at (s.inside.part, s.inside.offset)) = record {
       component = own.component;
       partition = part.partition;
       component_there = own.there;
@@ -147,7 +147,7 @@ spot_in_own records v copy spot s =
       start = omega arith;
       end = omega arith;
     } in
-    subst (λ (z : Option (Extent × ℕ)). IsSomeAnd (option_map sector_of z) (LiesInOwn records v)) (sym s.inside.is) lies
+    subst (λ (z : Option (Extent × ℕ)). IsSomeAnd (option_map place_at z) (LiesInOwn records v)) (sym s.inside.is) lies
 
 -- ---- columns
 

@@ -19,7 +19,7 @@ use Rattle.ldm_rules.proofs.GroupLaws.{not_broken}
 use Rattle.ldm_rules.proofs.DisjointLaws.{places_apart, places_beside, parities_shared, rows_share, place_inside, parity_place_inside}
 use Rattle.ldm_rules.specs.Disjoint.{HasLayout, AllLaidOut, HasDisjointPlaces}
 use Rattle.ldm_rules.specs.Ends.{data_size}
-use Rattle.ldm_rules.specs.Rules.{first_broken, group_id, group_fault, has_twin_guid, has_namesake, lacks_volume, lacks_component, lacks_disk, miscounts_components, miscounts_partitions, fails, is_short, is_empty, passes_end, meets_another, has_layout_fault, passes_layout}
+use Rattle.ldm_rules.specs.Rules.{first_broken, group_id, group_fault, has_twin_guid, has_namesake, lacks_volume, lacks_component, lacks_disk, miscounts_components, miscounts_partitions, fails, is_short_fault, has_no_sectors, passes_end, meets_another, has_layout_fault, passes_layout}
 use Rattle.ldm_rules.specs.Table.{broken_at, first_broken_rule, name_rules, tree_rules, sector_rules, ChecksAs, IsSound}
 use Rattle.ldm_rules.specs.declared.fault.RuleError.{RuleError}
 use Rattle.ldm_rules.specs.declared.fault.RuleError.TheVariants.{Fault, NoMemory}
@@ -35,7 +35,7 @@ pub record EachRule (records : List Record) (labels : List Label) : Type 0 where
   pub disks : first_broken (lacks_disk (λ id. count_by (is_at 2 id) records)) records ≡ None
   pub component_counts : first_broken (miscounts_components (λ id. children_of 3 id records)) records ≡ None
   pub partition_counts : first_broken (miscounts_partitions (λ id. children_of 4 id records)) records ≡ None
-  pub sizes : first_broken is_empty records ≡ None
+  pub sizes : first_broken has_no_sectors records ≡ None
   pub ends : first_broken (passes_end (data_size labels records)) records ≡ None
   pub meetings : first_broken (meets_another records) records ≡ None
   pub layouts : first_broken (has_layout_fault records) records ≡ None
@@ -97,10 +97,10 @@ one_of_two : (a : Bool) → not a ≡ false → a ≡ false → ⊥
 one_of_two true h e = cc
 one_of_two false h e = cc
 
-has_layout : (records : List Record) (v : Volume) (r : Result Layout LayoutFault) → layout_of records v ≡ r → fails (λ f. not (is_short f)) r ≡ false → fails is_short r ≡ false
+has_layout : (records : List Record) (v : Volume) (r : Result Layout LayoutFault) → layout_of records v ≡ r → fails (λ f. not (is_short_fault f)) r ≡ false → fails is_short_fault r ≡ false
     → (l : Layout) × (layout_of records v ≡ Ok l)
 has_layout records v (Ok l) is a b = (l, is)
-has_layout records v (Err f) is a b = absurd (one_of_two (is_short f) a b)
+has_layout records v (Err f) is a b = absurd (one_of_two (is_short_fault f) a b)
 
 pub each_laid : (records : List Record) (labels : List Label) (v : Volume) → EachRule records labels → Contains records (kinds.Volume v) → (l : Layout) × HasLayout records v l
 each_laid records labels v each there =

@@ -9,7 +9,7 @@ use Rattle.ldm_group.specs.Order.{Rising}
 use Rattle.ldm_label.specs.declared.Label.{Label}
 use Rattle.ldm_layout.specs.Layouts.{Layout, copies_of}
 use Rattle.ldm_group.specs.Partitions.{EndsInRange}
-use Rattle.ldm_layout.specs.Volumes.{layout_of, place_of, parity_of}
+use Rattle.ldm_layout.specs.Volumes.{layout_of, volume_place, parity_of}
 use Rattle.ldm_layout.specs.declared.shape.Place.{Place}
 use Rattle.ldm_layout.specs.declared.shape.Shape.TheVariants.{Raid5}
 use Rattle.ldm_rules.specs.Table.{IsSound}
@@ -56,14 +56,14 @@ pub record HasDisjointPlaces (records : List Record) : Type 0 where
   -- each volume has a layout
   pub laid_out : AllLaidOut records
   -- each sector has a place, which lies in its own volume
-  pub inside : (v : Volume) (l : Layout) (x copy : ℕ) → IsSector records v l x copy → IsSomeAnd (place_of records v x copy) (LiesInOwn records v)
+  pub inside : (v : Volume) (l : Layout) (x copy : ℕ) → IsSector records v l x copy → IsSomeAnd (volume_place records v x copy) (LiesInOwn records v)
   -- which no other has
   pub apart : (v w : Volume) (l m : Layout) (x y c d : ℕ) → IsSector records v l x c → IsSector records w m y d
-      → place_of records v x c ≡ place_of records w y d → (v ≡ w) × (x ≡ y) × (c ≡ d)
+      → volume_place records v x c ≡ volume_place records w y d → (v ≡ w) × (x ≡ y) × (c ≡ d)
   -- and so has its parity,
   pub parity_inside : (v : Volume) (l : Layout) (x : ℕ) → IsRaid5Sector records v l x → IsSomeAnd (parity_of records v x) (LiesInOwn records v)
   -- whose place no sector has,
-  pub beside : (v w : Volume) (l m : Layout) (x y d : ℕ) → IsRaid5Sector records v l x → IsSector records w m y d → parity_of records v x ≢ place_of records w y d
+  pub beside : (v w : Volume) (l m : Layout) (x y d : ℕ) → IsRaid5Sector records v l x → IsSector records w m y d → parity_of records v x ≢ volume_place records w y d
   -- and no parity but that of the same row
   pub shared : (v w : Volume) (l m : Layout) (x y : ℕ) → IsRaid5Sector records v l x → IsRaid5Sector records w m y
       → (parity_of records v x ≡ parity_of records w y) ↔ ((v ≡ w) × IsSameRow l x y)

@@ -66,10 +66,10 @@ miscounts_partitions count _ = false
 -- ---- sizes
 
 -- volumes stand before partitions
-abbrev pub is_empty : Record → Bool
-is_empty (kinds.Volume v) = v.size == 0
-is_empty (kinds.Partition p) = p.size == 0
-is_empty _ = false
+abbrev pub has_no_sectors : Record → Bool
+has_no_sectors (kinds.Volume v) = v.size == 0
+has_no_sectors (kinds.Partition p) = p.size == 0
+has_no_sectors _ = false
 
 -- where the disk of an id has so many sectors of data
 abbrev pub passes_end : (ℕ → ℕ) → Record → Bool
@@ -89,9 +89,9 @@ meets_another records _ = false
 -- ---- layouts
 
 -- the volume is larger than what its partitions hold
-abbrev pub is_short : LayoutFault → Bool
-is_short Short = true
-is_short _ = false
+abbrev pub is_short_fault : LayoutFault → Bool
+is_short_fault Short = true
+is_short_fault _ = false
 
 -- a layout with a fault that passes a test
 abbrev pub fails : (LayoutFault → Bool) → Result Layout LayoutFault → Bool
@@ -100,10 +100,10 @@ fails test (Err f) = test f
 
 -- a volume with another fault,
 abbrev pub has_layout_fault : List Record → Record → Bool
-has_layout_fault records (kinds.Volume v) = fails (λ f. not (is_short f)) (layout_of records v)
+has_layout_fault records (kinds.Volume v) = fails (λ f. not (is_short_fault f)) (layout_of records v)
 has_layout_fault records _ = false
 
 -- or with this one
 abbrev pub passes_layout : List Record → Record → Bool
-passes_layout records (kinds.Volume v) = fails is_short (layout_of records v)
+passes_layout records (kinds.Volume v) = fails is_short_fault (layout_of records v)
 passes_layout records _ = false

@@ -6,7 +6,7 @@ use Rattle.ldm_bytes.specs.Tables.{first_of}
 use Rattle.ldm_records.specs.declared.types.Record.{Record}
 use Rattle.ldm_group.specs.Looks.{is_at, is_disk_with, is_volume_named, children_of}
 use Rattle.ldm_label.specs.declared.Label.{Label}
-use Rattle.ldm_rules.specs.Rules.{first_broken, group_id, group_fault, has_twin_guid, has_namesake, lacks_volume, lacks_component, lacks_disk, miscounts_components, miscounts_partitions, is_empty, passes_end, meets_another, has_layout_fault, passes_layout}
+use Rattle.ldm_rules.specs.Rules.{first_broken, group_id, group_fault, has_twin_guid, has_namesake, lacks_volume, lacks_component, lacks_disk, miscounts_components, miscounts_partitions, has_no_sectors, passes_end, meets_another, has_layout_fault, passes_layout}
 use Rattle.ldm_rules.specs.Ends.{data_size}
 use Rattle.ldm_rules.specs.declared.fault.RuleError.{RuleError}
 use Rattle.ldm_rules.specs.declared.fault.RuleError.TheVariants.{Fault, NoMemory}
@@ -36,7 +36,7 @@ tree_rules records =
 -- and on sectors
 unfoldable pub sector_rules : List Record → List Label → List (Option (ℕ × ℕ))
 sector_rules records labels =
-    broken_at 9 (first_broken is_empty records)
+    broken_at 9 (first_broken has_no_sectors records)
     ∷ broken_at 10 (first_broken (passes_end (data_size labels records)) records)
     ∷ broken_at 11 (first_broken (meets_another records) records)
     ∷ broken_at 12 (first_broken (has_layout_fault records) records)

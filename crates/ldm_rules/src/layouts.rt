@@ -3,21 +3,22 @@ ghost use Rattle.std.specs.Prelude.{◌≡◌, List, if◌then◌else◌, not, f
 ghost use Rattle.std.specs.Option.{option_map};
 ghost use Rattle.ldm_records.specs.declared.types.Record.{Record};
 ghost use Rattle.ldm_layout.specs.Volumes.{layout_faults};
-ghost use Rattle.ldm_rules.specs.Rules.{first_broken, is_short, has_layout_fault, passes_layout};
+ghost use Rattle.ldm_rules.specs.Rules.{first_broken, is_short_fault, has_layout_fault};
+ghost use Rattle.ldm_rules.specs.Rules.{passes_layout};
 
 use ldm_layout::{LayoutFault, VolumeFault};
 
 // Whether it is that the volume is larger than its layout, or, where `short` is false, another
 // fault.
 fn is_of(fault: LayoutFault, short: bool) -> bool
-    ensures { result ≡ (if short then is_short fault else not (is_short fault)) }
+    ensures { result ≡ (if short then is_short_fault fault else not (is_short_fault fault)) }
 {
     matches!(fault, LayoutFault::Short) == short
 }
 
 fn first_of(faults: &[VolumeFault], short: bool) -> Option<&VolumeFault>
-    ensures { option_copied result ≡ find (λ f. if short then is_short f.fault else not
-        (is_short f.fault)) faults.now }
+    ensures { option_copied result ≡ find (λ f. if short then is_short_fault f.fault else not
+        (is_short_fault f.fault)) faults.now }
 {
     faults.iter().find(|f| is_of(f.fault, short))
 }

@@ -1,7 +1,6 @@
 //! Rule 11: partitions that have a sector in common.
 ghost use Rattle.std.specs.Prelude.{◌≡◌, ◌↔◌, ◌==◌, ◌&&◌, ◌≤◌, ◌<◌, ◌+◌, max, min, All, IfOk};
-ghost use Rattle.std.specs.Prelude.{IsTrue, find};
-ghost use Rattle.std.specs.Prelude.{option_copied, length, IsPermutation};
+ghost use Rattle.std.specs.Prelude.{IsTrue, find, option_copied, length, IsPermutation};
 ghost use Rattle.std.specs.List.{filter_map, list_any, AllAdjacentBelow};
 ghost use Rattle.std.specs.List.Sorted.{IsNonDecreasingBy};
 ghost use Rattle.ldm_group.specs.Partitions.{EndsInRange, meets};

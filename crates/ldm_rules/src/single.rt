@@ -1,7 +1,7 @@
 //! Rules 1 and 9: one group record, and no volume or partition of size 0.
 ghost use Rattle.std.specs.Prelude.{◌≡◌};
 ghost use Rattle.std.specs.List.{filter_map};
-ghost use Rattle.ldm_rules.specs.Rules.{group_id, group_fault, is_empty};
+ghost use Rattle.ldm_rules.specs.Rules.{group_id, group_fault, has_no_sectors};
 
 use ldm_group::Db;
 use ldm_records::Record;
@@ -24,7 +24,7 @@ pub fn not_one_group(db: &Db) -> Option<u64>
 
 /// Whether it is a volume or a partition of size 0.
 pub fn is_empty(r: &Record) -> bool
-    ensures { result ≡ is_empty r.now }
+    ensures { result ≡ has_no_sectors r.now }
 {
     match r {
         Record::Volume(v) => v.size == 0,

@@ -15,9 +15,9 @@ use Rattle.ldm_found.specs.Labels.{AreSameOutside}
 use Rattle.ldm_run.specs.declared.running.Status.{Status}
 use Rattle.ldm_run.specs.declared.running.Status.TheVariants.{DiskFault}
 use Rattle.ldm_run.specs.Said.{Answer, refused}
-use Rattle.ldm_run.specs.Scripts.{is_long, commands_in}
+use Rattle.ldm_run.specs.Scripts.{is_long_script, commands_in}
 use Rattle.ldm_run.specs.Answer.{IsJobAnswer}
-use Rattle.ldm_run.specs.Kinds.{NothingPending, kind_of, JobInput}
+use Rattle.ldm_run.specs.Kinds.{NothingPending, job_kind, JobInput}
 use Rattle.ldm_run.specs.Heard.{Hears, TalkFails, HearsScript}
 use Rattle.ldm_run.specs.Stops.{lines_unless, Reopens, EveryStopReopens, EveryStopSinceSyncs}
 use Rattle.ldm_run.specs.Written.{HoldsAfter}
@@ -31,7 +31,7 @@ use Rattle.ldm_run.proofs.GroupEnds.{reopens_sooner}
 use Rattle.ldm_run.proofs.JobLaws.{HasSome, quiet_start, silent_reopens, no_line_reopens, still_job, undone}
 
 -- memory or the talk failed before the script was heard
-pub unheard : {tells talks : Type 0} {old new : Seen} {status : Status} (job : Job) → ((talks → HearsScript old new status) → JobInput talks (kind_of job) old new status) → HasSome job (length old.sizes)
+pub unheard : {tells talks : Type 0} {old new : Seen} {status : Status} (job : Job) → ((talks → HearsScript old new status) → JobInput talks (job_kind job) old new status) → HasSome job (length old.sizes)
     → TalkFails old new status → (taken : List ℕ) × Hears talks old new taken → (tells → length old.content ≡ length old.sizes)
     → (tells → (disk : ℕ) → disk < length old.sizes → length (image old.content disk) / 512 ≡ slice_index old.sizes disk) → DoesJob tells talks job old new status
 unheard {old = old} {new = new} {status = status} job input some failed hears one_each lengths =
@@ -72,7 +72,7 @@ long_edit {tells} {talks} {old} {mid} {new} {status} reads hears both one_each l
   };
 }
   where
-    is_true : tells → is_long old.input ≡ true
+    is_true : tells → is_long_script old.input ≡ true
     is_true told = lt-ltb 1048576 (length old.input) (long (both told))
 
 -- the script was heard, and its lines are done
@@ -102,10 +102,10 @@ script_edit {tells} {talks} {old} {mid} {new} {script} {status} does hears both 
     not_long : talks → 1048576 < length old.input → ⊥
     not_long told long = let same = ap length (heard told).0 in omega (arith, long, short, same)
 
-    is_false : tells → is_long old.input ≡ false
+    is_false : tells → is_long_script old.input ≡ false
     is_false told = le-ltb 1048576 (length old.input) (subst (λ (l : List ℕ). length l ≤ 1048576) (heard (both told)).0 short)
 
-    lines_are : tells → commands_in script ≡ lines_unless (is_long old.input) old.input
+    lines_are : tells → commands_in script ≡ lines_unless (is_long_script old.input) old.input
     lines_are told = ap commands_in (heard (both told)).0 ∙ ap (λ (b : Bool). lines_unless b old.input) (sym (is_false told))
 
     same_outside : (labels : List Label) → AreSameOutside labels old.content mid.content

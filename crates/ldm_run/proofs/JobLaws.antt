@@ -19,7 +19,7 @@ use Rattle.ldm_init.proofs.StartLaws.{still_moment}
 use Rattle.ldm_run.specs.declared.running.Status.{Status}
 use Rattle.ldm_run.specs.declared.running.Status.TheVariants.{DiskFault, NoMemory}
 use Rattle.ldm_run.specs.Answer.{IsJobAnswer}
-use Rattle.ldm_run.specs.Kinds.{Kind, Reads, Streams, Hears, Edits, Does, Makes, kind_of, writes, JobInput, JobSays, JobTalk, NothingPending}
+use Rattle.ldm_run.specs.Kinds.{Kind, Reads, Streams, Hears, Edits, Does, Makes, job_kind, writes, JobInput, JobSays, JobTalk, NothingPending}
 use Rattle.ldm_run.specs.Stops.{JobStops, JobSinceSyncs, Reopens, EveryStopReopens}
 use Rattle.ldm_run.specs.Written.{JobDisks}
 use Rattle.ldm_run.specs.Editing.{DoesGroup}
@@ -61,25 +61,25 @@ module _ {old mid : Seen} (still : Still old mid) (one_each : length old.content
 
 -- ---- a job that writes nothing
 
-still_disks : (tells : Type 0) {old new : Seen} (status : Status) (job : Job) → writes (kind_of job) ≡ false → Still old new → JobDisks tells job old new status × JobStops tells job old new × JobSinceSyncs tells job old new
+still_disks : (tells : Type 0) {old new : Seen} (status : Status) (job : Job) → writes (job_kind job) ≡ false → Still old new → JobDisks tells job old new status × JobStops tells job old new × JobSinceSyncs tells job old new
 still_disks tells status Edit is still = absurd cc
 still_disks tells status (One command) is still = absurd cc
 still_disks tells status (Init name guid disks) is still = absurd cc
 still_disks tells status job is still = (still, tt, tt)
 
-pub still_job : {tells talks : Type 0} {old new : Seen} {status : Status} (job : Job) → writes (kind_of job) ≡ false → Ends tells old new (IsJobAnswer job old.content old.input) status
-    → JobTalk tells talks (kind_of job) old new status → Still old new → DoesJob tells talks job old new status
+pub still_job : {tells talks : Type 0} {old new : Seen} {status : Status} (job : Job) → writes (job_kind job) ≡ false → Ends tells old new (IsJobAnswer job old.content old.input) status
+    → JobTalk tells talks (job_kind job) old new status → Still old new → DoesJob tells talks job old new status
 still_job {tells} {talks} {old} {new} {status} job is ends talk still =
     let left = still_disks tells status job is still in
     record { ends = ends; disks = left.0; talk = talk; stops = left.1; since_syncs = left.2 }
 
 -- it reads first, and then says its answer
-pub reads_job : {tells talks : Type 0} {old new : Seen} {status : Status} (job : Job) → kind_of job ≡ Reads → OnlyReads tells old new (IsJobAnswer job old.content old.input) status → DoesJob tells talks job old new status
+pub reads_job : {tells talks : Type 0} {old new : Seen} {status : Status} (job : Job) → job_kind job ≡ Reads → OnlyReads tells old new (IsJobAnswer job old.content old.input) status → DoesJob tells talks job old new status
 reads_job {tells} {talks} {old} {new} {status} job is says =
     still_job job (ap writes is) says.ends (subst (λ (k : Kind). JobTalk tells talks k old new status) (sym is) (record { input = says.input; silent = says.silent })) says.still
 
 -- it says its answer while it reads on
-pub streams_job : {tells talks : Type 0} {old new : Seen} {status : Status} (job : Job) → kind_of job ≡ Streams → Streaming tells old new (IsJobAnswer job old.content old.input) status → DoesJob tells talks job old new status
+pub streams_job : {tells talks : Type 0} {old new : Seen} {status : Status} (job : Job) → job_kind job ≡ Streams → Streaming tells old new (IsJobAnswer job old.content old.input) status → DoesJob tells talks job old new status
 streams_job {tells} {talks} {old} {new} {status} job is says =
     still_job job (ap writes is) says.ends (subst (λ (k : Kind). JobTalk tells talks k old new status) (sym is) (record { input = says.input; silent = says.silent })) says.still
 
@@ -124,11 +124,11 @@ module _ {tells : Type 0} {old new : Seen} {status : Status} (fails : Failing ol
   undone_since (One command) = λ told found is editable. inl (quiet_start still silent)
   undone_since job = tt
 
-  pub undone : {talks : Type 0} (job : Job) → HasSome job (length old.sizes) → JobInput talks (kind_of job) old new status → DoesJob tells talks job old new status
+  pub undone : {talks : Type 0} (job : Job) → HasSome job (length old.sizes) → JobInput talks (job_kind job) old new status → DoesJob tells talks job old new status
   undone job some input = record {
     ends = ends_silent fails silent still.later.said;
     disks = undone_disks job;
-    talk = record { input = input; silent = undone_says (kind_of job) };
+    talk = record { input = input; silent = undone_says (job_kind job) };
     stops = undone_stops job some;
     since_syncs = undone_since job;
   }
@@ -164,4 +164,4 @@ pub nothing_read : (tells talks : Type 0) {host : Seen} {Unread : Type 0} (words
     → OfJob reading Unread (λ job. DoesJob tells talks job host host NoMemory)
 nothing_read tells talks words None is images still one_each lengths unread = unread
 nothing_read tells talks {host} words (Some reading) is images still one_each lengths unread =
-    undone (failing host host NoMemory tt) refl still one_each lengths reading.0 (subst (λ (n : ℕ). HasSome reading.0 n) (sym images) (has_some reading.0 reading.1 (reading_counts words reading is))) (unheard_input talks host (kind_of reading.0))
+    undone (failing host host NoMemory tt) refl still one_each lengths reading.0 (subst (λ (n : ℕ). HasSome reading.0 n) (sym images) (has_some reading.0 reading.1 (reading_counts words reading is))) (unheard_input talks host (job_kind reading.0))

@@ -11,7 +11,7 @@ use Rattle.ldm_words.specs.Jobs.{job_of}
 use Rattle.ldm_found.specs.declared.found.Found.{Found}
 use Rattle.ldm_found.proofs.GroupLaws.{one_group}
 use Rattle.ldm_run.specs.Said.{Answer}
-use Rattle.ldm_run.specs.Scripts.{is_long, commands_in, try_answer}
+use Rattle.ldm_run.specs.Scripts.{is_long_script, commands_in, try_answer}
 use Rattle.ldm_label.specs.Fields.{sectors_of}
 use Rattle.ldm_init.proofs.StartLaws.{one_fault}
 use Rattle.ldm_run.specs.Making.{init_answer}
@@ -33,7 +33,7 @@ one_by : (basis : Basis) (images : List (List ℕ)) (input : List ℕ) (a b : An
 one_by OfLabel images input a b x y = x ∙ sym y
 one_by OfCopy images input a b x y = one_records (label_of (image images 0)) (image images 0) a b x y
 one_by (OfGroup answer_of) images input a b x y = one_of_group (answer_of images) images a b x y
-one_by OfScript images input a b x y = one_of_script (is_long input) input images a b x y
+one_by OfScript images input a b x y = one_of_script (is_long_script input) input images a b x y
 one_by (OfEmpty guids) images input a b x y = x.2 ∙ ap init_answer (one_fault guids (map sectors_of images) images x.0 y.0 x.1 y.1) ∙ sym y.2
 one_by (OfSeed seed) images input a b x y = one_sample seed a b x y
 

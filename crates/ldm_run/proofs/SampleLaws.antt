@@ -9,7 +9,7 @@ use Rattle.std.proofs.lemmas.List.Sums.{sum_by-cons}
 use Rattle.std.proofs.Math.Seq.{take-length}
 use Rattle.ldm_host.specs.declared.memory.MemoryHost.{MemoryHost}
 use Rattle.ldm_host.specs.Moves.{Settled}
-use Rattle.ldm_host.specs.Memory.{memory_seen, counts_of}
+use Rattle.ldm_host.specs.Memory.{memory_seen, host_counts}
 use Rattle.ldm_host.specs.Laws.{law_counts_now, law_one_each, law_may_stay}
 use Rattle.ldm_label.specs.declared.Label.{Label}
 use Rattle.ldm_group.specs.Database.{Database, Core, core_of, IsSameCore}
@@ -26,13 +26,13 @@ use Rattle.ldm_found.proofs.GroupLaws.{one_group}
 use Rattle.ldm_store.proofs.SettleLaws.{same_found}
 use Rattle.ldm_group_text.specs.Reply.{text_of_replies}
 use Rattle.ldm_vmdb.specs.declared.header.Header.{Header}
-use Rattle.ldm_vmdb.specs.Sectors.{IsKept}
+use Rattle.ldm_vmdb.specs.Sectors.{IsKeptHeader}
 use Rattle.ldm_vectors.specs.Sample.{AreSampleImages, IsSampleGroup, IsSampleDatabase}
 use Rattle.ldm_vectors.specs.Script.{script_of}
 use Rattle.ldm_run.specs.declared.running.Status.{Status}
 use Rattle.ldm_run.specs.declared.running.Status.TheVariants.{Done}
 use Rattle.ldm_run.specs.Said.{Answer, HasAnswer}
-use Rattle.ldm_run.specs.Scripts.{is_long, commands_in, is_refused, replies_from, unless_blocked, try_answer}
+use Rattle.ldm_run.specs.Scripts.{is_long_script, commands_in, is_refused, replies_from, unless_blocked, try_answer}
 use Rattle.ldm_run.specs.Answer.{group_answer, IsAnswerToScript}
 use Rattle.ldm_run.specs.Stops.{lines_unless, commands_of, answered, Reopens}
 use Rattle.ldm_run.specs.Written.{HoldsAfter}
@@ -44,7 +44,7 @@ use Rattle.ldm_run.proofs.TurnLists.{replies_length}
 
 -- ---- one answer
 
-kept_prop : (name : List ℕ) (guid : ℕ) (raw : List ℕ) → IsProp (IsKept name guid raw)
+kept_prop : (name : List ℕ) (guid : ℕ) (raw : List ℕ) → IsProp (IsKeptHeader name guid raw)
 kept_prop name guid raw = hlevel props
 
 same_header : (a b : Header) → a.last ≡ b.last → a.seq ≡ b.seq → a.name ≡ b.name → a.guid ≡ b.guid → a.raw ≡ b.raw → a ≡ b
@@ -54,7 +54,7 @@ same_header a b last seq name guid raw = λ i. record {
   name = name i;
   guid = guid i;
   raw = raw i;
-  kept = is_prop→PathP (λ j. IsKept (name j) (guid j) (raw j)) (λ j. kept_prop (name j) (guid j) (raw j)) a.kept b.kept i;
+  kept = is_prop→PathP (λ j. IsKeptHeader (name j) (guid j) (raw j)) (λ j. kept_prop (name j) (guid j) (raw j)) a.kept b.kept i;
 }
 
 one_database : (disks last : ℕ) (a b : Database) → IsSampleDatabase disks last a → IsSampleDatabase disks last b → a ≡ b
@@ -79,8 +79,8 @@ pub holds_now : (m : MemoryHost) → (memory_seen m).left_since 0 (memory_seen m
 holds_now m = law_counts_now m 0 (memory_seen m).content (omega arith) (record { one_each = law_one_each m; each = λ disk lt. law_may_stay m disk })
 
 module _ {seed : ℕ} {start : MemoryHost} (host : MemoryHost) {status : Status} {found : Found} (starts : IsSampleStart seed found start) (short : length (script_of seed) ≤ 20000)
-    (does : DoesJob ⊤ ⊤ Edit (memory_seen start) (memory_seen host) status) (has : HasAnswer status) (dry : (counts_of host).dry ≡ 0) (first : (memory_seen start).left_since 0 (memory_seen start).content (memory_seen start).said) where
-  not_long : is_long (memory_seen start).input ≡ false
+    (does : DoesJob ⊤ ⊤ Edit (memory_seen start) (memory_seen host) status) (has : HasAnswer status) (dry : (host_counts host).dry ≡ 0) (first : (memory_seen start).left_since 0 (memory_seen start).content (memory_seen start).said) where
+  not_long : is_long_script (memory_seen start).input ≡ false
   not_long = le-ltb 1048576 (length (memory_seen start).input) (rw starts.input (omega (arith, short)))
 
   lines_are : commands_of Edit (memory_seen start).input ≡ sample_lines seed
@@ -95,7 +95,7 @@ module _ {seed : ℕ} {start : MemoryHost} (host : MemoryHost) {status : Status}
       let taken = (does.talk.input tt).taken in
       takes.heard ∙ ap (λ (l : List ℕ). l ++ taken) starts.heard ∙ sym (append-nil taken) ∙ ap (λ (l : List ℕ). taken ++ l) (sym heard_all) ∙ sym takes.input ∙ starts.input
 
-  text_is : (answer : Answer) → IsAnswerToScript (is_long (memory_seen start).input) (memory_seen start).input (memory_seen start).content answer
+  text_is : (answer : Answer) → IsAnswerToScript (is_long_script (memory_seen start).input) (memory_seen start).input (memory_seen start).content answer
       → answer.0 ≡ text_of_replies 1 (replies_to found.labels found.db (sample_lines seed))
   text_is answer is =
       let of_group = subst (λ (b : Bool). IsAnswerToScript b (memory_seen start).input (memory_seen start).content answer) not_long is in

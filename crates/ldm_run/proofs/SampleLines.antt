@@ -165,7 +165,7 @@ either_starts : (b : Bool) (x y t : List ℕ) → IsFree (x ++ t) → IsFree (y 
 either_starts true x y t one two = one
 either_starts false x y t one two = two
 
-line_starts : (line kind value : ℕ) (t : List ℕ) → IsFree t → IsFree (script.line_of line kind value ++ t)
+line_starts : (line kind value : ℕ) (t : List ℕ) → IsFree t → IsFree (script.sample_line line kind value ++ t)
 line_starts line kind value t rest =
     let third = cond (kind % 4 == 2) (script.extend_line line value) (script.delete_line line value) in
     let second = cond (kind % 4 == 1) (script.mirror_line line value) third in
@@ -177,7 +177,7 @@ seed_starts : (seed lines : ℕ) (t : List ℕ) → IsFree t → IsFree (script.
 unfolding script.lines_of_seed
 seed_starts seed zero t rest = rest
 seed_starts seed (suc lines) t rest =
-    let line = script.line_of (lines + 1) (script.draw seed (2 * lines + 1)) (script.draw seed (2 * lines + 2)) in
+    let line = script.sample_line (lines + 1) (script.draw seed (2 * lines + 1)) (script.draw seed (2 * lines + 2)) in
     subst (λ (l : List ℕ). IsFree l) (sym (append_assoc (script.lines_of_seed seed lines) line t))
     (seed_starts seed lines (line ++ t) (line_starts (lines + 1) (script.draw seed (2 * lines + 1)) (script.draw seed (2 * lines + 2)) t rest))
 

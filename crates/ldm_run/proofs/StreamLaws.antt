@@ -9,7 +9,7 @@ use Rattle.ldm_found.specs.declared.found.Found.{Found}
 use Rattle.ldm_dump.specs.Sources.{IsLeastLost}
 use Rattle.ldm_dump.proofs.FindLaws.{least_found}
 use Rattle.ldm_run.specs.Said.{Answer, HasAnswer, refused}
-use Rattle.ldm_run.specs.Streaming.{laid_answer, named_answer, bytes_answer, volume_dump, dump_answer, is_compared, status_of, places_answer, volume_scrub, scrub_answer}
+use Rattle.ldm_run.specs.Streaming.{laid_answer, named_answer, bytes_answer, volume_dump, dump_answer, is_compared, scrub_status, places_answer, volume_scrub, scrub_answer}
 use Rattle.ldm_scrub.specs.Missing.{missing_of}
 use Rattle.ldm_run.specs.declared.running.Status.TheVariants.{Done, Refused}
 
@@ -33,7 +33,7 @@ dump_of name images found v l r named laid least =
 -- ---- scrub
 
 -- the status of a count is an answer's
-pub status_answers : (bad : ℕ) → HasAnswer (status_of bad)
+pub status_answers : (bad : ℕ) → HasAnswer (scrub_status bad)
 status_answers bad = go (bad == 0)
   where
     go : (b : Bool) → HasAnswer (if b then Done else Refused)

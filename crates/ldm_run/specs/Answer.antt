@@ -22,7 +22,7 @@ use Rattle.ldm_run.specs.Mapping.{map_answer}
 use Rattle.ldm_run.specs.Streaming.{dump_answer, scrub_answer}
 use Rattle.ldm_run.specs.Tabling.{table_answer}
 use Rattle.ldm_run.specs.Sample.{IsSampleAnswer}
-use Rattle.ldm_run.specs.Scripts.{is_long, commands_in, try_answer}
+use Rattle.ldm_run.specs.Scripts.{is_long_script, commands_in, try_answer}
 use Rattle.ldm_run.specs.Making.{IsInitAnswer}
 use Rattle.ldm_run.specs.Said.{Answer, refused}
 use Rattle.ldm_run.specs.declared.running.Status.TheVariants.{Done, Refused, Usage}
@@ -105,7 +105,7 @@ abbrev pub IsAnswerBy : Basis → List (List ℕ) → List ℕ → Answer → Ty
 IsAnswerBy OfLabel images input answer = answer ≡ disk_answer (label_of (image images 0))
 IsAnswerBy OfCopy images input answer = IsRecordsAnswer (label_of (image images 0)) (image images 0) answer
 IsAnswerBy (OfGroup answer_of) images input answer = IsGroupAnswer (answer_of images) images answer
-IsAnswerBy OfScript images input answer = IsAnswerToScript (is_long input) input images answer
+IsAnswerBy OfScript images input answer = IsAnswerToScript (is_long_script input) input images answer
 IsAnswerBy (OfEmpty guids) images input answer = IsInitAnswer guids images answer
 IsAnswerBy (OfSeed seed) images input answer = IsSampleAnswer seed answer
 

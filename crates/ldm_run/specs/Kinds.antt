@@ -3,7 +3,7 @@ use Rattle.std.specs.Prelude.{◌≡◌, ◌⊎◌, ℕ, List, [], ◌∷◌, �
 use Rattle.ldm_host.specs.Seen.{Seen}
 pub use Rattle.ldm_init.specs.Images.{NothingPending}
 pub use Rattle.ldm_dump.specs.Saying.{SameInput}
-pub use Rattle.ldm_words.specs.Jobs.{Kind, Reads, Streams, Hears, Edits, Does, Makes, kind_of, writes}
+pub use Rattle.ldm_words.specs.Jobs.{Kind, Reads, Streams, Hears, Edits, Does, Makes, job_kind, writes}
 use Rattle.ldm_run.specs.declared.running.Status.{Status}
 use Rattle.ldm_run.specs.declared.running.Status.TheVariants.{DiskFault, NoMemory}
 use Rattle.ldm_run.specs.Said.{SaysNothing}

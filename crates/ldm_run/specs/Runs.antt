@@ -5,7 +5,7 @@ use Rattle.ldm_host.specs.Moves.{Rose, Begins, Still}
 use Rattle.ldm_words.specs.declared.job.Job.{Job}
 use Rattle.ldm_run.specs.Said.{Answer, HasAnswer, SaysNothing}
 use Rattle.ldm_run.specs.Answer.{IsJobAnswer}
-use Rattle.ldm_run.specs.Kinds.{kind_of, SameInput, JobTalk}
+use Rattle.ldm_run.specs.Kinds.{job_kind, SameInput, JobTalk}
 use Rattle.ldm_run.specs.Stops.{JobStops, JobSinceSyncs}
 use Rattle.ldm_run.specs.Written.{JobDisks}
 use Rattle.ldm_run.specs.declared.running.Status.{Status}
@@ -83,6 +83,6 @@ Replies tells old new IsOne status = Says tells (λ s. s ≡ DiskFault) old new 
 pub record DoesJob (tells talks : Type 0) (job : Job) (old new : Seen) (status : Status) : Type 0 where
   pub ends : Ends tells old new (IsJobAnswer job old.content old.input) status
   pub disks : JobDisks tells job old new status
-  pub talk : JobTalk tells talks (kind_of job) old new status
+  pub talk : JobTalk tells talks (job_kind job) old new status
   pub stops : JobStops tells job old new
   pub since_syncs : JobSinceSyncs tells job old new

@@ -1,7 +1,7 @@
 -- The sample: the sample script of a seed, done as an edit to the group of three sample images, in memory.
 use Rattle.std.specs.Prelude.{◌≡◌, ℕ, List, [], ◌++◌, codes, decimal, count_by, Option, Ok}
 use Rattle.ldm_host.specs.declared.memory.MemoryHost.{MemoryHost}
-use Rattle.ldm_host.specs.Memory.{memory_seen, counts_of}
+use Rattle.ldm_host.specs.Memory.{memory_seen, host_counts}
 use Rattle.ldm_group.specs.Database.{Database}
 use Rattle.ldm_group.specs.Room.{need_of, room_of}
 use Rattle.ldm_words.specs.declared.command.Command.{Command}
@@ -27,11 +27,11 @@ abbrev pub text_of_counts : (seed done refused : ℕ) → List ℕ
 text_of_counts seed done refused = codes "sample " ++ decimal seed ++ codes " ok " ++ decimal done ++ codes " refused " ++ decimal refused
 
 -- and what the group is then
-abbrev pub text_of_group : (seq need room : ℕ) → List ℕ
-text_of_group seq need room = codes " sequence " ++ decimal seq ++ codes " blocks " ++ decimal need ++ codes " of " ++ decimal room ++ codes "\n"
+abbrev pub text_of_sample : (seq need room : ℕ) → List ℕ
+text_of_sample seq need room = codes " sequence " ++ decimal seq ++ codes " blocks " ++ decimal need ++ codes " of " ++ decimal room ++ codes "\n"
 
 abbrev pub text_of_summary : (seed done refused seq need room : ℕ) → List ℕ
-text_of_summary seed done refused seq need room = text_of_counts seed done refused ++ text_of_group seq need room
+text_of_summary seed done refused seq need room = text_of_counts seed done refused ++ text_of_sample seq need room
 
 -- of these replies, after which the group is this
 abbrev pub summary_of : ℕ → List Reply → Database → List ℕ
@@ -74,7 +74,7 @@ pub record IsSampleHost (seed : ℕ) (host : MemoryHost) : Type 0 where
   pub heard : (memory_seen host).heard ≡ script_of seed
   pub input : (memory_seen host).input ≡ []
   pub said : (memory_seen host).said ≡ text_of_replies 1 (replies_to found.labels found.db (sample_lines seed))
-  pub dry : (counts_of host).dry ≡ 0
+  pub dry : (host_counts host).dry ≡ 0
   pub disks : HoldsAfter found (sample_lines seed) (memory_seen start).content (memory_seen host)
   pub first : (memory_seen host).left_since 0 (memory_seen start).content []
   pub stops : (images : List (List ℕ)) (said : List ℕ) → (memory_seen host).left_since 0 images said

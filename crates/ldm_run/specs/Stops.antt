@@ -13,7 +13,7 @@ use Rattle.ldm_found.specs.Labels.{AreSameOutside}
 use Rattle.ldm_found.specs.Opening.{IsGroupIn}
 use Rattle.ldm_store.specs.Kept.{Opens}
 use Rattle.ldm_store.specs.Healing.{OnlyStill}
-use Rattle.ldm_run.specs.Scripts.{is_long, commands_in}
+use Rattle.ldm_run.specs.Scripts.{is_long_script, commands_in}
 use Rattle.ldm_run.specs.Kinds.{NothingPending}
 use Rattle.ldm_run.specs.Making.{EveryStopMakes}
 
@@ -24,7 +24,7 @@ lines_unless false script = commands_in script
 
 -- What a job does to the group, with this input: a list of lines, each a command or nothing.
 abbrev pub commands_of : Job → List ℕ → List (Option Command)
-commands_of Edit input = lines_unless (is_long input) input
+commands_of Edit input = lines_unless (is_long_script input) input
 commands_of (One command) input = Some command ∷ []
 commands_of job input = []
 
@@ -71,6 +71,6 @@ EveryStopSinceSyncs commands start host = (found : Found) → IsGroupIn start.co
     → OnlyStill start host ⊎ ReopensFrom found commands start host
 
 abbrev pub JobSinceSyncs : Type 0 → Job → Seen → Seen → Type 0
-JobSinceSyncs tells Edit old new = tells → is_long old.input ≡ false → EveryStopSinceSyncs (commands_of Edit old.input) old new
+JobSinceSyncs tells Edit old new = tells → is_long_script old.input ≡ false → EveryStopSinceSyncs (commands_of Edit old.input) old new
 JobSinceSyncs tells (One command) old new = tells → EveryStopSinceSyncs (commands_of (One command) old.input) old new
 JobSinceSyncs tells job old new = Unit {0}

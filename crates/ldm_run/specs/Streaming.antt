@@ -10,7 +10,7 @@ use Rattle.ldm_layout.specs.declared.shape.Shape.{Shape}
 use Rattle.ldm_layout.specs.declared.shape.Shape.TheVariants.{Mirror, Raid5}
 use Rattle.ldm_found.specs.declared.found.Found.{Found}
 use Rattle.ldm_dump.specs.Sources.{is_lost}
-use Rattle.ldm_dump.specs.Bytes.{text_of_volume}
+use Rattle.ldm_dump.specs.Bytes.{bytes_of_volume}
 use Rattle.ldm_scrub.specs.Compare.{places_of}
 use Rattle.ldm_scrub.specs.Lines.{bad_of, text_of_scrub}
 use Rattle.ldm_scrub.specs.Missing.{missing_of}
@@ -34,7 +34,7 @@ named_answer answer (Some v) = answer v
 -- the bytes of all sectors, unless this one is lost
 abbrev pub bytes_answer : List (List ℕ) → Found → Layout → Option ℕ → Answer
 bytes_answer images found l (Some x) = refused ((codes "sector " ++ decimal x) ++ codes " is lost")
-bytes_answer images found l None = (text_of_volume images found l, Done)
+bytes_answer images found l None = (bytes_of_volume images found l, Done)
 
 -- unless one is lost, of which the least is named
 abbrev pub volume_dump : List (List ℕ) → Found → Layout → Answer
@@ -53,13 +53,13 @@ is_compared Raid5 = true
 is_compared _ = false
 
 -- Done where no place is bad
-abbrev pub status_of : ℕ → Status
-status_of bad = if bad == 0 then Done else Refused
+abbrev pub scrub_status : ℕ → Status
+scrub_status bad = if bad == 0 then Done else Refused
 
 -- the lines of the bad places, unless this disk is missing
 abbrev pub places_answer : List ℕ → List (List ℕ) → Found → Layout → Option ℕ → Answer
 places_answer name images found l (Some disk) = refused ((codes "disk " ++ decimal disk) ++ codes " is missing")
-places_answer name images found l None = (text_of_scrub (codes "scrub " ++ esc name) images found l, status_of (bad_of images found l (places_of l)))
+places_answer name images found l None = (text_of_scrub (codes "scrub " ++ esc name) images found l, scrub_status (bad_of images found l (places_of l)))
 
 abbrev pub volume_scrub : List ℕ → List (List ℕ) → Found → Volume → Layout → Answer
 volume_scrub name images found v l =

@@ -11,7 +11,7 @@ use Rattle.ldm_found.specs.Opening.{IsGroupIn}
 use Rattle.ldm_store.specs.Kept.{IsCurrent, HoldsNone}
 use Rattle.ldm_store.specs.Turning.{AllHave, AreRewritten}
 use Rattle.ldm_run.specs.Said.{HasAnswer}
-use Rattle.ldm_run.specs.Scripts.{is_long}
+use Rattle.ldm_run.specs.Scripts.{is_long_script}
 use Rattle.ldm_run.specs.Kinds.{NothingPending}
 use Rattle.ldm_run.specs.Making.{MakesDisks}
 use Rattle.ldm_run.specs.Stops.{commands_of}
@@ -33,7 +33,7 @@ pub record EditsDisks (tells : Type 0) (long : Bool) (commands : List (Option Co
 
 -- What becomes of the disks, also where the host tells them: a job that only reads leaves them as they are.
 abbrev pub JobDisks : Type 0 → Job → Seen → Seen → Status → Type 0
-JobDisks tells Edit old new status = EditsDisks tells (is_long old.input) (commands_of Edit old.input) old new status
+JobDisks tells Edit old new status = EditsDisks tells (is_long_script old.input) (commands_of Edit old.input) old new status
 JobDisks tells (One command) old new status = EditsDisks tells false (commands_of (One command) old.input) old new status
 JobDisks tells (Init name guid disks) old new status = MakesDisks tells name guid disks old new status
 JobDisks tells job old new status = Still old new

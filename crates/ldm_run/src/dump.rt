@@ -3,7 +3,7 @@ ghost use Rattle.std.specs.Prelude.{◌≡◌, ◌++◌, ◌<◌, ℕ, length, c
 ghost use Rattle.ldm_text.specs.Texts.{text_of_refusal};
 ghost use Rattle.ldm_found.specs.Facts.{IsSoundGroup, LieOn};
 ghost use Rattle.ldm_dump.specs.Sources.{is_lost};
-ghost use Rattle.ldm_dump.specs.Bytes.{text_of_volume};
+ghost use Rattle.ldm_dump.specs.Bytes.{bytes_of_volume};
 ghost use Rattle.ldm_dump.specs.Runs.{LiesOn};
 ghost use Rattle.ldm_words.specs.declared.job.Job.TheVariants as jobs;
 ghost use Rattle.ldm_run.specs.Runs.{DoesJob, Streams};
@@ -39,7 +39,7 @@ fn dump_plan<H: Host>(alloc: Global, host: &mut H, found: &Found, plan: &Plan) -
     requires lies { LiesOn found.now plan.now (H.seen host.old).sizes }
     ensures { Streams H.tells_disks (H.seen host.old) (H.seen host.new)
         (λ answer. answer ≡ (
-          text_of_volume (H.seen host.old).content found.now plan.now,
+          bytes_of_volume (H.seen host.old).content found.now plan.now,
           Status.Done,
         )) result }
 {

@@ -1,6 +1,6 @@
 //! Does lines to the group of the disks, each on all disks and then answered.
-ghost use Rattle.std.specs.Prelude.{◌≡◌, ◌≤◌, ◌<◌, List, length, IfOk, IfErr, IfSome};
-ghost use Rattle.std.specs.Prelude.{OnOk, ◌∷◌, [], Option, Some, None};
+ghost use Rattle.std.specs.Prelude.{◌≡◌, ◌≤◌, ◌<◌, List, length, IfOk, IfErr, IfSome, OnOk, ◌∷◌};
+ghost use Rattle.std.specs.Prelude.{[], Option, Some, None};
 ghost use Rattle.ldm_host.specs.Moves.{Works};
 ghost use Rattle.ldm_words.specs.declared.command.Command.{Command as Line};
 ghost use Rattle.ldm_words.specs.declared.job.Job.TheVariants as jobs;

@@ -75,7 +75,7 @@ pub(crate) fn make_group<H: Host>(
     guid: u128,
     disks: &Guids,
 ) -> Status
-    requires words { words.IsNewGroup name.now disks.now }
+    requires words { words.AreInitWords name.now disks.now }
     requires count { length disks.now ≡ length (H.seen host.old).sizes }
     ensures { DoesJob H.tells_disks H.tells_talk (jobs.Init name.now guid disks.now)
         (H.seen host.old) (H.seen host.new) result }

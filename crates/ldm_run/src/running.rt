@@ -15,12 +15,11 @@ ghost use Rattle.ldm_found.specs.Facts.{IsSoundGroup, LieOn};
 ghost use Rattle.ldm_run.specs.Said.{Answer, HasAnswer};
 ghost use Rattle.ldm_run.specs.Answer.{IsAnswerTo, IsCopyAnswer, IsGroupAnswer, refusal};
 ghost use Rattle.ldm_run.specs.Scripts.{commands_in, try_answer};
-ghost use Rattle.ldm_run.specs.Kinds.{kind_of, JobTalk};
+ghost use Rattle.ldm_run.specs.Kinds.{job_kind, JobTalk};
 ghost use Rattle.ldm_run.specs.Stops.{JobStops, JobSinceSyncs};
 ghost use Rattle.ldm_run.specs.Written.{JobDisks};
 ghost use Rattle.ldm_run.specs.Runs.{Answers, Completes, Causes, DoesJob, NoFault, HasImages};
-ghost use Rattle.ldm_run.specs.Runs.{IsUnread, OfJob};
-ghost use Rattle.ldm_run.specs.Runs.{OnlyReads, Replies};
+ghost use Rattle.ldm_run.specs.Runs.{IsUnread, OfJob, OnlyReads, Replies};
 
 use crate::dump::dump;
 use crate::editing::{edit_one, edit_script};
@@ -353,7 +352,7 @@ pub fn run<H: Host>(alloc: Global, words: &[String], host: &mut H) -> Status
         ≡ host.old) (λ job. JobDisks H.tells_disks job (H.seen host.old) (H.seen host.new) result) }
     // After a fault nothing more is said, but where the answer is said while the disks are read on.
     ensures talk { OfJob (job_of (texts words.now)) (host.new
-        ≡ host.old) (λ job. JobTalk H.tells_disks H.tells_talk (kind_of job) (H.seen host.old)
+        ≡ host.old) (λ job. JobTalk H.tells_disks H.tells_talk (job_kind job) (H.seen host.old)
         (H.seen host.new) result) }
     // Whatever a stop leaves at any moment of a job that writes, and after it, opens as the group
     // after some first lines, among them each that was answered.

@@ -3,7 +3,7 @@ ghost use Rattle.std.specs.Prelude.{◌≡◌, ◌==◌, count_by, IfOk, string_
 ghost use Rattle.ldm_words.specs.declared.job.Job.TheVariants as jobs;
 ghost use Rattle.ldm_run.specs.declared.running.Status.{Status as Ending};
 ghost use Rattle.ldm_run.specs.Runs.{DoesJob};
-ghost use Rattle.ldm_run.specs.Sample.{text_of_counts, text_of_group, text_of_summary};
+ghost use Rattle.ldm_run.specs.Sample.{text_of_counts, text_of_sample, text_of_summary};
 ghost use Rattle.ldm_run.specs.Sample.{IsSampleAnswer, IsSampleHost};
 
 use crate::running::{Status, edit, say_made};
@@ -41,7 +41,7 @@ fn counts_text(alloc: Global, seed: u64, done: u64, refused: u64) -> Result<Stri
 }
 
 fn group_text(alloc: Global, seq: u64, need: u64, room: u64) -> Result<String, NoMemory>
-    ensures { IfOk result (λ text. string_bytes text ≡ text_of_group seq need room) }
+    ensures { IfOk result (λ text. string_bytes text ≡ text_of_sample seq need room) }
 {
     Ok(format!(in alloc; " sequence {seq} blocks {need} of {room}\n")?)
 }

@@ -8,7 +8,7 @@ ghost use Rattle.ldm_scrub.specs.Lines.{bad_of, text_of_scrub};
 ghost use Rattle.ldm_words.specs.Names.{esc};
 ghost use Rattle.ldm_words.specs.declared.job.Job.TheVariants as jobs;
 ghost use Rattle.ldm_run.specs.Runs.{DoesJob, Streams};
-ghost use Rattle.ldm_run.specs.Streaming.{is_compared, status_of, scrub_answer};
+ghost use Rattle.ldm_run.specs.Streaming.{is_compared, scrub_status, scrub_answer};
 
 use crate::running::{Status, open_group, say_made};
 use ldm_bytes::{Bytes, NoMemory};
@@ -54,7 +54,7 @@ fn is_compared(shape: Shape) -> bool
 }
 
 fn status_of(bad: u64) -> Status
-    ensures { result ≡ status_of bad }
+    ensures { result ≡ scrub_status bad }
 {
     if bad == 0 {
         Status::Done
@@ -76,7 +76,7 @@ fn scrub_plan<H: Host>(
     ensures { Streams H.tells_disks (H.seen host.old) (H.seen host.new) (λ answer. answer
         ≡ (
           text_of_scrub (codes "scrub " ++ esc name.now) (H.seen host.old).content found.now plan.now,
-          status_of (bad_of (H.seen host.old).content found.now plan.now (places_of plan.now)),
+          scrub_status (bad_of (H.seen host.old).content found.now plan.now (places_of plan.now)),
         )) result }
 {
     let Ok(front) = front_of(alloc, name) else {

@@ -11,7 +11,7 @@ use Rattle.std.proofs.lemmas.List.FromFn.{get_or-map-range_with_len, length-rang
 use Rattle.std.proofs.lemmas.Nat.{div-add-mod', div-mul-add, mod-mul-add, mod_below, mul-le}
 use Rattle.std.proofs.lemmas.Slice.Eq.{bytes_eq-Decides}
 use Rattle.ldm_layout.specs.Places.{raid5_offset}
-use Rattle.ldm_layout.specs.Layouts.{Layout, copies_of, copies_by, sector_of}
+use Rattle.ldm_layout.specs.Layouts.{Layout, copies_of, copies_by, place_at}
 use Rattle.ldm_layout.specs.declared.parts.Extent.{Extent}
 use Rattle.ldm_layout.specs.Columns.{columns_of, IsColumned}
 use Rattle.ldm_layout.specs.declared.shape.Shape.{Shape}
@@ -19,7 +19,7 @@ use Rattle.ldm_layout.specs.declared.shape.Shape.TheVariants.{Raid5}
 use Rattle.ldm_found.specs.declared.found.Found.{Found}
 use Rattle.ldm_dump.specs.Sources.{is_raid5, spot_at, copy_spot}
 use Rattle.ldm_dump.specs.Bytes.{joined_byte, joined_sector}
-use Rattle.ldm_scrub.specs.Compare.{copy_sector, copy_differs, is_bad, is_bad_at, sector_at}
+use Rattle.ldm_scrub.specs.Compare.{copy_sector, copy_differs, is_bad, is_bad_at, place_sector}
 use Rattle.ldm_scrub.proofs.RowLaws.{sector_raid5, sector_other, place_of_row}
 use Rattle.ldm_dump.specs.Redundant.{IsRedundant, row_spots}
 use Rattle.ldm_dump.specs.declared.spots.Spot.{Spot}
@@ -37,7 +37,7 @@ byte_in images spots j lt = get_or-map-range_with_len (joined_byte images spots)
 rows_by : (found : Found) (l : Layout) (x y : ℕ) (images : List (List ℕ)) (j : ℕ) → raid5_offset (length (columns_of l)) l.chunk x ≡ raid5_offset (length (columns_of l)) l.chunk y
     → joined_byte images (row_spots found l x) j ≡ joined_byte images (row_spots found l y) j
 rows_by found l x y images j same =
-    ap (λ (o : ℕ). joined_byte images (filter_map (λ column. spot_at found (option_map sector_of (option_map {U = Extent × ℕ} (λ e. (e, o)) (slice_get (columns_of l) column)))) (range_with_len 0 (length (columns_of l)))) j) same
+    ap (λ (o : ℕ). joined_byte images (filter_map (λ column. spot_at found (option_map place_at (option_map {U = Extent × ℕ} (λ e. (e, o)) (slice_get (columns_of l) column)))) (range_with_len 0 (length (columns_of l)))) j) same
 
 -- the sectors of places: all of a mirror, and those of the first chunk of each row of a RAID-5
 abbrev is_place : Layout → ℕ → Bool
@@ -103,8 +103,8 @@ module _ (images : List (List ℕ)) (found : Found) (l : Layout) (columned : l.s
     row_at : first / u / (k - 1) ≡ row
     row_at = ap (λ n. n / (k - 1)) chunk_at ∙ (ap (λ n. n / (k - 1)) (let e : row * (k - 1) ≡ row * (k - 1) + 0 = omega arith in e) ∙ div-mul-add row (k - 1) 0 many)
 
-    place_at : is_place l first ≡ true
-    place_at = ap (λ (s : Shape). if is_raid5 s then (first / u % (k - 1)) == 0 else true) raid5
+    on_place : is_place l first ≡ true
+    on_place = ap (λ (s : Shape). if is_raid5 s then (first / u % (k - 1)) == 0 else true) raid5
         ∙ eq-eqb (first / u % (k - 1)) 0 (ap (λ n. n % (k - 1)) chunk_at ∙ (ap (λ n. n % (k - 1)) (let e : row * (k - 1) ≡ row * (k - 1) + 0 = omega arith in e) ∙ mod-mul-add row (k - 1) 0 many))
 
     first_low : first ≤ x
@@ -121,7 +121,7 @@ module _ (images : List (List ℕ)) (found : Found) (l : Layout) (columned : l.s
   row_zero : (x j : ℕ) → x < l.size → l.shape ≡ Raid5 → j < 512 → joined_byte images (row_spots found l x) j ≡ 0
   row_zero x j within raid5 lt =
       let at = first x raid5 in
-      let ok : is_bad images found l at ≡ false = clean at (let low = first_low x raid5 in omega (arith, low, within)) (place_at x raid5) in
+      let ok : is_bad images found l at ≡ false = clean at (let low = first_low x raid5 in omega (arith, low, within)) (on_place x raid5) in
       let fails = bad_row images found l at raid5 ∙ ok in
       let zero_byte : ℕ = 0 in
       let equal : joined_sector images (row_spots found l at) ≡ replicate 512 zero_byte = (bytes_eq-Decides (joined_sector images (row_spots found l at)) (replicate 512 zero_byte)).0 (not-false (bytes_eq (joined_sector images (row_spots found l at)) (replicate 512 zero_byte)) fails) in
@@ -131,10 +131,10 @@ module _ (images : List (List ℕ)) (found : Found) (l : Layout) (columned : l.s
       row_same y is i = rows_by found l y (first y is) images i (sym (offset_at y is))
 
 -- each of them is the sector of a place
-at_place : (l : Layout) (x : ℕ) → (l.shape ≡ Raid5 → IsColumned l) → is_place l x ≡ true → (p : ℕ) × (sector_at l p ≡ x)
+at_place : (l : Layout) (x : ℕ) → (l.shape ≡ Raid5 → IsColumned l) → is_place l x ≡ true → (p : ℕ) × (place_sector l p ≡ x)
 at_place l x columned place = go (is_raid5 l.shape) refl
   where
-    go : (b : Bool) → is_raid5 l.shape ≡ b → (p : ℕ) × (sector_at l p ≡ x)
+    go : (b : Bool) → is_raid5 l.shape ≡ b → (p : ℕ) × (place_sector l p ≡ x)
     go false other = (x, sector_other l x other)
     go true is =
         let raid5 = raid5_is l.shape is in
@@ -144,7 +144,7 @@ at_place l x columned place = go (is_raid5 l.shape) refl
         (p, sector_raid5 l p raid5 ∙ place_of_row (length (columns_of l)) l.chunk x has.chunked (eqb-true (x / l.chunk % (length (columns_of l) - 1)) 0 first))
 
 pub clean_redundant : (images : List (List ℕ)) (found : Found) (l : Layout) → (l.shape ≡ Raid5 → IsColumned l)
-    → ((p : ℕ) → sector_at l p < l.size → is_bad_at images found l p ≡ false) → IsRedundant images found l
+    → ((p : ℕ) → place_sector l p < l.size → is_bad_at images found l p ≡ false) → IsRedundant images found l
 clean_redundant images found l columned clean =
     record { copies = copies_same images found l columned sectors; rows = row_zero images found l columned sectors }
   where

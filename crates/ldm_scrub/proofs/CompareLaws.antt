@@ -10,7 +10,7 @@ use Rattle.ldm_layout.specs.declared.shape.Place.{Place}
 use Rattle.ldm_found.specs.declared.found.Found.{Found}
 use Rattle.ldm_dump.specs.Sources.{is_raid5, spot_at, copy_spot}
 use Rattle.ldm_dump.specs.Bytes.{joined_byte, joined_sector}
-use Rattle.ldm_scrub.specs.Compare.{copy_sector, copy_differs, row_fails, is_bad, sector_at, IsCommonRun, part, mark, marked}
+use Rattle.ldm_scrub.specs.Compare.{copy_sector, copy_differs, row_fails, is_bad, place_sector, IsCommonRun, sector_in, mark, marked}
 use Rattle.ldm_scrub.proofs.RowLaws.{column_moved}
 use Rattle.ldm_dump.specs.Runs.{behind, HasBytes, LiesOn}
 use Rattle.ldm_dump.specs.declared.spots.Spot.{Spot}
@@ -25,7 +25,7 @@ use Rattle.ldm_dump.proofs.ReadLaws.{run_bytes}
 
 -- a sector of what is read of some sectors
 pub part_is : (images : List (List ℕ)) (spots : List Spot) (out : List ℕ) (i n : ℕ) → length out ≡ 512 * n → i < n → ((j : ℕ) → j < length out → slice_index out j ≡ joined_byte images spots j)
-    → part out i ≡ joined_sector images (map (behind i) spots)
+    → sector_in out i ≡ joined_sector images (map (behind i) spots)
 part_is images spots out i n size lt bytes =
     let span : 512 * i + 512 - 512 * i ≡ 512 = omega arith in
     let long : 512 ≤ length (drop (512 * i) out) = omega (arith, length-drop (512 * i) out, size, lt) in
@@ -37,7 +37,7 @@ part_is images spots out i n size lt bytes =
     ∙ (sym (joined_behind images i k spots) ∙ sym (get_or-map-range_with_len (joined_byte images (map (behind i) spots)) 0 512 k k 0 few (omega arith))))))
 
 pub copy_part : (images : List (List ℕ)) (found : Found) (l : Layout) (x copy run i n : ℕ) (out : List ℕ) → IsCommonRun l x run → copy < copies_of l → n ≤ run → length out ≡ 512 * n → i < n
-    → ((j : ℕ) → j < length out → slice_index out j ≡ joined_byte images (option_to_list (copy_spot found l x copy)) j) → part out i ≡ copy_sector images found l (x + i) copy
+    → ((j : ℕ) → j < length out → slice_index out j ≡ joined_byte images (option_to_list (copy_spot found l x copy)) j) → sector_in out i ≡ copy_sector images found l (x + i) copy
 copy_part images found l x copy run i n out common copied few size lt bytes =
     let moves : copy_spot found l (x + i) copy ≡ option_map (behind i) (copy_spot found l x copy) =
     ap (λ (p : Option Place). spot_at found p) (common.places copy i copied (omega (arith, lt, few))) ∙ spot_moved found i (place_in l x copy) in
@@ -74,12 +74,12 @@ marked_next t copy same m new low is so step =
 -- ---- rows
 
 pub row_part : (images : List (List ℕ)) (found : Found) (l : Layout) (p i n : ℕ) (out : List ℕ) → l.shape ≡ Raid5 → IsColumned l → length out ≡ 512 * n → i < n
-    → ((j : ℕ) → j < length out → slice_index out j ≡ joined_byte images (row_spots found l (sector_at l p)) j) → part out i ≡ joined_sector images (row_spots found l (sector_at l (p + i)))
+    → ((j : ℕ) → j < length out → slice_index out j ≡ joined_byte images (row_spots found l (place_sector l p)) j) → sector_in out i ≡ joined_sector images (row_spots found l (place_sector l (p + i)))
 row_part images found l p i n out raid5 columned size lt bytes =
-    part_is images (row_spots found l (sector_at l p)) out i n size lt bytes
+    part_is images (row_spots found l (place_sector l p)) out i n size lt bytes
     ∙ ap (λ (s : List Spot). joined_sector images s)
-    (sym (made_moved (λ column. spot_at found (column_in l (sector_at l (p + i)) column)) (λ column. spot_at found (column_in l (sector_at l p) column)) (behind i) (range_with_len 0 (length (columns_of l)))
-    (λ column. ap (λ (q : Option Place). spot_at found q) (column_moved l p i column raid5 columned) ∙ spot_moved found i (column_in l (sector_at l p) column))))
+    (sym (made_moved (λ column. spot_at found (column_in l (place_sector l (p + i)) column)) (λ column. spot_at found (column_in l (place_sector l p) column)) (behind i) (range_with_len 0 (length (columns_of l)))
+    (λ column. ap (λ (q : Option Place). spot_at found q) (column_moved l p i column raid5 columned) ∙ spot_moved found i (column_in l (place_sector l p) column))))
 
 pub marked_once : (same : Bool) (m new : ℕ) → m ≡ 0 → new ≡ marked same m → new ≡ mark (not same)
 marked_once true m new zero is = is ∙ zero

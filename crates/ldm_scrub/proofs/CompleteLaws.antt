@@ -14,7 +14,7 @@ use Rattle.ldm_group.proofs.KinLaws.{counted_there}
 use Rattle.ldm_group.proofs.LookLaws.{find_there, none_found}
 use Rattle.ldm_layout.proofs.ColumnLaws.{none, get_at}
 use Rattle.ldm_layout.proofs.VolumeLaws.{IsExtentOf}
-use Rattle.ldm_layout.specs.Layouts.{Layout, is_tiled, sector_of, copies_of, copies_by, place_in}
+use Rattle.ldm_layout.specs.Layouts.{Layout, is_tiled, place_at, copies_of, copies_by, place_in}
 use Rattle.ldm_layout.specs.Columns.{columns_of, column_spot, column_in}
 use Rattle.ldm_layout.specs.Parts.{plexes_of, is_partition_of}
 use Rattle.ldm_layout.specs.Places.{raid5_offset}
@@ -33,7 +33,7 @@ use Rattle.ldm_found.specs.Facts.{IsSoundGroup}
 use Rattle.ldm_found.specs.Labels.{image_of}
 use Rattle.ldm_dump.specs.Sources.{is_here}
 use Rattle.ldm_dump.specs.Redundant.{IsComplete}
-use Rattle.ldm_scrub.specs.Missing.{is_on, has_part, is_missing, missing_of}
+use Rattle.ldm_scrub.specs.Missing.{lies_on, has_part, is_missing, missing_of}
 
 at_disk : (id : ℕ) (r : Record) → is_at 2 id r ≡ true → (d : Disk) × (r ≡ kinds.Disk d) × (d.head.id ≡ id)
 at_disk id (kinds.Disk d) h = (d, refl, eqb-true d.head.id id h)
@@ -58,8 +58,8 @@ module _ (found : Found) (v : Volume) (l : Layout) (sound : IsSoundGroup found) 
           (eq-eqb (plex_at found.db.records v copy).id p.parent (sym parent))
 
       parted : (d : Disk) → d.head.id ≡ p.disk → has_part found.db.records v.head.id d.head.id ≡ true
-      parted d id = list_any_at (λ (r : Record). is_on d.head.id r && is_partition_of v.head.id found.db.records r) found.db.records there.0 (kinds.Partition p) there.1
-          (ap (λ (r : Record). is_on d.head.id r && is_partition_of v.head.id found.db.records r) there.2
+      parted d id = list_any_at (λ (r : Record). lies_on d.head.id r && is_partition_of v.head.id found.db.records r) found.db.records there.0 (kinds.Partition p) there.1
+          (ap (λ (r : Record). lies_on d.head.id r && is_partition_of v.head.id found.db.records r) there.2
           ∙ (ap (λ (b : Bool). b && is_partition_of v.head.id found.db.records (kinds.Partition p)) (eq-eqb p.disk d.head.id (sym id)) ∙ own))
 
       image : (d : Disk) (i : Option ℕ) → Contains found.db.records (kinds.Disk d) → d.head.id ≡ p.disk → image_with d.guid found.labels ≡ i → is_some i ≡ true
@@ -86,7 +86,7 @@ module _ (found : Found) (v : Volume) (l : Layout) (sound : IsSoundGroup found) 
           ∙ image disk.0 (image_with disk.0.guid found.labels) there_disk disk.2 refl
 
   part_here : (e : Extent) (copy o : ℕ) → copy < length (plexes_of v.head.id found.db.records) → IsExtentOf found.db.records (plex_at found.db.records v copy).id e
-      → is_here found (Some (sector_of (e, o))) ≡ true
+      → is_here found (Some (place_at (e, o))) ≡ true
   part_here e copy o lt part =
       ap (λ (f : Extent). is_some (image_of f.disk found.db.records found.labels)) (sym part.is) ∙ disk_here part.partition copy lt part.there part.parent
 
@@ -95,7 +95,7 @@ module _ (found : Found) (v : Volume) (l : Layout) (sound : IsSoundGroup found) 
       let facts = copy_facts found.db.records v l copy has copied in
       let size : l.size ≡ v.size = facts.size in
       let spot = (sector_spot found.db.records v l x copy (record { volume = has; within = omega (arith, lt, size); copied = copied })).inside in
-      ap (λ (s : Option (Extent × ℕ)). is_here found (option_map sector_of s)) spot.is ∙ part_here spot.part copy spot.offset facts.copied spot.has
+      ap (λ (s : Option (Extent × ℕ)). is_here found (option_map place_at s)) spot.is ∙ part_here spot.part copy spot.offset facts.copied spot.has
 
   columns_here : (x column : ℕ) → x < l.size → l.shape ≡ Raid5 → column < length (columns_of l) → is_here found (column_in l x column) ≡ true
   columns_here x column lt raid5 within =
@@ -104,8 +104,8 @@ module _ (found : Found) (v : Volume) (l : Layout) (sound : IsSoundGroup found) 
       let es = parts_at l 0 in
       let are : columns_of l ≡ es = ap (λ (b : Bool). if b then [] else get_or l.plexes 0 []) (ap is_tiled raid5) in
       let inside : column < length es = subst (λ (fs : List Extent). column < length fs) are within in
-      ap (λ (fs : List Extent). is_here found (option_map sector_of (column_spot fs l.chunk x column))) are
-      ∙ (ap (λ (g : Option Extent). is_here found (option_map sector_of (option_map {U = Extent × ℕ} (λ f. (f, raid5_offset (length es) l.chunk x)) g))) (get_at es column none inside)
+      ap (λ (fs : List Extent). is_here found (option_map place_at (column_spot fs l.chunk x column))) are
+      ∙ (ap (λ (g : Option Extent). is_here found (option_map place_at (option_map {U = Extent × ℕ} (λ f. (f, raid5_offset (length es) l.chunk x)) g))) (get_at es column none inside)
       ∙ part_here (get_or es column none) 0 (raid5_offset (length es) l.chunk x) facts.copied (facts.own column none inside))
 
   pub none_missing_complete : IsComplete found l

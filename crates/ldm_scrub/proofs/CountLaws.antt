@@ -11,7 +11,7 @@ use Rattle.ldm_layout.specs.Columns.{columns_of, IsColumned}
 use Rattle.ldm_layout.specs.declared.shape.Shape.TheVariants.{Raid5}
 use Rattle.ldm_dump.specs.Sources.{is_raid5}
 use Rattle.ldm_dump.proofs.RangeLaws.{range_append}
-use Rattle.ldm_scrub.specs.Compare.{sector_at, IsCount}
+use Rattle.ldm_scrub.specs.Compare.{place_sector, IsCount}
 use Rattle.ldm_scrub.proofs.RowLaws.{sector_raid5, sector_other}
 
 filter_all : (t : ℕ → Bool) (a n : ℕ) → ((p : ℕ) → a ≤ p → p < a + n → t p ≡ true) → filter t (range_with_len a n) ≡ range_with_len a n
@@ -40,9 +40,9 @@ filter_front t size n le passes fails =
     ∙ append-nil (range_with_len 0 n)))))
 
 -- what a number of places must be
-pub count_is : (l : Layout) (n : ℕ) → n ≤ l.size → ((p : ℕ) → p < n → sector_at l p < l.size) → ((p : ℕ) → n ≤ p → l.size ≤ sector_at l p) → (is_raid5 l.shape ≡ false → n ≡ l.size) → IsCount l n
+pub count_is : (l : Layout) (n : ℕ) → n ≤ l.size → ((p : ℕ) → p < n → place_sector l p < l.size) → ((p : ℕ) → n ≤ p → l.size ≤ place_sector l p) → (is_raid5 l.shape ≡ false → n ≡ l.size) → IsCount l n
 count_is l n le passes fails others = record {
-  all = filter_front (λ p. nat_lt (sector_at l p) l.size) l.size n le (λ p lt. lt-ltb (sector_at l p) l.size (passes p lt)) (λ p low. le-ltb (sector_at l p) l.size (fails p low));
+  all = filter_front (λ p. nat_lt (place_sector l p) l.size) l.size n le (λ p lt. lt-ltb (place_sector l p) l.size (passes p lt)) (λ p low. le-ltb (place_sector l p) l.size (fails p low));
   each = passes;
   others = others;
 }
@@ -129,12 +129,12 @@ count_rows l raid5 columned =
     few_all : (p : ℕ) → rows_in k u l.size ≤ l.size
     few_all p = (let f = (count p).few in let e = size_is in omega (arith, f, e))
 
-    yes_all : (p : ℕ) → p < rows_in k u l.size → sector_at l p < l.size
+    yes_all : (p : ℕ) → p < rows_in k u l.size → place_sector l p < l.size
     yes_all p lt =
         let y = (count p).inside (let e = div-add-mod' p u in omega (arith, e, lt)) in
         let e = size_is in let at = sector_raid5 l p raid5 in omega (arith, y, e, at)
 
-    no_more_all : (p : ℕ) → rows_in k u l.size ≤ p → l.size ≤ sector_at l p
+    no_more_all : (p : ℕ) → rows_in k u l.size ≤ p → l.size ≤ place_sector l p
     no_more_all p low =
         let n = (count p).outside (let e = div-add-mod' p u in omega (arith, e, low)) in
         let e = size_is in let at = sector_raid5 l p raid5 in omega (arith, n, e, at)

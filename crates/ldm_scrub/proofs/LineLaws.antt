@@ -15,7 +15,7 @@ use Rattle.ldm_found.specs.declared.found.Found.{Found}
 use Rattle.ldm_dump.specs.Sources.{is_raid5}
 use Rattle.ldm_dump.proofs.RangeLaws.{range_append, range_more}
 use Rattle.ldm_scrub.specs.Compare.{is_bad_at, mark, places_of, IsCount}
-use Rattle.ldm_scrub.specs.Lines.{text_of_differing, text_of_failing, line_of, line_at, lines_of, bad_of, text_of_end}
+use Rattle.ldm_scrub.specs.Lines.{text_of_differing, text_of_failing, bad_line, line_at, bad_lines, bad_of, text_of_end}
 
 -- ---- more places
 
@@ -37,8 +37,8 @@ line_one t line place i =
     ∙ (flat_map-append f (range_with_len place i) ((place + i) ∷ [])
     ∙ ap (λ (r : List ℕ). flat_map f (range_with_len place i) ++ r) (append-nil (f (place + i)))))
 
-pub lines_more : (images : List (List ℕ)) (found : Found) (l : Layout) (p n : ℕ) → lines_of images found l (range_with_len 0 (p + n)) ≡ lines_of images found l (range_with_len 0 p) ++ lines_of images found l (range_with_len p n)
-unfolding lines_of
+pub lines_more : (images : List (List ℕ)) (found : Found) (l : Layout) (p n : ℕ) → bad_lines images found l (range_with_len 0 (p + n)) ≡ bad_lines images found l (range_with_len 0 p) ++ bad_lines images found l (range_with_len p n)
+unfolding bad_lines
 lines_more images found l p n =
     ap (λ (r : List ℕ). flat_map (line_at images found l) r) (range_append 0 p n ∙ ap (λ (q : ℕ). range_with_len 0 p ++ range_with_len q n) (zero-add p))
     ∙ flat_map-append (line_at images found l) (range_with_len 0 p) (range_with_len p n)
@@ -49,8 +49,8 @@ bad_more images found l p n =
     ap (λ (r : List ℕ). count_by (is_bad_at images found l) r) (range_append 0 p n ∙ ap (λ (q : ℕ). range_with_len 0 p ++ range_with_len q n) (zero-add p))
     ∙ count_append (is_bad_at images found l) (range_with_len 0 p) (range_with_len p n)
 
-pub no_lines : (images : List (List ℕ)) (found : Found) (l : Layout) → lines_of images found l (range_with_len 0 0) ≡ []
-unfolding lines_of
+pub no_lines : (images : List (List ℕ)) (found : Found) (l : Layout) → bad_lines images found l (range_with_len 0 0) ≡ []
+unfolding bad_lines
 no_lines images found l = refl
 
 pub none_bad : (images : List (List ℕ)) (found : Found) (l : Layout) → bad_of images found l (range_with_len 0 0) ≡ 0
@@ -67,12 +67,12 @@ no_line t line (x ∷ xs) none = go (t x) (sym (count_append t (x ∷ []) xs) �
     go true none rest = absurd (omega (arith, none))
     go false none rest = rest (omega (arith, none))
 
-pub silent : (images : List (List ℕ)) (found : Found) (l : Layout) (places : List ℕ) → count_by (is_bad_at images found l) places ≡ 0 → lines_of images found l places ≡ []
-unfolding lines_of
-silent images found l places none = no_line (is_bad_at images found l) (line_of l) places none
+pub silent : (images : List (List ℕ)) (found : Found) (l : Layout) (places : List ℕ) → count_by (is_bad_at images found l) places ≡ 0 → bad_lines images found l places ≡ []
+unfolding bad_lines
+silent images found l places none = no_line (is_bad_at images found l) (bad_line l) places none
 
-pub lines_are : (images : List (List ℕ)) (found : Found) (l : Layout) (places : List ℕ) → flat_map (λ p. if is_bad_at images found l p then line_of l p else []) places ≡ lines_of images found l places
-unfolding lines_of
+pub lines_are : (images : List (List ℕ)) (found : Found) (l : Layout) (places : List ℕ) → flat_map (λ p. if is_bad_at images found l p then bad_line l p else []) places ≡ bad_lines images found l places
+unfolding bad_lines
 lines_are images found l places = refl
 
 pub bad_are : (images : List (List ℕ)) (found : Found) (l : Layout) (places : List ℕ) → count_by (is_bad_at images found l) places ≡ bad_of images found l places
@@ -85,15 +85,15 @@ bad_are images found l places = refl
 pub marked_front : (images : List (List ℕ)) (found : Found) (l : Layout) (place all n : ℕ) (marks old mid new : List ℕ) → n ≤ length marks → mid ≡ old → place + n ≤ all
     → ((i : ℕ) → i < n → slice_index marks i ≡ mark (is_bad_at images found l (place + i)))
     → (((i : ℕ) → i < length (take n marks) → slice_index (take n marks) i ≡ mark (is_bad_at images found l (place + i)))
-    → Begins new (mid ++ lines_of images found l (range_with_len place (length (take n marks)))))
-    → (m : ℕ) × (place + m ≤ all) × Begins new (old ++ lines_of images found l (range_with_len place m))
+    → Begins new (mid ++ bad_lines images found l (range_with_len place (length (take n marks)))))
+    → (m : ℕ) × (place + m ≤ all) × Begins new (old ++ bad_lines images found l (range_with_len place m))
 marked_front images found l place all n marks old mid new few same fits marked front =
     let size = length-take-le n marks few in
     let part = front (λ i lt. get_or-take n marks i 0 (omega (arith, size, lt)) ∙ marked i (omega (arith, size, lt))) in (
       n,
       fits,
-      subst (λ (m : ℕ). Begins new (old ++ lines_of images found l (range_with_len place m))) size
-          (subst (λ (s : List ℕ). Begins new (s ++ lines_of images found l (range_with_len place (length (take n marks))))) same part),
+      subst (λ (m : ℕ). Begins new (old ++ bad_lines images found l (range_with_len place m))) size
+          (subst (λ (s : List ℕ). Begins new (s ++ bad_lines images found l (range_with_len place (length (take n marks))))) same part),
     )
 
 -- what begins a text begins it with more behind
@@ -102,12 +102,12 @@ begins_more new whole more b = (b.0 ++ more, ap (λ (t : List ℕ). t ++ more) b
 
 -- ---- a line
 
-pub line_row : (l : Layout) (p : ℕ) → l.shape ≡ Raid5 → line_of l p ≡ text_of_failing (p / l.chunk) (p % l.chunk)
-unfolding line_of
+pub line_row : (l : Layout) (p : ℕ) → l.shape ≡ Raid5 → bad_line l p ≡ text_of_failing (p / l.chunk) (p % l.chunk)
+unfolding bad_line
 line_row l p raid5 = ap (λ (s : Shape). if is_raid5 s then text_of_failing (p / l.chunk) (p % l.chunk) else text_of_differing p) raid5
 
-pub line_other : (l : Layout) (p : ℕ) → is_raid5 l.shape ≡ false → line_of l p ≡ text_of_differing p
-unfolding line_of
+pub line_other : (l : Layout) (p : ℕ) → is_raid5 l.shape ≡ false → bad_line l p ≡ text_of_differing p
+unfolding bad_line
 line_other l p other = ap (λ (b : Bool). if b then text_of_failing (p / l.chunk) (p % l.chunk) else text_of_differing p) other
 
 pub other_shape : (s : Shape) → (s ≡ Raid5 → ⊥) → is_raid5 s ≡ false

@@ -3,7 +3,7 @@ use Rattle.std.proofs.Common.{◌≡◌, ℕ, ◌+◌, ◌-◌, ◌*◌, ◌/◌
 use Rattle.std.specs.Option.{option_map}
 use Rattle.std.proofs.lemmas.Nat.{div-add-mod', div-mul-add, mod-mul-add, mod_below}
 use Rattle.ldm_layout.specs.Places.{raid5_offset}
-use Rattle.ldm_layout.specs.Layouts.{Layout, sector_of}
+use Rattle.ldm_layout.specs.Layouts.{Layout, place_at}
 use Rattle.ldm_layout.specs.Columns.{columns_of, IsColumned, column_in, moved}
 use Rattle.ldm_layout.specs.declared.parts.Extent.{Extent}
 use Rattle.ldm_layout.specs.declared.shape.Place.{Place}
@@ -14,19 +14,19 @@ use Rattle.ldm_dump.specs.Sources.{is_raid5, spot_at}
 use Rattle.ldm_dump.specs.Runs.{behind, IsOn, HasBytes, RowsLieOn}
 use Rattle.ldm_dump.specs.declared.spots.Spot.{Spot}
 use Rattle.ldm_dump.proofs.RunLaws.{spot_moved}
-use Rattle.ldm_scrub.specs.Compare.{sector_at}
+use Rattle.ldm_scrub.specs.Compare.{place_sector}
 
 -- ---- the sector of a place
 
 abbrev pub row_sector : ℕ → ℕ → ℕ → ℕ
 row_sector k u p = p / u * (k - 1) * u + p % u
 
-pub sector_raid5 : (l : Layout) (p : ℕ) → l.shape ≡ Raid5 → sector_at l p ≡ row_sector (length (columns_of l)) l.chunk p
-unfolding sector_at
+pub sector_raid5 : (l : Layout) (p : ℕ) → l.shape ≡ Raid5 → place_sector l p ≡ row_sector (length (columns_of l)) l.chunk p
+unfolding place_sector
 sector_raid5 l p raid5 = ap (λ (s : Shape). if is_raid5 s then row_sector (length (columns_of l)) l.chunk p else p) raid5
 
-pub sector_other : (l : Layout) (p : ℕ) → is_raid5 l.shape ≡ false → sector_at l p ≡ p
-unfolding sector_at
+pub sector_other : (l : Layout) (p : ℕ) → is_raid5 l.shape ≡ false → place_sector l p ≡ p
+unfolding place_sector
 sector_other l p other = ap (λ (b : Bool). if b then row_sector (length (columns_of l)) l.chunk p else p) other
 
 -- the row and the offset of that sector
@@ -63,7 +63,7 @@ place_of_row k u x some first =
 
 -- ---- the columns
 
-at_offset : (o : Option Extent) (p i : ℕ) → option_map sector_of (option_map {U = Extent × ℕ} (λ e. (e, p + i)) o) ≡ option_map (moved i) (option_map sector_of (option_map {U = Extent × ℕ} (λ e. (e, p)) o))
+at_offset : (o : Option Extent) (p i : ℕ) → option_map place_at (option_map {U = Extent × ℕ} (λ e. (e, p + i)) o) ≡ option_map (moved i) (option_map place_at (option_map {U = Extent × ℕ} (λ e. (e, p)) o))
 at_offset None p i = refl
 at_offset (Some e) p i =
     let make : ℕ → Option Place = λ n. Some (record { disk = e.disk; sector = n }) in
@@ -71,13 +71,13 @@ at_offset (Some e) p i =
 
 -- what is in a column at a place
 column_at : (l : Layout) (p column : ℕ) → l.shape ≡ Raid5 → IsColumned l
-    → column_in l (sector_at l p) column ≡ option_map sector_of (option_map {U = Extent × ℕ} (λ e. (e, p)) (slice_get (columns_of l) column))
+    → column_in l (place_sector l p) column ≡ option_map place_at (option_map {U = Extent × ℕ} (λ e. (e, p)) (slice_get (columns_of l) column))
 column_at l p column raid5 columned =
-    ap (λ (x : ℕ). option_map sector_of (option_map {U = Extent × ℕ} (λ e. (e, raid5_offset (length (columns_of l)) l.chunk x)) (slice_get (columns_of l) column))) (sector_raid5 l p raid5)
-    ∙ ap (λ (o : ℕ). option_map sector_of (option_map {U = Extent × ℕ} (λ e. (e, o)) (slice_get (columns_of l) column))) (row_parts (length (columns_of l)) l.chunk p columned.chunked columned.many).offset
+    ap (λ (x : ℕ). option_map place_at (option_map {U = Extent × ℕ} (λ e. (e, raid5_offset (length (columns_of l)) l.chunk x)) (slice_get (columns_of l) column))) (sector_raid5 l p raid5)
+    ∙ ap (λ (o : ℕ). option_map place_at (option_map {U = Extent × ℕ} (λ e. (e, o)) (slice_get (columns_of l) column))) (row_parts (length (columns_of l)) l.chunk p columned.chunked columned.many).offset
 
 -- places lie side by side in each column
-pub column_moved : (l : Layout) (p i column : ℕ) → l.shape ≡ Raid5 → IsColumned l → column_in l (sector_at l (p + i)) column ≡ option_map (moved i) (column_in l (sector_at l p) column)
+pub column_moved : (l : Layout) (p i column : ℕ) → l.shape ≡ Raid5 → IsColumned l → column_in l (place_sector l (p + i)) column ≡ option_map (moved i) (column_in l (place_sector l p) column)
 column_moved l p i column raid5 columned =
     column_at l (p + i) column raid5 columned
     ∙ (at_offset (slice_get (columns_of l) column) p i ∙ sym (ap (λ (o : Option Place). option_map (moved i) o) (column_at l p column raid5 columned)))
@@ -87,9 +87,9 @@ last_bytes : (sizes : List ℕ) (s : Spot) (n bytes : ℕ) → 0 < n → IsOn si
 last_bytes sizes s n bytes some on few = (let last = on.sector in record { image = on.image; inside = omega (arith, last, few, some) })
 
 pub column_bytes : (sizes : List ℕ) (found : Found) (l : Layout) (p column n bytes : ℕ) (s : Spot) → RowsLieOn found l sizes → l.shape ≡ Raid5 → IsColumned l → 0 < n
-    → ((i : ℕ) → i < n → sector_at l (p + i) < l.size) → bytes ≤ 512 * n → spot_at found (column_in l (sector_at l p) column) ≡ Some s → HasBytes sizes s bytes
+    → ((i : ℕ) → i < n → place_sector l (p + i) < l.size) → bytes ≤ 512 * n → spot_at found (column_in l (place_sector l p) column) ≡ Some s → HasBytes sizes s bytes
 column_bytes sizes found l p column n bytes s lies raid5 columned some within few is =
-    let last : spot_at found (column_in l (sector_at l (p + (n - 1))) column) ≡ Some (behind (n - 1) s) =
+    let last : spot_at found (column_in l (place_sector l (p + (n - 1))) column) ≡ Some (behind (n - 1) s) =
     ap (λ (o : Option Place). spot_at found o) (column_moved l p (n - 1) column raid5 columned)
-    ∙ (spot_moved found (n - 1) (column_in l (sector_at l p) column) ∙ ap (λ (o : Option Spot). option_map (behind (n - 1)) o) is) in
-    last_bytes sizes s n bytes some (lies (sector_at l (p + (n - 1))) column (behind (n - 1) s) (within (n - 1) (omega (arith, some))) raid5 last) few
+    ∙ (spot_moved found (n - 1) (column_in l (place_sector l p) column) ∙ ap (λ (o : Option Spot). option_map (behind (n - 1)) o) is) in
+    last_bytes sizes s n bytes some (lies (place_sector l (p + (n - 1))) column (behind (n - 1) s) (within (n - 1) (omega (arith, some))) raid5 last) few

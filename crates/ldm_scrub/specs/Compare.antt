@@ -33,21 +33,21 @@ is_bad images found l x = if is_raid5 l.shape then row_fails images found l x el
 
 -- The sector of a place. A place of a RAID-5 is a row and an offset in its chunks, place s * u + o for row s and offset o in
 -- chunks of u sectors; its sector is the one in the row's first chunk. A place of any other volume is a sector.
-unfoldable pub sector_at : Layout → ℕ → ℕ
-sector_at l p = if is_raid5 l.shape then p / l.chunk * (length (columns_of l) - 1) * l.chunk + p % l.chunk else p
+unfoldable pub place_sector : Layout → ℕ → ℕ
+place_sector l p = if is_raid5 l.shape then p / l.chunk * (length (columns_of l) - 1) * l.chunk + p % l.chunk else p
 
 -- all places, in their order
 abbrev pub places_of : Layout → List ℕ
-places_of l = filter (λ p. nat_lt (sector_at l p) l.size) (range_with_len 0 l.size)
+places_of l = filter (λ p. nat_lt (place_sector l p) l.size) (range_with_len 0 l.size)
 
 -- the place is bad
 abbrev pub is_bad_at : List (List ℕ) → Found → Layout → ℕ → Bool
-is_bad_at images found l p = is_bad images found l (sector_at l p)
+is_bad_at images found l p = is_bad images found l (place_sector l p)
 
 -- so many places there are
 pub record IsCount (l : Layout) (count : ℕ) : Type 0 where
   pub all : places_of l ≡ range_with_len 0 count
-  pub each : (p : ℕ) → p < count → sector_at l p < l.size
+  pub each : (p : ℕ) → p < count → place_sector l p < l.size
   pub others : is_raid5 l.shape ≡ false → count ≡ l.size
 
 -- So many sectors from this one on, in front of the volume's end, lie side by side in each copy.
@@ -59,8 +59,8 @@ pub record IsCommonRun (l : Layout) (x n : ℕ) : Type 0 where
 -- ---- marks
 
 -- sector i of some sectors
-abbrev pub part : List ℕ → ℕ → List ℕ
-part bytes i = slice_range bytes (512 * i) (512 * i + 512)
+abbrev pub sector_in : List ℕ → ℕ → List ℕ
+sector_in bytes i = slice_range bytes (512 * i) (512 * i + 512)
 
 -- the mark of a bad place, and of another
 abbrev pub mark : Bool → ℕ
@@ -77,4 +77,4 @@ marked false m = 1
 -- where no place is bad, the volume is redundant
 abbrev pub CleanIsRedundant : Type 0
 CleanIsRedundant = (images : List (List ℕ)) (found : Found) (l : Layout) → (l.shape ≡ Raid5 → IsColumned l)
-    → ((p : ℕ) → sector_at l p < l.size → is_bad_at images found l p ≡ false) → IsRedundant images found l
+    → ((p : ℕ) → place_sector l p < l.size → is_bad_at images found l p ≡ false) → IsRedundant images found l

@@ -14,15 +14,15 @@ unfoldable pub text_of_failing : ℕ → ℕ → List ℕ
 text_of_failing row offset = codes "row " ++ decimal row ++ codes " offset " ++ decimal offset ++ codes " parity fails\n"
 
 -- the line of a bad place
-unfoldable pub line_of : Layout → ℕ → List ℕ
-line_of l p = if is_raid5 l.shape then text_of_failing (p / l.chunk) (p % l.chunk) else text_of_differing p
+unfoldable pub bad_line : Layout → ℕ → List ℕ
+bad_line l p = if is_raid5 l.shape then text_of_failing (p / l.chunk) (p % l.chunk) else text_of_differing p
 
 abbrev pub line_at : List (List ℕ) → Found → Layout → ℕ → List ℕ
-line_at images found l p = if is_bad_at images found l p then line_of l p else []
+line_at images found l p = if is_bad_at images found l p then bad_line l p else []
 
 -- the lines of the bad ones of some places
-unfoldable pub lines_of : List (List ℕ) → Found → Layout → List ℕ → List ℕ
-lines_of images found l places = flat_map (line_at images found l) places
+unfoldable pub bad_lines : List (List ℕ) → Found → Layout → List ℕ → List ℕ
+bad_lines images found l places = flat_map (line_at images found l) places
 
 -- how many of them are bad
 unfoldable pub bad_of : List (List ℕ) → Found → Layout → List ℕ → ℕ
@@ -35,4 +35,4 @@ text_of_end front checked bad = front ++ codes " checked " ++ decimal checked ++
 -- the lines of all bad places, and the last line
 abbrev pub text_of_scrub : List ℕ → List (List ℕ) → Found → Layout → List ℕ
 text_of_scrub front images found l =
-    lines_of images found l (places_of l) ++ text_of_end front (length (places_of l)) (bad_of images found l (places_of l))
+    bad_lines images found l (places_of l) ++ text_of_end front (length (places_of l)) (bad_of images found l (places_of l))

@@ -24,13 +24,13 @@ abbrev pub owner_of : List Record → ℕ → Option ℕ
 owner_of records component = parent_in (by_id 4 component records)
 
 -- a partition on this disk
-abbrev pub is_on : ℕ → Record → Bool
-is_on disk (kinds.Partition p) = p.disk == disk
-is_on disk _ = false
+abbrev pub lies_on : ℕ → Record → Bool
+lies_on disk (kinds.Partition p) = p.disk == disk
+lies_on disk _ = false
 
 -- the disk of this id has a partition of the volume
 abbrev pub has_part : List Record → ℕ → ℕ → Bool
-has_part records volume disk = list_any (λ r. is_on disk r && is_partition_of volume records r) records
+has_part records volume disk = list_any (λ r. lies_on disk r && is_partition_of volume records r) records
 
 -- a disk record without an image that has a partition of the volume
 abbrev pub is_missing : Found → ℕ → Record → Bool

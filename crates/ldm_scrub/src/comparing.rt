@@ -1,7 +1,6 @@
 //! Copies and rows of a volume, compared.
 ghost use Rattle.std.specs.Prelude.{◌≡◌, ◌+◌, ◌-◌, ◌*◌, ◌/◌, ◌%◌, ◌<◌, ◌≤◌, ℕ, length, map, fold};
-ghost use Rattle.std.specs.Prelude.{bit_xor};
-ghost use Rattle.std.specs.Prelude.{slice_index, false, OnOk, IfOk, IsErr, Some};
+ghost use Rattle.std.specs.Prelude.{bit_xor, slice_index, false, OnOk, IfOk, IsErr, Some};
 ghost use Rattle.std.specs.List.{list_any, range_with_len};
 ghost use Rattle.std.specs.Option.{option_to_list};
 ghost use Rattle.std.specs.Str.{bytes_eq};
@@ -14,8 +13,8 @@ ghost use Rattle.ldm_dump.specs.Sources.{is_raid5, spot_at, copy_spot};
 ghost use Rattle.ldm_dump.specs.Bytes.{byte_at, joined_byte};
 ghost use Rattle.ldm_dump.specs.Redundant.{row_spots};
 ghost use Rattle.ldm_dump.specs.Runs.{HasBytes, LiesOn, RowsLieOn};
-ghost use Rattle.ldm_scrub.specs.Compare.{is_bad, is_bad_at, sector_at, IsCommonRun, part, mark};
-ghost use Rattle.ldm_scrub.specs.Compare.{marked};
+ghost use Rattle.ldm_scrub.specs.Compare.{is_bad, is_bad_at, place_sector, IsCommonRun, sector_in};
+ghost use Rattle.ldm_scrub.specs.Compare.{mark, marked};
 
 use crate::places::{common_run, row_place, row_sector};
 use ldm_dump::{clear, join_spot, read_spot, spot_of};
@@ -28,7 +27,8 @@ fn mark_differing(bytes: &[u8], others: &[u8], marks: &mut [u8])
     requires size { length bytes.now ≡ 512 * length marks.old }
     requires same { length others.now ≡ length bytes.now }
     ensures { (i : ℕ) → i < length marks.old
-        → slice_index marks.new i ≡ marked (bytes_eq (part bytes.now i) (part others.now i))
+        → slice_index marks.new i ≡ marked (bytes_eq (sector_in bytes.now i)
+        (sector_in others.now i))
         (slice_index marks.old i) }
 {
     for i in 0..marks.len() {
@@ -42,7 +42,7 @@ fn mark_differing(bytes: &[u8], others: &[u8], marks: &mut [u8])
 fn mark_unlike(bytes: &[u8], sector: &[u8], marks: &mut [u8])
     requires size { length bytes.now ≡ 512 * length marks.old }
     ensures { (i : ℕ) → i < length marks.old
-        → slice_index marks.new i ≡ marked (bytes_eq (part bytes.now i) sector.now)
+        → slice_index marks.new i ≡ marked (bytes_eq (sector_in bytes.now i) sector.now)
         (slice_index marks.old i) }
 {
     for i in 0..marks.len() {
@@ -218,7 +218,7 @@ pub fn mark_rows<H: Host>(
 ) -> Result<(), Failed>
     requires raid5 { plan.now.shape ≡ Raid5 }
     requires within { (i : ℕ) → i < length marks.old
-        → sector_at plan.now (place + i) < plan.now.size }
+        → place_sector plan.now (place + i) < plan.now.size }
     requires some { 0 < length marks.old }
     requires size { length out.old ≡ 512 * length marks.old }
     requires same { length scratch.old ≡ length out.old }

@@ -1,11 +1,11 @@
 //! The lines of bad places, written in memory that was taken before.
 ghost use Rattle.std.specs.Prelude.{◌≡◌, ◌++◌, ◌+◌, ◌*◌, ◌/◌, ◌%◌, ◌<◌, ◌≤◌, ◌^◌, ℕ, Bool, List};
-ghost use Rattle.std.specs.Prelude.{[], length, take};
-ghost use Rattle.std.specs.Prelude.{slice_index, flat_map, count_by, decimal, if◌then◌else◌};
+ghost use Rattle.std.specs.Prelude.{[], length, take, slice_index, flat_map, count_by, decimal};
+ghost use Rattle.std.specs.Prelude.{if◌then◌else◌};
 ghost use Rattle.std.specs.List.{range_with_len};
 ghost use Rattle.ldm_layout.specs.declared.shape.Shape.TheVariants.{Raid5};
 ghost use Rattle.ldm_scrub.specs.Compare.{mark};
-ghost use Rattle.ldm_scrub.specs.Lines.{text_of_differing, text_of_failing, line_of, text_of_end};
+ghost use Rattle.ldm_scrub.specs.Lines.{text_of_differing, text_of_failing, bad_line, text_of_end};
 
 use itoa::Buffer;
 use ldm_layout::{Plan, Shape};
@@ -60,7 +60,7 @@ fn push_failing(page: &mut [u8], used: usize, row: u64, offset: u64) -> usize
 fn push_line(page: &mut [u8], used: usize, plan: &Plan, place: u64) -> usize
     requires { used + LINE ≤ length page.old }
     ensures end { result ≤ used + LINE }
-    ensures is { take result page.new ≡ take used page.old ++ line_of plan.now place }
+    ensures is { take result page.new ≡ take used page.old ++ bad_line plan.now place }
 {
     match plan.shape() {
         Shape::Raid5 => {
@@ -76,7 +76,7 @@ fn push_marked(page: &mut [u8], used: usize, plan: &Plan, place: u64, m: u8) -> 
     requires { used + LINE ≤ length page.old }
     ensures end { result ≤ used + LINE }
     ensures is { (bad : Bool) → m ≡ mark bad
-        → take result page.new ≡ take used page.old ++ (if bad then line_of
+        → take result page.new ≡ take used page.old ++ (if bad then bad_line
         plan.now place else []) }
 {
     if m == 1 {
@@ -94,7 +94,7 @@ pub fn push_lines(page: &mut [u8], plan: &Plan, place: u64, marks: &[u8]) -> usi
     ensures end { result ≤ length page.old }
     ensures is { (bad : ℕ → Bool) → ((i : ℕ) → i < length marks.now
         → slice_index marks.now i ≡ mark (bad (place + i)))
-        → take result page.new ≡ flat_map (λ p. if bad p then line_of plan.now p else [])
+        → take result page.new ≡ flat_map (λ p. if bad p then bad_line plan.now p else [])
         (range_with_len place (length marks.now)) }
 {
     let mut used = 0;

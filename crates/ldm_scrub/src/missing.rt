@@ -4,7 +4,7 @@ ghost use Rattle.ldm_group.specs.Order.{Rising};
 ghost use Rattle.ldm_layout.specs.Parts.{is_partition_of};
 ghost use Rattle.ldm_rules.specs.Present.{is_absent};
 ghost use Rattle.ldm_records.specs.declared.types.Record.TheVariants as kinds;
-ghost use Rattle.ldm_scrub.specs.Missing.{owner_of, is_on, has_part, is_missing, missing_of};
+ghost use Rattle.ldm_scrub.specs.Missing.{owner_of, lies_on, has_part, is_missing, missing_of};
 
 use ldm_found::Found;
 use ldm_group::{Db, id_of};
@@ -43,7 +43,7 @@ fn is_of(db: &Db, volume: u64, p: &Partition) -> bool
 // Whether it is a partition of the volume on this disk.
 fn is_part(db: &Db, volume: u64, disk: u64, r: &Record) -> bool
     requires { Rising db.now.records }
-    ensures { result ≡ (is_on disk r.now && is_partition_of volume db.now.records r.now) }
+    ensures { result ≡ (lies_on disk r.now && is_partition_of volume db.now.records r.now) }
 {
     match r {
         Record::Partition(p) => p.disk == disk && is_of(db, volume, p),

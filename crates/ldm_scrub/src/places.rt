@@ -2,7 +2,7 @@
 ghost use Rattle.std.specs.Prelude.{◌≡◌, ◌-◌, ◌%◌, ◌/◌, ◌<◌, length};
 ghost use Rattle.ldm_layout.specs.Columns.{columns_of, IsColumned};
 ghost use Rattle.ldm_layout.specs.declared.shape.Shape.TheVariants.{Raid5};
-ghost use Rattle.ldm_scrub.specs.Compare.{sector_at, IsCount, IsCommonRun};
+ghost use Rattle.ldm_scrub.specs.Compare.{place_sector, IsCount, IsCommonRun};
 
 use ldm_layout::{Plan, Shape};
 
@@ -31,8 +31,8 @@ pub fn place_count(plan: &Plan) -> u64
 /// The sector of a place of a RAID-5.
 pub fn row_sector(plan: &Plan, place: u64) -> u64
     requires raid5 { plan.now.shape ≡ Raid5 }
-    requires within { sector_at plan.now place < plan.now.size }
-    ensures is { result ≡ sector_at plan.now place }
+    requires within { place_sector plan.now place < plan.now.size }
+    ensures is { result ≡ place_sector plan.now place }
     ensures columned { IsColumned plan.now }
 {
     let size = plan.size();
@@ -46,7 +46,7 @@ pub fn row_sector(plan: &Plan, place: u64) -> u64
 pub fn row_place(plan: &Plan, sector: u64) -> u64
     requires raid5 { plan.now.shape ≡ Raid5 }
     requires first { sector / plan.now.chunk % (length (columns_of plan.now) - 1) ≡ 0 }
-    ensures { sector_at plan.now result ≡ sector }
+    ensures { place_sector plan.now result ≡ sector }
 {
     let chunk = plan.chunk();
     sector / chunk / (plan.columns() as u64 - 1) * chunk + sector % chunk

@@ -1,7 +1,6 @@
 //! The places of a volume, compared, and what is said of them.
 ghost use Rattle.std.specs.Prelude.{◌≡◌, ◌++◌, ◌+◌, ◌*◌, ◌<◌, ◌≤◌, ◌^◌, ℕ, List, length};
-ghost use Rattle.std.specs.Prelude.{slice_index, false, IfOk};
-ghost use Rattle.std.specs.Prelude.{OnOk, IsErr, IsErrOf};
+ghost use Rattle.std.specs.Prelude.{slice_index, false, IfOk, OnOk, IsErr, IsErrOf};
 ghost use Rattle.std.specs.List.{range_with_len};
 ghost use Rattle.ldm_host.specs.Moves.{Still, Begins, DiskFailed, TalkFailed, Looks};
 ghost use Rattle.ldm_layout.specs.declared.shape.Shape.TheVariants.{Raid5};
@@ -10,7 +9,7 @@ ghost use Rattle.ldm_dump.specs.Runs.{LiesOn, RowsLieOn};
 ghost use Rattle.ldm_dump.specs.Saying.{SameInput};
 ghost use Rattle.ldm_found.specs.declared.found.Found.{Found};
 ghost use Rattle.ldm_scrub.specs.Compare.{is_bad_at, places_of, IsCount, mark};
-ghost use Rattle.ldm_scrub.specs.Lines.{lines_of, bad_of, text_of_scrub};
+ghost use Rattle.ldm_scrub.specs.Lines.{bad_lines, bad_of, text_of_scrub};
 
 use crate::comparing::{mark_copies, mark_rows};
 pub use crate::lines::LINE;
@@ -156,7 +155,7 @@ fn say_marked<H: Host>(
         → ((i : ℕ) → i < length marks.now → slice_index marks.now i
         ≡ mark (is_bad_at images found plan.now (place + i)))
         → IfOk result (λ n. (H.seen host.new).said ≡ (H.seen host.old).said
-        ++ lines_of images found plan.now (range_with_len place (length marks.now))) }
+        ++ bad_lines images found plan.now (range_with_len place (length marks.now))) }
     ensures count { (images : List (List ℕ)) (found : Found)
         → ((i : ℕ) → i < length marks.now → slice_index marks.now i
         ≡ mark (is_bad_at images found plan.now (place + i)))
@@ -166,7 +165,7 @@ fn say_marked<H: Host>(
         → ((i : ℕ) → i < length marks.now → slice_index marks.now i
         ≡ mark (is_bad_at images found plan.now (place + i)))
         → Begins (H.seen host.new).said ((H.seen host.old).said
-        ++ lines_of images found plan.now (range_with_len place (length marks.now))) }
+        ++ bad_lines images found plan.now (range_with_len place (length marks.now))) }
     ensures still { Still (H.seen host.old) (H.seen host.new) }
     ensures input { SameInput (H.seen host.old) (H.seen host.new) }
     ensures cause { IsErr result → TalkFailed (H.seen host.old) (H.seen host.new) }
@@ -205,12 +204,12 @@ fn scrub_some<H: Host>(
     ensures fits { IfOk result (λ n. place + n.0 ≤ all) }
     ensures few { IfOk result (λ n. n.1 ≤ n.0) }
     ensures said { H.tells_disks → IfOk result (λ n. (H.seen host.new).said
-        ≡ (H.seen host.old).said ++ lines_of (H.seen host.old).content found.now plan.now
+        ≡ (H.seen host.old).said ++ bad_lines (H.seen host.old).content found.now plan.now
         (range_with_len place n.0)) }
     ensures count { H.tells_disks → IfOk result (λ n. n.1
         ≡ bad_of (H.seen host.old).content found.now plan.now (range_with_len place n.0)) }
     ensures front { H.tells_disks → (n : ℕ) × (place + n ≤ all) × Begins (H.seen host.new).said
-        ((H.seen host.old).said ++ lines_of (H.seen host.old).content found.now plan.now
+        ((H.seen host.old).said ++ bad_lines (H.seen host.old).content found.now plan.now
         (range_with_len place n)) }
     ensures still { Still (H.seen host.old) (H.seen host.new) }
     ensures input { SameInput (H.seen host.old) (H.seen host.new) }
@@ -245,12 +244,12 @@ fn scrub_places<H: Host>(
     requires lies { LiesOn found.now plan.now (H.seen host.old).sizes }
     requires rows { RowsLieOn found.now plan.now (H.seen host.old).sizes }
     ensures said { H.tells_disks → OnOk result ((H.seen host.new).said
-        ≡ (H.seen host.old).said ++ lines_of (H.seen host.old).content found.now plan.now
+        ≡ (H.seen host.old).said ++ bad_lines (H.seen host.old).content found.now plan.now
         (places_of plan.now)) }
     ensures count { H.tells_disks → IfOk result (λ bad. bad
         ≡ bad_of (H.seen host.old).content found.now plan.now (places_of plan.now)) }
     ensures front { H.tells_disks → Begins (H.seen host.new).said
-        ((H.seen host.old).said ++ lines_of (H.seen host.old).content found.now plan.now
+        ((H.seen host.old).said ++ bad_lines (H.seen host.old).content found.now plan.now
         (places_of plan.now)) }
     ensures still { Still (H.seen host.old) (H.seen host.new) }
     ensures input { SameInput (H.seen host.old) (H.seen host.new) }

@@ -6,7 +6,7 @@ use Rattle.std.proofs.lemmas.List.{get_or_default}
 use Rattle.std.proofs.lemmas.List.Elements.{All-contains}
 use Rattle.std.proofs.lemmas.List.Folds.{list_any_at, Any-from_list_any}
 use Rattle.ldm_space.specs.Free.{Taken, takes_one, is_taken, first_free_start}
-use Rattle.ldm_space.specs.Gaps.{Gap, IsIn, AreGaps, is_long}
+use Rattle.ldm_space.specs.Gaps.{Gap, IsIn, AreGaps, has_length}
 use Rattle.ldm_space.proofs.FreeLaws.{is_first, is_none}
 
 -- ---- a sector and what is taken
@@ -85,8 +85,8 @@ run_in gaps taken disk size len q h are there in_h ends each = elim (cases_order
 
 pub record IsFirstLong (len : ℕ) (gaps : List Gap) (at : ℕ) : Type 0 where
   pub within : at < length gaps
-  pub long : (d : Gap) → is_long len (get_or gaps at d) ≡ true
-  pub before : (k : ℕ) (d : Gap) → k < at → is_long len (get_or gaps k d) ≡ false
+  pub long : (d : Gap) → has_length len (get_or gaps at d) ≡ true
+  pub before : (k : ℕ) (d : Gap) → k < at → has_length len (get_or gaps k d) ≡ false
 
 -- its place in a list with one more before it
 pub first_behind : (len : ℕ) (x : Gap) (gaps : List Gap) (at : ℕ) → IsFirstLong len (x ∷ gaps) (suc at) → IsFirstLong len gaps at
@@ -96,11 +96,11 @@ first_behind len x gaps at f = record {
   before = λ k d lt. f.before (suc k) d (omega arith);
 }
 
-pub found_first : (len : ℕ) (gaps : List Gap) (at : ℕ) (d : Gap) → IsFirstLong len gaps at → find (is_long len) gaps ≡ Some (get_or gaps at d)
+pub found_first : (len : ℕ) (gaps : List Gap) (at : ℕ) (d : Gap) → IsFirstLong len gaps at → find (has_length len) gaps ≡ Some (get_or gaps at d)
 found_first len [] at d f = let lt = f.within in absurd (omega arith)
-found_first len (x ∷ gaps) zero d f = ap (λ (b : Bool). cond b (Some x) (find (is_long len) gaps)) (f.long d)
+found_first len (x ∷ gaps) zero d f = ap (λ (b : Bool). cond b (Some x) (find (has_length len) gaps)) (f.long d)
 found_first len (x ∷ gaps) (suc at) d f =
-    ap (λ (b : Bool). cond b (Some x) (find (is_long len) gaps)) (f.before 0 d (omega arith)) ∙ found_first len gaps at d (first_behind len x gaps at f)
+    ap (λ (b : Bool). cond b (Some x) (find (has_length len) gaps)) (f.before 0 d (omega arith)) ∙ found_first len gaps at d (first_behind len x gaps at f)
 
 -- ---- the law
 
@@ -116,7 +116,7 @@ long_run gaps taken disk size len q are some ends free =
 pub gap_is_first : (gaps : List Gap) (taken : List Taken) (disk size len at : ℕ) (g : Gap) → AreGaps gaps taken disk size → 0 < len → IsFirstLong len gaps at → get_or gaps at g ≡ g → first_free_start taken disk size len ≡ Some g.start
 gap_is_first gaps taken disk size len at g are some f is_g =
     let there : Contains gaps g = (at, f.within, is_g) in
-    let enough : len ≤ g.len = leb-true len g.len (ap (is_long len) (sym is_g) ∙ f.long g) in
+    let enough : len ≤ g.len = leb-true len g.len (ap (has_length len) (sym is_g) ∙ f.long g) in
     let ends : g.start + g.len ≤ size = All-contains (λ (x : Gap). x.start + x.len ≤ size) gaps g are.within there in
     is_first taken disk size len g.start (record {
       ends = omega arith;
@@ -130,12 +130,12 @@ gap_is_first gaps taken disk size len at g are some f is_g =
           | inl same ↦ (let one : h ≡ g = sym is_h ∙ (get_or_default gaps k h g lt_k ∙ (ap (λ (n : ℕ). get_or gaps n g) same ∙ is_g)) in
               let starts : h.start ≡ g.start = ap (λ (x : Gap). x.start) one in omega arith)
           | inr off ↦ elim off [
-            | inl low ↦ false≢true (sym (f.before k h low) ∙ (ap (is_long len) is_h ∙ le-leb len h.len enough))
+            | inl low ↦ false≢true (sym (f.before k h low) ∙ (ap (has_length len) is_h ∙ le-leb len h.len enough))
             | inr high ↦ (let before : g.start + g.len < h.start = before_at gaps g h at k are.rising high is_g lt_k is_h in omega arith)
           ]
         ]
 
-pub no_gap : (gaps : List Gap) (taken : List Taken) (disk size len : ℕ) → AreGaps gaps taken disk size → 0 < len → All (λ g. is_long len g ≡ false) gaps → first_free_start taken disk size len ≡ None
+pub no_gap : (gaps : List Gap) (taken : List Taken) (disk size len : ℕ) → AreGaps gaps taken disk size → 0 < len → All (λ g. has_length len g ≡ false) gaps → first_free_start taken disk size len ≡ None
 no_gap gaps taken disk size len are some short = is_none taken disk size len (λ q ends. true_from_ne_false _ (λ free.
     let h = long_run gaps taken disk size len q are some ends free in
-    false≢true (sym (All-contains (λ (g : Gap). is_long len g ≡ false) gaps h.0 short h.1) ∙ le-leb len h.0.len h.3)))
+    false≢true (sym (All-contains (λ (g : Gap). has_length len g ≡ false) gaps h.0 short h.1) ∙ le-leb len h.0.len h.3)))

@@ -10,16 +10,16 @@ use Rattle.std.proofs.lemmas.List.Elements.{All-contains, All-head, All-tail, Co
 use Rattle.std.proofs.lemmas.List.Sums.{fails_before_first}
 use Rattle.std.proofs.lemmas.List.Quantifiers.{all_pairs_remove, position-Some}
 use Rattle.ldm_space.specs.Free.{Taken, takes_one, is_taken}
-use Rattle.ldm_space.specs.Gaps.{Gap, IsIn, AreGaps, TakesFirst, is_long, first_gap, shorter, rest_of, without_first}
+use Rattle.ldm_space.specs.Gaps.{Gap, IsIn, AreGaps, TakesFirst, has_length, first_gap, shorter, rest_of, without_first}
 use Rattle.ldm_space.proofs.GapLaws.{IsFirstLong, first_behind, found_first, gap_is_first, no_gap, apart_at, sector_in, sector_out}
 
 -- ---- what the list is then
 
-pub first_at : (len : ℕ) (gaps : List Gap) (at : ℕ) → position (is_long len) gaps ≡ Some at → IsFirstLong len gaps at
+pub first_at : (len : ℕ) (gaps : List Gap) (at : ℕ) → position (has_length len) gaps ≡ Some at → IsFirstLong len gaps at
 first_at len gaps at e = record {
-  within = (position-Some (is_long len) gaps at (record { start = 0; len = 0 }) e).0;
-  long = λ d. (position-Some (is_long len) gaps at d e).1;
-  before = λ k d lt. (position-Some (is_long len) gaps at d e).2 k lt;
+  within = (position-Some (has_length len) gaps at (record { start = 0; len = 0 }) e).0;
+  long = λ d. (position-Some (has_length len) gaps at d e).1;
+  before = λ k d lt. (position-Some (has_length len) gaps at d e).2 k lt;
 }
 
 pub starts_first : (len : ℕ) (gaps : List Gap) (at : ℕ) (d : Gap) → IsFirstLong len gaps at → first_gap len gaps ≡ Some (get_or gaps at d).start
@@ -46,27 +46,27 @@ is_shortened len (x ∷ gaps) (suc at) d f e =
     ∙ ap (λ (l : List Gap). x ∷ l) (is_shortened len gaps at d (first_behind len x gaps at f) e)
 
 -- where no gap is long enough, all stay
-pub none_long : (len : ℕ) (gaps : List Gap) → position (is_long len) gaps ≡ None → All (λ g. is_long len g ≡ false) gaps
-none_long len gaps e = let all = past_all (ltb (position_or_len (is_long len) gaps) (length gaps)) refl e in λ k d lt. fails_before_first (is_long len) gaps k d (omega arith)
+pub none_long : (len : ℕ) (gaps : List Gap) → position (has_length len) gaps ≡ None → All (λ g. has_length len g ≡ false) gaps
+none_long len gaps e = let all = past_all (ltb (position_or_len (has_length len) gaps) (length gaps)) refl e in λ k d lt. fails_before_first (has_length len) gaps k d (omega arith)
   where
-    past_all : (b : Bool) → ltb (position_or_len (is_long len) gaps) (length gaps) ≡ b → cond b (Some (position_or_len (is_long len) gaps)) None ≡ None → length gaps ≤ position_or_len (is_long len) gaps
+    past_all : (b : Bool) → ltb (position_or_len (has_length len) gaps) (length gaps) ≡ b → cond b (Some (position_or_len (has_length len) gaps)) None ≡ None → length gaps ≤ position_or_len (has_length len) gaps
     past_all true below is = absurd cc
     past_all false past is = ltb-false _ _ past
 
-pub none_starts : (len : ℕ) (gaps : List Gap) → All (λ g. is_long len g ≡ false) gaps → first_gap len gaps ≡ None
+pub none_starts : (len : ℕ) (gaps : List Gap) → All (λ g. has_length len g ≡ false) gaps → first_gap len gaps ≡ None
 none_starts len gaps short = ap (option_map (λ (g : Gap). g.start)) (none gaps short)
   where
-    none : (gaps : List Gap) → All (λ g. is_long len g ≡ false) gaps → find (is_long len) gaps ≡ None
+    none : (gaps : List Gap) → All (λ g. has_length len g ≡ false) gaps → find (has_length len) gaps ≡ None
     none [] all = refl
     none (x ∷ gaps) all =
-        ap (λ (b : Bool). cond b (Some x) (find (is_long len) gaps)) (All-head (λ (g : Gap). is_long len g ≡ false) x gaps all)
-        ∙ none gaps (All-tail (λ (g : Gap). is_long len g ≡ false) x gaps all)
+        ap (λ (b : Bool). cond b (Some x) (find (has_length len) gaps)) (All-head (λ (g : Gap). has_length len g ≡ false) x gaps all)
+        ∙ none gaps (All-tail (λ (g : Gap). has_length len g ≡ false) x gaps all)
 
-pub all_stay : (len : ℕ) (gaps : List Gap) → All (λ g. is_long len g ≡ false) gaps → without_first len gaps ≡ gaps
+pub all_stay : (len : ℕ) (gaps : List Gap) → All (λ g. has_length len g ≡ false) gaps → without_first len gaps ≡ gaps
 all_stay len [] short = refl
 all_stay len (x ∷ gaps) short =
-    ap (λ (b : Bool). cond b (rest_of len x ++ gaps) (x ∷ without_first len gaps)) (All-head (λ (g : Gap). is_long len g ≡ false) x gaps short)
-    ∙ ap (λ (l : List Gap). x ∷ l) (all_stay len gaps (All-tail (λ (g : Gap). is_long len g ≡ false) x gaps short))
+    ap (λ (b : Bool). cond b (rest_of len x ++ gaps) (x ∷ without_first len gaps)) (All-head (λ (g : Gap). has_length len g ≡ false) x gaps short)
+    ∙ ap (λ (l : List Gap). x ∷ l) (all_stay len gaps (All-tail (λ (g : Gap). has_length len g ≡ false) x gaps short))
 
 -- ---- they are the gaps of what is taken then
 
@@ -210,5 +210,5 @@ takes_part gaps taken disk size len at g are some f is_g longer = record {
   gaps = left_gaps gaps (set gaps at (shorter len g)) taken disk size len at g are some f.within is_g (omega arith) (leaves_one gaps at len g f.within is_g are.rising longer);
 }
 
-pub takes_none : (gaps : List Gap) (taken : List Taken) (disk size len : ℕ) → AreGaps gaps taken disk size → 0 < len → All (λ g. is_long len g ≡ false) gaps → TakesFirst taken disk size len None gaps
+pub takes_none : (gaps : List Gap) (taken : List Taken) (disk size len : ℕ) → AreGaps gaps taken disk size → 0 < len → All (λ g. has_length len g ≡ false) gaps → TakesFirst taken disk size len None gaps
 takes_none gaps taken disk size len are some short = record { is = sym (no_gap gaps taken disk size len are some short); gaps = are }

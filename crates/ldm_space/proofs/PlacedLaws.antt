@@ -10,7 +10,7 @@ use Rattle.ldm_space.specs.declared.taken.Taken.{Taken}
 use Rattle.ldm_space.specs.Free.{taken_of, clash, is_taken, first_free_start}
 use Rattle.ldm_space.specs.declared.placed.Wanted.{Wanted}
 use Rattle.ldm_space.specs.Wanted.{placing, in_front, place_rest, placed}
-use Rattle.ldm_space.specs.Placed.{AreFirstFits, AreApart, AllEndWithin, AllLimited}
+use Rattle.ldm_space.specs.Placed.{AreFirstFits, AreDisjoint, AllEndWithin, AllLimited}
 use Rattle.ldm_space.proofs.FreeLaws.{first_is, not_met}
 
 -- ---- what is placed is first fits
@@ -39,7 +39,7 @@ as_many (w ∷ more) taken [] h = absurd h
 as_many (w ∷ more) taken (s ∷ spots) h = ap suc (as_many more (s ∷ taken) spots h.1)
 
 -- each lies apart from all before it
-pub fits_apart : (wanted : List Wanted) (taken spots : List Taken) → AreFirstFits taken wanted spots → AreApart taken spots
+pub fits_apart : (wanted : List Wanted) (taken spots : List Taken) → AreFirstFits taken wanted spots → AreDisjoint taken spots
 fits_apart [] taken [] h = tt
 fits_apart [] taken (s ∷ ss) h = absurd h
 fits_apart (w ∷ more) taken [] h = absurd h
@@ -63,13 +63,13 @@ pub meets_clash : (p q : Partition) → meets p q ≡ clash (taken_of p) (taken_
 meets_clash p q = refl
 
 -- from what was taken before all of them,
-pub apart_old : (taken new : List Taken) (a b : Taken) → AreApart taken new → Contains new a → Contains taken b → clash a b ≡ false
+pub apart_old : (taken new : List Taken) (a b : Taken) → AreDisjoint taken new → Contains new a → Contains taken b → clash a b ≡ false
 apart_old taken [] a b h (k, lt, is) there = absurd (omega arith)
 apart_old taken (t ∷ more) a b h (zero, lt, is) there = ap (λ (x : Taken). clash x b) (sym is) ∙ not_met taken t.disk t.size t.start b h.0 there
 apart_old taken (t ∷ more) a b h (suc k, lt, is) there = apart_old (t ∷ taken) more a b h.1 (k, omega arith, is) (suc there.0, (let n = there.1 in omega arith), there.2)
 
 -- and from each other
-pub apart_new : (taken new : List Taken) (i j : ℕ) (d : Taken) → AreApart taken new → i < j → j < length new → clash (get_or new j d) (get_or new i d) ≡ false
+pub apart_new : (taken new : List Taken) (i j : ℕ) (d : Taken) → AreDisjoint taken new → i < j → j < length new → clash (get_or new j d) (get_or new i d) ≡ false
 apart_new taken [] i j d h lt within = absurd (omega arith)
 apart_new taken (t ∷ more) i zero d h lt within = absurd (omega arith)
 apart_new taken (t ∷ more) zero (suc j) d h lt within = apart_old (t ∷ taken) more (get_or more j d) t h.1 (Contains-get_or more j d (omega arith)) (0, omega arith, refl)

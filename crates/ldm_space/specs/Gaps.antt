@@ -22,12 +22,12 @@ pub record AreGaps (gaps : List Gap) (taken : List Taken) (disk size : ℕ) : Ty
 
 -- ---- len sectors are taken from the first gap that has so many
 
-abbrev pub is_long : ℕ → Gap → Bool
-is_long len g = nat_le len g.len
+abbrev pub has_length : ℕ → Gap → Bool
+has_length len g = nat_le len g.len
 
 -- where it begins
 abbrev pub first_gap : ℕ → List Gap → Option ℕ
-first_gap len gaps = option_map (λ g. g.start) (find (is_long len) gaps)
+first_gap len gaps = option_map (λ g. g.start) (find (has_length len) gaps)
 
 -- what is left of a gap without its first len sectors: no gap, where it had no more
 abbrev pub shorter : ℕ → Gap → Gap
@@ -39,7 +39,7 @@ rest_of len g = if g.len == len then [] else shorter len g ∷ []
 -- what is left of all gaps
 abbrev pub without_first : ℕ → List Gap → List Gap
 without_first len [] = []
-without_first len (g ∷ gaps) = if is_long len g then rest_of len g ++ gaps else g ∷ without_first len gaps
+without_first len (g ∷ gaps) = if has_length len g then rest_of len g ++ gaps else g ∷ without_first len gaps
 
 -- what is taken then
 abbrev pub with_found : List Taken → ℕ → ℕ → Option ℕ → List Taken

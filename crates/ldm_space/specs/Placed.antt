@@ -18,9 +18,9 @@ AreFirstFits taken (w ∷ more) (spot ∷ spots) = IsFirstFit taken w spot × Ar
 AreFirstFits taken _ _ = ⊥
 
 -- each has no sector of those before it, and none that was taken before
-abbrev pub AreApart : List Taken → List Taken → Type 0
-AreApart taken [] = Unit {0}
-AreApart taken (t ∷ more) = (is_taken taken t.disk t.size t.start ≡ false) × AreApart (t ∷ taken) more
+abbrev pub AreDisjoint : List Taken → List Taken → Type 0
+AreDisjoint taken [] = Unit {0}
+AreDisjoint taken (t ∷ more) = (is_taken taken t.disk t.size t.start ≡ false) × AreDisjoint (t ∷ taken) more
 
 -- each ends within its disk
 abbrev pub AllEndWithin : (ℕ → ℕ) → List Taken → Type 0

@@ -5,7 +5,7 @@ ghost use Rattle.std.specs.List.{filter_map, position};
 ghost use Rattle.std.specs.List.Sorted.{IsNonDecreasingBy};
 ghost use Rattle.ldm_group.specs.Partitions.{EndsInRange};
 ghost use Rattle.ldm_space.specs.Free.{Taken, taken_in};
-ghost use Rattle.ldm_space.specs.Gaps.{AreGaps, TakesFirst, is_long, first_gap, without_first};
+ghost use Rattle.ldm_space.specs.Gaps.{AreGaps, TakesFirst, has_length, first_gap, without_first};
 ghost use Rattle.ldm_space.specs.Gaps.{taken_on, with_gap};
 
 use crate::taken::Taken;
@@ -84,7 +84,7 @@ fn push_gap(gaps: &mut Vec<Gap>, at: u64, until: u64) -> Result<(), NoMemory>
 
 // The place of the first gap of so many sectors or more.
 fn first_long(gaps: &[Gap], len: u64) -> Option<usize>
-    ensures { result ≡ position (is_long len) gaps.now }
+    ensures { result ≡ position (has_length len) gaps.now }
 {
     gaps.iter().position(|gap| gap.len >= len)
 }

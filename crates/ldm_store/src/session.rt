@@ -72,8 +72,7 @@ fn next_of(alloc: Global, body: &Option<Body>, older: &Db, newer: &Db) -> Result
 
 impl Session {
     ghost use Rattle.std.specs.Prelude.{◌≡◌, ◌+◌, ◌*◌, ◌/◌, ◌<◌, ◌≤◌, ℕ, List, slice_index, Option};
-    ghost use Rattle.std.specs.Prelude.{IfOk, IfSome};
-    ghost use Rattle.std.specs.Prelude.{IsErrOf, Some, None, option_copied};
+    ghost use Rattle.std.specs.Prelude.{IfOk, IfSome, IsErrOf, Some, None, option_copied};
     ghost use Rattle.std.specs.Option.{ForSome};
     ghost use Rattle.ldm_host.specs.Moves.{Still, Works};
     ghost use Rattle.ldm_copy.specs.Table.{IsCoreBody};

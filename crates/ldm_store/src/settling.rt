@@ -1,7 +1,6 @@
 //! Makes the group of the disks ready to be edited.
 ghost use Rattle.std.specs.Prelude.{if◌then◌else◌, ◌≡◌, ◌≢◌, ◌⊎◌, ◌+◌, ◌<◌, ℕ, length, slice_index};
-ghost use Rattle.std.specs.Prelude.{Result, IfOk};
-ghost use Rattle.std.specs.Prelude.{IfErr, OnOk, IsErr, IsErrOf, Some, None};
+ghost use Rattle.std.specs.Prelude.{Result, IfOk, IfErr, OnOk, IsErr, IsErrOf, Some, None};
 ghost use Rattle.ldm_host.specs.Moves.{Settled, Settles, DiskFailed, Looks, Works};
 ghost use Rattle.ldm_host.specs.Seen.{image};
 ghost use Rattle.ldm_label.specs.LabelOf.{Fits};

@@ -1,7 +1,7 @@
 //! The body that the copies share which aren't behind.
 ghost use Rattle.std.specs.Prelude.{◌≡◌, ◌*◌, ◌<◌, ◌≤◌, ℕ, IsTrue, true, false, Result, Option};
-ghost use Rattle.std.specs.Prelude.{Some, None, length};
-ghost use Rattle.std.specs.Prelude.{slice_index, slice_get, IfOk, IfSome, IsErrOf};
+ghost use Rattle.std.specs.Prelude.{Some, None, length, slice_index, slice_get, IfOk, IfSome};
+ghost use Rattle.std.specs.Prelude.{IsErrOf};
 ghost use Rattle.ldm_host.specs.Moves.{Looks};
 ghost use Rattle.ldm_host.specs.Seen.{image};
 ghost use Rattle.ldm_label.specs.declared.Label.{Label};

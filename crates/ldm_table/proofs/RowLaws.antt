@@ -4,7 +4,7 @@ use Rattle.std.specs.Option.{option_map}
 use Rattle.std.proofs.Math.Nat.{mul-le-mul_left}
 use Rattle.std.proofs.lemmas.Bool.{cond-true, cond-false, eqb-true, eqb-false}
 use Rattle.std.proofs.lemmas.Nat.{div-add-mod', div-mul-add, mod-mul-add}
-use Rattle.ldm_layout.specs.Layouts.{Layout, is_tiled, sector_of, plex_spot, place_in, copies_of, copies_by}
+use Rattle.ldm_layout.specs.Layouts.{Layout, is_tiled, place_at, plex_spot, place_in, copies_of, copies_by}
 use Rattle.ldm_layout.specs.Columns.{columns_of, chunk_of, IsColumned, column_in, moved}
 use Rattle.ldm_layout.specs.Places.{stripe_column, stripe_offset, raid5_column, raid5_offset}
 use Rattle.ldm_layout.specs.declared.parts.Extent.{Extent}
@@ -80,10 +80,10 @@ row_within l some =
 -- ---- columns
 
 -- a place in the column, so far behind its start
-pub spot_from : (l : Layout) (c o : ℕ) → option_map sector_of (option_map {U = Extent × ℕ} (λ e. (e, o)) (slice_get (columns_of l) c)) ≡ option_map (moved o) (column_start l c)
+pub spot_from : (l : Layout) (c o : ℕ) → option_map place_at (option_map {U = Extent × ℕ} (λ e. (e, o)) (slice_get (columns_of l) c)) ≡ option_map (moved o) (column_start l c)
 spot_from l c o = go (slice_get (columns_of l) c)
   where
-    go : (g : Option Extent) → option_map sector_of (option_map {U = Extent × ℕ} (λ e. (e, o)) g) ≡ option_map (moved o) (option_map {U = Place} (λ e. record { disk = e.disk; sector = e.start }) g)
+    go : (g : Option Extent) → option_map place_at (option_map {U = Extent × ℕ} (λ e. (e, o)) g) ≡ option_map (moved o) (option_map {U = Place} (λ e. record { disk = e.disk; sector = e.start }) g)
     go None = refl
     go (Some e) = refl
 
@@ -99,7 +99,7 @@ pub stripe_at : (l : Layout) (x : ℕ) → l.shape ≡ Stripe → IsColumned l
     → place_in l x 0 ≡ option_map (moved (stripe_offset (length (columns_of l)) l.chunk x)) (column_start l (stripe_column (length (columns_of l)) l.chunk x))
 stripe_at l x stripe is =
     place_by l 0 x (columns_of l) is.first
-    ∙ (ap (λ (s : Shape). option_map sector_of (plex_spot s l.chunk (columns_of l) x)) stripe
+    ∙ (ap (λ (s : Shape). option_map place_at (plex_spot s l.chunk (columns_of l) x)) stripe
     ∙ spot_from l (stripe_column (length (columns_of l)) l.chunk x) (stripe_offset (length (columns_of l)) l.chunk x))
 
 -- in a RAID-5
@@ -110,7 +110,7 @@ pub raid5_at : (l : Layout) (x : ℕ) → l.shape ≡ Raid5 → IsColumned l
     → place_in l x 0 ≡ option_map (moved (raid5_offset (length (columns_of l)) l.chunk x)) (column_start l (raid5_column (length (columns_of l)) l.chunk x))
 raid5_at l x raid5 is =
     place_by l 0 x (columns_of l) is.first
-    ∙ (ap (λ (s : Shape). option_map sector_of (plex_spot s l.chunk (columns_of l) x)) raid5
+    ∙ (ap (λ (s : Shape). option_map place_at (plex_spot s l.chunk (columns_of l) x)) raid5
     ∙ spot_from l (raid5_column (length (columns_of l)) l.chunk x) (raid5_offset (length (columns_of l)) l.chunk x))
 
 -- ---- the first of each

@@ -5,7 +5,7 @@ use Rattle.std.proofs.lemmas.Bool.{and_parts, and_from, cond-true, cond-false, e
 use Rattle.ldm_layout.specs.Layouts.{Layout}
 use Rattle.ldm_found.specs.declared.found.Found.{Found}
 use Rattle.ldm_table.specs.declared.stretch.Stretch.{Stretch}
-use Rattle.ldm_table.specs.Tables.{sector_at, is_behind, before, joined, stretches_of}
+use Rattle.ldm_table.specs.Tables.{sector_at, is_next_to, before, joined, stretches_of}
 use Rattle.ldm_table.specs.Runs.{IsStretchOf}
 
 -- the first with the sectors of the second too
@@ -16,54 +16,54 @@ pub record IsNext (a b : Stretch) : Type 0 where
   pub image : a.spot.image ≡ b.spot.image
   pub sector : a.spot.sector + a.sectors ≡ b.spot.sector
 
-pub next_is : (a b : Stretch) → is_behind a b ≡ true → IsNext a b
+pub next_is : (a b : Stretch) → is_next_to a b ≡ true → IsNext a b
 next_is a b is =
     let parts = and_parts (a.spot.image == b.spot.image) (a.spot.sector + a.sectors == b.spot.sector) is in
     record { image = eqb-true a.spot.image b.spot.image parts.0; sector = eqb-true (a.spot.sector + a.sectors) b.spot.sector parts.1 }
 
-pub is_next : (a b : Stretch) → IsNext a b → is_behind a b ≡ true
+pub is_next : (a b : Stretch) → IsNext a b → is_next_to a b ≡ true
 is_next a b is =
     and_from (a.spot.image == b.spot.image) (a.spot.sector + a.sectors == b.spot.sector) (eq-eqb a.spot.image b.spot.image is.image) (eq-eqb (a.spot.sector + a.sectors) b.spot.sector is.sector)
 
 -- what is behind the second is behind both
-behind_both : (a b c : Stretch) → IsNext a b → is_behind b c ≡ is_behind (with_next a b) c
+behind_both : (a b c : Stretch) → IsNext a b → is_next_to b c ≡ is_next_to (with_next a b) c
 behind_both a b c next =
     let at : b.spot.sector + b.sectors ≡ a.spot.sector + (a.sectors + b.sectors) = ap (λ (n : ℕ). n + b.sectors) (sym next.sector) ∙ add_assoc a.spot.sector a.sectors b.sectors in
     ap (λ (i : ℕ). (i == c.spot.image) && (b.spot.sector + b.sectors == c.spot.sector)) (sym next.image)
     ∙ ap (λ (n : ℕ). (a.spot.image == c.spot.image) && (n == c.spot.sector)) at
 
-pub before_next : (a b : Stretch) (rest : List Stretch) → is_behind a b ≡ true → before a (before b rest) ≡ before (with_next a b) rest
-before_next a b [] is = cond-true (is_behind a b) (with_next a b ∷ []) (a ∷ b ∷ []) is
-before_next a b (c ∷ cs) is = go (is_behind b c) refl
+pub before_next : (a b : Stretch) (rest : List Stretch) → is_next_to a b ≡ true → before a (before b rest) ≡ before (with_next a b) rest
+before_next a b [] is = cond-true (is_next_to a b) (with_next a b ∷ []) (a ∷ b ∷ []) is
+before_next a b (c ∷ cs) is = go (is_next_to b c) refl
   where
-    go : (t : Bool) → is_behind b c ≡ t → before a (before b (c ∷ cs)) ≡ before (with_next a b) (c ∷ cs)
+    go : (t : Bool) → is_next_to b c ≡ t → before a (before b (c ∷ cs)) ≡ before (with_next a b) (c ∷ cs)
     go true e =
         let whole : List Stretch → List Stretch = before a in
-        ap whole (cond-true (is_behind b c) (with_next b c ∷ cs) (b ∷ c ∷ cs) e)
-        ∙ (cond-true (is_behind a b) (with_next a (with_next b c) ∷ cs) (a ∷ with_next b c ∷ cs) is
+        ap whole (cond-true (is_next_to b c) (with_next b c ∷ cs) (b ∷ c ∷ cs) e)
+        ∙ (cond-true (is_next_to a b) (with_next a (with_next b c) ∷ cs) (a ∷ with_next b c ∷ cs) is
         ∙ (ap (λ (n : ℕ). record a { sectors = n } ∷ cs) (sym (add_assoc a.sectors b.sectors c.sectors))
-        ∙ sym (cond-true (is_behind (with_next a b) c) (with_next (with_next a b) c ∷ cs) (with_next a b ∷ c ∷ cs) (sym (behind_both a b c (next_is a b is)) ∙ e))))
+        ∙ sym (cond-true (is_next_to (with_next a b) c) (with_next (with_next a b) c ∷ cs) (with_next a b ∷ c ∷ cs) (sym (behind_both a b c (next_is a b is)) ∙ e))))
     go false e =
         let whole : List Stretch → List Stretch = before a in
-        ap whole (cond-false (is_behind b c) (with_next b c ∷ cs) (b ∷ c ∷ cs) e)
-        ∙ (cond-true (is_behind a b) (with_next a b ∷ c ∷ cs) (a ∷ b ∷ c ∷ cs) is
-        ∙ sym (cond-false (is_behind (with_next a b) c) (with_next (with_next a b) c ∷ cs) (with_next a b ∷ c ∷ cs) (sym (behind_both a b c (next_is a b is)) ∙ e)))
+        ap whole (cond-false (is_next_to b c) (with_next b c ∷ cs) (b ∷ c ∷ cs) e)
+        ∙ (cond-true (is_next_to a b) (with_next a b ∷ c ∷ cs) (a ∷ b ∷ c ∷ cs) is
+        ∙ sym (cond-false (is_next_to (with_next a b) c) (with_next (with_next a b) c ∷ cs) (with_next a b ∷ c ∷ cs) (sym (behind_both a b c (next_is a b is)) ∙ e)))
 
-pub before_apart : (a b : Stretch) (rest : List Stretch) → is_behind a b ≡ false → before a (before b rest) ≡ a ∷ before b rest
-before_apart a b [] is = cond-false (is_behind a b) (with_next a b ∷ []) (a ∷ b ∷ []) is
-before_apart a b (c ∷ cs) is = go (is_behind b c) refl
+pub before_apart : (a b : Stretch) (rest : List Stretch) → is_next_to a b ≡ false → before a (before b rest) ≡ a ∷ before b rest
+before_apart a b [] is = cond-false (is_next_to a b) (with_next a b ∷ []) (a ∷ b ∷ []) is
+before_apart a b (c ∷ cs) is = go (is_next_to b c) refl
   where
-    go : (t : Bool) → is_behind b c ≡ t → before a (before b (c ∷ cs)) ≡ a ∷ before b (c ∷ cs)
+    go : (t : Bool) → is_next_to b c ≡ t → before a (before b (c ∷ cs)) ≡ a ∷ before b (c ∷ cs)
     go true e =
         let whole : List Stretch → List Stretch = before a in
-        ap whole (cond-true (is_behind b c) (with_next b c ∷ cs) (b ∷ c ∷ cs) e)
-        ∙ (cond-false (is_behind a b) (with_next a (with_next b c) ∷ cs) (a ∷ with_next b c ∷ cs) is
-        ∙ ap (λ (l : List Stretch). a ∷ l) (sym (cond-true (is_behind b c) (with_next b c ∷ cs) (b ∷ c ∷ cs) e)))
+        ap whole (cond-true (is_next_to b c) (with_next b c ∷ cs) (b ∷ c ∷ cs) e)
+        ∙ (cond-false (is_next_to a b) (with_next a (with_next b c) ∷ cs) (a ∷ with_next b c ∷ cs) is
+        ∙ ap (λ (l : List Stretch). a ∷ l) (sym (cond-true (is_next_to b c) (with_next b c ∷ cs) (b ∷ c ∷ cs) e)))
     go false e =
         let whole : List Stretch → List Stretch = before a in
-        ap whole (cond-false (is_behind b c) (with_next b c ∷ cs) (b ∷ c ∷ cs) e)
-        ∙ (cond-false (is_behind a b) (with_next a b ∷ c ∷ cs) (a ∷ b ∷ c ∷ cs) is
-        ∙ ap (λ (l : List Stretch). a ∷ l) (sym (cond-false (is_behind b c) (with_next b c ∷ cs) (b ∷ c ∷ cs) e)))
+        ap whole (cond-false (is_next_to b c) (with_next b c ∷ cs) (b ∷ c ∷ cs) e)
+        ∙ (cond-false (is_next_to a b) (with_next a b ∷ c ∷ cs) (a ∷ b ∷ c ∷ cs) is
+        ∙ ap (λ (l : List Stretch). a ∷ l) (sym (cond-false (is_next_to b c) (with_next b c ∷ cs) (b ∷ c ∷ cs) e)))
 
 -- ---- sectors side by side are one stretch
 

@@ -19,13 +19,13 @@ use Rattle.ldm_dump.proofs.RunLaws.{here_moved, spot_moved}
 use Rattle.ldm_dump.proofs.ReadLaws.{copy_there, copy_sources, made_raid5}
 use Rattle.ldm_table.specs.declared.parts.Member.{Member}
 use Rattle.ldm_table.specs.Targets.{striped, raid5_ls, spots_of, striped_spot, row_in, data_device, member_spot, device_spot, other_device, others_there, raid5_by, raid5_spots}
-use Rattle.ldm_table.specs.Tables.{column_start, column_spot, column_spots, member_of, member_from, member_at, members_of, whole_rows}
+use Rattle.ldm_table.specs.Tables.{column_start, column_begin, column_spots, member_of, member_from, member_at, members_of, whole_rows}
 use Rattle.ldm_table.proofs.CopyLaws.{spot_here, spot_absent}
 use Rattle.ldm_table.proofs.RangeLaws.{all_same_in, made_same_in, made_length, made_at}
 use Rattle.ldm_table.proofs.RowLaws.{chunk_is, stripe_at, column_at, raid5_at}
 
 -- a place in a column, as a sector of an image
-pub column_moved : (found : Found) (l : Layout) (c o : ℕ) → option_map (behind o) (column_spot found l c) ≡ spot_at found (option_map (moved o) (column_start l c))
+pub column_moved : (found : Found) (l : Layout) (c o : ℕ) → option_map (behind o) (column_begin found l c) ≡ spot_at found (option_map (moved o) (column_start l c))
 column_moved found l c o = sym (spot_moved found o (column_start l c))
 
 module _ (found : Found) (l : Layout) (x : ℕ) (is : IsColumned l) where
@@ -37,8 +37,8 @@ module _ (found : Found) (l : Layout) (x : ℕ) (is : IsColumned l) where
 
   -- ---- a stripe
 
-  column_got : (c : ℕ) → c < length (columns_of l) → get_or (column_spots found l) c None ≡ column_spot found l c
-  column_got c lt = made_at (column_spot found l) 0 (length (columns_of l)) c None lt ∙ ap (column_spot found l) (zero-add c)
+  column_got : (c : ℕ) → c < length (columns_of l) → get_or (column_spots found l) c None ≡ column_begin found l c
+  column_got c lt = made_at (column_begin found l) 0 (length (columns_of l)) c None lt ∙ ap (column_begin found l) (zero-add c)
 
   striped_at : l.shape ≡ Stripe → striped_spot l.chunk (column_spots found l) x ≡ copy_spot found l x 0
   striped_at stripe =
@@ -46,7 +46,7 @@ module _ (found : Found) (l : Layout) (x : ℕ) (is : IsColumned l) where
       let c = stripe_column (length (columns_of l)) l.chunk x in
       let o = stripe_offset (length (columns_of l)) l.chunk x in
       let lt : c < length (columns_of l) = omega (arith, many) in
-      ap (λ (n : ℕ). option_map (behind (x / l.chunk / n * l.chunk + x % l.chunk)) (get_or (column_spots found l) (x / l.chunk % n) None)) (made_length (column_spot found l) 0 (length (columns_of l)))
+      ap (λ (n : ℕ). option_map (behind (x / l.chunk / n * l.chunk + x % l.chunk)) (get_or (column_spots found l) (x / l.chunk % n) None)) (made_length (column_begin found l) 0 (length (columns_of l)))
       ∙ (ap (option_map (behind o)) (column_got c lt)
       ∙ (column_moved found l c o
       ∙ ap (λ (p : Option Place). spot_at found p) (sym (stripe_at l x stripe is))))
@@ -76,7 +76,7 @@ module _ (found : Found) (l : Layout) (x : ℕ) (is : IsColumned l) where
 
   -- ---- a RAID-5
 
-  member_spot_is : (c : ℕ) → member_spot (member_at found l c) ≡ column_spot found l c
+  member_spot_is : (c : ℕ) → member_spot (member_at found l c) ≡ column_begin found l c
   member_spot_is c = go (column_start l c)
     where
       made : (n : ℕ) (p : Place) (o : Option Spot) → member_spot (option_map (member_of found n p) o) ≡ o

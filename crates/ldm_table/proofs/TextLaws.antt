@@ -6,7 +6,7 @@ use Rattle.std.proofs.Common.{◌≡◌, ◌∙◌, ℕ, suc, arith, zero-add, �
 use Rattle.ldm_layout.specs.Layouts.{Layout}
 use Rattle.ldm_found.specs.declared.found.Found.{Found}
 use Rattle.ldm_table.specs.declared.stretch.Stretch.{Stretch}
-use Rattle.ldm_table.specs.Tables.{is_behind, before, line_of, stretches_of}
+use Rattle.ldm_table.specs.Tables.{is_next_to, before, table_line, stretches_of}
 use Rattle.ldm_table.specs.Runs.{IsStretchOf}
 use Rattle.ldm_table.specs.Spelling.{text_of_line}
 use Rattle.ldm_table.proofs.StretchLaws.{with_next, before_next, before_apart, stretch_first}
@@ -27,25 +27,25 @@ three_parts t a b c m n o x y z =
     z ∙ (ap (λ (l : List ℕ). l ++ c) (y ∙ (ap (λ (l : List ℕ). l ++ b) x ∙ append_assoc t a b)) ∙ append_assoc t (a ++ b) c)
 
 abbrev pub lines_text : List (List ℕ) → List Stretch → List ℕ
-lines_text words stretches = flat_map (text_of_line words) (map line_of stretches)
+lines_text words stretches = flat_map (text_of_line words) (map table_line stretches)
 
 module _ (words : List (List ℕ)) (found : Found) (l : Layout) where
   abbrev pub rest : ℕ → List Stretch
   rest x = stretches_of found l x (l.size - x)
 
   -- a stretch more lies right behind the last one
-  pub text_joined : (text all : List ℕ) (x : ℕ) (last next : Stretch) → IsStretchOf found l x next → is_behind last next ≡ true → text ++ lines_text words (before last (rest x)) ≡ all
+  pub text_joined : (text all : List ℕ) (x : ℕ) (last next : Stretch) → IsStretchOf found l x next → is_next_to last next ≡ true → text ++ lines_text words (before last (rest x)) ≡ all
       → text ++ lines_text words (before (with_next last next) (rest (x + next.sectors))) ≡ all
   text_joined text all x last next is behind so =
       ap (λ (s : List Stretch). text ++ lines_text words s) (sym (before_next last next (rest (x + next.sectors)) behind) ∙ ap (before last) (sym (stretch_first found l x next is))) ∙ so
 
   -- or apart from it, which is said then
-  pub text_apart : (text more all : List ℕ) (x : ℕ) (last next : Stretch) → IsStretchOf found l x next → is_behind last next ≡ false → text ++ lines_text words (before last (rest x)) ≡ all
-      → more ≡ text ++ text_of_line words (line_of last) → more ++ lines_text words (before next (rest (x + next.sectors))) ≡ all
+  pub text_apart : (text more all : List ℕ) (x : ℕ) (last next : Stretch) → IsStretchOf found l x next → is_next_to last next ≡ false → text ++ lines_text words (before last (rest x)) ≡ all
+      → more ≡ text ++ text_of_line words (table_line last) → more ++ lines_text words (before next (rest (x + next.sectors))) ≡ all
   text_apart text more all x last next is apart so said =
       let after : List ℕ = lines_text words (before next (rest (x + next.sectors))) in
       ap (λ (t : List ℕ). t ++ after) said
-      ∙ (append_assoc text (text_of_line words (line_of last)) after
+      ∙ (append_assoc text (text_of_line words (table_line last)) after
       ∙ (ap (λ (s : List Stretch). text ++ lines_text words s) (sym (before_apart last next (rest (x + next.sectors)) apart) ∙ ap (before last) (sym (stretch_first found l x next is)))
       ∙ so))
 
@@ -53,7 +53,7 @@ module _ (words : List (List ℕ)) (found : Found) (l : Layout) where
   text_begun text x first is = ap (λ (s : List Stretch). text ++ lines_text words s) (sym (stretch_first found l x first is))
 
   -- all is said with the last one
-  pub text_ended : (text all : List ℕ) (x : ℕ) (last : Stretch) → rest x ≡ [] → text ++ lines_text words (before last (rest x)) ≡ all → text ++ text_of_line words (line_of last) ≡ all
+  pub text_ended : (text all : List ℕ) (x : ℕ) (last : Stretch) → rest x ≡ [] → text ++ lines_text words (before last (rest x)) ≡ all → text ++ text_of_line words (table_line last) ≡ all
   text_ended text all x last none so =
-      ap (λ (t : List ℕ). text ++ t) (sym (append-nil (text_of_line words (line_of last))))
+      ap (λ (t : List ℕ). text ++ t) (sym (append-nil (text_of_line words (table_line last))))
       ∙ (ap (λ (s : List Stretch). text ++ lines_text words (before last s)) (sym none) ∙ so)

@@ -51,15 +51,15 @@ abbrev pub is_no_device_word : List ℕ → Bool
 is_no_device_word word = not (is_device_word word)
 
 -- a name of a device has 127 bytes at most
-abbrev pub is_long : List ℕ → Bool
-is_long name = nat_lt 127 (length name)
+abbrev pub is_long_name : List ℕ → Bool
+is_long_name name = nat_lt 127 (length name)
 
 abbrev pub is_long_member : Option Member → Bool
 is_long_member None = false
-is_long_member (Some m) = is_long m.name
+is_long_member (Some m) = is_long_name m.name
 
 abbrev pub has_long_name : Found → Volume → Layout → Bool
-has_long_name found v l = is_long (volume_name found.db.header.name v) || list_any is_long_member (array_of found l)
+has_long_name found v l = is_long_name (volume_name found.db.header.name v) || list_any is_long_member (array_of found l)
 
 abbrev pub fault_if : Bool → TableFault → Option TableFault
 fault_if b fault = if b then Some fault else None

@@ -25,8 +25,8 @@ unfoldable pub device_name : List ℕ → List ℕ → List ℕ → List ℕ
 device_name word group name = (word ++ mangled group) ++ (codes "_" ++ mangled name)
 
 -- of a partition, and of a volume
-abbrev pub part_name : List ℕ → List ℕ → List ℕ
-part_name group name = device_name (codes "ldm_part_") group name
+abbrev pub part_device : List ℕ → List ℕ → List ℕ
+part_device group name = device_name (codes "ldm_part_") group name
 
 abbrev pub volume_name : List ℕ → Volume → List ℕ
 volume_name group v = device_name (codes "ldm_vol_") group v.head.name

@@ -31,8 +31,8 @@ text_of_member None = codes " - -"
 text_of_member (Some m) = text_of_device m
 
 -- ,START SECTORS
-unfoldable pub text_of_range : ℕ → ℕ → List ℕ
-text_of_range start sectors = (codes "," ++ decimal start) ++ (codes " " ++ decimal sectors)
+unfoldable pub text_of_sector_range : ℕ → ℕ → List ℕ
+text_of_sector_range start sectors = (codes "," ++ decimal start) ++ (codes " " ++ decimal sectors)
 
 -- The array isn't synced when it starts: its parity is taken as it is.
 unfoldable pub text_of_target : List (List ℕ) → Target → List ℕ
@@ -43,27 +43,27 @@ text_of_target words (raid5_ls u devices) =
     (codes " raid raid5_ls 2 " ++ decimal u) ++ (codes " nosync " ++ decimal (length devices)) ++ flat_map text_of_member devices
 
 abbrev pub text_of_line : List (List ℕ) → Line → List ℕ
-text_of_line words line = text_of_range line.start line.sectors ++ text_of_target words line.target
+text_of_line words line = text_of_sector_range line.start line.sectors ++ text_of_target words line.target
 
 -- ---- devices
 
 -- the device of a member of an array
-unfoldable pub text_of_part : List (List ℕ) → Member → List ℕ
-text_of_part words m = escaped m.name ++ codes ",,,ro" ++ text_of_range 0 m.sectors ++ text_of_target words (linear m.spot) ++ codes ";"
+unfoldable pub text_of_part_device : List (List ℕ) → Member → List ℕ
+text_of_part_device words m = escaped m.name ++ codes ",,,ro" ++ text_of_sector_range 0 m.sectors ++ text_of_target words (linear m.spot) ++ codes ";"
 
 abbrev pub text_of_part_if : List (List ℕ) → Option Member → List ℕ
 text_of_part_if words None = []
-text_of_part_if words (Some m) = text_of_part words m
+text_of_part_if words (Some m) = text_of_part_device words m
 
 -- what stands in front of the lines of the volume's device
-unfoldable pub text_of_head : List ℕ → Volume → List ℕ
-text_of_head name v = escaped name ++ (codes ",LDM-" ++ own_guid (guid_of_volume v)) ++ codes ",,ro"
+unfoldable pub text_of_line_head : List ℕ → Volume → List ℕ
+text_of_line_head name v = escaped name ++ (codes ",LDM-" ++ own_guid (guid_of_volume v)) ++ codes ",,ro"
 
 -- The line that makes the device of a volume of the group, of images that these words name: the devices of the array that it has
 -- come first.
 unfoldable pub text_of_table : List (List ℕ) → Found → Volume → Layout → List ℕ
 text_of_table words found v l =
     flat_map (text_of_part_if words) (array_of found l)
-    ++ text_of_head (volume_name found.db.header.name v) v
+    ++ text_of_line_head (volume_name found.db.header.name v) v
     ++ flat_map (text_of_line words) (table_of found l)
     ++ codes "\n"

@@ -14,7 +14,7 @@ use Rattle.ldm_dump.specs.Sources.{spot_at, sources_of}
 use Rattle.ldm_dump.specs.declared.spots.Spot.{Spot}
 use Rattle.ldm_table.specs.declared.parts.Member.{Member}
 use Rattle.ldm_table.specs.Targets.{linear, striped, raid5_ls, Line}
-use Rattle.ldm_table.specs.Names.{part_name}
+use Rattle.ldm_table.specs.Names.{part_device}
 use Rattle.ldm_table.specs.declared.stretch.Stretch.{Stretch}
 
 -- ---- sectors that lie side by side on one image
@@ -28,13 +28,13 @@ abbrev pub sector_at : Found → Layout → ℕ → Option Stretch
 sector_at found l x = one_sector x (sources_of found l x)
 
 -- the second lies on the image of the first, right behind it
-abbrev pub is_behind : Stretch → Stretch → Bool
-is_behind a b = (a.spot.image == b.spot.image) && (a.spot.sector + a.sectors == b.spot.sector)
+abbrev pub is_next_to : Stretch → Stretch → Bool
+is_next_to a b = (a.spot.image == b.spot.image) && (a.spot.sector + a.sectors == b.spot.sector)
 
 -- this stretch in front of others, as one with the first of them where that lies right behind it
 abbrev pub before : Stretch → List Stretch → List Stretch
 before a [] = a ∷ []
-before a (b ∷ bs) = if is_behind a b then record a { sectors = a.sectors + b.sectors } ∷ bs else a ∷ b ∷ bs
+before a (b ∷ bs) = if is_next_to a b then record a { sectors = a.sectors + b.sectors } ∷ bs else a ∷ b ∷ bs
 
 -- stretches as long as can be
 abbrev pub joined : List Stretch → List Stretch
@@ -45,8 +45,8 @@ joined (a ∷ rest) = before a (joined rest)
 unfoldable pub stretches_of : Found → Layout → ℕ → ℕ → List Stretch
 stretches_of found l first count = joined (filter_map (sector_at found l) (range_with_len first count))
 
-abbrev pub line_of : Stretch → Line
-line_of s = record { start = s.start; sectors = s.sectors; target = linear s.spot }
+abbrev pub table_line : Stretch → Line
+table_line s = record { start = s.start; sectors = s.sectors; target = linear s.spot }
 
 -- ---- whole rows of a stripe or a RAID-5
 
@@ -67,11 +67,11 @@ whole_rows l = if row_sectors l == 0 then 0 else l.size / row_sectors l
 abbrev pub column_start : Layout → ℕ → Option Place
 column_start l c = option_map (λ e. record { disk = e.disk; sector = e.start }) (slice_get (columns_of l) c)
 
-abbrev pub column_spot : Found → Layout → ℕ → Option Spot
-column_spot found l c = spot_at found (column_start l c)
+abbrev pub column_begin : Found → Layout → ℕ → Option Spot
+column_begin found l c = spot_at found (column_start l c)
 
 abbrev pub column_spots : Found → Layout → List (Option Spot)
-column_spots found l = map (column_spot found l) (range_with_len 0 (length (columns_of l)))
+column_spots found l = map (column_begin found l) (range_with_len 0 (length (columns_of l)))
 
 abbrev pub begins_at : Place → Record → Bool
 begins_at place (kinds.Partition p) = (p.disk == place.disk) && (p.start == place.sector)
@@ -87,7 +87,7 @@ partition_name place records = unwrap_or (option_map name_in (find (begins_at pl
 
 -- so many sectors from this place on, as a device
 abbrev pub member_of : Found → ℕ → Place → Spot → Member
-member_of found sectors place spot = record { name = part_name found.db.header.name (partition_name place found.db.records); spot = spot; sectors = sectors }
+member_of found sectors place spot = record { name = part_device found.db.header.name (partition_name place found.db.records); spot = spot; sectors = sectors }
 
 abbrev pub member_from : Found → ℕ → Place → Option Member
 member_from found sectors place = option_map (member_of found sectors place) (spot_at found (Some place))
@@ -123,7 +123,7 @@ abbrev pub in_rows : Layout → ℕ
 in_rows l = whole_rows l * row_sectors l
 
 abbrev pub rest_lines : Found → Layout → List Line
-rest_lines found l = map line_of (stretches_of found l (in_rows l) (l.size - in_rows l))
+rest_lines found l = map table_line (stretches_of found l (in_rows l) (l.size - in_rows l))
 
 abbrev pub table_of : Found → Layout → List Line
 table_of found l = row_lines found l ++ rest_lines found l

@@ -7,10 +7,8 @@ ghost use Rattle.ldm_layout.specs.Columns.{columns_of};
 ghost use Rattle.ldm_dump.specs.Sources.{is_lost};
 ghost use Rattle.ldm_table.specs.Tables.{in_rows, array_of};
 ghost use Rattle.ldm_table.specs.Faults.{is_bad_chunk, has_many_columns, is_rebuilt, is_colon};
-ghost use Rattle.ldm_table.specs.Faults.{begins_with_slash};
-ghost use Rattle.ldm_table.specs.Faults.{is_device_word, is_no_device_word, is_long};
-ghost use Rattle.ldm_table.specs.Faults.{is_long_member, volume_fault};
-ghost use Rattle.ldm_table.specs.Faults.{text_of_fault};
+ghost use Rattle.ldm_table.specs.Faults.{begins_with_slash, is_device_word, is_no_device_word};
+ghost use Rattle.ldm_table.specs.Faults.{is_long_name, is_long_member, volume_fault, text_of_fault};
 
 use crate::parts::Member;
 use crate::rows::in_rows;
@@ -136,7 +134,7 @@ pub(crate) fn bad_word(words: &[Bytes]) -> Option<usize>
 
 /// Whether a name is too long for a device.
 pub(crate) fn is_long(name: &[u8]) -> bool
-    ensures { result ≡ is_long name.now }
+    ensures { result ≡ is_long_name name.now }
 {
     name.len() > 127
 }

@@ -1,21 +1,19 @@
 //! The lines of a table, as text.
 ghost use Rattle.std.specs.Prelude.{◌≡◌, ◌≢◌, ◌++◌, ◌+◌, ◌-◌, ◌*◌, ◌<◌, ◌≤◌, ℕ, None, Some, Option};
-ghost use Rattle.std.specs.Prelude.{List, false};
-ghost use Rattle.std.specs.Prelude.{OnOk, IfOk, flat_map, length, map, slice_get, decimal, codes};
+ghost use Rattle.std.specs.Prelude.{List, false, OnOk, IfOk, flat_map, length, map, slice_get};
+ghost use Rattle.std.specs.Prelude.{decimal, codes};
 ghost use Rattle.std.specs.List.{range_with_len};
 ghost use Rattle.ldm_layout.specs.Columns.{columns_of, chunk_of};
 ghost use Rattle.ldm_layout.specs.declared.shape.Shape.TheVariants.{Stripe, Raid5};
 ghost use Rattle.ldm_dump.specs.Sources.{first_copy};
 ghost use Rattle.ldm_dump.specs.Runs.{LiesOn};
 ghost use Rattle.ldm_table.specs.Targets.{linear, striped, raid5_ls};
-ghost use Rattle.ldm_table.specs.Tables.{line_of, before, stretches_of, column_spot, column_spots};
-ghost use Rattle.ldm_table.specs.Tables.{whole_rows};
-ghost use Rattle.ldm_table.specs.Tables.{row_sectors, in_rows, row_lines, rest_lines, array_of};
-ghost use Rattle.ldm_table.specs.Spelling.{text_of_spot, text_of_range, text_of_target};
-ghost use Rattle.ldm_table.specs.Spelling.{text_of_device};
-ghost use Rattle.ldm_table.specs.Spelling.{text_of_column, text_of_member, text_of_line};
-ghost use Rattle.ldm_table.specs.Spelling.{text_of_part};
-ghost use Rattle.ldm_table.specs.Spelling.{text_of_part_if};
+ghost use Rattle.ldm_table.specs.Tables.{table_line, before, stretches_of, column_begin};
+ghost use Rattle.ldm_table.specs.Tables.{column_spots, whole_rows, row_sectors, in_rows, row_lines};
+ghost use Rattle.ldm_table.specs.Tables.{rest_lines, array_of};
+ghost use Rattle.ldm_table.specs.Spelling.{text_of_spot, text_of_sector_range, text_of_target};
+ghost use Rattle.ldm_table.specs.Spelling.{text_of_device, text_of_column, text_of_member};
+ghost use Rattle.ldm_table.specs.Spelling.{text_of_line, text_of_part_device, text_of_part_if};
 
 use crate::names::{push_argument, push_escaped};
 use crate::parts::Member;
@@ -42,9 +40,9 @@ fn push_spot(text: &mut Text, words: &Names, spot: Spot) -> Result<(), NoMemory>
 }
 
 // ,START SECTORS
-#[tactic(auto, unfolding(crate::specs::Spelling::text_of_range))]
+#[tactic(auto, unfolding(crate::specs::Spelling::text_of_sector_range))]
 fn push_range(text: &mut Text, start: u64, sectors: u64) -> Result<(), NoMemory>
-    ensures { OnOk result (text.new ≡ text.old ++ text_of_range start sectors) }
+    ensures { OnOk result (text.new ≡ text.old ++ text_of_sector_range start sectors) }
 {
     push_number(text, b",", start)?;
     push_number(text, b" ", sectors)
@@ -59,9 +57,9 @@ fn push_linear(text: &mut Text, words: &Names, spot: Spot) -> Result<(), NoMemor
 }
 
 // The device of a member of an array.
-#[tactic(auto, unfolding(crate::specs::Spelling::text_of_part))]
+#[tactic(auto, unfolding(crate::specs::Spelling::text_of_part_device))]
 fn push_part(text: &mut Text, words: &Names, member: &Member) -> Result<(), NoMemory>
-    ensures { OnOk result (text.new ≡ text.old ++ text_of_part words.now member.now) }
+    ensures { OnOk result (text.new ≡ text.old ++ text_of_part_device words.now member.now) }
 {
     push_escaped(text, member.name.as_slice())?;
     text.push(b",,,ro")?;
@@ -89,7 +87,7 @@ pub(crate) fn push_parts(
 
 // The line of a stretch.
 fn push_stretch(text: &mut Text, words: &Names, stretch: &Stretch) -> Result<(), NoMemory>
-    ensures { OnOk result (text.new ≡ text.old ++ text_of_line words.now (line_of stretch.now)) }
+    ensures { OnOk result (text.new ≡ text.old ++ text_of_line words.now (table_line stretch.now)) }
 {
     push_range(text, stretch.start, stretch.sectors)?;
     push_linear(text, words, stretch.spot)
@@ -109,7 +107,7 @@ fn push_stretches<H: Host>(
         → first_copy found.now plan.now x ≢ None }
     requires lies { LiesOn found.now plan.now (H.seen host.now).sizes }
     ensures { OnOk result (text.new ≡ text.old
-        ++ flat_map (text_of_line words.now) (map line_of
+        ++ flat_map (text_of_line words.now) (map table_line
         (stretches_of found.now plan.now first (plan.now.size - first)))) }
 {
     let size = plan.size();
@@ -156,7 +154,7 @@ fn column_spot<H: Host>(host: &H, found: &Found, plan: &Plan, column: usize) -> 
     requires rows { 0 < whole_rows plan.now }
     requires there { column < length (columns_of plan.now) }
     requires lies { LiesOn found.now plan.now (H.seen host.now).sizes }
-    ensures { result ≡ column_spot found.now plan.now column }
+    ensures { result ≡ column_begin found.now plan.now column }
 {
     prove!(column < plan.columns());
     let at = u128::from(plan.chunk()) * column as u128;

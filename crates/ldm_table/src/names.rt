@@ -2,9 +2,8 @@
 ghost use Rattle.std.specs.Prelude.{◌≡◌, ◌<◌, ◌++◌, OnOk, IfOk};
 ghost use Rattle.ldm_words.specs.Names.{hex_digit};
 ghost use Rattle.ldm_table.specs.Names.{is_letter, is_listed, mangled_byte, mangled, device_name};
-ghost use Rattle.ldm_table.specs.Names.{part_name};
-ghost use Rattle.ldm_table.specs.Names.{volume_name, escaped_byte, escaped, argument_byte};
-ghost use Rattle.ldm_table.specs.Names.{argument};
+ghost use Rattle.ldm_table.specs.Names.{part_device, volume_name, escaped_byte, escaped};
+ghost use Rattle.ldm_table.specs.Names.{argument_byte, argument};
 
 use ldm_bytes::{Bytes, NoMemory};
 use ldm_records::Volume;
@@ -65,7 +64,7 @@ fn device_name(alloc: Global, word: &[u8], group: &[u8], name: &[u8]) -> Result<
 
 /// The name of the device of a partition.
 pub(crate) fn part_name(alloc: Global, group: &[u8], name: &[u8]) -> Result<Bytes, NoMemory>
-    ensures { IfOk result (λ text. text ≡ part_name group.now name.now) }
+    ensures { IfOk result (λ text. text ≡ part_device group.now name.now) }
 {
     device_name(alloc, b"ldm_part_", group, name)
 }

@@ -8,8 +8,7 @@ ghost use Rattle.ldm_dump.specs.Sources.{spot_of};
 ghost use Rattle.ldm_dump.specs.Runs.{IsOn, RowsLieOn};
 ghost use Rattle.ldm_dump.specs.declared.spots.Spot.{Spot as Sector};
 ghost use Rattle.ldm_table.specs.Tables.{begins_at, name_in, partition_name, member_from};
-ghost use Rattle.ldm_table.specs.Tables.{member_at, members_of};
-ghost use Rattle.ldm_table.specs.Tables.{array_of, whole_rows};
+ghost use Rattle.ldm_table.specs.Tables.{member_at, members_of, array_of, whole_rows};
 
 use crate::names::part_name;
 use crate::rows::{rows_in_column, whole_rows};

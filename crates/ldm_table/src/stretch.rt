@@ -2,7 +2,7 @@
 ghost use Rattle.std.specs.Prelude.{◌≡◌, ◌≢◌, ◌<◌, None};
 ghost use Rattle.ldm_dump.specs.Sources.{first_copy};
 ghost use Rattle.ldm_dump.specs.Runs.{LiesOn};
-ghost use Rattle.ldm_table.specs.Tables.{is_behind};
+ghost use Rattle.ldm_table.specs.Tables.{is_next_to};
 ghost use Rattle.ldm_table.specs.Runs.{IsStretchOf};
 
 use ldm_dump::{Spot, run_at, spot_of};
@@ -20,7 +20,7 @@ pub struct Stretch {
 
 /// Whether the second lies on the image of the first, right behind it.
 pub(crate) fn is_behind(a: &Stretch, b: &Stretch) -> bool
-    ensures { result ≡ is_behind a.now b.now }
+    ensures { result ≡ is_next_to a.now b.now }
 {
     a.spot.image == b.spot.image
         && u128::from(a.spot.sector) + u128::from(a.sectors) == u128::from(b.spot.sector)

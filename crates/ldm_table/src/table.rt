@@ -4,7 +4,7 @@ ghost use Rattle.ldm_dump.specs.Sources.{first_copy};
 ghost use Rattle.ldm_dump.specs.Runs.{LiesOn, RowsLieOn};
 ghost use Rattle.ldm_table.specs.Tables.{in_rows, array_of};
 ghost use Rattle.ldm_table.specs.Names.{volume_name};
-ghost use Rattle.ldm_table.specs.Spelling.{text_of_head, text_of_table};
+ghost use Rattle.ldm_table.specs.Spelling.{text_of_line_head, text_of_table};
 ghost use Rattle.ldm_table.specs.Faults.{volume_fault, table_text};
 ghost use Rattle.ldm_table.specs.Laws.{TablesAreVolumes};
 
@@ -22,9 +22,9 @@ use ldm_words::Names;
 use std::alloc::Global;
 
 // What stands in front of the lines of the volume's device, whose name this is.
-#[tactic(auto, unfolding(crate::specs::Spelling::text_of_head))]
+#[tactic(auto, unfolding(crate::specs::Spelling::text_of_line_head))]
 fn push_head(text: &mut Text, name: &[u8], volume: &Volume) -> Result<(), NoMemory>
-    ensures { OnOk result (text.new ≡ text.old ++ text_of_head name.now volume.now) }
+    ensures { OnOk result (text.new ≡ text.old ++ text_of_line_head name.now volume.now) }
 {
     push_escaped(text, name)?;
     text.push(b",LDM-")?;

@@ -22,31 +22,31 @@ use Rattle.ldm_copy.specs.declared.answer.CopyFault.{CopyFault}
 use Rattle.ldm_copy.specs.declared.answer.CopyFault.TheVariants as faults
 use Rattle.ldm_words.specs.Names.{hex_byte, esc}
 
-abbrev pub disk_type : DiskForm → List ℕ
-disk_type (disk_forms.V3 alt fixed) = codes "dsk3"
-disk_type (disk_forms.V4 fixed) = codes "dsk4"
+abbrev pub disk_type_text : DiskForm → List ℕ
+disk_type_text (disk_forms.V3 alt fixed) = codes "dsk3"
+disk_type_text (disk_forms.V4 fixed) = codes "dsk4"
 
-abbrev pub group_type : GroupForm → List ℕ
-group_type (group_forms.V3 guid fixed) = codes "dgr3"
-group_type (group_forms.V4 fixed) = codes "dgr4"
+abbrev pub group_type_text : GroupForm → List ℕ
+group_type_text (group_forms.V3 guid fixed) = codes "dgr3"
+group_type_text (group_forms.V4 fixed) = codes "dgr4"
 
 abbrev pub type_of : Record → List ℕ
 type_of (kinds.Volume v) = codes "vol5"
 type_of (kinds.Component c) = codes "cmp3"
 type_of (kinds.Partition p) = codes "prt3"
-type_of (kinds.Disk d) = disk_type d.form
-type_of (kinds.Group g) = group_type g.form
+type_of (kinds.Disk d) = disk_type_text d.form
+type_of (kinds.Group g) = group_type_text g.form
 
-abbrev pub name_of : Record → List ℕ
-name_of (kinds.Volume v) = v.head.name
-name_of (kinds.Component c) = c.head.name
-name_of (kinds.Partition p) = p.head.name
-name_of (kinds.Disk d) = d.head.name
-name_of (kinds.Group g) = g.head.name
+abbrev pub record_name : Record → List ℕ
+record_name (kinds.Volume v) = v.head.name
+record_name (kinds.Component c) = c.head.name
+record_name (kinds.Partition p) = p.head.name
+record_name (kinds.Disk d) = d.head.name
+record_name (kinds.Group g) = g.head.name
 
 -- TYPE ID NAME LENGTH, where LENGTH is that of the own spelling
 unfoldable pub text_of_record : Record → List ℕ
-text_of_record r = (type_of r ++ codes " " ++ decimal (id_of r)) ++ (codes " " ++ esc (name_of r)) ++ (codes " " ++ decimal (own_len r)) ++ codes "\n"
+text_of_record r = (type_of r ++ codes " " ++ decimal (id_of r)) ++ (codes " " ++ esc (record_name r)) ++ (codes " " ++ decimal (own_len r)) ++ codes "\n"
 
 -- vmdb GROUPNAME GUID sequence S last L
 unfoldable pub text_of_header : Header → List ℕ

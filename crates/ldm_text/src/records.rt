@@ -1,6 +1,6 @@
 //! The text of a copy: a line for its header and for each record.
 ghost use Rattle.std.specs.Prelude.{◌≡◌, ◌++◌, OnOk, IfOk, flat_map};
-ghost use Rattle.ldm_text.specs.Records.{type_of, name_of, text_of_record, text_of_header};
+ghost use Rattle.ldm_text.specs.Records.{type_of, record_name, text_of_record, text_of_header};
 ghost use Rattle.ldm_text.specs.Records.{text_of_copy};
 
 use crate::growing::Text;
@@ -31,7 +31,7 @@ fn type_of(r: &Record) -> &'static [u8]
 }
 
 fn name_of(r: &Record) -> &[u8]
-    ensures { result.now ≡ name_of r.now }
+    ensures { result.now ≡ record_name r.now }
 {
     match r {
         Record::Volume(v) => v.head.name.as_slice(),

@@ -1,11 +1,11 @@
 -- How the sample script goes on.
 use Rattle.std.proofs.Common.{◌≡◌, ℕ, ◌+◌, ◌*◌, ◌/◌, ◌^◌, List, [], ◌++◌, refl, sym, ap, ◌∙◌, add-one, arith}
-use Rattle.ldm_vectors.specs.Script.{advanced, state_after, draw, line_of, lines_of_seed}
+use Rattle.ldm_vectors.specs.Script.{advanced, state_after, draw, sample_line, lines_of_seed}
 
 next_state : (seed draws : ℕ) → state_after seed (draws + 1) ≡ advanced (state_after seed draws)
 next_state seed draws = ap (state_after seed) (add-one draws)
 
-one_more : (seed lines : ℕ) → lines_of_seed seed (lines + 1) ≡ lines_of_seed seed lines ++ line_of (lines + 1) (draw seed (2 * lines + 1)) (draw seed (2 * lines + 2))
+one_more : (seed lines : ℕ) → lines_of_seed seed (lines + 1) ≡ lines_of_seed seed lines ++ sample_line (lines + 1) (draw seed (2 * lines + 1)) (draw seed (2 * lines + 2))
 unfolding lines_of_seed
 one_more seed lines = ap (lines_of_seed seed) (add-one lines)
 
@@ -24,7 +24,7 @@ module _ (seed lines first second : ℕ) (first_is : first ≡ advanced (state_a
       let same : 2 * lines + 2 ≡ 2 * (lines + 1) = omega arith in
       second_state ∙ ap (state_after seed) same
 
-  pub line_more : (kind value : ℕ) (text before : List ℕ) → kind ≡ first / 2 ^ 33 → value ≡ second / 2 ^ 33 → text ≡ line_of (lines + 1) kind value → before ≡ lines_of_seed seed lines
+  pub line_more : (kind value : ℕ) (text before : List ℕ) → kind ≡ first / 2 ^ 33 → value ≡ second / 2 ^ 33 → text ≡ sample_line (lines + 1) kind value → before ≡ lines_of_seed seed lines
       → before ++ text ≡ lines_of_seed seed (lines + 1)
   line_more kind value text before kind_is value_is text_is before_is =
       let k : kind ≡ draw seed (2 * lines + 1) = kind_is ∙ ap (λ (n : ℕ). n / 2 ^ 33) first_state in

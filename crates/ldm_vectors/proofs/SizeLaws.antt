@@ -1,7 +1,7 @@
 -- How long the sample script is at most.
 use Rattle.std.proofs.Common.{ℕ, zero, suc, ◌+◌, ◌*◌, ◌/◌, ◌%◌, ◌<◌, ◌≤◌, ◌==◌, Bool, true, false, List, length, length-append, decimal, arith, if◌then◌else◌}
 use Rattle.std.proofs.lemmas.Fmt.{length-decimal-le}
-use Rattle.ldm_vectors.specs.Script.{draw, span_line, mirror_line, extend_line, delete_line, line_of, lines_of_seed, script_of}
+use Rattle.ldm_vectors.specs.Script.{draw, span_line, mirror_line, extend_line, delete_line, sample_line, lines_of_seed, script_of}
 
 few_digits : (n : ℕ) → n < 1000 → length (decimal n) ≤ 3
 few_digits n lt = length-decimal-le 3 n (omega arith) (omega (arith, lt)) (omega (arith, lt))
@@ -36,7 +36,7 @@ either_short : (test : Bool) (x y : List ℕ) → length x ≤ 100 → length y 
 either_short true x y first second = first
 either_short false x y first second = second
 
-line_short : (line kind value : ℕ) → 0 < line → line ≤ 200 → length (line_of line kind value) ≤ 100
+line_short : (line kind value : ℕ) → 0 < line → line ≤ 200 → length (sample_line line kind value) ≤ 100
 line_short line kind value some few =
     either_short (kind % 4 == 0) _ _ (span_short line value some few)
     (either_short (kind % 4 == 1) _ _ (mirror_short line value some few)
@@ -48,7 +48,7 @@ lines_short seed zero few = omega arith
 lines_short seed (suc lines) few =
     let before = lines_short seed lines (omega (arith, few)) in
     let here = line_short (lines + 1) (draw seed (2 * lines + 1)) (draw seed (2 * lines + 2)) (omega arith) (omega (arith, few)) in
-    let all = length-append (lines_of_seed seed lines) (line_of (lines + 1) (draw seed (2 * lines + 1)) (draw seed (2 * lines + 2))) in
+    let all = length-append (lines_of_seed seed lines) (sample_line (lines + 1) (draw seed (2 * lines + 1)) (draw seed (2 * lines + 2))) in
     omega (arith, before, here, all)
 
 pub script_short : (seed : ℕ) → length (script_of seed) ≤ 20000

@@ -31,8 +31,8 @@ abbrev pub delete_line : ℕ → ℕ → List ℕ
 delete_line line value = codes "delete V" ++ decimal (1 + value % line) ++ codes "\n"
 
 -- the line of this number, by two draws: one chooses the command, the other its numbers
-abbrev pub line_of : ℕ → ℕ → ℕ → List ℕ
-line_of line kind value =
+abbrev pub sample_line : ℕ → ℕ → ℕ → List ℕ
+sample_line line kind value =
     if kind % 4 == 0 then span_line line value
     else if kind % 4 == 1 then mirror_line line value
     else if kind % 4 == 2 then extend_line line value
@@ -41,7 +41,7 @@ line_of line kind value =
 -- the first lines of the script
 unfoldable pub lines_of_seed : ℕ → ℕ → List ℕ
 lines_of_seed seed zero = []
-lines_of_seed seed (suc lines) = lines_of_seed seed lines ++ line_of (lines + 1) (draw seed (2 * lines + 1)) (draw seed (2 * lines + 2))
+lines_of_seed seed (suc lines) = lines_of_seed seed lines ++ sample_line (lines + 1) (draw seed (2 * lines + 1)) (draw seed (2 * lines + 2))
 
 -- all of it
 abbrev pub script_of : ℕ → List ℕ

@@ -1,7 +1,7 @@
 //! The sample script: lines that are drawn from a seed.
 ghost use Rattle.std.specs.Prelude.{◌≡◌, ◌≢◌, ◌/◌, ◌^◌, ◌≤◌, IfOk, length, string_bytes};
 ghost use Rattle.ldm_vectors.specs.Script.{advanced, span_line, mirror_line, extend_line};
-ghost use Rattle.ldm_vectors.specs.Script.{delete_line, line_of, script_of};
+ghost use Rattle.ldm_vectors.specs.Script.{delete_line, sample_line, script_of};
 
 use ldm_bytes::NoMemory;
 use std::alloc::Global;
@@ -69,7 +69,7 @@ fn delete_line(alloc: Global, line: u64, value: u64) -> Result<String, NoMemory>
 // The line of this number, from 1 on, by two draws.
 fn line_of(alloc: Global, line: u64, kind: u64, value: u64) -> Result<String, NoMemory>
     requires { line ≢ 0 }
-    ensures { IfOk result (λ text. string_bytes text ≡ line_of line kind value) }
+    ensures { IfOk result (λ text. string_bytes text ≡ sample_line line kind value) }
 {
     match kind % 4 {
         0 => span_line(alloc, line, value),

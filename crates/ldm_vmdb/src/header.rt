@@ -1,5 +1,5 @@
 //! The header of the database (VMDB), and its faults.
-ghost use Rattle.ldm_vmdb.specs.Sectors.{IsKept};
+ghost use Rattle.ldm_vmdb.specs.Sectors.{IsKeptHeader};
 
 use ldm_bytes::{Bytes, NoMemory};
 use std::alloc::Global;

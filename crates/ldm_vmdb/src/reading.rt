@@ -1,27 +1,27 @@
 //! Reads a header, or its first fault.
 ghost use Rattle.std.specs.Prelude.{◌≡◌, ◌≤◌, ◌<◌, Some, None, MatchResult, length, IfOk, ◌==◌};
 ghost use Rattle.std.specs.List.{position_or_len};
-ghost use Rattle.ldm_vmdb.specs.Sectors.{has_magic, has_version, has_block_size, has_first_block};
-ghost use Rattle.ldm_vmdb.specs.Sectors.{is_settled, fits_area, last_of, group_guid, group_name};
-ghost use Rattle.ldm_vmdb.specs.Sectors.{carried};
+ghost use Rattle.ldm_vmdb.specs.Sectors.{has_vmdb_magic, has_vmdb_version, has_block_size};
+ghost use Rattle.ldm_vmdb.specs.Sectors.{has_first_block, is_settled, fits_area, last_of};
+ghost use Rattle.ldm_vmdb.specs.Sectors.{group_guid, group_name, carried};
 ghost use Rattle.ldm_vmdb.specs.Headers.{vmdb_fault, ReadsHeader};
 
 use crate::header::{Header, VmdbError, VmdbFault};
 use ldm_bytes::{Bytes, NoMemory, get_u16, get_u32, get_u64, put_bytes, read_guid};
 use std::alloc::Global;
 
-#[tactic(auto, unfolding(crate::specs::Sectors::has_magic))]
+#[tactic(auto, unfolding(crate::specs::Sectors::has_vmdb_magic))]
 fn magic_test(sector: &[u8]) -> bool
     requires { length sector.now ≡ 512 }
-    ensures { result ≡ has_magic sector.now }
+    ensures { result ≡ has_vmdb_magic sector.now }
 {
     &sector[..4] == b"VMDB".as_slice()
 }
 
-#[tactic(auto, unfolding(crate::specs::Sectors::has_version))]
+#[tactic(auto, unfolding(crate::specs::Sectors::has_vmdb_version))]
 fn version_test(sector: &[u8]) -> bool
     requires { length sector.now ≡ 512 }
-    ensures { result ≡ has_version sector.now }
+    ensures { result ≡ has_vmdb_version sector.now }
 {
     get_u16(sector, 0x12) == 4 && get_u16(sector, 0x14) == 10
 }

@@ -1,8 +1,7 @@
 //! The records of a new volume of each shape, and of a longer span.
 ghost use Rattle.std.specs.Prelude.{◌≡◌, ◌+◌, ◌-◌, ◌*◌, ◌^◌, ◌<◌, ◌≤◌, ◌++◌, length, sum_by, IfOk};
 ghost use Rattle.ldm_volumes.specs.Volumes.{there, span_parts, column_parts, mirror_parts};
-ghost use Rattle.ldm_volumes.specs.Volumes.{span_made, stripe_made};
-ghost use Rattle.ldm_volumes.specs.Volumes.{raid5_made, mirror_made};
+ghost use Rattle.ldm_volumes.specs.Volumes.{span_made, stripe_made, raid5_made, mirror_made};
 
 use ldm_bytes::NoMemory;
 use ldm_made::{new_component, new_partition, new_volume};

@@ -13,7 +13,7 @@ use Rattle.ldm_words.specs.declared.job.Job.{Job}
 use Rattle.ldm_words.specs.declared.job.Job.TheVariants.{Disk, Records, Table, One, Init, Sample}
 use Rattle.ldm_bytes.specs.Guid.{guid_of}
 use Rattle.ldm_words.specs.Commands.{many, command_of}
-use Rattle.ldm_words.specs.NewGroup.{group_name, IsNewGroup}
+use Rattle.ldm_words.specs.NewGroup.{new_group_name, AreInitWords}
 use Rattle.ldm_words.specs.Jobs.{texts, is_on, image_words, images_of, images_behind, Form, forms, form_in, is_group, takes, fits, job_of, job_form, with_images, HasCount}
 use Rattle.ldm_words.proofs.LimitLaws.{within}
 use Rattle.ldm_words.proofs.NewGroupLaws.{IsGroupName, is_new_group_name, AreGuids, are_guids}
@@ -50,7 +50,7 @@ no_other words rest word behind is none = rw is (no_form (forms behind) word res
 -- ---- the grammar's limits
 
 -- the words of a new group keep them
-pub init_limits : (name disks : List ℕ) (word : Option (List ℕ)) (words : List (List ℕ)) → group_name word ≡ Some name → many 2 guid_of words ≡ Some disks → IsNewGroup name disks
+pub init_limits : (name disks : List ℕ) (word : Option (List ℕ)) (words : List (List ℕ)) → new_group_name word ≡ Some name → many 2 guid_of words ≡ Some disks → AreInitWords name disks
 init_limits name disks word words named many_are =
     let is = subst (λ (o : Option (List ℕ)). IfSome o IsGroupName) named (is_new_group_name word) in
     let are = subst (λ (o : Option (List ℕ)). IfSome o (AreGuids (length words))) many_are (are_guids words) in

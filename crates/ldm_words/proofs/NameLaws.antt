@@ -4,7 +4,7 @@ use Rattle.std.specs.List.{All}
 use Rattle.std.proofs.lemmas.Bool.{and_parts}
 use Rattle.std.proofs.lemmas.Bool.Decides.{nat_tests}
 use Rattle.std.proofs.lemmas.List.Elements.{All-tail}
-use Rattle.ldm_words.specs.Names.{is_hex, hex_value, hex_digit, hex_byte, is_plain, plain, escaped, ◌before◌, spelled, at_most, name_of, esc_byte, esc}
+use Rattle.ldm_words.specs.Names.{is_hex, hex_value, hex_digit, hex_byte, is_plain, plain_byte, escaped_value, ◌before◌, spelled, at_most, name_of, esc_byte, esc}
 
 -- ---- one byte
 
@@ -14,7 +14,7 @@ hex_is d lt = grind (arith, nat_tests)
 hex_back : (d : ℕ) → d < 16 → hex_value (hex_digit d) ≡ d
 hex_back d lt = grind (arith, nat_tests)
 
-escaped_back : (c : ℕ) → c < 256 → escaped 120 (hex_digit (c / 16)) (hex_digit (c % 16)) ≡ Some c
+escaped_back : (c : ℕ) → c < 256 → escaped_value 120 (hex_digit (c / 16)) (hex_digit (c % 16)) ≡ Some c
 escaped_back c lt =
     let high : c / 16 < 16 = omega arith in
     let low : c % 16 < 16 = omega arith in
@@ -30,14 +30,14 @@ no_backslash c h = go (c == 92) (and_parts (nat_le c 0x7E) (not (c == 92)) (and_
     go true e = absurd cc
     go false e = refl
 
-plain_step : (c : ℕ) (rest : List ℕ) → (c == 92) ≡ false → spelled (c ∷ rest) ≡ (plain c before spelled rest)
+plain_step : (c : ℕ) (rest : List ℕ) → (c == 92) ≡ false → spelled (c ∷ rest) ≡ (plain_byte c before spelled rest)
 unfolding spelled
 plain_step c [] h = refl
 plain_step c (x ∷ []) h = refl
 plain_step c (x ∷ a ∷ []) h = refl
-plain_step c (x ∷ a ∷ b ∷ rest) h = ap (λ t. cond t (escaped x a b before spelled rest) (plain c before spelled (x ∷ a ∷ b ∷ rest))) h
+plain_step c (x ∷ a ∷ b ∷ rest) h = ap (λ t. cond t (escaped_value x a b before spelled rest) (plain_byte c before spelled (x ∷ a ∷ b ∷ rest))) h
 
-escape_step : (a b : ℕ) (rest : List ℕ) → spelled (92 ∷ 120 ∷ a ∷ b ∷ rest) ≡ (escaped 120 a b before spelled rest)
+escape_step : (a b : ℕ) (rest : List ℕ) → spelled (92 ∷ 120 ∷ a ∷ b ∷ rest) ≡ (escaped_value 120 a b before spelled rest)
 unfolding spelled
 escape_step a b rest = refl
 

@@ -8,7 +8,7 @@ use Rattle.std.proofs.lemmas.Bool.Decides.{nat_tests}
 use Rattle.std.proofs.lemmas.List.Elements.{All-nil, All-cons}
 use Rattle.ldm_bytes.specs.Guid.{guid_of}
 use Rattle.ldm_words.specs.Commands.{each, many}
-use Rattle.ldm_words.specs.NewGroup.{is_not_zero, is_group_name, group_name}
+use Rattle.ldm_words.specs.NewGroup.{is_not_zero, is_group_name, new_group_name}
 use Rattle.ldm_words.proofs.LimitLaws.{where_so, within, any_one, are_read}
 
 pub record IsGroupName (name : List ℕ) : Type 0 where
@@ -22,7 +22,7 @@ none_zero (c ∷ cs) is =
     let parts = and_parts (is_not_zero c) (list_all is_not_zero cs) is in
     All-cons (λ c. c ≢ 0) c cs (grind (arith, nat_tests, parts.0)) (none_zero cs parts.1)
 
-pub is_new_group_name : (o : Option (List ℕ)) → IfSome (group_name o) IsGroupName
+pub is_new_group_name : (o : Option (List ℕ)) → IfSome (new_group_name o) IsGroupName
 is_new_group_name None = tt
 is_new_group_name (Some name) = where_so IsGroupName (is_group_name name) (Some name) (λ is.
     let parts = and_parts (nat_le 1 (length name) && nat_le (length name) 30) (list_all is_not_zero name) is in

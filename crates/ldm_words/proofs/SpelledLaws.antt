@@ -3,7 +3,7 @@ use Rattle.std.proofs.Common.{append_assoc, ◌&&◌, ◌≡◌, ℕ, ◌+◌, �
 use Rattle.std.specs.Prelude.{nat_eq, nat_le}
 use Rattle.std.proofs.lemmas.Bool.Decides.{nat_tests}
 use Rattle.std.proofs.lemmas.List.{drop-drop, drop_all, take_all, append-nil, length-drop}
-use Rattle.ldm_words.specs.Names.{spelled, ◌before◌, plain, escaped}
+use Rattle.ldm_words.specs.Names.{spelled, ◌before◌, plain_byte, escaped_value}
 use Rattle.ldm_words.specs.Units.{unit_of, sized}
 
 -- the front, and then what is there
@@ -37,12 +37,12 @@ long n le = grind (arith, nat_tests)
 pub spelled_step : (word : List ℕ) → 0 < length word → spelled word ≡ go_on (unit_of word) word
 unfolding spelled
 spelled_step [] some = absurd (omega arith)
-spelled_step (c ∷ []) some = short (nat_eq c 92) (plain c) (escaped 0 0 0) (c ∷ []) (spelled []) refl
-spelled_step (c ∷ x ∷ []) some = short (nat_eq c 92) (plain c) (escaped x 0 0) (c ∷ x ∷ []) (spelled (x ∷ [])) refl
-spelled_step (c ∷ x ∷ a ∷ []) some = short (nat_eq c 92) (plain c) (escaped x a 0) (c ∷ x ∷ a ∷ []) (spelled (x ∷ a ∷ [])) refl
+spelled_step (c ∷ []) some = short (nat_eq c 92) (plain_byte c) (escaped_value 0 0 0) (c ∷ []) (spelled []) refl
+spelled_step (c ∷ x ∷ []) some = short (nat_eq c 92) (plain_byte c) (escaped_value x 0 0) (c ∷ x ∷ []) (spelled (x ∷ [])) refl
+spelled_step (c ∷ x ∷ a ∷ []) some = short (nat_eq c 92) (plain_byte c) (escaped_value x a 0) (c ∷ x ∷ a ∷ []) (spelled (x ∷ a ∷ [])) refl
 spelled_step (c ∷ x ∷ a ∷ b ∷ rest) some =
     let le : 4 ≤ length (c ∷ x ∷ a ∷ b ∷ rest) = omega arith in
-    four (nat_eq c 92) (nat_le 4 (length (c ∷ x ∷ a ∷ b ∷ rest))) (plain c) (escaped x a b) (c ∷ x ∷ a ∷ b ∷ rest) (spelled rest) (spelled (x ∷ a ∷ b ∷ rest)) (long (length (c ∷ x ∷ a ∷ b ∷ rest)) le) refl refl
+    four (nat_eq c 92) (nat_le 4 (length (c ∷ x ∷ a ∷ b ∷ rest))) (plain_byte c) (escaped_value x a b) (c ∷ x ∷ a ∷ b ∷ rest) (spelled rest) (spelled (x ∷ a ∷ b ∷ rest)) (long (length (c ∷ x ∷ a ∷ b ∷ rest)) le) refl refl
 
 pub onto_push : (front : List ℕ) (c : ℕ) (rest : Option (List ℕ)) → onto (front ++ c ∷ []) rest ≡ onto front (Some c before rest)
 onto_push front c None = refl

@@ -10,7 +10,7 @@ use Rattle.ldm_words.specs.declared.job.Job.TheVariants.{Disk, Records, Show, Ch
 use Rattle.ldm_words.specs.Numbers.{number_of}
 use Rattle.ldm_words.specs.Names.{name_of}
 use Rattle.ldm_words.specs.Commands.{all_three, many, command_of}
-use Rattle.ldm_words.specs.NewGroup.{group_name, IsNewGroup}
+use Rattle.ldm_words.specs.NewGroup.{new_group_name, AreInitWords}
 use Rattle.ldm_words.specs.Limits.{IsCommand}
 
 -- the words, as lists of bytes
@@ -35,9 +35,9 @@ images_behind words = if is_some (position is_on words) then Some (images_of wor
 -- ---- the words before it
 
 -- a job that takes no words of its own
-abbrev pub plain : Job → List (List ℕ) → Option Job
-plain job [] = Some job
-plain job rest = None
+abbrev pub plain_job : Job → List (List ℕ) → Option Job
+plain_job job [] = Some job
+plain_job job rest = None
 
 -- NAME
 abbrev pub named_in : List (List ℕ) → Option (List ℕ)
@@ -59,7 +59,7 @@ map_form rest = None
 
 -- NAME, the GUID of the group and those of 2 to 64 disks
 abbrev pub init_form : List (List ℕ) → Option Job
-init_form (name ∷ guid ∷ disks) = all_three Init (group_name (name_of name)) (guid_of guid) (many 2 guid_of disks)
+init_form (name ∷ guid ∷ disks) = all_three Init (new_group_name (name_of name)) (guid_of guid) (many 2 guid_of disks)
 init_form rest = None
 
 -- SEED
@@ -74,16 +74,16 @@ Form = List ℕ × (List (List ℕ) → Option Job)
 -- The jobs: the first word of each, and its form. A table takes the words behind `on` too.
 abbrev pub forms : List (List ℕ) → List Form
 forms behind =
-    (codes "disk", plain Disk)
-    ∷ (codes "records", plain Records)
-    ∷ (codes "show", plain Show)
-    ∷ (codes "check", plain Check)
+    (codes "disk", plain_job Disk)
+    ∷ (codes "records", plain_job Records)
+    ∷ (codes "show", plain_job Show)
+    ∷ (codes "check", plain_job Check)
     ∷ (codes "map", map_form)
     ∷ (codes "dump", named Dump)
     ∷ (codes "scrub", named Scrub)
     ∷ (codes "table", named (λ name. Table name behind))
-    ∷ (codes "try", plain Try)
-    ∷ (codes "edit", plain Edit)
+    ∷ (codes "try", plain_job Try)
+    ∷ (codes "edit", plain_job Edit)
     ∷ (codes "init", init_form)
     ∷ (codes "sample", sample_form)
     ∷ []
@@ -145,7 +145,7 @@ HasCount job images = (1 ≤ images) × (images ≤ 64)
 -- a command of a job, and the words of a new group, keep the grammar's limits
 abbrev pub KeepsLimits : Job → Type 0
 KeepsLimits (One command) = IsCommand command
-KeepsLimits (Init name guid disks) = IsNewGroup name disks
+KeepsLimits (Init name guid disks) = AreInitWords name disks
 KeepsLimits job = Unit {0}
 
 -- ---- kinds
@@ -166,14 +166,14 @@ pub data Kind : Type 0 where
   Makes : Kind
 
 -- the kind of a job: it only reads, where nothing else is said
-abbrev pub kind_of : Job → Kind
-kind_of (Dump name) = Streams
-kind_of (Scrub name) = Streams
-kind_of Try = Hears
-kind_of Edit = Edits
-kind_of (One command) = Does
-kind_of (Init name guid disks) = Makes
-kind_of job = Reads
+abbrev pub job_kind : Job → Kind
+job_kind (Dump name) = Streams
+job_kind (Scrub name) = Streams
+job_kind Try = Hears
+job_kind Edit = Edits
+job_kind (One command) = Does
+job_kind (Init name guid disks) = Makes
+job_kind job = Reads
 
 -- whether jobs of a kind write to their images
 abbrev pub writes : Kind → Bool

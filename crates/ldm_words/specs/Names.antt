@@ -13,12 +13,12 @@ hex_value c = if nat_le 97 c then c - 87 else c - 48
 abbrev pub is_plain : ℕ → Bool
 is_plain c = nat_le 0x21 c && (nat_le c 0x7E && not (c == 92))
 
-abbrev pub plain : ℕ → Option ℕ
-plain c = if is_plain c then Some c else None
+abbrev pub plain_byte : ℕ → Option ℕ
+plain_byte c = if is_plain c then Some c else None
 
 -- the byte that a backslash and these three stand for: an x and two digits
-abbrev pub escaped : ℕ → ℕ → ℕ → Option ℕ
-escaped x a b = if (x == 120) && (is_hex a && is_hex b) then Some (16 * hex_value a + hex_value b) else None
+abbrev pub escaped_value : ℕ → ℕ → ℕ → Option ℕ
+escaped_value x a b = if (x == 120) && (is_hex a && is_hex b) then Some (16 * hex_value a + hex_value b) else None
 
 infixr 20 ◌before◌
 -- one byte in front of the others, where both can be read
@@ -30,8 +30,8 @@ None before cs = None
 -- the bytes that are spelled, each by itself or by an escape
 unfoldable pub spelled : List ℕ → Option (List ℕ)
 spelled [] = Some []
-spelled (c ∷ x ∷ a ∷ b ∷ rest) = if c == 92 then escaped x a b before spelled rest else plain c before spelled (x ∷ a ∷ b ∷ rest)
-spelled (c ∷ rest) = plain c before spelled rest
+spelled (c ∷ x ∷ a ∷ b ∷ rest) = if c == 92 then escaped_value x a b before spelled rest else plain_byte c before spelled (x ∷ a ∷ b ∷ rest)
+spelled (c ∷ rest) = plain_byte c before spelled rest
 
 abbrev pub at_most : ℕ → Option (List ℕ) → Option (List ℕ)
 at_most n None = None

@@ -9,12 +9,12 @@ is_not_zero c = not (c == 0)
 abbrev pub is_group_name : List ℕ → Bool
 is_group_name name = (nat_le 1 (length name) && nat_le (length name) 30) && list_all is_not_zero name
 
-abbrev pub group_name : Option (List ℕ) → Option (List ℕ)
-group_name None = None
-group_name (Some name) = if is_group_name name then Some name else None
+abbrev pub new_group_name : Option (List ℕ) → Option (List ℕ)
+new_group_name None = None
+new_group_name (Some name) = if is_group_name name then Some name else None
 
 -- what the grammar leaves of them
-pub record IsNewGroup (name disks : List ℕ) : Type 0 where
+pub record AreInitWords (name disks : List ℕ) : Type 0 where
   pub named : 1 ≤ length name
   pub short : length name ≤ 30
   pub no_zero : All (λ c. c ≢ 0) name

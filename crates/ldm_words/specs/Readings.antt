@@ -4,7 +4,7 @@ use Rattle.ldm_words.specs.declared.job.WordsError.{WordsError}
 use Rattle.ldm_words.specs.declared.job.WordsError.TheVariants.{Usage, NoMemory}
 
 -- the reading, or Usage exactly where there is none, or want of memory
-abbrev pub Reads : {X : Type 0} → Result X WordsError → Option X → Type 0
-Reads (Ok x) reading = reading ≡ Some x
-Reads (Err Usage) reading = reading ≡ None
-Reads (Err NoMemory) reading = Unit {0}
+abbrev pub ReadsWords : {X : Type 0} → Result X WordsError → Option X → Type 0
+ReadsWords (Ok x) reading = reading ≡ Some x
+ReadsWords (Err Usage) reading = reading ≡ None
+ReadsWords (Err NoMemory) reading = Unit {0}

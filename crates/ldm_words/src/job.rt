@@ -3,13 +3,12 @@ ghost use Rattle.std.specs.Prelude.{◌≡◌, ◌≤◌, IfOk, IfSome, length};
 ghost use Rattle.std.specs.Option.{option_map};
 ghost use Rattle.std.specs.List.{position_or_len};
 ghost use Rattle.ldm_words.specs.declared.job.Job.TheVariants as jobs;
-ghost use Rattle.ldm_words.specs.Jobs.{texts, is_on, image_words, images_of, images_behind, plain};
-ghost use Rattle.ldm_words.specs.Jobs.{named_in, named};
-ghost use Rattle.ldm_words.specs.Jobs.{map_form, init_form, sample_form, job_form, is_group, takes};
-ghost use Rattle.ldm_words.specs.Jobs.{fits, job_of};
-ghost use Rattle.ldm_words.specs.Jobs.{HasCount, KeepsLimits, kind_of, writes};
-ghost use Rattle.ldm_words.specs.Commands.{bytes_of, command_of};
-ghost use Rattle.ldm_words.specs.Readings.{Reads};
+ghost use Rattle.ldm_words.specs.Jobs.{texts, is_on, image_words, images_of, images_behind};
+ghost use Rattle.ldm_words.specs.Jobs.{plain_job, named_in, named, map_form, init_form};
+ghost use Rattle.ldm_words.specs.Jobs.{sample_form, job_form, is_group, takes, fits, job_of};
+ghost use Rattle.ldm_words.specs.Jobs.{HasCount, KeepsLimits, job_kind, writes};
+ghost use Rattle.ldm_words.specs.Commands.{token_bytes, command_of};
+ghost use Rattle.ldm_words.specs.Readings.{ReadsWords};
 
 use crate::command::{Command, Names};
 use crate::name::read_name;
@@ -69,7 +68,7 @@ pub enum Job {
 impl Job {
     /// Whether the job writes to its images.
     pub fn edits(&self) -> bool
-        ensures { result ≡ writes (kind_of self.now) }
+        ensures { result ≡ writes (job_kind self.now) }
     {
         matches!(self, Job::Edit | Job::One(_) | Job::Init { .. })
     }
@@ -179,7 +178,7 @@ fn is_group(images: usize) -> bool
 // A job that takes no words of its own.
 fn plain(job: Job, rest: &[String]) -> Option<Job>
     requires { KeepsLimits job }
-    ensures is { result ≡ plain job (texts rest.now) }
+    ensures is { result ≡ plain_job job (texts rest.now) }
     ensures limits { IfSome result KeepsLimits }
 {
     if rest.is_empty() { Some(job) } else { None }
@@ -288,7 +287,7 @@ fn read_sample(rest: &[String]) -> Option<Job>
 
 // The words as tokens, each of them one.
 fn tokens_of(alloc: Global, words: &[String]) -> Result<Vec<&[u8]>, NoMemory>
-    ensures { IfOk result (λ tokens. bytes_of tokens.items ≡ texts words.now) }
+    ensures { IfOk result (λ tokens. token_bytes tokens.items ≡ texts words.now) }
 {
     let mut tokens = Vec::new(alloc);
     for word in words {
@@ -338,7 +337,7 @@ fn read_job(alloc: Global, words: &[String], behind: &[String]) -> Result<Option
 /// reading.
 #[tactic(auto, unfolding(crate::specs::Jobs::job_of))]
 pub fn read_words(alloc: Global, words: &[String]) -> Result<(Job, usize), WordsError>
-    ensures reads { Reads result (job_of (texts words.now)) }
+    ensures reads { ReadsWords result (job_of (texts words.now)) }
     ensures count { IfOk result (λ reading. HasCount reading.0 reading.1) }
     ensures limits { IfOk result (λ reading. KeepsLimits reading.0) }
     ensures images { IfOk result (λ reading. reading.1 ≡ images_of (texts words.now)) }

@@ -1,6 +1,6 @@
 //! Lines of a script.
 ghost use Rattle.std.specs.Prelude.{◌≡◌, [], IfOk, MatchOption};
-ghost use Rattle.ldm_words.specs.Commands.{bytes_of, line_of};
+ghost use Rattle.ldm_words.specs.Commands.{token_bytes, line_of};
 ghost use Rattle.ldm_words.specs.Limits.{IsCommand};
 ghost use Rattle.ldm_words.specs.Lines.{tokens_of, lines_of, IsFrontLine, ReadsLine};
 
@@ -32,7 +32,7 @@ impl From<NoMemory> for LineError {
 
 // The tokens of a line, which lie in it.
 fn split_tokens(alloc: Global, line: &[u8]) -> Result<Vec<&[u8]>, NoMemory>
-    ensures { IfOk result (λ tokens. bytes_of tokens.items ≡ tokens_of line.now) }
+    ensures { IfOk result (λ tokens. token_bytes tokens.items ≡ tokens_of line.now) }
 {
     let mut tokens = Vec::new(alloc);
     for part in line.split(|c| *c == b' ') {

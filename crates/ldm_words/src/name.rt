@@ -1,7 +1,7 @@
 //! Names as they are written.
 ghost use Rattle.std.specs.Prelude.{◌≡◌, ◌<◌, ◌≤◌, IfOk, IfSome, IsTrue, length};
-ghost use Rattle.ldm_words.specs.Names.{name_of, spelled, is_plain, is_hex, hex_value, escaped};
-ghost use Rattle.ldm_words.specs.Names.{NamesReadBack};
+ghost use Rattle.ldm_words.specs.Names.{name_of, spelled, is_plain, is_hex, hex_value};
+ghost use Rattle.ldm_words.specs.Names.{escaped_value, NamesReadBack};
 ghost use Rattle.ldm_words.specs.Units.{unit_of};
 
 use ldm_bytes::{Bytes, NoMemory};
@@ -30,7 +30,7 @@ pub fn is_plain(c: u8) -> bool
 
 // The byte that an escape stands for.
 fn escaped_byte(x: u8, a: u8, b: u8) -> Option<u8>
-    ensures { result ≡ escaped x a b }
+    ensures { result ≡ escaped_value x a b }
 {
     if x == b'x' && is_hex(a) && is_hex(b) {
         Some(16 * hex_value(a) + hex_value(b))

@@ -2,8 +2,8 @@
 ghost use Rattle.std.specs.Prelude.{◌≡◌, IfOk};
 ghost use Rattle.std.specs.List.{list_all};
 ghost use Rattle.ldm_words.specs.Names.{name_of};
-ghost use Rattle.ldm_words.specs.Commands.{bytes_of, many};
-ghost use Rattle.ldm_words.specs.NewGroup.{is_not_zero, is_group_name, group_name};
+ghost use Rattle.ldm_words.specs.Commands.{token_bytes, many};
+ghost use Rattle.ldm_words.specs.NewGroup.{is_not_zero, is_group_name, new_group_name};
 ghost use Rattle.ldm_bytes.specs.Guid.{guid_of};
 
 use crate::name::read_name;
@@ -62,7 +62,7 @@ fn is_group_name(name: &[u8]) -> bool
 
 /// The name of a new group that the token is.
 pub fn read_group_name(alloc: Global, token: &[u8]) -> Result<Option<Bytes>, NoMemory>
-    ensures { IfOk result (λ name. name ≡ group_name (name_of token.now)) }
+    ensures { IfOk result (λ name. name ≡ new_group_name (name_of token.now)) }
 {
     let name = read_name(alloc, token)?;
     Ok(name.filter(|name| is_group_name(name.as_slice())))
@@ -70,7 +70,7 @@ pub fn read_group_name(alloc: Global, token: &[u8]) -> Result<Option<Bytes>, NoM
 
 /// The GUIDs that the tokens are, 2 to 64 of them.
 pub fn read_guids(alloc: Global, tokens: &[&[u8]]) -> Result<Option<Guids>, NoMemory>
-    ensures { IfOk result (λ guids. guids ≡ many 2 guid_of (bytes_of tokens.now)) }
+    ensures { IfOk result (λ guids. guids ≡ many 2 guid_of (token_bytes tokens.now)) }
 {
     if tokens.len() < FEWEST || tokens.len() > MOST {
         return Ok(None);

@@ -1,10 +1,9 @@
 //! Commands from tokens.
 ghost use Rattle.std.specs.Prelude.{◌≡◌, IfOk, IfSome};
 ghost use Rattle.ldm_words.specs.Names.{name_of};
-ghost use Rattle.ldm_words.specs.Commands.{bytes_of, many, piece_of, columns_of, mirror_of};
-ghost use Rattle.ldm_words.specs.Commands.{layout_of, new_name};
-ghost use Rattle.ldm_words.specs.Commands.{create_of, extend_of, delete_of, command_of, alone};
-ghost use Rattle.ldm_words.specs.Commands.{line_of};
+ghost use Rattle.ldm_words.specs.Commands.{token_bytes, many, piece_of, columns_asked, mirror_of};
+ghost use Rattle.ldm_words.specs.Commands.{layout_asked, new_name, create_of, extend_of, delete_of};
+ghost use Rattle.ldm_words.specs.Commands.{command_of, alone, line_of};
 ghost use Rattle.ldm_words.specs.Equals.{IsLastEquals};
 ghost use Rattle.ldm_words.specs.Limits.{IsCommand, CommandsKeepLimits, LinesKeepLimits};
 
@@ -56,7 +55,7 @@ fn read_piece(alloc: Global, token: &[u8]) -> Result<Option<Piece>, NoMemory>
 
 // The pieces that the tokens are, 1 to 64 of them.
 fn read_pieces(alloc: Global, tokens: &[&[u8]]) -> Result<Option<Pieces>, NoMemory>
-    ensures { IfOk result (λ pieces. pieces ≡ many 1 piece_of (bytes_of tokens.now)) }
+    ensures { IfOk result (λ pieces. pieces ≡ many 1 piece_of (token_bytes tokens.now)) }
 {
     if tokens.is_empty() || tokens.len() > MOST {
         return Ok(None);
@@ -73,7 +72,7 @@ fn read_pieces(alloc: Global, tokens: &[&[u8]]) -> Result<Option<Pieces>, NoMemo
 
 // The names that the tokens are, `least` to 64 of them.
 fn read_names(alloc: Global, tokens: &[&[u8]], least: usize) -> Result<Option<Names>, NoMemory>
-    ensures { IfOk result (λ names. names ≡ many least name_of (bytes_of tokens.now)) }
+    ensures { IfOk result (λ names. names ≡ many least name_of (token_bytes tokens.now)) }
 {
     if tokens.len() < least || tokens.len() > MOST {
         return Ok(None);
@@ -90,7 +89,7 @@ fn read_names(alloc: Global, tokens: &[&[u8]], least: usize) -> Result<Option<Na
 
 // The columns that the tokens are, on `least` to 64 disks.
 fn read_columns(alloc: Global, tokens: &[&[u8]], least: usize) -> Result<Option<Columns>, NoMemory>
-    ensures { IfOk result (λ columns. columns ≡ columns_of least (bytes_of tokens.now)) }
+    ensures { IfOk result (λ columns. columns ≡ columns_asked least (token_bytes tokens.now)) }
 {
     if let [chunk, len, disks @ ..] = tokens
         && let Some(chunk) = read_number(chunk)
@@ -105,7 +104,7 @@ fn read_columns(alloc: Global, tokens: &[&[u8]], least: usize) -> Result<Option<
 
 // The mirror that the tokens are.
 fn read_mirror(alloc: Global, tokens: &[&[u8]]) -> Result<Option<NewLayout>, NoMemory>
-    ensures { IfOk result (λ layout. layout ≡ mirror_of (bytes_of tokens.now)) }
+    ensures { IfOk result (λ layout. layout ≡ mirror_of (token_bytes tokens.now)) }
 {
     if let [len, disks @ ..] = tokens
         && let Some(len) = read_number(len)
@@ -119,7 +118,7 @@ fn read_mirror(alloc: Global, tokens: &[&[u8]]) -> Result<Option<NewLayout>, NoM
 
 // The layout of this kind that the tokens are.
 fn read_layout(alloc: Global, kind: &[u8], tokens: &[&[u8]]) -> Result<Option<NewLayout>, NoMemory>
-    ensures { IfOk result (λ layout. layout ≡ layout_of kind.now (bytes_of tokens.now)) }
+    ensures { IfOk result (λ layout. layout ≡ layout_asked kind.now (token_bytes tokens.now)) }
 {
     if kind == b"span".as_slice() {
         let pieces = read_pieces(alloc, tokens)?;
@@ -147,7 +146,7 @@ fn read_new_name(alloc: Global, token: &[u8]) -> Result<Option<Bytes>, NoMemory>
 
 // The command behind the word `create`.
 fn read_create(alloc: Global, tokens: &[&[u8]]) -> Result<Option<Command>, NoMemory>
-    ensures { IfOk result (λ command. command ≡ create_of (bytes_of tokens.now)) }
+    ensures { IfOk result (λ command. command ≡ create_of (token_bytes tokens.now)) }
 {
     if let [name, guid, kind, rest @ ..] = tokens
         && let Some(guid) = read_guid(guid)
@@ -162,7 +161,7 @@ fn read_create(alloc: Global, tokens: &[&[u8]]) -> Result<Option<Command>, NoMem
 
 // The command behind the word `extend`.
 fn read_extend(alloc: Global, tokens: &[&[u8]]) -> Result<Option<Command>, NoMemory>
-    ensures { IfOk result (λ command. command ≡ extend_of (bytes_of tokens.now)) }
+    ensures { IfOk result (λ command. command ≡ extend_of (token_bytes tokens.now)) }
 {
     if let [name, pieces @ ..] = tokens
         && let Some(name) = read_name(alloc, name)?
@@ -176,7 +175,7 @@ fn read_extend(alloc: Global, tokens: &[&[u8]]) -> Result<Option<Command>, NoMem
 
 // The command behind the word `delete`.
 fn read_delete(alloc: Global, tokens: &[&[u8]]) -> Result<Option<Command>, NoMemory>
-    ensures { IfOk result (λ command. command ≡ delete_of (bytes_of tokens.now)) }
+    ensures { IfOk result (λ command. command ≡ delete_of (token_bytes tokens.now)) }
 {
     if let [name] = tokens
         && let Some(name) = read_name(alloc, name)?
@@ -190,7 +189,7 @@ fn read_delete(alloc: Global, tokens: &[&[u8]]) -> Result<Option<Command>, NoMem
 // The command that the tokens say.
 #[tactic(auto, unfolding(crate::specs::Commands::command_of))]
 fn read_form(alloc: Global, tokens: &[&[u8]]) -> Result<Option<Command>, NoMemory>
-    ensures { IfOk result (λ found. found ≡ command_of (bytes_of tokens.now)) }
+    ensures { IfOk result (λ found. found ≡ command_of (token_bytes tokens.now)) }
 {
     let [word, rest @ ..] = tokens else {
         return Ok(None);
@@ -210,7 +209,7 @@ fn read_form(alloc: Global, tokens: &[&[u8]]) -> Result<Option<Command>, NoMemor
 /// each word is one token.
 #[tactic(auto, using(crate::proofs::LimitLaws::keep_limits, crate::proofs::LimitLaws::keeps))]
 pub fn read_command(alloc: Global, tokens: &[&[u8]]) -> Result<Option<Command>, NoMemory>
-    ensures is { IfOk result (λ found. found ≡ command_of (bytes_of tokens.now)) }
+    ensures is { IfOk result (λ found. found ≡ command_of (token_bytes tokens.now)) }
     ensures limits { IfOk result (λ found. IfSome found IsCommand) }
     ensures all_keep { CommandsKeepLimits }
 {
@@ -219,7 +218,7 @@ pub fn read_command(alloc: Global, tokens: &[&[u8]]) -> Result<Option<Command>, 
 
 // A word that stands alone.
 fn read_alone(command: Command, tokens: &[&[u8]]) -> Option<Command>
-    ensures { result ≡ alone command (bytes_of tokens.now) }
+    ensures { result ≡ alone command (token_bytes tokens.now) }
 {
     if tokens.is_empty() {
         Some(command)
@@ -231,7 +230,7 @@ fn read_alone(command: Command, tokens: &[&[u8]]) -> Option<Command>
 // What the tokens of a line say.
 #[tactic(auto, unfolding(crate::specs::Commands::line_of))]
 fn read_line_form(alloc: Global, tokens: &[&[u8]]) -> Result<Option<Command>, NoMemory>
-    ensures { IfOk result (λ found. found ≡ line_of (bytes_of tokens.now)) }
+    ensures { IfOk result (λ found. found ≡ line_of (token_bytes tokens.now)) }
 {
     let [word, rest @ ..] = tokens else {
         return Ok(None);
@@ -251,7 +250,7 @@ fn read_line_form(alloc: Global, tokens: &[&[u8]]) -> Result<Option<Command>, No
 /// where they have no reading.
 #[tactic(auto, using(crate::proofs::LimitLaws::lines_keep, crate::proofs::LimitLaws::line_keeps))]
 pub fn read_script_line(alloc: Global, tokens: &[&[u8]]) -> Result<Option<Command>, NoMemory>
-    ensures is { IfOk result (λ found. found ≡ line_of (bytes_of tokens.now)) }
+    ensures is { IfOk result (λ found. found ≡ line_of (token_bytes tokens.now)) }
     ensures limits { IfOk result (λ found. IfSome found IsCommand) }
     ensures all_keep { LinesKeepLimits }
 {

@@ -4,7 +4,7 @@ use Rattle.std.proofs.lemmas.List.{with_items_is, length-map}
 use Rattle.ldm_records.specs.declared.types.Record.{Record}
 use Rattle.ldm_frags.specs.Written.{Holds, block_at}
 use Rattle.ldm_copy.specs.Body.{Stored, placed_of}
-use Rattle.ldm_changed.specs.Plan.{has_record, stays, changed_numbers}
+use Rattle.ldm_changed.specs.Plan.{has_record, record_stays, changed_numbers}
 use Rattle.ldm_copy.specs.Body.{stored_at}
 use Rattle.ldm_copy.proofs.StoredLaws.{record_of}
 use Rattle.ldm_frags.proofs.HoldEdits.{hold_grown}
@@ -16,7 +16,7 @@ pub weave-requires-clause-kept : goal.weave-requires-clause-kept
 weave-requires-clause-kept c =
     let old = c.args.old.now.records in
     let new = c.args.new.now.records in
-    let K : List Stored = filter (stays new) (stored_at old c.args.table.now) in
+    let K : List Stored = filter (record_stays new) (stored_at old c.args.table.now) in
     ap (λ (l : List (List ℕ)). length l) (c.deref.ensures.value ∙ c.in_ok-kept.ensures.kept) ∙ length-map K (λ (s : Stored). s.slots) ∙ sym (length-map K record_of)
     ∙ ap (λ (l : List Record). length l) (kept_records_of old new c.args.table.now c.requires.one_each ∙ c.in_ok-kept.ensures.same)
     ∙ ap (λ (l : List Record). length (filter (has_record old) l)) (sym c.as_slice.ensures.all)

@@ -5,7 +5,7 @@ use Rattle.ldm_host.specs.Moves.{Writes}
 use Rattle.ldm_host.proofs.ChangeLaws.{writes_change, changes_trans}
 use Rattle.ldm_copy.specs.Copy.{gate_at}
 use Rattle.ldm_copy.proofs.LeftLaws.{on_ok_map}
-use Rattle.ldm_changed.specs.Change.{Changed, IsChange, ChangesFrom}
+use Rattle.ldm_changed.specs.Change.{Changed, IsChangedBody, ChangesFrom}
 use Rattle.ldm_changed.proofs.FillLaws.{HasAllBut, all_there, run_within, filled_first, filled_step, same_change}
 use Rattle.ldm_host.proofs.ChangeLaws.{changes_syncs}
 use Rattle.ldm_changed.proofs.filling.fill_changed.Goals as goal
@@ -20,8 +20,8 @@ numbers_of inside_body inside_numbers numbers change is e = e ∙ ap (λ (v : Ch
 change_of : (body numbers : List ℕ) (change : Changed) → body ≡ change.body → numbers ≡ change.numbers → record { body = body; numbers = numbers } ≡ change
 change_of body numbers change e f = λ i. record { body = e i; numbers = f i }
 
-parts_of_change : (inside_body inside_numbers body numbers : List ℕ) → IsChange inside_body inside_numbers → body ≡ inside_body → numbers ≡ inside_numbers → IsChange body numbers
-parts_of_change inside_body inside_numbers body numbers is e f = subst (λ (l : List ℕ). IsChange body l) (sym f) (subst (λ (l : List ℕ). IsChange l inside_numbers) (sym e) is)
+parts_of_change : (inside_body inside_numbers body numbers : List ℕ) → IsChangedBody inside_body inside_numbers → body ≡ inside_body → numbers ≡ inside_numbers → IsChangedBody body numbers
+parts_of_change inside_body inside_numbers body numbers is e f = subst (λ (l : List ℕ). IsChangedBody body l) (sym f) (subst (λ (l : List ℕ). IsChangedBody l inside_numbers) (sym e) is)
 
 pub write_part-requires-clause-small : goal.write_part-requires-clause-small
 write_part-requires-clause-small g c =

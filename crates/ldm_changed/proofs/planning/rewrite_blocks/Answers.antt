@@ -9,7 +9,7 @@ use Rattle.ldm_frags.specs.Blocks.{count, numbers_from}
 use Rattle.ldm_frags.specs.Written.{Holds, IsInUse, block_at}
 use Rattle.ldm_group.specs.Room.{need_of}
 use Rattle.ldm_copy.specs.Body.{Stored, placed_of}
-use Rattle.ldm_changed.specs.Plan.{has_record, lacks, stays, goes, Avoids}
+use Rattle.ldm_changed.specs.Plan.{has_record, lacks, record_stays, record_goes, Avoids}
 use Rattle.ldm_copy.specs.Body.{stored_at}
 use Rattle.ldm_frags.specs.Free.{is_free, free_numbers}
 use Rattle.ldm_frags.proofs.FewLaws.{enough_free, free_within, numbers_apart}
@@ -17,13 +17,13 @@ use Rattle.ldm_changed.proofs.StoreLaws.{same_kept, kept_there_of, room_left, ne
 use Rattle.ldm_changed.proofs.planning.rewrite_blocks.Goals as goal
 
 -- what was freed, of the records and not of the slice
-kept_holds : (old slice new : List Record) (table : List (List ℕ)) (out : List ℕ) → slice ≡ old → Holds out (map placed_of (filter (stays new) (stored_at slice table)))
-    → Holds out (map placed_of (filter (stays new) (stored_at old table)))
-kept_holds old slice new table out e holds = subst (λ (l : List Record). Holds out (map placed_of (filter (stays new) (stored_at l table)))) e holds
+kept_holds : (old slice new : List Record) (table : List (List ℕ)) (out : List ℕ) → slice ≡ old → Holds out (map placed_of (filter (record_stays new) (stored_at slice table)))
+    → Holds out (map placed_of (filter (record_stays new) (stored_at old table)))
+kept_holds old slice new table out e holds = subst (λ (l : List Record). Holds out (map placed_of (filter (record_stays new) (stored_at l table)))) e holds
 
-kept_there : (old slice new : List Record) (table : List (List ℕ)) → slice ≡ old → All (λ (s : Stored). Contains new s.record_is) (filter (stays new) (stored_at slice table))
-    → All (λ (s : Stored). Contains new s.record_is) (filter (stays new) (stored_at old table))
-kept_there old slice new table e there = subst (λ (l : List Record). All (λ (s : Stored). Contains new s.record_is) (filter (stays new) (stored_at l table))) e there
+kept_there : (old slice new : List Record) (table : List (List ℕ)) → slice ≡ old → All (λ (s : Stored). Contains new s.record_is) (filter (record_stays new) (stored_at slice table))
+    → All (λ (s : Stored). Contains new s.record_is) (filter (record_stays new) (stored_at old table))
+kept_there old slice new table e there = subst (λ (l : List Record). All (λ (s : Stored). Contains new s.record_is) (filter (record_stays new) (stored_at l table))) e there
 
 pub write_made-requires-clause-room : goal.write_made-requires-clause-room
 write_made-requires-clause-room c =
@@ -35,7 +35,7 @@ write_made-requires-clause-room c =
     let small : length out ≤ 1048576 = omega (arith, c.free_gone.auto.out, c.requires.small) in
     let holds = kept_holds old c.as_slice-records.result.now new table out e c.in_ok-kept.ensures.holds in
     let there = kept_there old c.as_slice-records.result.now new table e c.in_ok-kept.ensures.there in
-    let K : List Stored = filter (stays new) (stored_at old table) in
+    let K : List Stored = filter (record_stays new) (stored_at old table) in
     let left = room_left old new table c.requires.one_each c.as_slice-records.ensures.rising c.as_slice.ensures.rising out small (omega (arith, c.requires.room, c.free_gone.auto.out))
     (enough_free out (map placed_of K) small holds) holds there in
     let free : length c.deref.result.now ≡ length (free_numbers out) = ap (λ (l : List ℕ). length l) (c.deref.ensures.value ∙ c.in_ok-free.ensures) in
@@ -63,7 +63,7 @@ returns-clause-holds c =
     let old = c.args.old.now.records in
     let new = c.args.new.now.records in
     let table = c.args.table.now in
-    let K : List Stored = filter (stays new) (stored_at old table) in
+    let K : List Stored = filter (record_stays new) (stored_at old table) in
     let holds = kept_holds old c.as_slice-records.result.now new table c.free_gone.new.out c.as_slice-records.ensures.all c.in_ok-kept.ensures.holds in
     subst (λ (l : List Record). Holds c.write_made.new.out (map placed_of (stored_at (filter (lacks old) l) c.in_ok-made.made.items ++ K))) c.as_slice.ensures.all (c.in_ok-made.ensures.holds K holds)
 
@@ -75,7 +75,7 @@ returns-clause-store c =
     let slice = c.as_slice-records.result.now in
     let e = c.as_slice-records.ensures.all in
     let f = c.as_slice.ensures.all in
-    let K : List Stored = filter (stays new) (stored_at old table) in
+    let K : List Stored = filter (record_stays new) (stored_at old table) in
     let holds = kept_holds old slice new table c.free_gone.new.out e c.in_ok-kept.ensures.holds in
     let there = kept_there old slice new table e c.in_ok-kept.ensures.there in
     next_store old new table c.requires.one_each c.as_slice-records.ensures.rising c.as_slice.ensures.rising c.write_made.new.out c.in_ok-made.made.items
@@ -92,7 +92,7 @@ returns-clause-touched c =
     let free = c.deref.result.now in
     let up = c.as_slice-records.ensures.rising in
     let vp = c.as_slice.ensures.rising in
-    let first = subst (λ (l : List Record). (b : ℕ) → 4 ≤ b → All (Avoids b) (filter (goes new) (stored_at l table)) → block_at c.free_gone.new.out b ≡ block_at c.args.out.now b) c.as_slice-records.ensures.all c.in_ok-kept.ensures.others in
+    let first = subst (λ (l : List Record). (b : ℕ) → 4 ≤ b → All (Avoids b) (filter (record_goes new) (stored_at l table)) → block_at c.free_gone.new.out b ≡ block_at c.args.out.now b) c.as_slice-records.ensures.all c.in_ok-kept.ensures.others in
     let second = subst (λ (l : List Record). (b : ℕ) → 4 ≤ b → All (λ n. n ≢ b) (take (need_of (filter (lacks old) l)) free) → block_at c.write_made.new.out b ≡ block_at c.free_gone.new.out b) c.as_slice.ensures.all c.in_ok-made.ensures.others in (
       touched_numbers old new table c.requires.one_each up vp free,
       touched_few old new table c.requires.one_each up vp c.args.out.now free c.requires.holds,

@@ -16,7 +16,7 @@ blocks_of-requires-clause-sized c = subst (λ (l : List (List ℕ)). All IsSized
 
 pub blocks_of-requires-clause-room : goal.blocks_of-requires-clause-room
 blocks_of-requires-clause-room c =
-    let need : written.need_of c.deref.result.now ≡ need_of c.args.records.now = ap written.need_of (spelled c) ∙ need_of-spellings c.args.records.now in
+    let need : written.blocks_needed c.deref.result.now ≡ need_of c.args.records.now = ap written.blocks_needed (spelled c) ∙ need_of-spellings c.args.records.now in
     omega (arith, need, c.requires.room)
 
 pub returns-clause-holds : goal.returns-clause-holds

@@ -6,7 +6,7 @@ use Rattle.ldm_records.specs.Views.{plain_of}
 use Rattle.ldm_copy.specs.Body.{Stored}
 use Rattle.ldm_copy.specs.declared.finding.Found.{Found}
 use Rattle.ldm_copy.specs.declared.finding.Look.{Look}
-use Rattle.ldm_copy.specs.Finding.{Looks, IsFoundAt, stored_of}
+use Rattle.ldm_copy.specs.Finding.{StandsAt, IsFoundAt, stored_of}
 use Rattle.ldm_copy.proofs.AllLaws.{key, IsFoundUpTo, found_nothing, found_more, found_holds, found_all}
 use Rattle.ldm_copy.proofs.finding.find_all.Goals as goal
 use Rattle.ldm_copy.proofs.finding.find_all.Goals.{in-Nothing, in-Record+in_ok-push-in-Record}
@@ -19,13 +19,13 @@ loop-k-preserved c =
     elim c.match-branch-3.branch [
       | in-Nothing w ↦
           subst (λ (v : Vec Found Global). IsFoundUpTo blocks (k + 1) (map stored_of v.items)) (sym w.list-is)
-          (found_nothing blocks k c.requires.small c.loop-k-test.true S c.loop-k.invariant (subst (λ (l : Look). Looks blocks k l) w.in-Nothing.is c.in_ok-look_at.ensures))
+          (found_nothing blocks k c.requires.small c.loop-k-test.true S c.loop-k.invariant (subst (λ (l : Look). StandsAt blocks k l) w.in-Nothing.is c.in_ok-look_at.ensures))
       | in-Record+in_ok-push-in-Record w ↦
           (let f : Found = w.in-Record.found in
           let items : map stored_of w.push.new.self.items ≡ S ++ stored_of f ∷ [] = ap (map stored_of) w.in_ok-push-in-Record.ensures.items ∙ map_push stored_of c.loop-k.list.items f in
           subst (λ (v : Vec Found Global). IsFoundUpTo blocks (k + 1) (map stored_of v.items)) (sym w.list-is)
           (subst (λ (l : List Stored). IsFoundUpTo blocks (k + 1) l) (sym items)
-          (found_more blocks k c.requires.small c.loop-k-test.true S c.loop-k.invariant (stored_of f) (subst (λ (l : Look). Looks blocks k l) w.in-Record.is c.in_ok-look_at.ensures))))
+          (found_more blocks k c.requires.small c.loop-k-test.true S c.loop-k.invariant (stored_of f) (subst (λ (l : Look). StandsAt blocks k l) w.in-Record.is c.in_ok-look_at.ensures))))
     ]
 
 pub returns-clause-held : goal.returns-clause-held

@@ -1,6 +1,6 @@
 use Rattle.std.proofs.Common.{◌≡◌, ◌-◌, ◌≤◌, ◌++◌}
 use Rattle.ldm_host.specs.Moves.{Still}
-use Rattle.ldm_dump.specs.Bytes.{text_of_sectors}
+use Rattle.ldm_dump.specs.Bytes.{bytes_of_sectors}
 use Rattle.ldm_dump.specs.Saying.{SameInput}
 use Rattle.ldm_dump.proofs.dumping.dump_volume.Given as goal
 
@@ -9,7 +9,7 @@ invariant-pieces g l = record {
   still : Still (g.H.Host.seen l.fn.host) (g.H.Host.seen l.host);
   input : SameInput (g.H.Host.seen l.fn.host) (g.H.Host.seen l.host);
   within : l.sector ≤ l.plan.size;
-  said : g.H.Host.tells_disks → (g.H.Host.seen l.host).said ≡ (g.H.Host.seen l.fn.host).said ++ text_of_sectors (g.H.Host.seen l.fn.host).content l.found l.plan 0 l.sector;
+  said : g.H.Host.tells_disks → (g.H.Host.seen l.host).said ≡ (g.H.Host.seen l.fn.host).said ++ bytes_of_sectors (g.H.Host.seen l.fn.host).content l.found l.plan 0 l.sector;
 }
 
 abbrev pub decreases-pieces : goal.decreases-pieces

@@ -1,6 +1,6 @@
 use Rattle.std.proofs.Common.{◌≡◌, ◌+◌, ◌-◌, ◌*◌, ◌≤◌, length, take}
 use Rattle.ldm_host.specs.Moves.{Looks}
-use Rattle.ldm_dump.specs.Bytes.{text_of_sectors}
+use Rattle.ldm_dump.specs.Bytes.{bytes_of_sectors}
 use Rattle.ldm_dump.proofs.dumping.read_many.Given as goal
 
 abbrev pub invariant-runs : goal.invariant-runs
@@ -8,7 +8,7 @@ invariant-runs g l = record {
   looks : Looks (g.H.Host.seen l.fn.host) (g.H.Host.seen l.host) ⊥;
   within : l.sector + l.count ≤ l.plan.size;
   room : 512 * l.count ≤ length l.out;
-  bytes : g.H.Host.tells_disks → take (512 * l.count) l.out ≡ text_of_sectors (g.H.Host.seen l.fn.host).content l.found l.plan l.sector l.count;
+  bytes : g.H.Host.tells_disks → take (512 * l.count) l.out ≡ bytes_of_sectors (g.H.Host.seen l.fn.host).content l.found l.plan l.sector l.count;
 }
 
 abbrev pub decreases-runs : goal.decreases-runs

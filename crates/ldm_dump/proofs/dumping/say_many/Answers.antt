@@ -1,7 +1,7 @@
 use Rattle.std.proofs.Common.{◌++◌, ℕ, List, subst}
 use Rattle.ldm_host.specs.Moves.{Begins}
 use Rattle.ldm_host.proofs.Relations.{still_trans}
-use Rattle.ldm_dump.specs.Bytes.{text_of_sectors}
+use Rattle.ldm_dump.specs.Bytes.{bytes_of_sectors}
 use Rattle.ldm_dump.proofs.SayLaws.{begins_of}
 use Rattle.ldm_dump.proofs.dumping.say_many.Goals as goal
 
@@ -15,5 +15,5 @@ pub returns-in-Err-clause-front : goal.returns-in-Err-clause-front
 returns-in-Err-clause-front g c tells =
     let old = g.H.Host.seen c.args.host.now in
     let n = c.in-Ok.count in
-    let text = text_of_sectors old.content c.args.found.now c.args.plan.now c.args.sector n in
+    let text = bytes_of_sectors old.content c.args.found.now c.args.plan.now c.args.sector n in
     (n, c.in-Ok.ensures.fits, subst (λ (s : List ℕ). Begins (g.H.Host.seen c.say.new.self).said (s ++ text)) c.in-Ok.ensures.looks.quiet.said (begins_of _ _ _ _ (c.in-Ok.ensures.bytes tells) c.in-Err.ensures.front))

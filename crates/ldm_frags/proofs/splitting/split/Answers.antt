@@ -1,7 +1,7 @@
 use Rattle.std.proofs.Common.{◌≡◌, ◌*◌, ◌∙◌, List, ℕ, ap, sym, subst, length, map, arith}
 use Rattle.std.proofs.lemmas.List.{with_items_is}
 use Rattle.ldm_frags.specs.Joins.{Joins}
-use Rattle.ldm_frags.specs.Written.{Holds, in_order, joined_of}
+use Rattle.ldm_frags.specs.Written.{Holds, laid_in_order, joined_of}
 use Rattle.ldm_frags.proofs.OrderLaws.{order_joins}
 use Rattle.ldm_frags.proofs.splitting.split.Goals as goal
 
@@ -17,11 +17,11 @@ returns-clause-answers c =
     let payloads = c.args.payloads.now in
     let need = c.need_of-need.ensures in
     let have = c.from-have.ensures in
-    (omega arith, ap length (written c) ∙ length_is c, subst (λ (out : List ℕ). Holds out (in_order 4 payloads)) (sym (written c)) c.write_all.ensures)
+    (omega arith, ap length (written c) ∙ length_is c, subst (λ (out : List ℕ). Holds out (laid_in_order 4 payloads)) (sym (written c)) c.write_all.ensures)
 
 pub returns-clause-joins : goal.returns-clause-joins
 returns-clause-joins c =
     let payloads = c.args.payloads.now in
     let len = length_is c in
-    subst (λ (out : List ℕ). Joins out (map joined_of (in_order 4 payloads))) (sym (written c))
+    subst (λ (out : List ℕ). Joins out (map joined_of (laid_in_order 4 payloads))) (sym (written c))
     (order_joins c.write_all.new.out payloads (omega arith) c.requires.sized c.write_all.ensures)

@@ -4,7 +4,7 @@ use Rattle.std.proofs.lemmas.Option.{slice_get-get_or, slice_get_within}
 use Rattle.ldm_host.proofs.Relations.{works_itself, works_then, moments_trans}
 use Rattle.ldm_host.specs.Seen.{image}
 use Rattle.ldm_init.specs.Bytes.{IsUnsignedImage}
-use Rattle.ldm_init.specs.Moments.{IsMaking, IsReady, IsWriting}
+use Rattle.ldm_init.specs.Moments.{IsMaking, IsReadyToSign, IsWriting}
 use Rattle.ldm_init.proofs.WritingLaws.{writing_moments, writing_next, writing_now, kept_signature, kept_beside, takes_as, written_as}
 use Rattle.ldm_init.proofs.making.write_all.Goals as goal
 
@@ -57,7 +57,7 @@ disks-preserved g c =
           (writing_moments _ kept db c.args.labels.now start n (kept_beside _ c.args.body.now start.sizes old.sizes n (sym begun.sizes) takes) mid new (so.so_far tells db start bodies begun) changes);
       so_far = λ tells db start bodies begun. writing_next _ kept db c.args.labels.now start n (kept_beside _ c.args.body.now start.sizes old.sizes n (sym begun.sizes) takes) mid new
           (so.so_far tells db start bodies begun) changes c.in_ok-write_disk.ensures.settled
-          (λ label here. (let same = sym at ∙ here in subst (λ l. IsReady db l (image new.content n)) (ap (λ o. unwrap_or o label) same) (c.in_ok-write_disk.ensures.ready tells db (bodies n _ at))));
+          (λ label here. (let same = sym at ∙ here in subst (λ l. IsReadyToSign db l (image new.content n)) (ap (λ o. unwrap_or o label) same) (c.in_ok-write_disk.ensures.ready tells db (bodies n _ at))));
       written = λ tells disk label here lt. ⊎_elim
           (λ (same : disk ≡ n).
           let at_n : slice_get c.args.labels.now n ≡ Some label = subst (λ (d : ℕ). slice_get c.args.labels.now d ≡ Some label) same here in

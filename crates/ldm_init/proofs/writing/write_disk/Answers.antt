@@ -6,7 +6,7 @@ use Rattle.ldm_label.specs.Written.{written_header}
 use Rattle.ldm_copy.proofs.LeftLaws.{on_ok_map}
 use Rattle.ldm_init.specs.Bytes.{IsFront, unsigned_image}
 use Rattle.ldm_init.specs.Beside.{IsBeside, ChangesBeside}
-use Rattle.ldm_init.specs.Moments.{IsReady}
+use Rattle.ldm_init.specs.Moments.{IsReadyToSign}
 use Rattle.ldm_init.proofs.ReadyLaws.{ready_is, mbr_front}
 use Rattle.ldm_init.proofs.writing.write_disk.Goals as goal
 
@@ -22,7 +22,7 @@ returns-clause-ready g c tells =
     let second : sectors.header ≡ written_header label = ap (λ (s : LabelSectors). s.header) c.label_sectors-sectors.ensures in
     let size : slice_index a.sizes c.args.disk ≡ length x / 512 = sym (g.met.H.Host.lengths tells c.args.host.now c.args.disk c.requires.disk) in
     on_ok_map c.write_unsigned.result _ _ (λ wrote db on.
-    subst (λ (y : List ℕ). IsReady db label y) (sym wrote)
+    subst (λ (y : List ℕ). IsReadyToSign db label y) (sym wrote)
     (ready_is label c.args.body.now x front sectors.header last (subst (λ (n : ℕ). Fits label n) size c.requires.takes.fits) first second c.fill_last.ensures.last db c.requires.takes.writable on))
     (c.write_unsigned.ensures.written tells)
 

@@ -1,11 +1,11 @@
 use Rattle.std.proofs.Common.{◌∙◌, ap, ℕ, List, Option}
 use Rattle.std.specs.Option.{option_map}
 use Rattle.ldm_layout.specs.declared.faulty.VolumeFault.{VolumeFault}
-use Rattle.ldm_rules.specs.Rules.{is_short}
+use Rattle.ldm_rules.specs.Rules.{is_short_fault}
 use Rattle.ldm_rules.proofs.LayoutLaws.{first_passing, first_too_large}
 use Rattle.ldm_rules.proofs.layouts.too_large.Goals as goal
 
 pub returns : goal.returns
 returns c = λ records is. c.volume_in.ensures
     ∙ (ap (λ (found : Option VolumeFault). option_map {U = ℕ} (λ (f : VolumeFault). f.volume) found) c.first_of.ensures
-    ∙ (ap (λ (faults : List VolumeFault). first_passing is_short faults) is ∙ first_too_large records))
+    ∙ (ap (λ (faults : List VolumeFault). first_passing is_short_fault faults) is ∙ first_too_large records))

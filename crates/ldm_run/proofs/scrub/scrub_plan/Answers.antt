@@ -4,7 +4,7 @@ use Rattle.ldm_scrub.specs.Lines.{text_of_scrub}
 use Rattle.ldm_scrub.specs.declared.scrubbing.ScrubError.{ScrubError}
 use Rattle.ldm_words.specs.Names.{esc}
 use Rattle.ldm_run.specs.Said.{HasAnswer}
-use Rattle.ldm_run.specs.Streaming.{status_of}
+use Rattle.ldm_run.specs.Streaming.{scrub_status}
 use Rattle.ldm_run.proofs.StreamLaws.{status_answers}
 use Rattle.ldm_run.specs.declared.running.Status.TheVariants.{DiskFault, TalkFault}
 use Rattle.ldm_run.proofs.Saying.{failing, says_all, says_part}
@@ -17,7 +17,7 @@ returns-in-Ok-scrub_volume g c =
     let made = c.in-Ok-scrub_volume.ensures in
     let front : c.as_slice-front.result.now ≡ codes "scrub " ++ esc c.args.name.now = c.as_slice-front.ensures ∙ c.in-Ok.ensures in
     let has : HasAnswer c.status_of.result = subst HasAnswer (sym c.status_of.ensures) (status_answers c.in-Ok-scrub_volume.bad) in
-    says_all (λ no. no) has (λ told. c.status_of.ensures ∙ ap (λ (n : ℕ). status_of n) (made.count told))
+    says_all (λ no. no) has (λ told. c.status_of.ensures ∙ ap (λ (n : ℕ). scrub_status n) (made.count told))
     (λ told. made.said told ∙ ap (λ (f : List ℕ). old.said ++ text_of_scrub f old.content c.args.found.now c.args.plan.now) front)
     made.still made.input
 

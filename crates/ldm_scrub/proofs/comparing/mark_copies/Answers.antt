@@ -6,7 +6,7 @@ use Rattle.ldm_host.proofs.Relations.{looks_then}
 use Rattle.ldm_layout.specs.Layouts.{copies_of}
 use Rattle.ldm_dump.specs.Sources.{copy_spot}
 use Rattle.ldm_dump.specs.Bytes.{joined_byte}
-use Rattle.ldm_scrub.specs.Compare.{copy_sector, copy_differs, part, mark}
+use Rattle.ldm_scrub.specs.Compare.{copy_sector, copy_differs, sector_in, mark}
 use Rattle.ldm_scrub.proofs.CompareLaws.{copy_part, marked_next, bad_copies}
 use Rattle.ldm_scrub.proofs.comparing.mark_copies.Goals as goal
 
@@ -28,13 +28,13 @@ copies-preserved g c = record {
       let other_size : length other ≡ 512 * n = omega (arith, c.requires.size, c.requires.same) in
       let copied : 0 < copies_of l = omega (arith, c.copies-count.ensures.is, c.copies-count.ensures.some (omega (arith, c.requires.within))) in
       let there : copy < copies_of l = omega (arith, c.copies-count.ensures.is, c.copies-test.true) in
-      let a : part out i ≡ copy_sector images found l (x + i) 0 = copy_part images found l x 0 c.args.run i n out c.requires.run copied c.requires.few out_size low (c.copies.invariant.first tells) in
-      let b : part other i ≡ copy_sector images found l (x + i) copy = copy_part images found l x copy c.args.run i n other c.requires.run there c.requires.few other_size low
+      let a : sector_in out i ≡ copy_sector images found l (x + i) 0 = copy_part images found l x 0 c.args.run i n out c.requires.run copied c.requires.few out_size low (c.copies.invariant.first tells) in
+      let b : sector_in other i ≡ copy_sector images found l (x + i) copy = copy_part images found l x copy c.args.run i n other c.requires.run there c.requires.few other_size low
       (λ j less. c.in_ok-read_copy_run-2.ensures.bytes tells j (omega (arith, less))
       ∙ ap (λ (im : List (List ℕ)). joined_byte im (option_to_list (copy_spot found l x copy)) j) c.copies.invariant.looks.still.content) in
-      marked_next (copy_differs images found l (x + i)) copy (bytes_eq (part out i) (part other i)) (slice_index c.copies.marks i) (slice_index c.mark_differing.new.marks i)
+      marked_next (copy_differs images found l (x + i)) copy (bytes_eq (sector_in out i) (sector_in other i)) (slice_index c.copies.marks i) (slice_index c.mark_differing.new.marks i)
       (omega (arith, c.copies.auto.copy))
-      (ap (λ (p : List ℕ). not (bytes_eq p (copy_sector images found l (x + i) copy))) (sym a) ∙ ap (λ (q : List ℕ). not (bytes_eq (part out i) q)) (sym b))
+      (ap (λ (p : List ℕ). not (bytes_eq p (copy_sector images found l (x + i) copy))) (sym a) ∙ ap (λ (q : List ℕ). not (bytes_eq (sector_in out i) q)) (sym b))
       (c.copies.invariant.so_far tells i (omega (arith, low)))
       (c.mark_differing.ensures i (omega (arith, low)));
 }

@@ -1,10 +1,10 @@
 use Rattle.std.proofs.Common.{◌≡◌, ℕ, ◌<◌, ◌≤◌, slice_index}
 use Rattle.std.specs.Str.{bytes_eq}
-use Rattle.ldm_scrub.specs.Compare.{part, marked}
+use Rattle.ldm_scrub.specs.Compare.{sector_in, marked}
 use Rattle.ldm_scrub.proofs.comparing.mark_differing.Given as goal
 
 abbrev pub invariant-loop-i : goal.invariant-loop-i
 invariant-loop-i l = record {
-  done : (i : ℕ) → i < l.i → slice_index l.marks i ≡ marked (bytes_eq (part l.bytes i) (part l.others i)) (slice_index l.fn.marks i);
+  done : (i : ℕ) → i < l.i → slice_index l.marks i ≡ marked (bytes_eq (sector_in l.bytes i) (sector_in l.others i)) (slice_index l.fn.marks i);
   left : (i : ℕ) → l.i ≤ i → slice_index l.marks i ≡ slice_index l.fn.marks i;
 }

@@ -4,7 +4,7 @@ use Rattle.ldm_layout.specs.Columns.{column_in}
 use Rattle.ldm_dump.specs.Sources.{spot_at}
 use Rattle.ldm_dump.specs.Bytes.{joined_byte, joined_sector}
 use Rattle.ldm_dump.specs.Redundant.{row_spots}
-use Rattle.ldm_scrub.specs.Compare.{part, mark, sector_at}
+use Rattle.ldm_scrub.specs.Compare.{sector_in, mark, place_sector}
 use Rattle.ldm_scrub.proofs.CompareLaws.{row_part, marked_once, bad_row}
 use Rattle.ldm_scrub.proofs.RowLaws.{column_bytes}
 use Rattle.ldm_scrub.proofs.comparing.mark_rows.Goals as goal
@@ -24,9 +24,9 @@ returns-clause-marks g c tells i lt =
     let n = length c.args.marks.now in
     let columned = c.row_sector-sector.ensures.columned in
     let out_size : length out ≡ 512 * n = omega (arith, c.requires.size) in
-    let a : part out i ≡ joined_sector images (row_spots found l (sector_at l (c.args.place + i))) = row_part images found l c.args.place i n out c.requires.raid5 columned out_size lt
+    let a : sector_in out i ≡ joined_sector images (row_spots found l (place_sector l (c.args.place + i))) = row_part images found l c.args.place i n out c.requires.raid5 columned out_size lt
     (λ j low. c.in_ok-join_row.ensures.bytes tells j (omega (arith, low)) ∙ ap (λ (x : ℕ). joined_byte images (row_spots found l x) j) c.row_sector-sector.ensures.is) in
-    marked_once (bytes_eq (part out i) (replicate 512 0)) (slice_index c.clear.new.out i) (slice_index c.mark_unlike.new.marks i)
+    marked_once (bytes_eq (sector_in out i) (replicate 512 0)) (slice_index c.clear.new.out i) (slice_index c.mark_unlike.new.marks i)
     (c.clear.ensures i (omega (arith, lt))) (c.mark_unlike.ensures i (omega (arith, lt)))
     ∙ (ap (λ (p : List ℕ). mark (not (bytes_eq p (replicate 512 0)))) a
-    ∙ ap mark (bad_row images found l (sector_at l (c.args.place + i)) c.requires.raid5))
+    ∙ ap mark (bad_row images found l (place_sector l (c.args.place + i)) c.requires.raid5))

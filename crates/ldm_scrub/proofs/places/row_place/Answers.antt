@@ -1,7 +1,7 @@
 use Rattle.std.proofs.Common.{◌≡◌, ◌+◌, ◌-◌, ◌*◌, ◌/◌, ◌%◌, ℕ, length, ap, ◌∙◌}
 use Rattle.ldm_dump.proofs.LostLaws.{chunk_is}
 use Rattle.ldm_layout.specs.Columns.{columns_of}
-use Rattle.ldm_scrub.specs.Compare.{sector_at}
+use Rattle.ldm_scrub.specs.Compare.{place_sector}
 use Rattle.ldm_scrub.proofs.CountLaws.{untiled}
 use Rattle.ldm_scrub.proofs.RowLaws.{sector_raid5, place_of_row}
 use Rattle.ldm_scrub.proofs.places.row_place.Goals as goal
@@ -14,6 +14,6 @@ returns c =
     let tiled = untiled l c.requires.raid5 in
     let chunk : c.chunk-chunk.result ≡ l.chunk = c.chunk-chunk.ensures.is ∙ chunk_is l tiled in
     let has = c.columns.ensures.columned tiled in
-    ap (λ (n : ℕ). sector_at l (x / c.chunk-chunk.result / (n - 1) * c.chunk-chunk.result + x % c.chunk-chunk.result)) c.columns.ensures.count
-    ∙ (ap (λ (u : ℕ). sector_at l (x / u / (k - 1) * u + x % u)) chunk
+    ap (λ (n : ℕ). place_sector l (x / c.chunk-chunk.result / (n - 1) * c.chunk-chunk.result + x % c.chunk-chunk.result)) c.columns.ensures.count
+    ∙ (ap (λ (u : ℕ). place_sector l (x / u / (k - 1) * u + x % u)) chunk
     ∙ (sector_raid5 l (x / l.chunk / (k - 1) * l.chunk + x % l.chunk) c.requires.raid5 ∙ place_of_row k l.chunk x has.chunked c.requires.first))

@@ -3,7 +3,7 @@ use Rattle.std.proofs.lemmas.List.{append-nil}
 use Rattle.std.specs.List.{range_with_len}
 use Rattle.ldm_host.specs.Moves.{Begins}
 use Rattle.ldm_host.proofs.Relations.{still_itself, still_trans}
-use Rattle.ldm_scrub.specs.Lines.{lines_of, bad_of}
+use Rattle.ldm_scrub.specs.Lines.{bad_lines, bad_of}
 use Rattle.ldm_dump.proofs.SayLaws.{begins_all, said_on, part_said}
 use Rattle.ldm_scrub.proofs.LineLaws.{no_lines, none_bad, lines_more, bad_more}
 use Rattle.ldm_scrub.proofs.scrubbing.scrub_places.Goals as goal
@@ -26,8 +26,8 @@ returns-in_err-some-clause-front g c tells =
     let mid = g.H.Host.seen c.pieces.host in
     let new = g.H.Host.seen c.scrub_some.new.host in
     let part = c.in_err-some.ensures.front tells in
-    subst (λ (r : List ℕ). Begins new.said (old.said ++ lines_of old.content c.args.found.now c.args.plan.now r)) (sym c.requires.counted.all)
-    (part_said (λ i p n. lines_of i c.args.found.now c.args.plan.now (range_with_len p n)) (λ i. lines_more i c.args.found.now c.args.plan.now) old.content mid.content old.said mid.said new.said c.pieces.place part.0 c.args.all
+    subst (λ (r : List ℕ). Begins new.said (old.said ++ bad_lines old.content c.args.found.now c.args.plan.now r)) (sym c.requires.counted.all)
+    (part_said (λ i p n. bad_lines i c.args.found.now c.args.plan.now (range_with_len p n)) (λ i. lines_more i c.args.found.now c.args.plan.now) old.content mid.content old.said mid.said new.said c.pieces.place part.0 c.args.all
     c.pieces.invariant.still.content (c.pieces.invariant.said tells) part.1 part.2)
 
 pub returns-in_err-some-clause-still : goal.returns-in_err-some-clause-still
@@ -45,7 +45,7 @@ pieces-preserved g c =
       input = record { input = next.input.input ∙ c.pieces.invariant.input.input; heard = next.input.heard ∙ c.pieces.invariant.input.heard };
       within = omega (arith, next.fits);
       few = omega (arith, next.few);
-      said = λ tells. said_on (λ i p k. lines_of i c.args.found.now c.args.plan.now (range_with_len p k)) (λ i. lines_more i c.args.found.now c.args.plan.now) old.content mid.content old.said mid.said new.said c.pieces.place n
+      said = λ tells. said_on (λ i p k. bad_lines i c.args.found.now c.args.plan.now (range_with_len p k)) (λ i. lines_more i c.args.found.now c.args.plan.now) old.content mid.content old.said mid.said new.said c.pieces.place n
           c.pieces.invariant.still.content (c.pieces.invariant.said tells) (next.said tells);
       count = λ tells.
           let more = bad_more old.content c.args.found.now c.args.plan.now c.pieces.place n in
@@ -59,8 +59,8 @@ returns-clause-said g c tells =
     let old = g.H.Host.seen c.args.host.now in
     let all : c.pieces.place ≡ c.args.all = omega (arith, c.pieces-test.false, c.pieces.invariant.within) in
     c.pieces.invariant.said tells
-    ∙ (ap (λ (p : ℕ). old.said ++ lines_of old.content c.args.found.now c.args.plan.now (range_with_len 0 p)) all
-    ∙ ap (λ (r : List ℕ). old.said ++ lines_of old.content c.args.found.now c.args.plan.now r) (sym c.requires.counted.all))
+    ∙ (ap (λ (p : ℕ). old.said ++ bad_lines old.content c.args.found.now c.args.plan.now (range_with_len 0 p)) all
+    ∙ ap (λ (r : List ℕ). old.said ++ bad_lines old.content c.args.found.now c.args.plan.now r) (sym c.requires.counted.all))
 
 pub returns-clause-count : goal.returns-clause-count
 returns-clause-count g c tells =

@@ -3,7 +3,7 @@ use Rattle.ldm_host.specs.Moves.{Begins}
 use Rattle.ldm_host.proofs.Relations.{still_trans}
 use Rattle.ldm_dump.proofs.SayLaws.{begins_of, begins_all}
 use Rattle.ldm_scrub.specs.Compare.{places_of}
-use Rattle.ldm_scrub.specs.Lines.{lines_of, bad_of, text_of_end}
+use Rattle.ldm_scrub.specs.Lines.{bad_lines, bad_of, text_of_end}
 use Rattle.ldm_scrub.proofs.LineLaws.{begins_more, end_text}
 use Rattle.ldm_scrub.proofs.scrubbing.scrub_volume.Goals as goal
 
@@ -11,7 +11,7 @@ pub returns-in_err-bad-clause-front : goal.returns-in_err-bad-clause-front
 returns-in_err-bad-clause-front g c tells =
     let old = g.H.Host.seen c.args.host.now in
     let part = c.in_err-bad.ensures.front tells in
-    let lines = lines_of old.content c.args.found.now c.args.plan.now (places_of c.args.plan.now) in
+    let lines = bad_lines old.content c.args.found.now c.args.plan.now (places_of c.args.plan.now) in
     let end = text_of_end c.args.front.now (length (places_of c.args.plan.now)) (bad_of old.content c.args.found.now c.args.plan.now (places_of c.args.plan.now)) in
     let more = begins_more _ (old.said ++ lines) end part in
     (more.0, sym (append_assoc old.said lines end) ∙ more.1)
@@ -25,7 +25,7 @@ returns-in-Err-clause-still g c = still_trans _ _ _ c.in_ok-bad.ensures.still c.
 pub returns-in-Ok-clause-said : goal.returns-in-Ok-clause-said
 returns-in-Ok-clause-said g c tells =
     let old = g.H.Host.seen c.args.host.now in
-    let lines = lines_of old.content c.args.found.now c.args.plan.now (places_of c.args.plan.now) in
+    let lines = bad_lines old.content c.args.found.now c.args.plan.now (places_of c.args.plan.now) in
     let last = end_text old.content c.args.found.now c.args.plan.now c.args.front.now c.place_count-all.result c.in_ok-bad.bad c.place_count-all.ensures (c.in_ok-bad.ensures.count tells) in
     let text = c.push_end-end.ensures.is ∙ last in
     c.in-Ok.ensures.said (g.met.H.Host.tells_both tells)
@@ -40,7 +40,7 @@ pub returns-in-Err-clause-front : goal.returns-in-Err-clause-front
 returns-in-Err-clause-front g c tells =
     let old = g.H.Host.seen c.args.host.now in
     let mid = (g.H.Host.seen c.scrub_places.new.host).said in
-    let lines = lines_of old.content c.args.found.now c.args.plan.now (places_of c.args.plan.now) in
+    let lines = bad_lines old.content c.args.found.now c.args.plan.now (places_of c.args.plan.now) in
     let end = text_of_end c.args.front.now (length (places_of c.args.plan.now)) (bad_of old.content c.args.found.now c.args.plan.now (places_of c.args.plan.now)) in
     let text = c.push_end-end.ensures.is
     ∙ end_text old.content c.args.found.now c.args.plan.now c.args.front.now c.place_count-all.result c.in_ok-bad.bad c.place_count-all.ensures (c.in_ok-bad.ensures.count tells) in

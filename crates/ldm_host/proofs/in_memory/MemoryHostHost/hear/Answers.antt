@@ -2,7 +2,7 @@ use Rattle.std.proofs.Common.{◌≡◌, ◌≤◌, ◌++◌, ℕ, List, Bool, l
 use Rattle.ldm_host.specs.declared.host.Failed.{Failed}
 use Rattle.ldm_host.specs.Acts.{Act}
 use Rattle.ldm_host.specs.Images.{items_of}
-use Rattle.ldm_host.specs.Memory.{memory_seen, story_of, counts_of}
+use Rattle.ldm_host.specs.Memory.{memory_seen, story_of, host_counts}
 use Rattle.ldm_host.specs.Moves.{Quiet}
 use Rattle.ldm_host.specs.Plan.{next}
 use Rattle.ldm_host.specs.Seen.{Seen}
@@ -38,9 +38,9 @@ returns c =
     let calls = step.new.calls.items in
     let adds = step.ensures.calls in
     let new : Counts = record { disk_faults = m.disk_faults; talk_faults = c.end_call.new.faults; dry = c.end_call.new.dry; wrote = m.handed.items } in
-    let rises : CountsRise (counts_of m) new = record { disk_faults = omega arith; talk_faults = ended.rises } in
+    let rises : CountsRise (host_counts m) new = record { disk_faults = omega arith; talk_faults = ended.rises } in
     let later = seen_of (record { first = items_of m.first.items; calls = calls; script = m.script.items }) new in
-    let took = hear_took (story_of m) (counts_of m) new rises m.heard step.new.heard outcome found calls adds in
+    let took = hear_took (story_of m) (host_counts m) new rises m.heard step.new.heard outcome found calls adds in
     let ended_ok : is_ok c.end_call.result ≡ is_whole outcome && found = ended.ok ∙ ap (λ (b : Bool). is_whole outcome && b) c.is_ok.ensures.value in
     let ok : is_ok c.and.result ≡ is_ok c.end_call.result = ap (λ (r : Result ℕ Failed). is_ok r) c.and.ensures ∙ and_ok c.end_call.result heard outcome ended_ok in
     let afterwards : step.new.heard ≡ (run (fresh_state (items_of m.first.items)) calls).heard = (kept_hear_part (items_of m.first.items) m.calls.items m.script.items m.held.items m.said.items m.heard m.handed.items m.kept outcome found calls step.new.heard adds (from_err (step.new.heard ≡ m.heard) heard step.ensures.stays) step.ensures.fits).heard_is in
@@ -54,9 +54,9 @@ returns c =
       taken = λ tells. subst (λ (r : Result ℕ Failed). IfOk r (λ n. Hears (memory_seen m) later n buf)) (sym c.and.ensures)
           (if_both (λ n. Hears (memory_seen m) later n buf) c.end_call.result heard (λ is_fine. hears buf heard (step.ensures.taken (ok_whole outcome found (sym ended_ok ∙ is_fine)))));
       nothing = on_err (Quiet (memory_seen m) later) c.and.result (λ failed. (nothing_failed Act.Hear outcome found (memory_seen m) later (λ nothing. nothing) took (sym ended_ok ∙ sym ok ∙ failed)).quiet);
-      silent = hear_silent (story_of m) (counts_of m) new rises m.heard step.new.heard outcome found calls adds;
-      still = hear_still (story_of m) (counts_of m) new rises m.heard step.new.heard outcome found calls refl adds;
-      ticks = adds_ticks (story_of m) (counts_of m) new rises found (IsHear outcome m.heard step.new.heard) calls adds;
+      silent = hear_silent (story_of m) (host_counts m) new rises m.heard step.new.heard outcome found calls adds;
+      still = hear_still (story_of m) (host_counts m) new rises m.heard step.new.heard outcome found calls refl adds;
+      ticks = adds_ticks (story_of m) (host_counts m) new rises found (IsHear outcome m.heard step.new.heard) calls adds;
       cause = λ failed. rose (is_ok c.and.result) m.talk_faults c.end_call.new.faults faults (is_failed c.and.result failed);
       ending = ends Act.Hear m _ outcome found (is_ok c.and.result) plan is (ok ∙ ended_ok) (λ reads. absurd (cc reads)) (kept_count (is_ok c.and.result) m.disk_faults) (failed_count (is_ok c.and.result) m.talk_faults c.end_call.new.faults faults) dry took;
     }

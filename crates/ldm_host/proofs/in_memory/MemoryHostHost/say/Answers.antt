@@ -1,7 +1,7 @@
 use Rattle.std.proofs.Common.{◌≡◌, ◌++◌, is_ok, refl, sym, ◌∙◌, arith}
 use Rattle.ldm_host.specs.Acts.{Act}
 use Rattle.ldm_host.specs.Images.{items_of}
-use Rattle.ldm_host.specs.Memory.{memory_seen, story_of, counts_of}
+use Rattle.ldm_host.specs.Memory.{memory_seen, story_of, host_counts}
 use Rattle.ldm_host.specs.Steps.{IsSay}
 use Rattle.ldm_host.specs.Story.{Counts, seen_of}
 use Rattle.ldm_host.proofs.Done.{adds_ticks, say_still, say_hears, say_said, say_front, say_took}
@@ -29,16 +29,16 @@ returns c =
     let calls = c.say_part-found.new.calls.items in
     let adds = c.say_part-found.ensures.calls in
     let new : Counts = record { disk_faults = m.disk_faults; talk_faults = c.end_call.new.faults; dry = c.end_call.new.dry; wrote = m.handed.items } in
-    let rises : CountsRise (counts_of m) new = record { disk_faults = omega arith; talk_faults = ended.rises } in
+    let rises : CountsRise (host_counts m) new = record { disk_faults = omega arith; talk_faults = ended.rises } in
     let later = seen_of (record { first = items_of m.first.items; calls = calls; script = m.script.items }) new in
-    let hears = say_hears (story_of m) (counts_of m) new rises bytes outcome found calls adds in
+    let hears = say_hears (story_of m) (host_counts m) new rises bytes outcome found calls adds in
     record {
-      said = λ tells. on_ok (later.said ≡ (memory_seen m).said ++ bytes) c.end_call.result (λ is_fine. say_said (story_of m) (counts_of m) new rises bytes outcome found calls adds (sym ended.ok ∙ is_fine));
-      front = say_front (story_of m) (counts_of m) new rises bytes outcome found calls adds;
+      said = λ tells. on_ok (later.said ≡ (memory_seen m).said ++ bytes) c.end_call.result (λ is_fine. say_said (story_of m) (host_counts m) new rises bytes outcome found calls adds (sym ended.ok ∙ is_fine));
+      front = say_front (story_of m) (host_counts m) new rises bytes outcome found calls adds;
       heard = hears.0;
       input = hears.1;
-      still = say_still (story_of m) (counts_of m) new rises bytes outcome found calls refl adds;
-      ticks = adds_ticks (story_of m) (counts_of m) new rises found (IsSay outcome bytes) calls adds;
+      still = say_still (story_of m) (host_counts m) new rises bytes outcome found calls refl adds;
+      ticks = adds_ticks (story_of m) (host_counts m) new rises found (IsSay outcome bytes) calls adds;
       cause = λ failed. rose ok m.talk_faults c.end_call.new.faults ended.faults (is_failed c.end_call.result failed);
-      ending = ends (Act.Say bytes) m _ outcome found _ plan is ended.ok (λ reads. absurd (cc reads)) (kept_count ok m.disk_faults) (failed_count ok m.talk_faults c.end_call.new.faults ended.faults) ended.dry (say_took (story_of m) (counts_of m) new rises bytes outcome found calls adds);
+      ending = ends (Act.Say bytes) m _ outcome found _ plan is ended.ok (λ reads. absurd (cc reads)) (kept_count ok m.disk_faults) (failed_count ok m.talk_faults c.end_call.new.faults ended.faults) ended.dry (say_took (story_of m) (host_counts m) new rises bytes outcome found calls adds);
     }

@@ -1,7 +1,7 @@
 use Rattle.std.proofs.Common.{is_ok, refl, sym, ◌∙◌, arith}
 use Rattle.ldm_host.specs.Acts.{Act}
 use Rattle.ldm_host.specs.Images.{items_of}
-use Rattle.ldm_host.specs.Memory.{memory_seen, story_of, counts_of}
+use Rattle.ldm_host.specs.Memory.{memory_seen, story_of, host_counts}
 use Rattle.ldm_host.specs.Moves.{SameLeft, Settled}
 use Rattle.ldm_host.specs.Steps.{IsSync}
 use Rattle.ldm_host.specs.Story.{Counts, seen_of}
@@ -29,14 +29,14 @@ returns c =
     let calls = c.sync_part-found.new.calls.items in
     let adds = c.sync_part-found.ensures in
     let new : Counts = record { disk_faults = c.end_call.new.faults; talk_faults = m.talk_faults; dry = c.end_call.new.dry; wrote = m.handed.items } in
-    let rises : CountsRise (counts_of m) new = record { disk_faults = ended.rises; talk_faults = omega arith } in
+    let rises : CountsRise (host_counts m) new = record { disk_faults = ended.rises; talk_faults = omega arith } in
     let later = seen_of (record { first = items_of m.first.items; calls = calls; script = m.script.items }) new in
-    let took = sync_took (story_of m) (counts_of m) new rises disk c.requires refl outcome found calls adds in
+    let took = sync_took (story_of m) (host_counts m) new rises disk c.requires refl outcome found calls adds in
     record {
-      settled = on_ok (Settled later disk) c.end_call.result (λ is_fine. sync_settled (story_of m) (counts_of m) new rises disk c.requires refl outcome found calls adds (sym ended.ok ∙ is_fine));
-      syncs = sync_syncs (story_of m) (counts_of m) new rises disk c.requires refl outcome found calls adds;
+      settled = on_ok (Settled later disk) c.end_call.result (λ is_fine. sync_settled (story_of m) (host_counts m) new rises disk c.requires refl outcome found calls adds (sym ended.ok ∙ is_fine));
+      syncs = sync_syncs (story_of m) (host_counts m) new rises disk c.requires refl outcome found calls adds;
       pending = on_err (SameLeft (memory_seen m) later) c.end_call.result (λ failed. (nothing_failed (Act.Sync disk) outcome found (memory_seen m) later (λ nothing. nothing) took (sym ended.ok ∙ failed)).left);
-      ticks = adds_ticks (story_of m) (counts_of m) new rises found (IsSync outcome disk) calls adds;
+      ticks = adds_ticks (story_of m) (host_counts m) new rises found (IsSync outcome disk) calls adds;
       cause = λ failed. rose ok m.disk_faults c.end_call.new.faults ended.faults (is_failed c.end_call.result failed);
       ending = ends (Act.Sync disk) m _ outcome found _ plan is ended.ok (λ reads. absurd (cc reads)) (failed_count ok m.disk_faults c.end_call.new.faults ended.faults) (kept_count ok m.talk_faults) ended.dry took;
     }

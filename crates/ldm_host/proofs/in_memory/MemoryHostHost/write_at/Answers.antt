@@ -5,7 +5,7 @@ use Rattle.ldm_bytes.specs.Places.{put}
 use Rattle.ldm_host.specs.Acts.{Act}
 use Rattle.ldm_host.specs.Images.{items_of}
 use Rattle.ldm_host.specs.Laws.{held_now}
-use Rattle.ldm_host.specs.Memory.{memory_seen, story_of, counts_of}
+use Rattle.ldm_host.specs.Memory.{memory_seen, story_of, host_counts}
 use Rattle.ldm_host.specs.Seen.{image}
 use Rattle.ldm_host.specs.Steps.{IsWrite}
 use Rattle.ldm_host.specs.Story.{Counts, fresh_state, run, seen_of}
@@ -53,20 +53,20 @@ returns c =
     let adds = c.write_part-found.ensures.calls in
     let handed = c.hand.new.handed.items in
     let new : Counts = record { disk_faults = c.end_call.new.faults; talk_faults = m.talk_faults; dry = c.end_call.new.dry; wrote = handed } in
-    let rises : CountsRise (counts_of m) new = record { disk_faults = ended.rises; talk_faults = omega arith } in
+    let rises : CountsRise (host_counts m) new = record { disk_faults = ended.rises; talk_faults = omega arith } in
     let disks = (run (fresh_state (items_of m.first.items)) m.calls.items).disks in
     let held : disk < length m.handed.items = omega (arith, there m.held.items disks m.kept.content disk c.requires.disk, m.kept.each) in
     let inside = fits_disk disks disk at (length bytes) c.requires.range in
     let here = handed_here m.handed.items handed disk (length bytes) held c.hand.ensures in
     let others = handed_others m.handed.items handed disk (length bytes) c.hand.ensures in
     let later = seen_of (record { first = items_of m.first.items; calls = calls; script = m.script.items }) new in
-    let took = write_took (story_of m) (counts_of m) new rises disk at bytes c.requires.disk inside (held_now m disk).bytes here others outcome found calls adds in
+    let took = write_took (story_of m) (host_counts m) new rises disk at bytes c.requires.disk inside (held_now m disk).bytes here others outcome found calls adds in
     record {
       written = λ tells. on_ok (later.content ≡ set (memory_seen m).content disk (put (image (memory_seen m).content disk) at bytes)) c.end_call.result
-          (λ is_fine. write_placed (story_of m) (counts_of m) new rises disk at bytes c.requires.disk inside (held_now m disk).bytes here others outcome found calls adds (sym ended.ok ∙ is_fine));
-      writes = write_writes (story_of m) (counts_of m) new rises disk at bytes c.requires.disk inside (held_now m disk).bytes here others outcome found calls adds;
+          (λ is_fine. write_placed (story_of m) (host_counts m) new rises disk at bytes c.requires.disk inside (held_now m disk).bytes here others outcome found calls adds (sym ended.ok ∙ is_fine));
+      writes = write_writes (story_of m) (host_counts m) new rises disk at bytes c.requires.disk inside (held_now m disk).bytes here others outcome found calls adds;
       wrote = c.hand.ensures;
-      ticks = adds_ticks (story_of m) (counts_of m) new rises found (IsWrite outcome disk at bytes) calls adds;
+      ticks = adds_ticks (story_of m) (host_counts m) new rises found (IsWrite outcome disk at bytes) calls adds;
       cause = λ failed. rose ok m.disk_faults c.end_call.new.faults ended.faults (is_failed c.end_call.result failed);
       ending = ends (Act.Write disk at bytes) m _ outcome found _ plan is ended.ok (λ reads. absurd (cc reads)) (failed_count ok m.disk_faults c.end_call.new.faults ended.faults) (kept_count ok m.talk_faults) ended.dry took;
     }

@@ -3,7 +3,7 @@ use Rattle.std.proofs.lemmas.List.{get_or_default}
 use Rattle.ldm_host.specs.declared.call.Call.{Call}
 use Rattle.ldm_host.specs.declared.call.Call.TheVariants.{Nothing}
 use Rattle.ldm_host.specs.Images.{items_of}
-use Rattle.ldm_host.specs.Left.{IsLastSync, filled, filled_on}
+use Rattle.ldm_host.specs.Left.{IsLastSync, overlaid, filled_on}
 use Rattle.ldm_host.specs.Seen.{image}
 use Rattle.ldm_host.specs.Story.{Disk}
 use Rattle.ldm_host.proofs.Vectors.{image_read}
@@ -20,7 +20,7 @@ loop-place-init c =
     let is : IsLastSync calls disk c.last_sync-place.result = subst (λ (l : List Call). IsLastSync l disk c.last_sync-place.result) c.deref-2.ensures.value c.last_sync-place.ensures in
     let here = image_read m.held.items disk c.index.result.now c.requires c.index.ensures in
     c.in_ok-image.ensures.is ∙ c.deref.ensures.value ∙ sym here
-    ∙ sym (ap (λ (ranges : List (ℕ × ℕ)). filled c.args.byte ranges (image (items_of m.held.items) disk)) (none_pending disk first calls m.kept.held lt c.last_sync-place.result is))
+    ∙ sym (ap (λ (ranges : List (ℕ × ℕ)). overlaid c.args.byte ranges (image (items_of m.held.items) disk)) (none_pending disk first calls m.kept.held lt c.last_sync-place.result is))
 
 pub fill_range-requires : goal.fill_range-requires
 fill_range-requires c = λ at asked bytes is.
@@ -51,7 +51,7 @@ loop-place-preserved c =
     let now = at_time disk first calls m.kept.held lt k in
     let held = image (items_of m.held.items) disk in
     c.fill_range.ensures ∙ ap (filled_on disk c.args.byte c.index-in-loop-place.result.now) c.loop-place.invariant
-    ∙ sym (fills disk first calls m.kept.held lt c.last_sync-place.result is c.args.byte held k c.loop-place.auto.place less ∙ ap (λ (x : Call). filled_on disk c.args.byte x (filled c.args.byte now.pending held)) call)
+    ∙ sym (fills disk first calls m.kept.held lt c.last_sync-place.result is c.args.byte held k c.loop-place.auto.place less ∙ ap (λ (x : Call). filled_on disk c.args.byte x (overlaid c.args.byte now.pending held)) call)
 
 pub returns : goal.returns
 returns c =
@@ -64,4 +64,4 @@ returns c =
     let end : c.last_sync-place.result ≤ c.len-place-end.result = omega (arith, is.within, c.len-place-end.ensures, m.calls.ok.0) in
     let done : c.loop-place.place ≡ length calls = omega (arith, c.loop-place-test.false, c.loop-place.auto.place-end end, c.len-place-end.ensures, m.calls.ok.0) in
     let held = image (items_of m.held.items) disk in
-    c.loop-place.invariant ∙ ap (λ (k : ℕ). filled c.args.byte (at_time disk first calls m.kept.held lt k).pending held) done ∙ ap (λ (d : Disk). filled c.args.byte d.pending held) (now_is disk first calls m.kept.held lt)
+    c.loop-place.invariant ∙ ap (λ (k : ℕ). overlaid c.args.byte (at_time disk first calls m.kept.held lt k).pending held) done ∙ ap (λ (d : Disk). overlaid c.args.byte d.pending held) (now_is disk first calls m.kept.held lt)

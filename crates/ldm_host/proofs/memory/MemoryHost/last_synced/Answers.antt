@@ -2,7 +2,7 @@ use Rattle.std.proofs.Common.{◌≡◌, ◌<◌, ℕ, List, length, min, sym, �
 use Rattle.std.proofs.lemmas.List.{length-map, length-take}
 use Rattle.ldm_host.specs.declared.call.Call.{Call}
 use Rattle.ldm_host.specs.Images.{items_of}
-use Rattle.ldm_host.specs.Left.{IsLastSync, taken_on}
+use Rattle.ldm_host.specs.Left.{IsLastSync, written_on}
 use Rattle.ldm_host.specs.Story.{Disk}
 use Rattle.ldm_host.proofs.Vectors.{image_read}
 use Rattle.ldm_host.proofs.LeftLaws.{as_many, at_time, front_call, fresh_disk, last_content, now_is, takes, write_fits}
@@ -29,8 +29,8 @@ loop-call-preserved c =
     let m = c.args.self.now in
     let lt : c.args.disk < length (items_of m.first.items) = omega (arith, c.requires, as_many m) in
     let call = front_call m.calls.items c.deref-2.result.now c.last_sync.result c.loop-call.call-index c.call-item.result c.deref-2.ensures.value c.loop-call-test.true c.call-item.is in
-    c.take_again.ensures ∙ ap (taken_on c.args.disk c.call-item.result) c.loop-call.invariant
-    ∙ sym (takes c.args.disk (items_of m.first.items) m.calls.items m.kept.held lt c.loop-call.call-index call.0 ∙ ap (λ (x : Call). taken_on c.args.disk x (at_time c.args.disk (items_of m.first.items) m.calls.items m.kept.held lt c.loop-call.call-index).content) call.1)
+    c.take_again.ensures ∙ ap (written_on c.args.disk c.call-item.result) c.loop-call.invariant
+    ∙ sym (takes c.args.disk (items_of m.first.items) m.calls.items m.kept.held lt c.loop-call.call-index call.0 ∙ ap (λ (x : Call). written_on c.args.disk x (at_time c.args.disk (items_of m.first.items) m.calls.items m.kept.held lt c.loop-call.call-index).content) call.1)
 
 pub returns : goal.returns
 returns c =

@@ -2,15 +2,15 @@ use Rattle.std.proofs.Common.{◌≡◌, ◌+◌, ◌^◌, ◌<◌, ◌≤◌, s
 use Rattle.std.specs.List.{All, position}
 use Rattle.std.proofs.lemmas.Bool.{leb-true}
 use Rattle.std.proofs.lemmas.List.Elements.{All-set}
-use Rattle.ldm_space.specs.Gaps.{Gap, AreGaps, TakesFirst, is_long, first_gap, shorter, without_first}
+use Rattle.ldm_space.specs.Gaps.{Gap, AreGaps, TakesFirst, has_length, first_gap, shorter, without_first}
 use Rattle.ldm_space.proofs.GapLaws.{IsFirstLong}
 use Rattle.ldm_space.proofs.GapTake.{first_at, starts_first, is_removed, is_shortened, none_long, none_starts, all_stay, takes_whole, takes_part, takes_none}
 use Rattle.ldm_space.proofs.gaps.FreeMap.take.Goals as goal
 
 -- none is long enough
 
-short : (len : ℕ) (items slice : List Gap) (r : Option ℕ) → slice ≡ items → r ≡ None → r ≡ position (is_long len) slice → All (λ g. is_long len g ≡ false) items
-short len items slice r same none is = none_long len items (ap (position (is_long len)) (sym same) ∙ (sym is ∙ none))
+short : (len : ℕ) (items slice : List Gap) (r : Option ℕ) → slice ≡ items → r ≡ None → r ≡ position (has_length len) slice → All (λ g. has_length len g ≡ false) items
+short len items slice r same none is = none_long len items (ap (position (has_length len)) (sym same) ∙ (sym is ∙ none))
 
 pub returns-in_err-at-clause-found : goal.returns-in_err-at-clause-found
 returns-in_err-at-clause-found c = c.from_residual.ensures ∙ sym (none_starts c.args.len c.args.self.now
@@ -28,14 +28,14 @@ returns-in_err-at-clause-first c taken disk size are =
 
 -- the first that is
 
-first : (len at : ℕ) (items slice : List Gap) → slice ≡ items → Some at ≡ position (is_long len) slice → IsFirstLong len items at
-first len at items slice same is = first_at len items at (ap (position (is_long len)) (sym same) ∙ sym is)
+first : (len at : ℕ) (items slice : List Gap) → slice ≡ items → Some at ≡ position (has_length len) slice → IsFirstLong len items at
+first len at items slice same is = first_at len items at (ap (position (has_length len)) (sym same) ∙ sym is)
 
 found_is : (now items : List Gap) (len at : ℕ) (g : Gap) → items ≡ now → IsFirstLong len items at → g ≡ get_or items at g → Some g.start ≡ first_gap len now
 found_is now items len at g view f is = ap (λ (x : Gap). Some x.start) is ∙ (sym (starts_first len items at g f) ∙ ap (first_gap len) view)
 
 enough : (len at : ℕ) (items : List Gap) (g : Gap) → IsFirstLong len items at → g ≡ get_or items at g → len ≤ g.len
-enough len at items g f is = leb-true len g.len (ap (is_long len) is ∙ f.long g)
+enough len at items g f is = leb-true len g.len (ap (has_length len) is ∙ f.long g)
 
 pub returns-then-gap-len-clause-found : goal.returns-then-gap-len-clause-found
 returns-then-gap-len-clause-found c =
