@@ -19,7 +19,7 @@ pub struct Header {
     /// The carried header bytes: the sector with the last VBLK sequence, both sequences and all
     /// counts zero.
     pub raw: [u8; 512],
-    pub ghost kept: { IsKept name guid raw },
+    pub ghost kept: { IsKeptHeader name guid raw },
 }
 
 impl Header {
