@@ -1,7 +1,10 @@
 -- What a stop leaves where the ranges that are pending hold what a filling says, from call to call.
-use Rattle.std.proofs.Common.{◌≡◌, ◌≢◌, inl, inr, ⊎_elim, ℕ, zero, suc, ◌+◌, ◌-◌, ◌/◌, ◌<◌, ◌≤◌, ◌==◌, min, Bool, true, false, if◌then◌else◌, List, [], ◌∷◌, ◌++◌, length, get_or, set, map, take, drop, replicate, slice_index, refl, sym, ◌∙◌, ap, subst, arith, Vec}
-use Rattle.std.proofs.Math.Nat.{suc-ne-zero}
+use Rattle.std.proofs.Common.{◌≡◌, ◌≢◌, ◌⊎◌, inl, inr, ℕ, ◌+◌, ◌-◌, ◌<◌, ◌≤◌, List, length, get_or, refl, sym, ◌∙◌, ap, subst, arith, ⊎_elim, zero, suc, ◌/◌, ◌==◌, min, Bool, true, false, if◌then◌else◌, ◌∷◌, ◌++◌, set, map, take, drop, replicate, slice_index, Vec}
 use Rattle.std.proofs.lemmas.Bool.{cases_eq, eq-eqb, ne_eqb}
+use Rattle.ldm_host.specs.declared.call.Call.{Call}
+use Rattle.ldm_host.specs.declared.call.Call.TheVariants.{Sync, Nothing, Write, Hear, Say}
+use Rattle.ldm_host.specs.Left.{IsLastSync, overlaid, left_on, left_of, written_on, filled_on}
+use Rattle.std.proofs.Math.Nat.{suc-ne-zero}
 use Rattle.std.proofs.Math.Seq.{take-suc}
 use Rattle.std.proofs.lemmas.List.{length-map, length-set, length-append, length-drop, length-take, length-replicate, get_or-set_same, get_or-set_other, get_or_default, get_or-take, map-append}
 use Rattle.std.specs.declared.alloc.Global.{Global}
@@ -12,8 +15,6 @@ use Rattle.ldm_bytes.proofs.ByteLaws.{put_before, put_behind, bytes_put}
 use Rattle.ldm_host.specs.Seen.{Leaves, image}
 use Rattle.ldm_host.specs.Images.{items_of}
 use Rattle.ldm_host.specs.declared.memory.MemoryHost.{MemoryHost}
-use Rattle.ldm_host.specs.declared.call.Call.{Call}
-use Rattle.ldm_host.specs.declared.call.Call.TheVariants.{Write, Sync, Hear, Say, Nothing}
 use Rattle.ldm_host.specs.declared.left.Filling.{Filling}
 use Rattle.ldm_host.specs.declared.left.Filling.TheVariants.{Old, New, Fill}
 use Rattle.ldm_host.specs.Story.{Disk, StoryState, Agrees, Outside, disk_at, no_disk, written_disk, synced_disk, after, run, state_at, fresh_state, contents, sizes_of}
@@ -21,8 +22,17 @@ use Rattle.ldm_host.specs.StoryLaws.{image_at, stays, all_calls}
 use Rattle.ldm_host.specs.Laws.{held_now}
 use Rattle.ldm_host.specs.Memory.{memory_seen, story_of}
 use Rattle.ldm_host.specs.Kept.{IsHeld, reach}
-use Rattle.ldm_host.specs.Left.{overlaid, left_on, left_of, IsLastSync, written_on, filled_on}
-use Rattle.ldm_host.proofs.Grows.{run_push}
+use Rattle.ldm_host.proofs.CallLaws.{run_push}
+
+-- ---- The last sync of a disk among the calls, as they are walked.
+
+-- among the first so many calls
+pub record IsLastBy (calls : List Call) (disk place count : ℕ) : Type 0 where
+  pub within : count ≤ place
+  pub is_sync : (count ≡ 0) ⊎ (get_or calls (count - 1) Nothing ≡ Sync disk)
+  pub none_since : (k : ℕ) → count ≤ k → k < place → get_or calls k Nothing ≢ Sync disk
+
+-- ---- What a stop leaves where the ranges that are pending hold what a filling says, from call to call.
 
 -- ---- ranges overlaid with one byte
 

@@ -1,7 +1,7 @@
 use Rattle.std.proofs.Common.{rules, refl}
 use Rattle.ldm_host.proofs.Relations.{still_itself}
 use Rattle.ldm_store.specs.Sessions.{IsSession}
-use Rattle.ldm_run.proofs.DoingLaws.{now_of, line_idle, line_works, line_unread, line_applied}
+use Rattle.ldm_run.proofs.EditLaws.{now_of, line_idle, line_works, line_unread, line_applied}
 use Rattle.ldm_run.proofs.editing.apply_line.Goals as goal
 
 pub returns-in-None : goal.returns-in-None

@@ -3,8 +3,7 @@ use Rattle.ldm_words.specs.declared.command.Command.{Command}
 use Rattle.ldm_words.specs.Lines.{lines_of}
 use Rattle.ldm_store.specs.Sessions.{IsSession}
 use Rattle.ldm_run.specs.Scripts.{command_in, commands_in}
-use Rattle.ldm_run.proofs.DoingLaws.{now_of}
-use Rattle.ldm_run.proofs.EditState.{edited_none, with_left, unread, ended, line_fails, line_done}
+use Rattle.ldm_run.proofs.EditLaws.{now_of, edited_none, with_left, unread, ended, line_fails, line_done}
 use Rattle.ldm_run.proofs.editing.edit_each.Goals as goal
 
 pub editing-init : goal.editing-init

@@ -3,7 +3,7 @@ use Rattle.ldm_edits.specs.declared.reply.Reply.{Reply}
 use Rattle.ldm_store.specs.Sessions.{Edited, IsSession}
 use Rattle.ldm_run.specs.declared.running.Status.{Status}
 use Rattle.ldm_run.specs.Editing.{AnswersLine}
-use Rattle.ldm_run.proofs.DoingLaws.{now_of, line_undone, line_answered, line_unanswered}
+use Rattle.ldm_run.proofs.EditLaws.{now_of, line_undone, line_answered, line_unanswered}
 use Rattle.ldm_run.proofs.editing.edit_line.Goals as goal
 
 pub returns-in_err-session : goal.returns-in_err-session

@@ -1,6 +1,5 @@
 use Rattle.ldm_words.specs.Jobs.{texts, job_of}
-use Rattle.ldm_run.proofs.JobLaws.{each_job}
-use Rattle.ldm_run.proofs.RunLaws.{usage_is, answers_to, causes_of, completes}
+use Rattle.ldm_run.proofs.JobLaws.{each_job, usage_is, answers_to, causes_of, completes}
 use Rattle.ldm_run.proofs.running.run.Goals as goal
 
 pub returns-clause-usage : goal.returns-clause-usage
