@@ -1,6 +1,6 @@
 -- What one call more makes of what is seen of a host in memory: the bytes round a range that is written, what a stop may leave, and what each kind of call changes.
-use Rattle.std.proofs.Common.{◌≡◌, ◌⊎◌, inl, inr, ⊎_elim, ℕ, ◌+◌, ◌-◌, ◌<◌, ◌≤◌, List, length, drop, slice_index, slice_range, sym, ◌∙◌, ap, arith, rules, ◌∷◌, ◌++◌, refl, subst, ◌≢◌, zero, suc, ◌/◌, set, take, Vec}
-use Rattle.std.proofs.lemmas.List.{places, get_or-take, get_or-drop, take-append-le, length_push, length-set, length-map, get_or-set_same, get_or-set_other, set-get_or, ext_get_or}
+use Rattle.std.proofs.Common.{[], ◌≡◌, ◌⊎◌, inl, inr, ⊎_elim, ℕ, ◌+◌, ◌-◌, ◌<◌, ◌≤◌, List, length, drop, slice_index, slice_range, sym, ◌∙◌, ap, arith, rules, ◌∷◌, ◌++◌, refl, subst, ◌≢◌, zero, suc, ◌/◌, set, take, Vec}
+use Rattle.std.proofs.lemmas.List.{map-set, places, get_or-take, get_or-drop, take-append-le, length_push, length-set, length-map, get_or-set_same, get_or-set_other, set-get_or, ext_get_or}
 use Rattle.ldm_host.specs.Moves.{Torn, Begins, Later, TornAt, Still, Settled, Writes, Syncs}
 use Rattle.ldm_bytes.specs.Numbers.{IsBytes}
 use Rattle.ldm_bytes.specs.Places.{put}
@@ -9,7 +9,7 @@ use Rattle.ldm_bytes.proofs.ByteLaws.{put_before, put_in, put_behind, sides}
 use Rattle.ldm_host.specs.Story.{Disk, Agrees, Outside, written_disk, StoryState, MayLeave, LeftSince, Counts, sizes_of, after, run, state_at, seen_from, disk_at, no_disk, synced_disk, contents}
 use Rattle.ldm_host.proofs.Relations.{begins_trans, torn_itself, torn_at_itself, torn_from}
 use Rattle.ldm_host.specs.declared.call.Call.{Call}
-use Rattle.ldm_host.specs.declared.call.Call.TheVariants.{Write, Sync, Hear, Say, Nothing}
+use Rattle.ldm_host.specs.declared.call.Call.TheVariants.{Write, Sync, Say, Nothing}
 use Rattle.ldm_host.specs.StoryLaws.{begins_both, all_calls, begins_itself, image_at, one_each, stays, counts_now, only_now}
 use Rattle.std.proofs.lemmas.Bool.{cases_eq}
 use Rattle.std.specs.declared.alloc.Global.{Global}
@@ -100,11 +100,8 @@ run_push first [] call = refl
 run_push first (c ∷ calls) call = run_push (after first c) calls call
 
 pub said_after : (s : StoryState) (call : Call) → Begins s.said (after s call).said
-said_after s (Write disk at bytes asked) = begins_itself s.said
-said_after s (Sync disk) = begins_itself s.said
-said_after s (Hear count) = begins_itself s.said
 said_after s (Say bytes) = (bytes.items, refl)
-said_after s Nothing = begins_itself s.said
+said_after s call = begins_itself s.said
 
 -- what the counts may do
 pub record CountsRise (old new : Counts) : Type 0 where
@@ -207,9 +204,7 @@ sizes_set (e ∷ disks) zero d same = ap (λ (n : ℕ). n / 512 ∷ sizes_of dis
 sizes_set (e ∷ disks) (suc disk) d same = ap (λ (l : List ℕ). length e.content / 512 ∷ l) (sizes_set disks disk d same)
 
 pub contents_set : (disks : List Disk) (disk : ℕ) (d : Disk) → contents (set disks disk d) ≡ set (contents disks) disk d.content
-contents_set [] disk d = refl
-contents_set (e ∷ disks) zero d = refl
-contents_set (e ∷ disks) (suc disk) d = ap (λ (l : List (List ℕ)). e.content ∷ l) (contents_set disks disk d)
+contents_set disks disk d = map-set (λ disk. disk.content) disks disk d
 
 disk_there : (disks : List Disk) (disk : ℕ) (d : Disk) → disk < length (sizes_of disks) → disk_at (set disks disk d) disk ≡ d
 disk_there disks disk d lt = let there : disk < length disks = omega (arith, length-map disks (λ d. length d.content / 512), lt) in get_or-set_same disks disk d no_disk there
@@ -263,7 +258,7 @@ module _ (first : StoryState) (calls : List Call) (script : List ℕ) (old new :
     );
     moments = λ images said left. ⊎_elim
         (λ start. (record { one_each = start.0.one_each; each = start.0.each }, start.1, subst (λ (s : StoryState). Begins said s.said) (sym (run_push first calls call)) start.2))
-        (λ done. (was images done.0, subst (λ (l : List ℕ). Begins now.said l) (sym done.1) (said_later call), subst (λ (s : StoryState). Begins said s.said) (sym (run_push first calls call)) (subst (λ (l : List ℕ). Begins l (after now call).said) (sym done.1) (begins_itself (after now call).said))))
+        (λ done. (was images done.0, subst (λ (l : List ℕ). Begins now.said l) (sym done.1) (said_after now call), subst (λ (s : StoryState). Begins said s.said) (sym (run_push first calls call)) (subst (λ (l : List ℕ). Begins l (after now call).said) (sym done.1) (begins_itself (after now call).said))))
         (moments first calls call images said left);
   }
     where
@@ -275,13 +270,6 @@ module _ (first : StoryState) (calls : List Call) (script : List ℕ) (old new :
         one_each = may.one_each ∙ ap (λ (d : List Disk). length (sizes_of d)) same;
         each = λ disk lt. subst (λ (d : List Disk). Agrees (disk_at d disk) (image images disk)) same (may.each disk (subst (λ (d : List Disk). disk < length (sizes_of d)) (sym same) lt));
       }
-
-      said_later : (call : Call) → Begins now.said (after now call).said
-      said_later (Write disk at bytes asked) = begins_itself now.said
-      said_later (Sync disk) = begins_itself now.said
-      said_later (Hear count) = begins_itself now.said
-      said_later (Say bytes) = (bytes.items, refl)
-      said_later Nothing = begins_itself now.said
 
   module _ (disk at asked : ℕ) (bytes : Vec ℕ Global) (in_range : disk < length (sizes_of now.disks)) (short : length bytes.items ≤ asked) (fits : at + asked ≤ length (disk_at now.disks disk).content) (small : IsBytes (disk_at now.disks disk).content) where
     abbrev call : Call

@@ -1,5 +1,5 @@
 -- What a call of a host in memory does and how it ends, from what its steps did.
-use Rattle.std.proofs.Common.{◌≡◌, Bool, true, false, List, ◌∷◌, ◌++◌, if◌then◌else◌, refl, ◌≢◌, ℕ, ◌+◌, ◌-◌, ◌^◌, ◌<◌, ◌≤◌, min, length, get_or, set, slice_index, ◌∙◌, ap, arith, inl, inr, ◌/◌, ◌&&◌, take, drop, sym, subst, not, ◌||◌, ◌↔◌, IsTrue, IsFalse, is_ok, IfOk, IsErr, OnOk, OnErr, Result, Ok, Err}
+use Rattle.std.proofs.Common.{[], ◌≡◌, Bool, true, false, List, ◌∷◌, ◌++◌, if◌then◌else◌, refl, ◌≢◌, ℕ, ◌+◌, ◌-◌, ◌^◌, ◌<◌, ◌≤◌, min, length, get_or, set, slice_index, ◌∙◌, ap, arith, inl, inr, ◌/◌, ◌&&◌, take, drop, sym, subst, not, ◌||◌, ◌↔◌, IsTrue, IsFalse, is_ok, IfOk, IsErr, OnOk, OnErr, Result, Ok, Err}
 use Rattle.ldm_host.specs.declared.call.Call.{Call}
 use Rattle.ldm_host.specs.Steps.{AddsCall, IsNothing, IsWriteOf, IsWrite, IsSync, IsHear, IsSayOf, IsSay, is_whole}
 use Rattle.std.proofs.lemmas.List.{get_or-set_same, get_or-set_other, length_push, length-take, take_all, append-nil}
@@ -52,10 +52,7 @@ handed_others old new disk n is other ne = ap (λ (l : List ℕ). get_or l other
 abbrev pub Took : Act → Outcome → Bool → Seen → Seen → Type 0
 Took act Whole true old new = Pends act old new
 Took act Half true old new = TakesHalf act old new × Pends act old new
-Took act Nothing true old new = TakesNothing old new
-Took act Whole false old new = TakesNothing old new
-Took act Half false old new = TakesNothing old new
-Took act Nothing false old new = TakesNothing old new
+Took act _ _ old new = TakesNothing old new
 
 -- what holds with one call more, and without
 by_calls : (P : Bool → List Call → Type 0) (found : Bool) (is : Call → Type 0) (calls later : List Call) → AddsCall found is calls later
@@ -104,8 +101,7 @@ module _ (story : Story) (old new : Counts) (rise : CountsRise old new) where
     where
       dry : (outcome : Outcome) → Took act outcome false before (seen_by story.calls)
       dry Whole = nothing_same
-      dry Half = nothing_same
-      dry Nothing = nothing_same
+      dry outcome = nothing_same
 
   -- ---- to read
 
@@ -152,8 +148,7 @@ module _ (story : Story) (old new : Counts) (rise : CountsRise old new) where
         → (seen_by later).content ≡ set before.content disk (put (image before.content disk) at bytes)
     write_placed Whole found later g = by_calls (λ b l. b ≡ true → (seen_by l).content ≡ set before.content disk (put (image before.content disk) at bytes)) found (IsWrite Whole disk at bytes) story.calls later g
         (λ call is ok. placed_of bytes call (omega arith) is) (λ ok. absurd cc)
-    write_placed Half found later g = λ ok. absurd cc
-    write_placed Nothing found later g = λ ok. absurd cc
+    write_placed outcome found later g = λ ok. absurd cc
 
     pub write_took : (outcome : Outcome) (found : Bool) (later : List Call) → AddsCall found (IsWrite outcome disk at bytes) story.calls later → Took (Act.Write disk at bytes) outcome found before (seen_by later)
     write_took outcome found later g = adds_took (Act.Write disk at bytes) outcome found (IsWrite outcome disk at bytes) later g (kept outcome)
@@ -175,14 +170,12 @@ module _ (story : Story) (old new : Counts) (rise : CountsRise old new) where
       where
         kept : (outcome : Outcome) (call : Call) → IsSync outcome disk call → Syncs disk before (seen_with call)
         kept Whole call is = subst (λ (x : Call). Syncs disk before (seen_with x)) (sym is) (syncs_push first story.calls story.script old new rise disk in_range wrote)
-        kept Half call is = nothing_syncs call is
-        kept Nothing call is = nothing_syncs call is
+        kept outcome call is = nothing_syncs call is
 
     pub sync_settled : (outcome : Outcome) (found : Bool) (later : List Call) → AddsCall found (IsSync outcome disk) story.calls later → is_whole outcome && found ≡ true → Settled (seen_by later) disk
     sync_settled Whole found later g = by_calls (λ b l. b ≡ true → Settled (seen_by l) disk) found (IsSync Whole disk) story.calls later g
         (λ call is ok. subst (λ (x : Call). Settled (seen_with x) disk) (sym is) (settled first story.calls story.script old new rise disk in_range wrote)) (λ ok. absurd cc)
-    sync_settled Half found later g = λ ok. absurd cc
-    sync_settled Nothing found later g = λ ok. absurd cc
+    sync_settled outcome found later g = λ ok. absurd cc
 
     pub sync_took : (outcome : Outcome) (found : Bool) (later : List Call) → AddsCall found (IsSync outcome disk) story.calls later → Took (Act.Sync disk) outcome found before (seen_by later)
     sync_took outcome found later g = adds_took (Act.Sync disk) outcome found (IsSync outcome disk) later g (kept outcome)
@@ -197,8 +190,7 @@ module _ (story : Story) (old new : Counts) (rise : CountsRise old new) where
   module _ (heard then_heard : ℕ) where
     same_but_heard : (outcome : Outcome) (call : Call) → IsHear outcome heard then_heard call → ((after now call).disks ≡ now.disks) × ((after now call).said ≡ now.said)
     same_but_heard Whole call is = (ap (λ (x : Call). (after now x).disks) is.1, ap (λ (x : Call). (after now x).said) is.1)
-    same_but_heard Half call is = (ap (λ (x : Call). (after now x).disks) is.0, ap (λ (x : Call). (after now x).said) is.0)
-    same_but_heard Nothing call is = (ap (λ (x : Call). (after now x).disks) is.0, ap (λ (x : Call). (after now x).said) is.0)
+    same_but_heard outcome call is = (ap (λ (x : Call). (after now x).disks) is.0, ap (λ (x : Call). (after now x).said) is.0)
 
     pub hear_still : (outcome : Outcome) (found : Bool) (later : List Call) → new.wrote ≡ old.wrote → AddsCall found (IsHear outcome heard then_heard) story.calls later → Still before (seen_by later)
     hear_still outcome found later wrote g = adds_still found (IsHear outcome heard then_heard) later wrote (λ call is. (same_but_heard outcome call is).0) g
@@ -224,9 +216,8 @@ module _ (story : Story) (old new : Counts) (rise : CountsRise old new) where
 
     -- a call that says leaves the disks and the script
     same_but_said : (outcome : Outcome) (call : Call) → IsSay outcome bytes call → ((after now call).disks ≡ now.disks) × ((after now call).heard ≡ now.heard)
-    same_but_said Whole call is = (ap (λ (x : Call). (after now x).disks) is.1, ap (λ (x : Call). (after now x).heard) is.1)
-    same_but_said Half call is = (ap (λ (x : Call). (after now x).disks) is.1, ap (λ (x : Call). (after now x).heard) is.1)
     same_but_said Nothing call is = (ap (λ (x : Call). (after now x).disks) is, ap (λ (x : Call). (after now x).heard) is)
+    same_but_said outcome call is = (ap (λ (x : Call). (after now x).disks) is.1, ap (λ (x : Call). (after now x).heard) is.1)
 
     pub say_still : (outcome : Outcome) (found : Bool) (later : List Call) → new.wrote ≡ old.wrote → AddsCall found (IsSay outcome bytes) story.calls later → Still before (seen_by later)
     say_still outcome found later wrote g = adds_still found (IsSay outcome bytes) later wrote (λ call is. (same_but_said outcome call is).0) g
@@ -240,8 +231,7 @@ module _ (story : Story) (old new : Counts) (rise : CountsRise old new) where
 
     pub say_said : (outcome : Outcome) (found : Bool) (later : List Call) → AddsCall found (IsSay outcome bytes) story.calls later → is_whole outcome && found ≡ true → (seen_by later).said ≡ before.said ++ bytes
     say_said Whole found later g = by_calls (λ b l. b ≡ true → (seen_by l).said ≡ before.said ++ bytes) found (IsSay Whole bytes) story.calls later g (λ call is ok. said_of bytes call is) (λ ok. absurd cc)
-    say_said Half found later g = λ ok. absurd cc
-    say_said Nothing found later g = λ ok. absurd cc
+    say_said outcome found later g = λ ok. absurd cc
 
     pub say_front : (outcome : Outcome) (found : Bool) (later : List Call) → AddsCall found (IsSay outcome bytes) story.calls later → (n : ℕ) × ((seen_by later).said ≡ before.said ++ take n bytes)
     say_front outcome found later g = by_calls (λ b l. (n : ℕ) × ((seen_by l).said ≡ before.said ++ take n bytes)) found (IsSay outcome bytes) story.calls later g (kept outcome) (0, sym (append-nil before.said))
@@ -263,15 +253,11 @@ module _ (story : Story) (old new : Counts) (rise : CountsRise old new) where
 pub nothing_failed : (act : Act) (outcome : Outcome) (found : Bool) (old new : Seen) → (TakesHalf act old new → TakesNothing old new) → Took act outcome found old new → is_whole outcome && found ≡ false → TakesNothing old new
 nothing_failed act Whole true old new half took failed = absurd cc
 nothing_failed act Half true old new half took failed = half took.0
-nothing_failed act Nothing true old new half took failed = took
-nothing_failed act Whole false old new half took failed = took
-nothing_failed act Half false old new half took failed = took
-nothing_failed act Nothing false old new half took failed = took
+nothing_failed act outcome found old new half took failed = took
 
 pub ok_whole : (outcome : Outcome) (found : Bool) → is_whole outcome && found ≡ true → outcome ≡ Whole
 ok_whole Whole found is = refl
-ok_whole Half found is = absurd cc
-ok_whole Nothing found is = absurd cc
+ok_whole outcome found is = absurd cc
 
 -- ---- How a call ends, from what its steps did.
 
@@ -279,12 +265,12 @@ ok_whole Nothing found is = absurd cc
 abbrev numbered : MemoryHost → ℕ → Plan
 numbered m number = record { number = number; chosen = m.chosen.items; stop = m.stop }
 
-pub plan_is : (m : MemoryHost) (now : ℕ) → now ≡ next m.number → numbered m now ≡ next_plan (plan_of m)
-plan_is m now is = ap (λ (n : ℕ). numbered m n) is
+pub plan_is : (m : MemoryHost) (number : ℕ) → number ≡ next m.number → numbered m number ≡ next_plan (plan_of m)
+plan_is m number is = ap (λ (n : ℕ). numbered m n) is
 
 -- the outcome of a call, by the plan before it
-pub outcome_is : (m : MemoryHost) (now : ℕ) (outcome : Outcome) → outcome ≡ outcome_of (numbered m now) → now ≡ next m.number → outcome_of (next_plan (plan_of m)) ≡ outcome
-outcome_is m now outcome is count = sym (is ∙ ap (λ (n : ℕ). outcome_of (numbered m n)) count)
+pub outcome_is : (m : MemoryHost) (number : ℕ) (outcome : Outcome) → outcome ≡ outcome_of (numbered m number) → number ≡ next m.number → outcome_of (next_plan (plan_of m)) ≡ outcome
+outcome_is m number outcome is count = sym (is ∙ ap (λ (n : ℕ). outcome_of (numbered m n)) count)
 
 -- an outcome, by its two tests
 abbrev pick : Bool → Bool → Outcome
@@ -308,10 +294,8 @@ is_failed (Err e) failed = refl
 
 -- a call fails where it was to fail, or found no memory
 fails : (past chosen found : Bool) → IsFalse (is_whole (pick past chosen) && found) ↔ IsTrue (past || chosen || not found)
-fails true chosen found = (λ f. refl, λ t. refl)
-fails false true found = (λ f. refl, λ t. refl)
 fails false false true = (λ f. absurd (cc f), λ t. absurd (cc t))
-fails false false false = (λ f. refl, λ t. refl)
+fails past chosen found = (λ f. refl, λ t. refl)
 
 -- what it took, by the tests of its outcome
 record Parts (act : Act) (ok half : Bool) (old new : Seen) : Type 0 where
@@ -320,14 +304,10 @@ record Parts (act : Act) (ok half : Bool) (old new : Seen) : Type 0 where
   took_nothing : IsFalse ok → IsFalse half → TakesNothing old new
 
 parts : (act : Act) (old new : Seen) (past chosen found : Bool) → Took act (pick past chosen) found old new → Parts act (is_whole (pick past chosen) && found) (chosen && not (past || not found)) old new
-parts act old new true true true took = record { pending = λ t. absurd (cc t); took_half = λ f t. absurd (cc t); took_nothing = λ f n. took }
-parts act old new true false true took = record { pending = λ t. absurd (cc t); took_half = λ f t. absurd (cc t); took_nothing = λ f n. took }
-parts act old new true true false took = record { pending = λ t. absurd (cc t); took_half = λ f t. absurd (cc t); took_nothing = λ f n. took }
-parts act old new true false false took = record { pending = λ t. absurd (cc t); took_half = λ f t. absurd (cc t); took_nothing = λ f n. took }
 parts act old new false true true took = record { pending = λ t. took.1; took_half = λ f t. took.0; took_nothing = λ f n. absurd (cc n) }
-parts act old new false true false took = record { pending = λ t. absurd (cc t); took_half = λ f t. absurd (cc t); took_nothing = λ f n. took }
 parts act old new false false true took = record { pending = λ t. took; took_half = λ f t. absurd (cc f); took_nothing = λ f n. absurd (cc f) }
-parts act old new false false false took = record { pending = λ t. absurd (cc t); took_half = λ f t. absurd (cc t); took_nothing = λ f n. took }
+parts act old new true true found took = record { pending = λ t. absurd (cc t); took_half = λ f t. absurd (cc t); took_nothing = λ f n. took }
+parts act old new past chosen found took = record { pending = λ t. absurd (cc t); took_half = λ f t. absurd (cc t); took_nothing = λ f n. took }
 
 -- a count of failures of the other kind stays
 pub kept_count : (ok : Bool) (count : ℕ) → count ≡ (if ok || true then count else next count)

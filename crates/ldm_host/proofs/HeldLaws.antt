@@ -1,6 +1,6 @@
 -- A host in memory holds what its calls have made: at its start, and with each call more.
-use Rattle.std.proofs.Common.{◌≡◌, ℕ, ◌+◌, ◌*◌, ◌/◌, ◌<◌, ◌≤◌, List, length, slice_index, ◌∙◌, ap, arith, Vec, zero, suc, ◌∷◌, ◌++◌, get_or, set, refl, sym, ◌-◌, take, drop, slice_range, rules, inl, inr, subst, Bool, true, false}
-use Rattle.std.proofs.lemmas.List.{length-map, places, same_lists, take-append-drop, drop-drop, take_at, length-set, length-take, set-get_or, ext_get_or}
+use Rattle.std.proofs.Common.{[], ◌≡◌, ℕ, ◌+◌, ◌*◌, ◌/◌, ◌<◌, ◌≤◌, List, length, slice_index, ◌∙◌, ap, arith, Vec, zero, suc, ◌∷◌, ◌++◌, get_or, set, refl, sym, ◌-◌, take, drop, slice_range, rules, inl, inr, subst, Bool, true, false}
+use Rattle.std.proofs.lemmas.List.{map-set, get_or-map, length-map, places, same_lists, take-append-drop, drop-drop, take_at, length-set, length-take, set-get_or, ext_get_or}
 use Rattle.std.specs.declared.alloc.Global.{Global}
 use Rattle.ldm_host.specs.Seen.{image}
 use Rattle.ldm_host.specs.Images.{items_of}
@@ -43,15 +43,11 @@ fits_disk disks disk at n le = omega (arith, le, size_at disks disk, ap length (
 -- ---- Vectors of vectors, as lists of lists.
 
 pub items_set : (vs : List (Vec ℕ Global)) (i : ℕ) (v : Vec ℕ Global) → items_of (set vs i v) ≡ set (items_of vs) i v.items
-items_set [] i v = refl
-items_set (u ∷ vs) zero v = refl
-items_set (u ∷ vs) (suc i) v = ap (λ (l : List (List ℕ)). u.items ∷ l) (items_set vs i v)
+items_set vs i v = map-set (λ v. v.items) vs i v
 
 -- what `vs[i]` gives
 pub image_read : (vs : List (Vec ℕ Global)) (i : ℕ) (v : Vec ℕ Global) → i < length vs → v ≡ get_or vs i v → image (items_of vs) i ≡ v.items
-image_read [] i v lt is = absurd (omega arith)
-image_read (u ∷ vs) zero v lt is = ap (λ (w : Vec ℕ Global). w.items) (sym is)
-image_read (u ∷ vs) (suc i) v lt is = image_read vs i v (omega arith) is
+image_read vs i v lt is = get_or-map (λ w. w.items) vs i v [] lt ∙ ap (λ (w : Vec ℕ Global). w.items) (sym is)
 
 -- ---- What moves from the script to a buffer.
 
@@ -199,8 +195,7 @@ module _ (first : List (List ℕ)) (calls : List Call) (script : List ℕ) (now 
 
   pub kept_sync_part : (outcome : Outcome) (found : Bool) (disk : ℕ) (new : List Call) → AddsCall found (IsSync outcome disk) calls new → IsKeptHost first new script now said heard handed
   kept_sync_part Whole true disk new adds = kept_with said heard adds.0 (Sync disk) new adds.2 adds.1 (kept_sync disk)
-  kept_sync_part Half true disk new adds = kept_nothing new adds.0 adds.1 adds.2
-  kept_sync_part Outcome.Nothing true disk new adds = kept_nothing new adds.0 adds.1 adds.2
+  kept_sync_part outcome true disk new adds = kept_nothing new adds.0 adds.1 adds.2
   kept_sync_part outcome false disk new same = kept_none new same
 
   kept_said : (bytes : List ℕ) (call : Call) (new : List Call) (later : List ℕ) → IsSayOf bytes call → new ≡ calls ++ call ∷ [] → later ≡ said ++ bytes → IsKeptHost first new script now later heard handed
@@ -222,8 +217,7 @@ module _ (first : List (List ℕ)) (calls : List Call) (script : List ℕ) (now 
       let hears = adds.1 in
       subst (λ (n : ℕ). IsKeptHost first new script now said n handed) (sym hears.2)
       (kept_with said (heard + hears.0) adds.0 (Hear hears.0) new adds.2 hears.1 (kept_hear hears.0 (omega (arith, hears.2, fits))))
-  kept_hear_part Half true new later adds none fits = kept_heard new later adds.1.1 (kept_nothing new adds.0 adds.1.0 adds.2)
-  kept_hear_part Outcome.Nothing true new later adds none fits = kept_heard new later adds.1.1 (kept_nothing new adds.0 adds.1.0 adds.2)
+  kept_hear_part outcome true new later adds none fits = kept_heard new later adds.1.1 (kept_nothing new adds.0 adds.1.0 adds.2)
   kept_hear_part outcome false new later same none fits = kept_heard new later (none refl) (kept_none new same)
 
   kept_held : (new : List Call) (next : List (Vec ℕ Global)) (other : List ℕ) → items_of next ≡ items_of now → length other ≡ length handed → IsKeptHost first new script now said heard handed → IsKeptHost first new script next said heard other

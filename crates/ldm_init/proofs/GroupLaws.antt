@@ -1,5 +1,5 @@
 -- The records and the labels of a new group.
-use Rattle.std.proofs.Common.{◌≡◌, ℕ, zero, suc, ◌+◌, ◌*◌, ◌^◌, ◌<◌, ◌≤◌, List, ◌∷◌, ◌++◌, length, slice_index, Contains, Option, Some, None, refl, sym, ap, subst, ◌∙◌, arith, decimal, map, slice_get, All}
+use Rattle.std.proofs.Common.{[], ◌≡◌, ℕ, zero, suc, ◌+◌, ◌*◌, ◌^◌, ◌<◌, ◌≤◌, List, ◌∷◌, ◌++◌, length, slice_index, Contains, Option, Some, None, refl, sym, ap, subst, ◌∙◌, arith, decimal, map, slice_get, All}
 use Rattle.std.specs.Prelude.{codes, IsPermutation}
 use Rattle.std.specs.List.{filter_map, range_with_len}
 use Rattle.std.proofs.lemmas.Fmt.{length-decimal-le}

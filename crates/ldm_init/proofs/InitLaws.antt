@@ -1,8 +1,9 @@
 -- A new group, from disks that are empty, on which nothing is pending, to disks that hold it.
-use Rattle.std.proofs.Common.{◌≡◌, ℕ, suc, ◌+◌, ◌<◌, ◌≤◌, ◌-◌, ◌*◌, ◌&&◌, Bool, true, false, inl, inr, zero, Option, slice_index, List, ◌∷◌, ◌++◌, length, get_or, drop, take, slice_range, Some, None, sym, ap, subst, ◌∙◌, arith, length-take, ◌/◌, ◌==◌, map, Result, Ok, Err, refl, ⊎_elim, set, slice_get, All, nat_lt, if◌then◌else◌}
+use Rattle.std.proofs.Common.{[], ◌≡◌, ℕ, suc, ◌+◌, ◌<◌, ◌≤◌, ◌-◌, ◌*◌, ◌&&◌, Bool, true, false, inl, inr, zero, Option, slice_index, List, ◌∷◌, ◌++◌, length, get_or, drop, take, slice_range, Some, None, sym, ap, subst, ◌∙◌, arith, length-take, ◌/◌, map, Result, Ok, Err, refl, ⊎_elim, set, slice_get, All, nat_lt, if◌then◌else◌}
 use Rattle.std.proofs.lemmas.List.{take_all, take_more, take-append-drop, length-take-le, take-take, length-map, get_or-map, get_or-take, get_or-drop}
 use Rattle.ldm_found.specs.Gathers.{IsFirst}
-use Rattle.std.proofs.lemmas.Bool.{cases_lt, true_from_ne_false, and_parts, eqb-true, le-ltb}
+use Rattle.std.proofs.lemmas.Bool.Decides.{nat_tests}
+use Rattle.std.proofs.lemmas.Bool.{cases_lt, true_from_ne_false, and_parts, le-ltb}
 use Rattle.ldm_label.specs.declared.Label.{Label}
 use Rattle.ldm_label.specs.Fields.{sectors_of}
 use Rattle.ldm_found.specs.Labels.{AreTwins, AreApart}
@@ -153,8 +154,8 @@ written_answers guids images (Err errors.NoMemory) none is = tt
 
 zero_at : (xs : List ℕ) (k : ℕ) → are_zero xs ≡ true → get_or xs k 0 ≡ 0
 zero_at [] k is = refl
-zero_at (x ∷ xs) zero is = eqb-true x 0 (and_parts (x == 0) (are_zero xs) is).0
-zero_at (x ∷ xs) (suc k) is = zero_at xs k (and_parts (x == 0) (are_zero xs) is).1
+zero_at (x ∷ xs) zero is = grind (arith, nat_tests)
+zero_at (x ∷ xs) (suc k) is = grind (arith, nat_tests, zero_at xs k)
 
 range_zero : (image : List ℕ) (a b k : ℕ) → are_zero (slice_range image a b) ≡ true → a + k < b → slice_index image (a + k) ≡ 0
 range_zero image a b k is lt = sym (get_or-take (b - a) (drop a image) k 0 (omega (arith, lt)) ∙ get_or-drop a image k 0) ∙ zero_at (take (b - a) (drop a image)) k is

@@ -1,5 +1,5 @@
 -- Lines that are done to a group on all disks, one after another: each moment, and how they end.
-use Rattle.std.proofs.Common.{◌≡◌, ◌⊎◌, inl, inr, ⊎_elim, ℕ, ◌+◌, ◌≤◌, List, ◌∷◌, ◌++◌, length, take, drop, refl, sym, ap, subst, ◌∙◌, append_assoc, arith, Option, None, Ok, ◌<◌, Some, false, Result, Err, IfOk, Bool, ◌||◌, if◌then◌else◌}
+use Rattle.std.proofs.Common.{[], ◌≡◌, ◌⊎◌, inl, inr, ⊎_elim, ℕ, ◌+◌, ◌≤◌, List, ◌∷◌, ◌++◌, length, take, drop, refl, sym, ap, subst, ◌∙◌, append_assoc, arith, Option, None, Ok, ◌<◌, Some, false, Result, Err, IfOk, Bool, ◌||◌, if◌then◌else◌}
 use Rattle.std.specs.Prelude.{count_by, ◌==◌, IfErr, OnOk}
 use Rattle.std.proofs.Math.Seq.{drop-append_seam}
 use Rattle.std.proofs.lemmas.List.{append_cancel_left, append-nil, length-append}
@@ -21,7 +21,7 @@ use Rattle.ldm_found.specs.Opening.{IsGroupIn}
 use Rattle.ldm_found.proofs.FoundLaws.{holds_group, holder}
 use Rattle.ldm_found.proofs.GroupLaws.{sound_of}
 use Rattle.ldm_store.specs.Kept.{IsKept, Opens, AlwaysKept}
-use Rattle.ldm_store.specs.Sessions.{Opened, IsApplied, IsEditable, IsNextFor, IsTurnOf, Edited, RestsOn, HoldsGroup, HoldsSession, state_in, turn_in}
+use Rattle.ldm_store.specs.Sessions.{Opened, IsApplied, IsEditable, IsSession, IsNextFor, IsTurnOf, Edited, RestsOn, HoldsGroup, HoldsSession, state_in, turn_in}
 use Rattle.ldm_store.proofs.OpensLaws.{kept_opens_found, editable_opens}
 use Rattle.ldm_group_text.specs.Reply.{text_of_reply, text_of_replies}
 use Rattle.ldm_run.specs.Stops.{answered, Reopens}
@@ -244,8 +244,8 @@ module _ (session : Opened) (a : Seen) (editable : IsEditable session.db session
 
 -- ---- a line on all disks
 
-module _ {tells : Type 0} (session : Edited) (line : Option Command) (old new : Seen) {result : Result (Edited × Reply) Status} (editable : IsEditable session.group.db session.group.labels)
-    (holds : tells → HoldsSession session old.content) where
+module _ {tells : Type 0} (session : Edited) (line : Option Command) (old new : Seen) {result : Result (Edited × Reply) Status}
+    (kept : IsSession session.group.db session.group.labels session.group.draft session.body) (holds : tells → HoldsSession session old.content) where
   -- no disk is changed
   pub line_idle : IsNow tells old → RestsOn session.group old → Still old new → Quiet old new → IfOk result (λ answer. IsLineDone tells session line answer.0 answer.1 old new) → IfErr result (EditFails old new)
       → DoesLine tells session line old new result
@@ -255,8 +255,8 @@ module _ {tells : Type 0} (session : Edited) (line : Option Command) (old new : 
       moments told images said left =
           let m = still.moments images said left in
           record {
-            outside = (kept_leaves session.group old editable rests (holds told).holds now.counts now.only images m.0).outside;
-            opens = inl (opens_leaves session.group old editable rests (holds told).holds now.counts now.only images m.0);
+            outside = (kept_leaves session.group old kept.editable rests (holds told).holds now.counts now.only images m.0).outside;
+            opens = inl (opens_leaves session.group old kept.editable rests (holds told).holds now.counts now.only images m.0);
             said_is = begins_both old.said said m.1 (subst (λ (l : List ℕ). Begins said l) quiet.said m.2);
           }
 
@@ -268,12 +268,12 @@ module _ {tells : Type 0} (session : Edited) (line : Option Command) (old new : 
     where
       moments : tells → AtEachMoment old new (IsDoing session.group line old)
       moments told images said left =
-          let kept = always told images said left in
+          let m = always told images said left in
           record {
-            outside = kept.outside;
+            outside = m.outside;
             opens = subst (λ (l : Option Command). Opens images session.group.db ⊎ Opens images (turn_on session.group l).state.db) (sym is)
-                (editable_opens session.group.labels session.group.db (turn_in session.group command).state.db old.content images (holds told).holds.labelled editable next.editable next.next kept.one_each kept.outside kept.recoverable);
-            said_is = kept.said_is;
+                (editable_opens session.group.labels session.group.db (turn_in session.group command).state.db old.content images (holds told).holds.labelled kept.editable next.editable next.next m.one_each m.outside m.recoverable);
+            said_is = m.said_is;
           }
 
 -- a line without a reading
@@ -309,7 +309,7 @@ line_undone session line number does = record {
 
 -- it was done, and then a part of the reply was said, or all
 module _ {tells : Type 0} (session : Edited) (line : Option Command) {number : ℕ} {answer : Edited × Reply} {old mid new : Seen} (does : DoesLine tells session line old mid (Ok answer))
-    (editable : IsEditable answer.0.group.db answer.0.group.labels) (now : IsNow tells mid) (says : SaysReply number answer.1 mid new) where
+    (kept : IsSession answer.0.group.db answer.0.group.labels answer.0.group.draft answer.0.body) (now : IsNow tells mid) (says : SaysReply number answer.1 mid new) where
   abbrev next : Edited
   next = answer.0
 
@@ -337,47 +337,41 @@ module _ {tells : Type 0} (session : Edited) (line : Option Command) {number : �
 
       said_now : (images : List (List ℕ)) (said : List ℕ) → Leaves mid images × Begins mid.said said × Begins said new.said → IsAnswering session.group line number old images said
       said_now images said m =
-          let kept = kept_leaves next.group mid editable done.rests (done.holds told).holds now.counts now.only images m.0 in
+          let left = kept_leaves next.group mid kept.editable done.rests (done.holds told).holds now.counts now.only images m.0 in
           record {
-            outside = outside_trans session.group.labels old.content mid.content images outside (subst (λ (labels : List Label). AreSameOutside labels mid.content images) done.turn.labels_stay kept.outside);
-            opens = subst (λ (db : Database). Opens images db) done.turn.db (opens_leaves next.group mid editable done.rests (done.holds told).holds now.counts now.only images m.0);
+            outside = outside_trans session.group.labels old.content mid.content images outside (subst (λ (labels : List Label). AreSameOutside labels mid.content images) done.turn.labels_stay left.outside);
+            opens = subst (λ (db : Database). Opens images db) done.turn.db (opens_leaves next.group mid kept.editable done.rests (done.holds told).holds now.counts now.only images m.0);
             since = subst (λ (l : List ℕ). Begins l said) does.quiet.said m.1;
             front = begins_trans said new.said (old.said ++ text_of_reply (number, (turn_on session.group line).reply)) m.2 reply_front;
           }
 
-  input_stays : SameInput old new
-  input_stays = record { input = says.input.input ∙ does.quiet.input; heard = says.input.heard ∙ does.quiet.heard }
+  answers_with : {result : Result (Edited × Reply) Status} → IfOk result (λ made. IsLineDone tells session line made.0 made.1 old new)
+      → (tells → OnOk result (new.said ≡ old.said ++ text_of_reply (number, (turn_on session.group line).reply)))
+      → IfErr result (λ status. status ≡ DiskFault → new.said ≡ old.said) → IfErr result (EditFails old new) → AnswersLine tells session line number old new result
+  answers_with made said silent failed = record {
+    moments = answering;
+    done = made;
+    said = said;
+    front = λ told. reply_front;
+    silent = silent;
+    failed = failed;
+    later = later_trans old mid new does.later says.still.later;
+    input = record { input = says.input.input ∙ does.quiet.input; heard = says.input.heard ∙ does.quiet.heard };
+  }
 
   -- all was said
   pub line_answered : {talks : Type 0} → (tells → talks) → (talks → new.said ≡ mid.said ++ text_of_reply (number, reply)) → AnswersLine tells session line number old new (Ok answer)
-  line_answered both said = record {
-    moments = answering;
-    done = record {
-      turn = done.turn;
-      rests = rests_still next.group mid new done.rests says.still;
-      holds = λ told. subst (λ (images : List (List ℕ)). HoldsSession next images) (sym says.still.content) (done.holds told);
-      written = λ told. subst (λ (images : List (List ℕ)). AreWritten session.group.labels session.group.db next.group.db old.content images) (sym says.still.content) (done.written told);
-    };
-    said = λ told. said (both told) ∙ same_text;
-    front = λ told. reply_front;
-    silent = tt;
-    failed = tt;
-    later = later_trans old mid new does.later says.still.later;
-    input = input_stays;
-  }
+  line_answered both said = answers_with (record {
+    turn = done.turn;
+    rests = rests_still next.group mid new done.rests says.still;
+    holds = λ told. subst (λ (images : List (List ℕ)). HoldsSession next images) (sym says.still.content) (done.holds told);
+    written = λ told. subst (λ (images : List (List ℕ)). AreWritten session.group.labels session.group.db next.group.db old.content images) (sym says.still.content) (done.written told);
+  }) (λ told. said (both told) ∙ same_text) tt tt
 
   -- memory or the talk failed
   pub line_unanswered : {status : Status} → TalkFails mid new status → AnswersLine tells session line number old new (Err status)
-  line_unanswered {status} fails = record {
-    moments = answering;
-    done = tt;
-    said = λ told. tt;
-    front = λ told. reply_front;
-    silent = λ is. absurd ((talk_failing mid new status fails).1 is);
-    failed = talk_edits old mid new does.later status fails;
-    later = later_trans old mid new does.later says.still.later;
-    input = input_stays;
-  }
+  line_unanswered {status} fails =
+      answers_with tt (λ told. tt) (λ is. absurd ((talk_failing mid new status fails).1 is)) (talk_edits old mid new does.later status fails)
 
 -- ---- Line by line: what holds between two lines, and how lines end.
 
@@ -400,10 +394,11 @@ pub record IsEditedTo (tells : Type 0) (first : Opened) (all left : List (Option
   pub reopen : tells → AllReopen first all start now
 
 -- before the first line
-pub edited_none : {tells : Type 0} (session : Edited) (all : List (Option Command)) (start : Seen) → session.group.draft ≡ None → IsEditable session.group.db session.group.labels → RestsOn session.group start
+pub edited_none : {tells : Type 0} (session : Edited) (all : List (Option Command)) (start : Seen) → session.group.draft ≡ None
+    → IsSession session.group.db session.group.labels session.group.draft session.body → RestsOn session.group start
     → (tells → HoldsSession session start.content) → IsNow tells start → IsEditedTo tells session.group all all start start session 1 false
 unfolding turns_of
-edited_none {tells} session all start none editable rests holds now = record {
+edited_none {tells} session all start none kept rests holds now = record {
   before = [];
   all_is = refl;
   session_is = no_lines_after session.group none;
@@ -422,13 +417,13 @@ edited_none {tells} session all start none editable rests holds now = record {
         let first = session.group in
         let moment = now.only images said left in
         let there : Opens images (group_after first.labels first.db []) =
-        subst (λ (s : Opened). Opens images s.db) (no_lines_after first none) (opens_leaves first start editable rests (holds told).holds now.counts now.only images moment.0) in
+        subst (λ (s : Opened). Opens images s.db) (no_lines_after first none) (opens_leaves first start kept.editable rests (holds told).holds now.counts now.only images moment.0) in
         record {
           prefix = 0;
           few = omega arith;
           opens = there;
           places = found_apart images there.found there.is;
-          outside = (kept_leaves first start editable rests (holds told).holds now.counts now.only images moment.0).outside;
+          outside = (kept_leaves first start kept.editable rests (holds told).holds now.counts now.only images moment.0).outside;
           each_answered = inl (sym (answered_is all start [] said 0 (moment.1 ∙ sym (append-nil start.said)) refl (omega arith)));
         }
 

@@ -1,5 +1,5 @@
 -- What a job does, and how it ends.
-use Rattle.std.proofs.Common.{◌≡◌, ◌⊎◌, inl, inr, ⊎_elim, ℕ, ◌+◌, true, false, List, length, sym, ap, subst, ◌∙◌, arith, Option, Some, None, Ok, Err, ◌≢◌, ◌<◌, ◌++◌, map, refl, length-append, ◌/◌, ◌∷◌, slice_index, ◌≤◌, Bool, codes, ◌↔◌}
+use Rattle.std.proofs.Common.{[], ◌≡◌, ◌⊎◌, inl, inr, ⊎_elim, ℕ, ◌+◌, true, false, List, length, sym, ap, subst, ◌∙◌, arith, Option, Some, None, Ok, Err, ◌≢◌, ◌<◌, ◌++◌, map, refl, length-append, ◌/◌, ◌∷◌, slice_index, ◌≤◌, Bool, codes, ◌↔◌}
 use Rattle.std.specs.Prelude.{count_by, min, drop, ◌==◌}
 use Rattle.ldm_host.specs.Seen.{Seen, Leaves, image}
 use Rattle.ldm_host.specs.Moves.{Settles, Works, AtEachMoment, Begins, Later, Looks, Quiet, Rose, Still}
@@ -26,7 +26,7 @@ use Rattle.ldm_run.specs.declared.running.Status.TheVariants.{Refused, Done, Dis
 use Rattle.ldm_run.specs.Said.{Answer, SaysNothing, HasAnswer, refused}
 use Rattle.ldm_run.specs.Scripts.{replies_from, unless_blocked, try_answer, is_long_script, commands_in}
 use Rattle.ldm_run.specs.Answer.{IsGroupAnswer, IsJobAnswer, IsReadingAnswer}
-use Rattle.ldm_run.specs.Kinds.{NothingPending, Kind, Reads, Streams, Hears as Tries, Edits, Does, Makes, job_kind, writes, JobInput, JobSays, JobTalk}
+use Rattle.ldm_run.specs.Kinds.{NothingPending, Kind, Reads, Streams, Hears as Tries, Edits, job_kind, writes, JobInput, JobSays, JobTalk}
 use Rattle.ldm_run.specs.Stops.{answered, Reopens, EveryStopReopens, EveryStopSinceSyncs, JobStops, JobSinceSyncs, lines_unless}
 use Rattle.ldm_run.specs.Runs.{OnlyReads, DoesJob, Ends, HasImages, OfJob, Streams as Streaming, Replies, Answers, Causes, Completes, IsUnread, NoFault}
 use Rattle.ldm_run.specs.Editing.{AreWritten, DoesLines, DoesGroup}
@@ -405,12 +405,8 @@ module _ {tells : Type 0} {old new : Seen} {status : Status} (fails : Failing ol
   undone_disks job = still
 
   undone_says : (kind : Kind) → JobSays tells kind old new status
-  undone_says Reads = λ is. silent
-  undone_says Streams = λ is. silent
-  undone_says Tries = λ is. silent
   undone_says Edits = λ told is. inl silent
-  undone_says Does = λ is. silent
-  undone_says Makes = λ is. silent
+  undone_says kind = λ is. silent
 
   undone_stops : (job : Job) → HasSome job (length old.sizes) → JobStops tells job old new
   undone_stops Edit some = λ told nothing. silent_reopens still (one_each told) silent _ nothing
@@ -435,13 +431,7 @@ module _ {tells : Type 0} {old new : Seen} {status : Status} (fails : Failing ol
 
 -- ---- the words
 
--- what is so where they have no reading, and where they have this one
-pub of_none : {reading : Option (Job × ℕ)} (Unread : Type 0) (Done : Job → Type 0) → reading ≡ None → Unread → OfJob reading Unread Done
-of_none Unread Done is there = subst (λ (o : Option (Job × ℕ)). OfJob o Unread Done) (sym is) there
-
-pub of_some : {reading : Option (Job × ℕ)} {some : Job × ℕ} (Unread : Type 0) (Done : Job → Type 0) → reading ≡ Some some → Done some.0 → OfJob reading Unread Done
-of_some Unread Done is there = subst (λ (o : Option (Job × ℕ)). OfJob o Unread Done) (sym is) there
-
+-- what follows of each job, and where the words have no reading
 pub each_job : (reading : Option (Job × ℕ)) (Unread Other : Type 0) (Done Left : Job → Type 0) → (Unread → Other) → ((job : Job) → Done job → Left job) → OfJob reading Unread Done → OfJob reading Other Left
 each_job None Unread Other Done Left unread job is = unread is
 each_job (Some reading) Unread Other Done Left unread job is = job reading.0 is
@@ -451,12 +441,9 @@ has_some (Init name guid disks) images count = let some = count.0 in omega (arit
 has_some job images count = tt
 
 unheard_input : (talks : Type 0) (host : Seen) (kind : Kind) → JobInput talks kind host host NoMemory
-unheard_input talks host Reads = record { input = refl; heard = refl }
-unheard_input talks host Streams = record { input = refl; heard = refl }
 unheard_input talks host Tries = λ told. record { taken = []; takes = record { input = refl; heard = sym (append-nil host.heard); few = omega arith }; whole = λ has. absurd has; no_disk = λ long is. cc; unwritten = λ some. refl }
 unheard_input talks host Edits = λ told. record { taken = []; takes = record { input = refl; heard = sym (append-nil host.heard); few = omega arith }; whole = λ has. absurd has; no_disk = λ long is. cc; unwritten = λ some. refl }
-unheard_input talks host Does = record { input = refl; heard = refl }
-unheard_input talks host Makes = record { input = refl; heard = refl }
+unheard_input talks host kind = record { input = refl; heard = refl }
 
 -- memory ran out before they were read
 pub nothing_read : (tells talks : Type 0) {host : Seen} {Unread : Type 0} (words : List (List ℕ)) (reading : Option (Job × ℕ)) → job_of words ≡ reading → HasImages reading host → Still host host
@@ -594,10 +581,7 @@ record Unread (status : Status) : Type 0 where
 unread_is : (status : Status) → IsUnread status → Unread status
 unread_is Usage unread = record { none = λ has. has; no_disk = λ is. cc; no_talk = λ is. cc; is_usage = λ other. refl }
 unread_is NoMemory unread = record { none = λ has. has; no_disk = λ is. cc; no_talk = λ is. cc; is_usage = λ other. absurd (other refl) }
-unread_is Done unread = absurd unread
-unread_is Refused unread = absurd unread
-unread_is DiskFault unread = absurd unread
-unread_is TalkFault unread = absurd unread
+unread_is other unread = absurd unread
 
 module _ (tells talks : Type 0) {A : Type 0} (seen : A → Seen) (old new : A) (status : Status) where
   -- What is done of words.

@@ -1,5 +1,5 @@
 -- The lines of a script, the replies to them, and the groups that they make.
-use Rattle.std.proofs.Common.{◌≡◌, ℕ, zero, suc, ◌+◌, ◌/◌, ◌%◌, ◌==◌, nat_lt, Bool, true, false, cond, List, ◌∷◌, ◌++◌, length, codes, decimal, refl, ◌∙◌, ap, arith, take, sym, append_assoc, Option, None, ◌||◌, map, ◌<◌, ◌≤◌, subst}
+use Rattle.std.proofs.Common.{[], ◌≡◌, ℕ, zero, suc, ◌+◌, ◌/◌, ◌%◌, ◌==◌, nat_lt, Bool, true, false, cond, List, ◌∷◌, ◌++◌, length, codes, decimal, refl, ◌∙◌, ap, arith, take, sym, append_assoc, Option, None, ◌||◌, map, ◌<◌, ◌≤◌, subst}
 use Rattle.std.specs.Prelude.{count_by}
 use Rattle.std.specs.Fmt.{digit_glyph, digits_onto, digits}
 use Rattle.std.proofs.lemmas.Bool.Decides.{nat_tests}
@@ -36,9 +36,7 @@ line_count-append x y = sum_by-append (λ (b : ℕ). cond (b == 0x0A) 1 0) x y
 -- ---- a number is in no line of its own
 
 no_end : (c : ℕ) (rest : List ℕ) → (c == 0x0A) ≡ false → line_count (c ∷ rest) ≡ line_count rest
-no_end c rest other =
-    let one : line_count (c ∷ []) ≡ 0 = ap (λ (b : Bool). 0 + cond b 1 0) other in
-    line_count-append (c ∷ []) rest ∙ omega (arith, one)
+no_end c rest other = grind (arith, nat_tests, line_count-append (c ∷ []) rest)
 
 glyph_no_end : (d : ℕ) → (digit_glyph false d == 0x0A) ≡ false
 glyph_no_end d = go (nat_lt d 10)
@@ -52,11 +50,8 @@ digits_no_end zero n rest = refl
 digits_no_end (suc k) n rest =
     let digit = digit_glyph false (n % 10) in
     let here = no_end digit rest (glyph_no_end (n % 10)) in
-    either (n / 10 == 0) (digit ∷ rest) (digits_onto k 10 false (n / 10) (digit ∷ rest)) here (digits_no_end k (n / 10) (digit ∷ rest) ∙ here)
-  where
-    either : (last : Bool) (x y : List ℕ) → line_count x ≡ line_count rest → line_count y ≡ line_count rest → line_count (cond last x y) ≡ line_count rest
-    either true x y one two = one
-    either false x y one two = two
+    let more = digits_no_end k (n / 10) (digit ∷ rest) in
+    grind (arith, nat_tests)
 
 pub decimal_no_end : (n : ℕ) → line_count (decimal n) ≡ 0
 unfolding digits
@@ -64,26 +59,19 @@ decimal_no_end n = digits_no_end 64 n []
 
 -- ---- a reply
 
--- the lines of two texts are those of both
-pub joined : {m n : ℕ} (x y : List ℕ) → line_count x ≡ m → line_count y ≡ n → line_count (x ++ y) ≡ m + n
-joined x y one two = line_count-append x y ∙ omega (arith, one, two)
-
 reason_no_end : (refusal : Refusal) → line_count (text_of_reason refusal) ≡ 0
-reason_no_end (PieceCount count) = joined (codes "need " ++ decimal count) (codes " pieces") (decimal_no_end count) refl
+reason_no_end (PieceCount count) = omega (arith, line_count-append, decimal_no_end)
 reason_no_end (NoDisk place) = decimal_no_end place
 reason_no_end (NoSpace place) = decimal_no_end place
-reason_no_end (TooLong id) = joined (codes "record " ++ decimal id) (codes " too long") (decimal_no_end id) refl
-reason_no_end (NoRoom need have) = joined (codes "no room: need " ++ decimal need) (codes " have " ++ decimal have) (decimal_no_end need) (decimal_no_end have)
+reason_no_end (TooLong id) = omega (arith, line_count-append, decimal_no_end)
+reason_no_end (NoRoom need have) = omega (arith, line_count-append, decimal_no_end)
 reason_no_end refusal = refl
 
 pub one_line : (number : ℕ) (reply : Reply) → line_count (text_of_reply (number, reply)) ≡ 1
-one_line number (Done seq) =
-    joined (decimal number ++ codes " ok " ++ decimal seq) (codes "\n") (joined (decimal number ++ codes " ok ") (decimal seq) (joined (decimal number) (codes " ok ") (decimal_no_end number) refl) (decimal_no_end seq)) refl
-one_line number Held = joined (decimal number ++ codes " held") (codes "\n") (joined (decimal number) (codes " held") (decimal_no_end number) refl) refl
-one_line number Dropped = joined (decimal number ++ codes " dropped") (codes "\n") (joined (decimal number) (codes " dropped") (decimal_no_end number) refl) refl
-one_line number (Refused refusal) =
-    joined (decimal number ++ codes " refused: " ++ text_of_reason refusal) (codes "\n")
-    (joined (decimal number ++ codes " refused: ") (text_of_reason refusal) (joined (decimal number) (codes " refused: ") (decimal_no_end number) refl) (reason_no_end refusal)) refl
+one_line number (Done seq) = omega (arith, line_count-append, decimal_no_end)
+one_line number Held = omega (arith, line_count-append, decimal_no_end)
+one_line number Dropped = omega (arith, line_count-append, decimal_no_end)
+one_line number (Refused refusal) = omega (arith, line_count-append, decimal_no_end, reason_no_end)
 
 pub reply_lines : (first : ℕ) (replies : List Reply) → line_count (text_of_replies first replies) ≡ length replies
 reply_lines first [] = refl

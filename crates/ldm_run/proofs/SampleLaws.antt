@@ -1,5 +1,5 @@
 -- The sample: its script begins no batch, what its host has been through, and its summary.
-use Rattle.std.proofs.Common.{◌≡◌, ◌≢◌, IfSome, drop, ℕ, zero, suc, ◌+◌, ◌*◌, ◌/◌, ◌%◌, ◌==◌, ◌&&◌, not, Bool, true, false, cond, List, ◌∷◌, ◌++◌, length, map, filter, codes, decimal, refl, sym, ap, subst, ◌∙◌, append_assoc, arith, count_by, Option, Some, None, Result, Ok, Err, ⊎_elim, ◌-◌, ◌≤◌, ◌<◌, take}
+use Rattle.std.proofs.Common.{[], ◌≡◌, ◌≢◌, IfSome, drop, ℕ, zero, suc, ◌+◌, ◌*◌, ◌/◌, ◌%◌, ◌==◌, ◌&&◌, not, Bool, true, false, cond, List, ◌∷◌, ◌++◌, length, map, filter, codes, decimal, refl, sym, ap, subst, ◌∙◌, append_assoc, arith, count_by, Option, Some, None, Result, Ok, Err, ⊎_elim, ◌-◌, ◌≤◌, ◌<◌, take}
 use Rattle.std.specs.Prelude.{bytes_eq, ⊤}
 use Rattle.std.specs.List.{slice_split, onto_first, position_or_len}
 use Rattle.std.proofs.lemmas.Bool.{and_parts, le-ltb}
@@ -118,19 +118,7 @@ AllNoBegin (line ∷ lines) = IsNoBegin line × AllNoBegin lines
 
 position_at : (front t : List ℕ) → line_count front ≡ 0 → position_or_len is_newline (front ++ 0x0A ∷ t) ≡ length front
 position_at [] t none = refl
-position_at (c ∷ front) t none = go (c == 0x0A) refl (position_at front t)
-  where
-    go : (b : Bool) → (c == 0x0A) ≡ b → (line_count front ≡ 0 → position_or_len is_newline (front ++ 0x0A ∷ t) ≡ length front)
-        → cond (not b) (1 + position_or_len is_newline (front ++ 0x0A ∷ t)) 0 ≡ length (c ∷ front)
-    go true e rest =
-        let one : line_count (c ∷ []) ≡ 1 = ap (λ (b : Bool). 0 + cond b 1 0) e in
-        let all = line_count-append (c ∷ []) front in
-        absurd (omega (arith, one, all, none))
-    go false e rest =
-        let one : line_count (c ∷ []) ≡ 0 = ap (λ (b : Bool). 0 + cond b 1 0) e in
-        let all = line_count-append (c ∷ []) front in
-        let there = rest (omega (arith, one, all, none)) in
-        omega (arith, there)
+position_at (c ∷ front) t none = let one = line_count-append (c ∷ []) front in grind (arith, nat_tests, position_at front t)
 
 front_line : (front t : List ℕ) → line_count front ≡ 0 → lines_of (front ++ 0x0A ∷ t) ≡ front ∷ lines_of t
 front_line front t none =
@@ -151,42 +139,24 @@ one_more : (front t : List ℕ) → Starts front → line_count front ≡ 0 → 
 one_more front t start none rest =
     subst (λ (lines : List (List ℕ)). AllNoBegin (map command_in lines)) (sym (ap lines_of (append_assoc front (0x0A ∷ []) t) ∙ front_line front t none)) (line_no front start, rest)
 
-plus : (x y : List ℕ) → line_count x ≡ 0 → line_count y ≡ 0 → line_count (x ++ y) ≡ 0
-plus x y one two = let all = line_count-append x y in omega (arith, all, one, two)
-
 span_starts : (line value : ℕ) (t : List ℕ) → IsFree t → IsFree (script.span_line line value ++ t)
 span_starts line value t =
-    let a = codes "create V" ++ decimal line in
-    let b = a ++ codes " eeeeeeee-eeee-eeee-eeee-eeeeeeeeeeee span Disk" in
-    let c = b ++ decimal (1 + value % 3) in
-    let d = c ++ codes "=" in
-    one_more (d ++ decimal (1 + value / 3 % 64)) t refl
-    (plus d (decimal (1 + value / 3 % 64)) (plus c (codes "=") (plus b (decimal (1 + value % 3)) (plus a (codes " eeeeeeee-eeee-eeee-eeee-eeeeeeeeeeee span Disk")
-    (plus (codes "create V") (decimal line) refl (decimal_no_end line)) refl) (decimal_no_end (1 + value % 3))) refl) (decimal_no_end (1 + value / 3 % 64)))
+    one_more (codes "create V" ++ decimal line ++ codes " eeeeeeee-eeee-eeee-eeee-eeeeeeeeeeee span Disk" ++ decimal (1 + value % 3)
+    ++ codes "=" ++ decimal (1 + value / 3 % 64)) t refl (omega (arith, line_count-append, decimal_no_end))
 
 mirror_starts : (line value : ℕ) (t : List ℕ) → IsFree t → IsFree (script.mirror_line line value ++ t)
 mirror_starts line value t =
-    let a = codes "create V" ++ decimal line in
-    let b = a ++ codes " eeeeeeee-eeee-eeee-eeee-eeeeeeeeeeee mirror " in
-    let c = b ++ decimal (1 + value % 64) in
+    let c = codes "create V" ++ decimal line ++ codes " eeeeeeee-eeee-eeee-eeee-eeeeeeeeeeee mirror " ++ decimal (1 + value % 64) in
     subst (λ (l : List ℕ). IsFree t → IsFree (l ++ t)) (append_assoc c (codes " Disk1 Disk2") (0x0A ∷ []))
-    (one_more (c ++ codes " Disk1 Disk2") t refl
-    (plus c (codes " Disk1 Disk2") (plus b (decimal (1 + value % 64)) (plus a (codes " eeeeeeee-eeee-eeee-eeee-eeeeeeeeeeee mirror ")
-    (plus (codes "create V") (decimal line) refl (decimal_no_end line)) refl) (decimal_no_end (1 + value % 64))) refl))
+    (one_more (c ++ codes " Disk1 Disk2") t refl (omega (arith, line_count-append, decimal_no_end)))
 
 extend_starts : (line value : ℕ) (t : List ℕ) → IsFree t → IsFree (script.extend_line line value ++ t)
 extend_starts line value t =
-    let a = codes "extend V" ++ decimal (1 + value % line) in
-    let b = a ++ codes " Disk" in
-    let c = b ++ decimal (1 + value / 512 % 3) in
-    let d = c ++ codes "=" in
-    one_more (d ++ decimal (1 + value % 64)) t refl
-    (plus d (decimal (1 + value % 64)) (plus c (codes "=") (plus b (decimal (1 + value / 512 % 3)) (plus a (codes " Disk")
-    (plus (codes "extend V") (decimal (1 + value % line)) refl (decimal_no_end (1 + value % line))) refl) (decimal_no_end (1 + value / 512 % 3))) refl) (decimal_no_end (1 + value % 64)))
+    one_more (codes "extend V" ++ decimal (1 + value % line) ++ codes " Disk" ++ decimal (1 + value / 512 % 3) ++ codes "=" ++ decimal (1 + value % 64)) t refl
+    (omega (arith, line_count-append, decimal_no_end))
 
 delete_starts : (line value : ℕ) (t : List ℕ) → IsFree t → IsFree (script.delete_line line value ++ t)
-delete_starts line value t =
-    one_more (codes "delete V" ++ decimal (1 + value % line)) t refl (plus (codes "delete V") (decimal (1 + value % line)) refl (decimal_no_end (1 + value % line)))
+delete_starts line value t = one_more (codes "delete V" ++ decimal (1 + value % line)) t refl (omega (arith, line_count-append, decimal_no_end))
 
 either_starts : (b : Bool) (x y t : List ℕ) → IsFree (x ++ t) → IsFree (y ++ t) → IsFree ((cond b x y) ++ t)
 either_starts true x y t one two = one

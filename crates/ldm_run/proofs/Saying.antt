@@ -1,5 +1,5 @@
 -- What was heard and said, and how a run goes on.
-use Rattle.std.proofs.Common.{◌≡◌, ◌≢◌, inl, inr, ⊎_elim, ℕ, List, ◌++◌, take, drop, refl, sym, ◌∙◌, ap, subst, append_assoc, Bool, true, false, ◌||◌, if◌then◌else◌, ◌⊎◌, ◌+◌, ◌<◌, ◌≤◌, length, arith}
+use Rattle.std.proofs.Common.{[], ◌≡◌, ◌≢◌, inl, inr, ⊎_elim, ℕ, List, ◌++◌, take, drop, refl, sym, ◌∙◌, ap, subst, append_assoc, Bool, true, false, ◌||◌, if◌then◌else◌, ◌⊎◌, ◌+◌, ◌<◌, ◌≤◌, length, arith}
 use Rattle.std.proofs.lemmas.List.{take-append-drop, append-nil, nil_from_length, length-append, length-take-le}
 use Rattle.ldm_host.specs.Seen.{Seen}
 use Rattle.ldm_host.specs.Moves.{Begins, Later, Looks, Rose, Still, Quiet}
@@ -42,9 +42,7 @@ pub failing : (old new : Seen) (status : Status) → EditFails old new status �
 failing old new DiskFault rose = record { none = λ has. has; no_usage = λ is. cc; causes = record { disk = λ is. rose; talk = λ is. absurd cc } }
 failing old new TalkFault rose = record { none = λ has. has; no_usage = λ is. cc; causes = record { disk = λ is. absurd cc; talk = λ is. rose } }
 failing old new NoMemory free = record { none = λ has. has; no_usage = λ is. cc; causes = record { disk = λ is. absurd cc; talk = λ is. absurd cc } }
-failing old new Done never = absurd never
-failing old new Refused never = absurd never
-failing old new Usage never = absurd never
+failing old new other never = absurd never
 
 -- so it is since a sooner state
 pub failing_since : {old mid new : Seen} {status : Status} → Later old mid → Failing mid new status → Failing old new status
@@ -54,19 +52,13 @@ failing_since {old} {mid} {new} {status} later fails = record { none = fails.non
 pub talk_failing : (old new : Seen) (status : Status) → TalkFails old new status → Failing old new status × (status ≢ DiskFault)
 talk_failing old new TalkFault rose = (failing old new TalkFault rose, λ is. cc)
 talk_failing old new NoMemory free = (failing old new NoMemory free, λ is. cc)
-talk_failing old new Done never = absurd never
-talk_failing old new Refused never = absurd never
-talk_failing old new Usage never = absurd never
-talk_failing old new DiskFault never = absurd never
+talk_failing old new other never = absurd never
 
 -- a fault of the talk since a later state
 pub talk_edits : (old mid new : Seen) → Later old mid → (status : Status) → TalkFails mid new status → EditFails old new status
 talk_edits old mid new later TalkFault rose = rose_sooner old.talk_faults mid.talk_faults new.talk_faults later.talk_faults rose
 talk_edits old mid new later NoMemory free = tt
-talk_edits old mid new later Done never = absurd never
-talk_edits old mid new later Refused never = absurd never
-talk_edits old mid new later Usage never = absurd never
-talk_edits old mid new later DiskFault never = absurd never
+talk_edits old mid new later other never = absurd never
 
 -- ---- how a job ends
 

@@ -1,6 +1,6 @@
 -- Images that are kept between two groups open as one of them, by their own labels.
-use Rattle.std.proofs.Common.{◌≡◌, ◌≤◌, ℕ, List, ◌∷◌, length, refl, arith, None, ◌⊎◌, inl, inr, zero, suc, ◌<◌, sym, ap, subst, ◌∙◌, Bool, true, false, Option, Some, Ok, ⊎_elim}
-use Rattle.std.specs.List.{filter_map, Contains}
+use Rattle.std.proofs.Common.{[], ◌≡◌, ◌≤◌, ℕ, List, ◌∷◌, length, refl, arith, None, ◌⊎◌, inl, inr, zero, suc, ◌<◌, sym, ap, subst, ◌∙◌, Option, Some, Ok, ⊎_elim}
+use Rattle.std.specs.List.{filter_map}
 use Rattle.std.specs.Option.{option_map}
 use Rattle.ldm_bytes.specs.Tables.{first_of, unless}
 use Rattle.ldm_records.specs.declared.types.Record.{Record}
@@ -20,8 +20,7 @@ use Rattle.ldm_found.proofs.ClearLaws.{clear_of, labels_stay}
 use Rattle.ldm_store.specs.Kept.{MayEdit, IsCurrent, IsNext, IsRecoverable, IsKept, Opens}
 use Rattle.ldm_store.specs.Turning.{IsBodyOnEach}
 use Rattle.ldm_store.specs.Sessions.{IsEditable}
-use Rattle.std.specs.Prelude.{map, nat_lt, zip, if◌then◌else◌}
-use Rattle.std.proofs.lemmas.Bool.Decides.{nat_tests}
+use Rattle.std.specs.Prelude.{map, slice_get, zip}
 use Rattle.ldm_copy.specs.declared.answer.CopyState.{CopyState}
 use Rattle.ldm_copy.specs.declared.answer.CopyState.TheVariants.{Closed, Valid}
 use Rattle.ldm_copy.proofs.OneCopy.{one_copy}
@@ -30,10 +29,11 @@ use Rattle.ldm_found.specs.Gathers.{Gathers, IsFirst}
 use Rattle.ldm_found.specs.declared.found.Found.{Found}
 use Rattle.ldm_found.specs.declared.fault.OpenFault.{OpenFault}
 use Rattle.ldm_found.specs.Labels.{IsLabelOf, AreSameOutside}
-use Rattle.ldm_found.specs.Copies.{IsCopyIn, newer, newest, Disagrees, note_of, IsKnown, HasCopy}
+use Rattle.ldm_found.specs.Copies.{IsCopyIn, newest, Disagrees, note_of, IsKnown, HasCopy}
 use Rattle.ldm_found.proofs.AlikeLaws.{same_faults, same_blocked}
-use Rattle.ldm_host.specs.Seen.{Seen}
-use Rattle.ldm_found.proofs.FoundLaws.{holds_group}
+use Rattle.ldm_host.specs.Seen.{Seen, image}
+use Rattle.ldm_store.proofs.CopyLaws.{same_label}
+use Rattle.ldm_found.proofs.FoundLaws.{holds_group, copy_at, greatest, none_newest}
 
 -- ---- What a group that may be edited has: no fault on its disks, and bodies that fit each of them.
 
@@ -76,119 +76,41 @@ bodies_for db labels sizes body lie unblocked is disk label at =
 
 -- ---- Recoverable images hold one of the two groups.
 
--- each copy of a list is there
-abbrev Each : (CopyState → Type 0) → List CopyState → Type 0
-Each Is copies = (c : CopyState) → Contains copies c → Is c
-
 abbrev AreCopies : List Label → List (List ℕ) → List CopyState → Type 0
 AreCopies labels images copies = Gathers IsCopyIn (zip labels images) (Ok copies)
 
-one_label : {a b : Label} → Some a ≡ Some b → a ≡ b
-one_label e = cc
+each_more : (Is : CopyState → Type 0) (c : CopyState) (copies : List CopyState) → Is c → ((k : ℕ) (x : CopyState) → slice_get copies k ≡ Some x → Is x)
+    → (k : ℕ) (x : CopyState) → slice_get (c ∷ copies) k ≡ Some x → Is x
+each_more Is c copies is rest zero x at = (let same : c ≡ x = cc in subst Is same is)
+each_more Is c copies is rest (suc k) x at = rest k x at
 
-each_more : (Is : CopyState → Type 0) (c : CopyState) (copies : List CopyState) → Is c → Each Is copies → Each Is (c ∷ copies)
-each_more Is c copies is rest x (zero, lt, same) = subst Is same is
-each_more Is c copies is rest x (suc k, lt, same) = rest x (k, omega arith, same)
-
--- disk by disk, and all together
+-- the copies of all disks, of which each is one that passes
 copies_from : (labels : List Label) (images : List (List ℕ)) (Is : CopyState → Type 0) → length images ≡ length labels → ((disk : ℕ) → disk < length labels → HasCopy labels images disk Is)
-    → (copies : List CopyState) × AreCopies labels images copies × Each Is copies
-copies_from [] [] Is same has = ([], tt, λ c at. (let lt = at.1 in absurd (omega arith)))
+    → (copies : List CopyState) × AreCopies labels images copies × ((k : ℕ) (c : CopyState) → slice_get copies k ≡ Some c → Is c)
+copies_from [] [] Is same has = ([], tt, λ k c at. absurd cc)
 copies_from [] (i ∷ images) Is same has = absurd (omega arith)
 copies_from (l ∷ labels) [] Is same has = absurd (omega arith)
 copies_from (l ∷ labels) (i ∷ images) Is same has =
     let here = has 0 (omega arith) in
     let rest = copies_from labels images Is (omega arith) (λ disk lt. has (suc disk) (omega arith)) in
-    let first : IsCopyIn (l, i) (Ok here.2.0) = subst (λ (m : Label). IsCopyIn (m, i) (Ok here.2.0)) (sym (one_label here.1)) here.2.1 in
+    let label : here.0 ≡ l = (let e = here.1 in cc) in
+    let first : IsCopyIn (l, i) (Ok here.2.0) = subst (λ (m : Label). IsCopyIn (m, i) (Ok here.2.0)) label here.2.1 in
     (here.2.0 ∷ rest.0, (first, rest.1), each_more Is here.2.0 rest.0 here.2.2 rest.2)
 
 -- what one disk has stands among them
 copy_among : (labels : List Label) (images : List (List ℕ)) (copies : List CopyState) (Is : CopyState → Type 0) (disk : ℕ) → length images ≡ length labels → AreCopies labels images copies
-    → disk < length labels → HasCopy labels images disk Is → (c : CopyState) × Contains copies c × Is c
-copy_among [] images copies Is disk same are lt has = absurd (omega arith)
-copy_among (l ∷ labels) [] copies Is disk same are lt has = absurd (omega arith)
-copy_among (l ∷ labels) (i ∷ images) [] Is disk same are lt has = absurd are
-copy_among (l ∷ labels) (i ∷ images) (c ∷ copies) Is zero same are lt has =
-    let there : IsCopyIn (l, i) (Ok has.2.0) = subst (λ (m : Label). IsCopyIn (m, i) (Ok has.2.0)) (sym (one_label has.1)) has.2.1 in
-    let one : Ok has.2.0 ≡ Ok c = one_copy (config_area l i) l.area_sectors (Ok has.2.0) (Ok c) there are.0 in
-    let is : has.2.0 ≡ c = cc in
-    (c, (zero, omega arith, refl), subst Is is has.2.2)
-copy_among (l ∷ labels) (i ∷ images) (c ∷ copies) Is (suc disk) same are lt has =
-    let rest = copy_among labels images copies Is disk (omega arith) are.1 (omega arith) has in
-    (rest.0, (suc rest.1.0, (let below = rest.1.1 in omega arith), rest.1.2), rest.2)
+    → disk < length labels → HasCopy labels images disk Is → (c : CopyState) × (slice_get copies disk ≡ Some c) × Is c
+copy_among labels images copies Is disk same are lt has =
+    let there = copy_at labels images copies same are disk lt in
+    let label = same_label labels disk has.0 there.0 has.1 there.1 in
+    let is : IsCopyIn (there.0, image images disk) (Ok has.2.0) = subst (λ (l : Label). IsCopyIn (l, image images disk) (Ok has.2.0)) label has.2.1 in
+    let one : Ok has.2.0 ≡ Ok there.2.0 = one_copy (config_area there.0 (image images disk)) there.0.area_sectors (Ok has.2.0) (Ok there.2.0) is there.2.1 in
+    let copy : there.2.0 ≡ has.2.0 = cc in
+    (has.2.0, there.2.2 ∙ ap Some copy, has.2.2)
 
--- the newest has the greatest sequence
-record IsTop (copies : List CopyState) (at : ℕ × Database) : Type 0 where
-  pub newest_is : newest copies ≡ Some at
-  pub there : Contains copies (Valid at.1)
-  pub top : (db : Database) → Contains copies (Valid db) → db.header.seq ≤ at.1.header.seq
-
-same_valid : {a b : Database} → Valid a ≡ Valid b → a ≡ b
-same_valid e = cc
-
-same_seq : (a b : Database) → a ≡ b → a.header.seq ≡ b.header.seq
-same_seq a b e = ap (λ (db : Database). db.header.seq) e
-
-closed_valid : (db : Database) → Closed ≡ Valid db → ⊥
-closed_valid db e = absurd cc
-
-at_either : (P : Database → Type 0) (c : CopyState) (copies : List CopyState) → ((db : Database) → c ≡ Valid db → P db) → ((db : Database) → Contains copies (Valid db) → P db)
-    → (db : Database) → Contains (c ∷ copies) (Valid db) → P db
-at_either P c copies first rest db (zero, lt, is) = first db is
-at_either P c copies first rest db (suc k, lt, is) = rest db (k, omega arith, is)
-
-top_or_none : (copies : List CopyState) → ((newest copies ≡ None) × ((db : Database) → Contains copies (Valid db) → ⊥)) ⊎ ((at : ℕ × Database) × IsTop copies at)
-top_or_none [] = inl (refl, λ db at. (let lt = at.1 in absurd (omega arith)))
-top_or_none (Closed ∷ copies) = elim (top_or_none copies) [
-  | inl none ↦ inl (
-    ap (λ (o : Option (ℕ × Database)). newer Closed (option_map (λ (at : ℕ × Database). (suc at.0, at.1)) o)) none.0,
-    at_either (λ db. ⊥) Closed copies (λ db is. closed_valid db is) none.1,
-  )
-  | inr some ↦ inr (
-    (suc some.0.0, some.0.1),
-    record {
-      newest_is = ap (λ (o : Option (ℕ × Database)). newer Closed (option_map (λ (at : ℕ × Database). (suc at.0, at.1)) o)) some.1.newest_is;
-      there = (suc some.1.there.0, (let lt = some.1.there.1 in omega arith), some.1.there.2);
-      top = at_either (λ db. db.header.seq ≤ some.0.1.header.seq) Closed copies (λ db is. absurd (closed_valid db is)) some.1.top;
-    },
-  )
-]
-top_or_none (Valid e ∷ copies) = elim (top_or_none copies) [
-  | inl none ↦ inr (
-    (0, e),
-    record {
-      newest_is = ap (λ (o : Option (ℕ × Database)). newer (Valid e) (option_map (λ (at : ℕ × Database). (suc at.0, at.1)) o)) none.0;
-      there = (0, omega arith, refl);
-      top = at_either (λ db. db.header.seq ≤ e.header.seq) (Valid e) copies (λ db is. let same = same_seq e db (same_valid is) in omega arith) (λ db at. absurd (none.1 db at));
-    },
-  )
-  | inr some ↦ top_step e copies some.0 some.1 (nat_lt e.header.seq some.0.1.header.seq) refl
-]
-  where
-    top_step : (e : Database) (copies : List CopyState) (at : ℕ × Database) → IsTop copies at → (b : Bool) → nat_lt e.header.seq at.1.header.seq ≡ b
-        → ((newest (Valid e ∷ copies) ≡ None) × ((db : Database) → Contains (Valid e ∷ copies) (Valid db) → ⊥)) ⊎ ((at : ℕ × Database) × IsTop (Valid e ∷ copies) at)
-    top_step e copies at is true less = inr (
-      (suc at.0, at.1),
-      record {
-        newest_is = ap (λ (o : Option (ℕ × Database)). newer (Valid e) (option_map (λ (at : ℕ × Database). (suc at.0, at.1)) o)) is.newest_is
-            ∙ ap (λ (b : Bool). if b then Some (suc at.0, at.1) else Some (0, e)) less;
-        there = (suc is.there.0, (let lt = is.there.1 in omega arith), is.there.2);
-        top = at_either (λ db. db.header.seq ≤ at.1.header.seq) (Valid e) copies (λ db same. let one = same_seq e db (same_valid same) in let lt : e.header.seq < at.1.header.seq = grind (arith, nat_tests) in omega arith) is.top;
-      },
-    )
-    top_step e copies at is false less = inr (
-      (0, e),
-      record {
-        newest_is = ap (λ (o : Option (ℕ × Database)). newer (Valid e) (option_map (λ (at : ℕ × Database). (suc at.0, at.1)) o)) is.newest_is
-            ∙ ap (λ (b : Bool). if b then Some (suc at.0, at.1) else Some (0, e)) less;
-        there = (0, omega arith, refl);
-        top = at_either (λ db. db.header.seq ≤ e.header.seq) (Valid e) copies (λ db same. let one = same_seq e db (same_valid same) in omega arith) (λ db there. let le = is.top db there in let ge : at.1.header.seq ≤ e.header.seq = grind (arith, nat_tests) in omega arith);
-      },
-    )
-
-none_first : {A : Type 0} (Has : A → Type 0) (xs : List A) → ((x : A) → Contains xs x → Has x → ⊥) → IsFirst Has xs None
+none_first : {A : Type 0} (Has : A → Type 0) (xs : List A) → ((k : ℕ) (x : A) → slice_get xs k ≡ Some x → Has x → ⊥) → IsFirst Has xs None
 none_first Has [] none = tt
-none_first Has (x ∷ xs) none = (none x (0, omega arith, refl), none_first Has xs (λ y at. none y (suc at.0, (let lt = at.1 in omega arith), at.2)))
+none_first Has (x ∷ xs) none = (none 0 x refl, none_first Has xs (λ k y at. none (suc k) y at))
 
 core_seq : (a b : Database) → IsSameCore a b → a.header.seq ≡ b.header.seq
 core_seq a b same = ap (λ (c : Core). c.seq) same
@@ -207,41 +129,43 @@ one_of_two o n a b (inl same) seq (inr x) (inl y) = y ∙ sym same ∙ sym x
 one_of_two o n a b (inr more) seq (inl x) (inr y) = (let p = core_seq a o x in let q = core_seq b n y in absurd (omega (arith, p, q, seq, more)))
 one_of_two o n a b (inr more) seq (inr x) (inl y) = (let p = core_seq a n x in let q = core_seq b o y in absurd (omega (arith, p, q, seq, more)))
 
-not_below : (o n : Database) → IsNext o n → (c : CopyState) (db : Database) → c ≡ Valid db → IsCurrent o c ⊎ IsCurrent n c → o.header.seq ≤ db.header.seq
-not_below o n next Closed db is (inl x) = absurd x
-not_below o n next Closed db is (inr x) = absurd x
-not_below o n next (Valid e) db is (inl x) = (let p = core_seq e o x in let q = same_seq e db (same_valid is) in omega (arith, p, q))
-not_below o n (inl same) (Valid e) db is (inr x) = (let p = core_seq e n x in let q = same_seq e db (same_valid is) in let r = core_seq n o same in omega (arith, p, q, r))
-not_below o n (inr more) (Valid e) db is (inr x) = (let p = core_seq e n x in let q = same_seq e db (same_valid is) in omega (arith, p, q, more))
-
-is_valid : (o n : Database) (c : CopyState) → IsCurrent o c ⊎ IsCurrent n c → (db : Database) × (c ≡ Valid db)
-is_valid o n Closed (inl x) = absurd x
-is_valid o n Closed (inr x) = absurd x
-is_valid o n (Valid db) current = (db, refl)
+-- a copy that is current is open, with no lower sequence than the first
+current_high : (o n : Database) → IsNext o n → (c : CopyState) → IsCurrent o c ⊎ IsCurrent n c → (db : Database) × (c ≡ Valid db) × (o.header.seq ≤ db.header.seq)
+current_high o n next Closed (inl x) = absurd x
+current_high o n next Closed (inr x) = absurd x
+current_high o n next (Valid db) (inl x) = (db, refl, let p = core_seq db o x in omega (arith, p))
+current_high o n (inl same) (Valid db) (inr x) = (db, refl, let p = core_seq db n x in let q = core_seq n o same in omega (arith, p, q))
+current_high o n (inr more) (Valid db) (inr x) = (db, refl, let p = core_seq db n x in omega (arith, p, more))
 
 -- the law: what recoverable images hold
 pub recoverable_found : (labels : List Label) (images : List (List ℕ)) (o n : Database) → length images ≡ length labels → IsNext o n → IsRecoverable labels o n images
     → (copies : List CopyState) × AreCopies labels images copies × ((at : ℕ × Database) × (newest copies ≡ Some at) × IsFirst (Disagrees at.1) copies None × (IsSameCore at.1 o ⊎ IsSameCore at.1 n))
-recoverable_found labels images o n same next r =
-    let all = copies_from labels images (IsKnown o n) same r.known in
-    let one = copy_among labels images all.0 (λ copy. IsCurrent o copy ⊎ IsCurrent n copy) r.one.0 same all.1 r.one.1 r.one.2 in
-    let open_copy = is_valid o n one.0 one.2 in
-    let there : Contains all.0 (Valid open_copy.0) = subst (λ (c : CopyState). Contains all.0 c) open_copy.1 one.1 in (
-      all.0,
-      all.1,
-      elim (top_or_none all.0) [
-        | inl none ↦ absurd (none.1 open_copy.0 there)
-        | inr some ↦
-            let low : o.header.seq ≤ open_copy.0.header.seq = not_below o n next one.0 open_copy.0 open_copy.1 one.2 in
-            let high : o.header.seq ≤ some.0.1.header.seq = (let le = some.1.top open_copy.0 there in omega arith) in
-            let is = known_high o n some.0.1 high (all.2 (Valid some.0.1) some.1.there) in
-            (some.0, some.1.newest_is, none_first (Disagrees some.0.1) all.0 (agrees some.0.1 all.0 all.2 high is), is)
-      ],
-    )
+recoverable_found labels images o n same next r = (all.0, all.1, by_newest (newest all.0) refl)
   where
-    agrees : (a : Database) (copies : List CopyState) → Each (IsKnown o n) copies → o.header.seq ≤ a.header.seq → IsSameCore a o ⊎ IsSameCore a n → (c : CopyState) → Contains copies c → Disagrees a c → ⊥
-    agrees a copies known high is Closed at differs = differs
-    agrees a copies known high is (Valid b) at differs = differs.1 (one_of_two o n a b next (sym differs.0) is (known_high o n b (let e = differs.0 in omega (arith, e, high)) (known (Valid b) at)))
+    all : (copies : List CopyState) × AreCopies labels images copies × ((k : ℕ) (c : CopyState) → slice_get copies k ≡ Some c → IsKnown o n c)
+    all = copies_from labels images (IsKnown o n) same r.known
+
+    one : (c : CopyState) × (slice_get all.0 r.one.0 ≡ Some c) × (IsCurrent o c ⊎ IsCurrent n c)
+    one = copy_among labels images all.0 (λ copy. IsCurrent o copy ⊎ IsCurrent n copy) r.one.0 same all.1 r.one.1 r.one.2
+
+    high : (db : Database) × (one.0 ≡ Valid db) × (o.header.seq ≤ db.header.seq)
+    high = current_high o n next one.0 one.2
+
+    there : slice_get all.0 r.one.0 ≡ Some (Valid high.0)
+    there = one.1 ∙ ap Some high.1
+
+    agrees : (a : Database) → o.header.seq ≤ a.header.seq → IsSameCore a o ⊎ IsSameCore a n → (k : ℕ) (c : CopyState) → slice_get all.0 k ≡ Some c → Disagrees a c → ⊥
+    agrees a le is k Closed at differs = differs
+    agrees a le is k (Valid b) at differs = differs.1 (one_of_two o n a b next (sym differs.0) is (known_high o n b (let e = differs.0 in omega (arith, e, le)) (all.2 k (Valid b) at)))
+
+    by_newest : (top : Option (ℕ × Database)) → newest all.0 ≡ top
+        → (at : ℕ × Database) × (newest all.0 ≡ Some at) × IsFirst (Disagrees at.1) all.0 None × (IsSameCore at.1 o ⊎ IsSameCore at.1 n)
+    by_newest None none = absurd (none_newest all.0 none r.one.0 high.0 there)
+    by_newest (Some at) is =
+        let top = greatest all.0 at is in
+        let above : o.header.seq ≤ at.1.header.seq = (let below = top.top r.one.0 high.0 there in let least = high.2 in omega (arith, below, least)) in
+        let either = known_high o n at.1 above (all.2 at.0 (Valid at.1) top.there) in
+        (at, is, none_first (Disagrees at.1) all.0 (agrees at.1 above either), either)
 
 may_core : (a b : Database) (labels : List Label) → IsSameCore a b → MayEdit b labels → MayEdit a labels
 may_core a b labels same may = record {

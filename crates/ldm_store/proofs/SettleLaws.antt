@@ -1,10 +1,10 @@
 -- The group that disks are settled to, and the body with which its copies begin.
-use Rattle.std.proofs.Common.{◌≡◌, inl, inr, ⊎_elim, ℕ, ◌+◌, ◌-◌, ◌*◌, ◌/◌, ◌<◌, ◌≤◌, List, length, take, drop, slice_index, slice_range, slice_get, true, false, Some, Ok, refl, sym, ap, subst, ◌∙◌, arith, ◌⊎◌, ◌≢◌, Bool, if◌then◌else◌, Option, None, Result, Err}
+use Rattle.std.proofs.Common.{rules, ◌≡◌, inl, inr, ⊎_elim, ℕ, ◌+◌, ◌*◌, ◌/◌, ◌<◌, ◌≤◌, List, length, take, drop, slice_index, slice_range, slice_get, true, false, Some, Ok, refl, sym, ap, subst, ◌∙◌, arith, ◌⊎◌, ◌≢◌, Bool, if◌then◌else◌, Option, None, Result, Err}
 use Rattle.std.specs.Prelude.{nat_lt, ◌↔◌}
 use Rattle.std.proofs.lemmas.Bool.{cases_eq}
 use Rattle.std.proofs.lemmas.Bool.Decides.{nat_tests}
 use Rattle.std.proofs.lemmas.Option.{slice_get_within}
-use Rattle.std.proofs.lemmas.List.{get_or-take, get_or-drop, length-take, length-drop}
+use Rattle.std.proofs.lemmas.List.{places, take_all, length-take}
 use Rattle.std.proofs.lemmas.Grind.{same_number_lists}
 use Rattle.ldm_host.specs.Seen.{Seen, image, Leaves}
 use Rattle.ldm_label.specs.declared.Label.{Label}
@@ -49,13 +49,10 @@ use Rattle.ldm_store.proofs.OpensLaws.{bodies_for, kept_opens_found}
 -- ---- some bytes of an image
 
 range_byte : (image : List ℕ) (at n k : ℕ) → k < n → slice_index (slice_range image at (at + n)) k ≡ slice_index image (at + k)
-range_byte image at n k lt = get_or-take (at + n - at) (drop at image) k 0 (omega (arith, lt)) ∙ get_or-drop at image k 0
+range_byte image at n k lt = grind (arith, places)
 
 range_is : (image body : List ℕ) (at n : ℕ) → length body ≡ n → at + n ≤ length image → ((k : ℕ) → k < n → slice_index image (at + k) ≡ slice_index body k) → slice_range image at (at + n) ≡ body
-range_is image body at n size room each =
-    let full : length (slice_range image at (at + n)) ≡ n = omega (arith, room, length-take (at + n - at) (drop at image), length-drop at image) in
-    same_number_lists (slice_range image at (at + n)) body (full ∙ sym size) (λ k lt.
-    let near : k < n = omega (arith, lt, full) in range_byte image at n k near ∙ each k near)
+range_is image body at n size room each = same_number_lists (slice_range image at (at + n)) body (search (rules, places)) (λ k lt. grind (arith, places, each))
 
 -- the bytes of a body are those with which a copy begins
 pub begins_bytes : (db : Database) (label : Label) (body image : List ℕ) → body ≡ body_bytes db label image → length body ≡ 512 * (db.header.last / 4) → BeginsWith label body image
@@ -105,12 +102,11 @@ module _ (label : Label) (content : List ℕ) (room : gate_at label + 512 * labe
   long = omega (arith, of.is.size, of.low)
 
   front_is : (n : ℕ) → n ≤ length body → n ≤ 512 * label.area_sectors → take n area ≡ take n body
-  front_is n le within =
-      let left : length (take n area) ≡ n = omega (arith, length-take n area, full, within) in
-      let right : length (take n body) ≡ n = omega (arith, length-take n body, le) in
-      same_number_lists (take n area) (take n body) (left ∙ sym right) (λ k lt.
-      let near : k < n = omega (arith, lt, left) in
-      get_or-take n area k 0 near ∙ area_byte label content k (omega (arith, near, within)) ∙ begins k (omega (arith, near, le)) ∙ sym (get_or-take n body k 0 near))
+  front_is n le within = same_number_lists (take n area) (take n body) (search (rules, places, full)) (λ k lt.
+      let near : k < n = omega (arith, length-take n area, lt) in
+      let here = area_byte label content k (omega (arith, near, within)) in
+      let same = begins k (omega (arith, near, le)) in
+      grind (arith, places))
 
   sector_is : header_sector area ≡ header_sector body
   sector_is = front_is 512 long (omega (arith, few, some))
@@ -124,12 +120,9 @@ module _ (label : Label) (content : List ℕ) (room : gate_at label + 512 * labe
   pub body_length : length body ≡ 512 * (db.header.last / 4)
   body_length = of.is.size ∙ ap (λ (l : ℕ). 512 * (l / 4)) d_last
 
-  take_all : take (length body) body ≡ body
-  take_all = same_number_lists (take (length body) body) body (omega (arith, length-take (length body) body)) (λ k lt. get_or-take (length body) body k 0 (omega (arith, lt, length-take (length body) body)))
-
   pub begun_same : d ≡ e
   begun_same =
-      let whole : take (length body) area ≡ body = front_is (length body) (omega arith) (omega (arith, body_length, few)) ∙ take_all in
+      let whole : take (length body) area ≡ body = front_is (length body) (omega arith) (omega (arith, body_length, few)) ∙ take_all (length body) body (omega arith) in
       let read : IsCopyOf area label.area_sectors (Ok (Valid d)) = begun_is d body area label.area_sectors of (omega (arith, d_last, high)) (omega (arith, d_last, few)) whole in
       let one : Ok (Valid d) ≡ Ok (Valid e) = one_copy area label.area_sectors (Ok (Valid d)) (Ok (Valid e)) read copy in
       cc

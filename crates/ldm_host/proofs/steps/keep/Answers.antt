@@ -1,4 +1,4 @@
-use Rattle.std.proofs.Common.{◌∷◌, ◌++◌, Bool, if◌then◌else◌, sym, ◌∙◌, ap}
+use Rattle.std.proofs.Common.{[], ◌∷◌, ◌++◌, Bool, if◌then◌else◌, sym, ◌∙◌, ap}
 use Rattle.ldm_host.proofs.DoneLaws.{pushed}
 use Rattle.ldm_host.proofs.steps.keep.Goals as goal
 

@@ -1,4 +1,4 @@
-use Rattle.std.proofs.Common.{◌∷◌, Some, ◌∙◌}
+use Rattle.std.proofs.Common.{[], ◌∷◌, Some, ◌∙◌}
 use Rattle.ldm_run.proofs.EditLaws.{now_of}
 use Rattle.ldm_run.proofs.JobLaws.{grouped, one_job}
 use Rattle.ldm_run.proofs.editing.edit_one.Goals as goal
