@@ -1,4 +1,4 @@
-use Rattle.std.proofs.Common.{◌≡◌, ◌*◌, ◌/◌, ◌∙◌, ℕ, List, [], ◌∷◌, ◌++◌, length, slice_index, slice_range, ap, sym, subst}
+use Rattle.std.proofs.Common.{[], ◌≡◌, ◌*◌, ◌/◌, ◌∙◌, ℕ, List, ◌∷◌, ◌++◌, length, slice_index, slice_range, ap, sym, subst}
 use Rattle.ldm_host.specs.Seen.{image}
 use Rattle.ldm_label.specs.declared.writing.LabelSectors.{LabelSectors}
 use Rattle.ldm_label.specs.LabelOf.{Fits}
