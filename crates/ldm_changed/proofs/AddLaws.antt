@@ -20,7 +20,7 @@ use Rattle.ldm_changed.specs.Plan.{has_record, lacks, slots_from, LeavesOrAdds}
 use Rattle.ldm_copy.specs.Body.{stored_at}
 use Rattle.ldm_frags.proofs.ApartLaws.{hold_permuted}
 use Rattle.ldm_frags.proofs.HoldEdits.{hold_more}
-use Rattle.ldm_copy.proofs.StoredLaws.{stored_push}
+use Rattle.ldm_copy.proofs.BodyLaws.{stored_push}
 
 -- blocks of one number that are equal say the same of their parts
 pub parts_same : (a b : List ℕ) (n : ℕ) → block_at a n ≡ block_at b n → parts a (n - 4) ≡ parts b (n - 4)

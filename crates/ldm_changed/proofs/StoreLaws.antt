@@ -27,7 +27,7 @@ use Rattle.ldm_frags.specs.Free.{free_numbers}
 use Rattle.ldm_frags.proofs.HoldLaws.{find_number}
 use Rattle.ldm_frags.proofs.OrderLaws.{numbers_length, numbers_at}
 use Rattle.ldm_frags.proofs.FewLaws.{few, few_sum, numbers_apart, number_within, slots_in}
-use Rattle.ldm_copy.proofs.StoredLaws.{stored_records, record_of, all_mapped, mapped_all}
+use Rattle.ldm_copy.proofs.BodyLaws.{stored_records, record_of, all_mapped, mapped_all}
 use Rattle.ldm_changed.proofs.AddLaws.{all_split}
 
 -- ---- whether a database has a record

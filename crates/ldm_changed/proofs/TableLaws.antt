@@ -27,17 +27,15 @@ use Rattle.ldm_copy.specs.Body.{counts_of}
 use Rattle.ldm_copy.specs.declared.answer.CopyState.TheVariants.{Valid}
 use Rattle.ldm_copy.specs.Body.{Stored, placed_of, Store, IsBodyOf}
 use Rattle.ldm_copy.proofs.AreaLaws.{gate_there}
-use Rattle.ldm_copy.proofs.SoundLaws.{magic_of}
-use Rattle.ldm_copy.proofs.MadeLaws.{head_of, rest_of}
+use Rattle.ldm_copy.proofs.RoomLaws.{magic_of}
+use Rattle.ldm_copy.proofs.BodyLaws.{head_of, rest_of, begun_is, mapped_all, stored_again}
 use Rattle.ldm_copy.proofs.OneCopy.{one_copy}
-use Rattle.ldm_copy.proofs.WrittenLaws.{begun_is}
 use Rattle.ldm_copy.specs.Body.{stored_at}
 use Rattle.ldm_changed.specs.Plan.{has_record, lacks, record_stays, block_differs, changed_numbers}
 use Rattle.ldm_changed.specs.Change.{Changed, ChangesFrom, IsNextBody}
 use Rattle.ldm_frags.proofs.HoldLaws.{find_number}
 use Rattle.ldm_frags.proofs.ApartLaws.{hold_permuted}
 use Rattle.ldm_frags.proofs.FewLaws.{few, numbers_apart, number_within}
-use Rattle.ldm_copy.proofs.StoredLaws.{mapped_all, stored_again}
 use Rattle.ldm_changed.proofs.StoreLaws.{kept_records_of, number_there}
 
 -- the records of a body are told by its blocks

@@ -11,7 +11,7 @@ use Rattle.ldm_rules.specs.Rules.{group_id, group_fault}
 use Rattle.ldm_rules.specs.Facts.{IsSoundOn, AreApart}
 use Rattle.ldm_rules.proofs.SoundLaws.{sound_parts}
 use Rattle.ldm_copy.specs.Body.{IsBodyOf}
-use Rattle.ldm_copy.proofs.MadeLaws.{few_records}
+use Rattle.ldm_copy.proofs.BodyLaws.{few_records}
 use Rattle.ldm_found.specs.Editing.{blocked_in}
 use Rattle.ldm_found.specs.Facts.{LieOn}
 use Rattle.ldm_found.specs.Opening.{group_faults, IsGroupIn, IsNewestGroup, group_at, found_with}

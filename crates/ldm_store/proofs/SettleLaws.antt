@@ -18,10 +18,10 @@ use Rattle.ldm_copy.specs.Copy.{header_sector, config_area, gate_at, IsCopyOf, I
 use Rattle.ldm_copy.specs.Body.{HasBody, IsBodyOf, IsBodyOn, IsSomeBody, Store}
 use Rattle.ldm_copy.specs.Table.{IsCoreBody, body_bytes, IsNoBody}
 use Rattle.ldm_copy.proofs.AreaLaws.{area_byte, area_length, gate_of}
-use Rattle.ldm_copy.proofs.LeftLaws.{area_on}
+use Rattle.ldm_copy.proofs.RewriteLaws.{area_on}
 use Rattle.ldm_copy.proofs.OneCopy.{one_copy, one_header}
-use Rattle.ldm_copy.proofs.SoundLaws.{last_fits}
-use Rattle.ldm_copy.proofs.WrittenLaws.{begun_is}
+use Rattle.ldm_copy.proofs.RoomLaws.{last_fits}
+use Rattle.ldm_copy.proofs.BodyLaws.{begun_is}
 use Rattle.ldm_found.specs.declared.found.Found.{Found}
 use Rattle.ldm_found.specs.declared.notes.Note.{Note}
 use Rattle.ldm_found.specs.Facts.{LieOn}
