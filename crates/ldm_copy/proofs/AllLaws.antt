@@ -14,11 +14,10 @@ use Rattle.ldm_records.proofs.PlainLaws.{own_spells}
 use Rattle.ldm_payloads.proofs.WholeLaws.{is_one}
 use Rattle.ldm_frags.specs.Blocks.{count, group, part, parts, numbers_from}
 use Rattle.ldm_frags.specs.Written.{Placed, slot, IsPlaced, Holds, IsInUse, block_at, unused_block, parts_of, filled}
-use Rattle.ldm_frags.proofs.Fields.{HasFields, fields_of}
-use Rattle.ldm_frags.proofs.OrderLaws.{numbers_length}
+use Rattle.ldm_frags.proofs.WriteLaws.{HasFields, fields_of}
+use Rattle.ldm_frags.proofs.HoldLaws.{numbers_length, few_slots, part_fields}
 use Rattle.ldm_copy.specs.Body.{Stored, placed_of}
 use Rattle.ldm_copy.specs.Finding.{part_at, slots_by, payloads, IsFirstPart, IsLater, IsFoundAt}
-use Rattle.ldm_frags.proofs.HoldLaws.{few_slots, part_fields}
 use Rattle.ldm_copy.proofs.FindLaws.{map_at, payload_whole, held_first}
 
 abbrev pub key : Stored → ℕ

@@ -10,10 +10,9 @@ use Rattle.ldm_frags.specs.Blocks.{count, group, part, parts, payload, is_part, 
 use Rattle.ldm_frags.specs.Written.{Placed, slot, IsPlaced, Holds, block_at, unused_block, filled}
 use Rattle.ldm_frags.proofs.Below.{least_is, least_none, none_from}
 use Rattle.ldm_frags.proofs.Below as below
-use Rattle.ldm_frags.proofs.OrderLaws.{numbers_length}
+use Rattle.ldm_frags.proofs.HoldLaws.{numbers_length, nowhere, record_at, few_held, few_slots, part_fields, Stands, in_record, free, stands, place_of, least_of, parts_more, filled_length}
 use Rattle.ldm_copy.specs.Body.{Stored, placed_of}
 use Rattle.ldm_copy.specs.Finding.{part_at, slots_by, payloads, IsFirstPart, IsLater}
-use Rattle.ldm_frags.proofs.HoldLaws.{nowhere, record_at, few_held, few_slots, part_fields, Stands, in_record, free, stands, place_of, least_of, parts_more, filled_length}
 
 pub slots_more : (f : ℕ → ℕ) (number part x : ℕ) (before after : List ℕ) → 1 ≤ part → before ≡ number ∷ map f (numbers_from 1 (part - 1))
     → after ≡ before ++ x ∷ [] → x ≡ f part → after ≡ number ∷ map f (numbers_from 1 (part + 1 - 1))

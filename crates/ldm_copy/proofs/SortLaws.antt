@@ -14,7 +14,7 @@ use Rattle.ldm_copy.specs.Body.{Stored, placed_of, Store}
 use Rattle.ldm_copy.specs.declared.finding.Found.{Found}
 use Rattle.ldm_copy.specs.Body.{stored_at}
 use Rattle.ldm_copy.specs.Finding.{stored_of, AreFound, HoldsTable}
-use Rattle.ldm_frags.proofs.ApartLaws.{apart_permuted, hold_permuted}
+use Rattle.ldm_frags.proofs.HoldEdits.{apart_permuted, hold_permuted}
 use Rattle.ldm_copy.proofs.StoredLaws.{record_of, mapped_all, stored_again}
 
 read : {X Y : Type 0} (f : X → Y) (xs : List X) (i : ℕ) (d : Y) → i < length xs → (x : X) × (get_or (map f xs) i d ≡ f (get_or xs i x))
