@@ -10,10 +10,9 @@ use Rattle.ldm_frags.specs.Blocks.{count, group, part, parts, payload, is_part, 
 use Rattle.ldm_frags.specs.Written.{Placed, slot, IsPlaced, Holds, block_at, unused_block, filled, IsInUse, parts_of}
 use Rattle.ldm_frags.proofs.Below.{least_is, least_none, none_from, least_passes, passing_skip, passing_here, passing_least, passing_past}
 use Rattle.ldm_frags.proofs.Below as below
-use Rattle.ldm_frags.proofs.OrderLaws.{numbers_length}
+use Rattle.ldm_frags.proofs.HoldLaws.{numbers_length, nowhere, record_at, few_held, few_slots, part_fields, Stands, in_record, free, stands, place_of as spot_of, least_of, parts_more, filled_length}
 use Rattle.ldm_copy.specs.Body.{Stored, placed_of, Store, stored_at}
 use Rattle.ldm_copy.specs.Finding.{part_at, slots_by, payloads, IsFirstPart, IsLater, first_number, table_place, HasPlaces, slots_in, IsFoundAt, stored_of, AreFound, HoldsTable}
-use Rattle.ldm_frags.proofs.HoldLaws.{nowhere, record_at, few_held, few_slots, part_fields, Stands, in_record, free, stands, place_of as spot_of, least_of, parts_more, filled_length}
 use Rattle.std.specs.Prelude.{◌&&◌, filter, ◌==◌, ◌||◌, nat_lt, if◌then◌else◌}
 use Rattle.std.proofs.lemmas.Bool.{cases_eq, eq-eqb, ne_eqb}
 use Rattle.ldm_frags.specs.Groups.{first_passing}
@@ -23,13 +22,13 @@ use Rattle.std.proofs.lemmas.List.Quantifiers.{all_pairs_push}
 use Rattle.std.proofs.lemmas.List.Sorted.{IsPermutation-refl, IsPermutation-sym, IsPermutation-trans, IsPermutation-cons, IsPermutation-middle, IsPermutation-append_left, IsPermutation-map, All-permutation}
 use Rattle.ldm_records.proofs.PlainLaws.{own_spells}
 use Rattle.ldm_payloads.proofs.WholeLaws.{is_one}
-use Rattle.ldm_frags.proofs.Fields.{HasFields, fields_of}
+use Rattle.ldm_frags.proofs.WriteLaws.{HasFields, fields_of}
 use Rattle.ldm_records.specs.declared.types.Record.{Record}
 use Rattle.ldm_group.specs.Order.{place_of, Rising}
 use Rattle.ldm_group.proofs.Rise.{strictly}
 use Rattle.ldm_group.proofs.OneOrder.{one_rising}
 use Rattle.ldm_copy.specs.declared.finding.Found.{Found}
-use Rattle.ldm_frags.proofs.ApartLaws.{apart_permuted, hold_permuted}
+use Rattle.ldm_frags.proofs.HoldEdits.{apart_permuted, hold_permuted}
 use Rattle.ldm_copy.proofs.BodyLaws.{record_of, mapped_all, stored_again}
 
 -- ---- Records that are found by the heads of their blocks.

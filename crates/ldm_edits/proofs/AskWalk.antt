@@ -10,7 +10,7 @@ use Rattle.ldm_records.specs.declared.types.Record.{Record}
 use Rattle.ldm_group.specs.Looks.{disk_named}
 use Rattle.ldm_space.specs.declared.placed.Wanted.{Wanted}
 use Rattle.ldm_space.specs.Wanted.{in_front}
-use Rattle.ldm_space.proofs.PlacedWalk.{ahead, ahead_none, ahead_front}
+use Rattle.ldm_space.proofs.FreeLaws.{ahead, ahead_none, ahead_front}
 use Rattle.ldm_edits.specs.declared.reply.Refusal.TheVariants as refusals
 use Rattle.ldm_edits.specs.Asked.{ask, asked_for}
 use Rattle.ldm_edits.specs.Spots.{by_place}

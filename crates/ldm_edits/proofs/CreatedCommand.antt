@@ -21,7 +21,7 @@ use Rattle.ldm_space.specs.Free.{taken_in}
 use Rattle.ldm_space.specs.declared.placed.Wanted.{Wanted}
 use Rattle.ldm_space.specs.Placed.{AreFirstFits, AllEndWithin}
 use Rattle.ldm_space.specs.Wanted.{placing}
-use Rattle.ldm_space.proofs.PlacedLaws.{placed_fit, fits_apart, fits_within}
+use Rattle.ldm_space.proofs.FreeLaws.{placed_fit, fits_apart, fits_within}
 use Rattle.ldm_words.specs.declared.command.NewLayout.{NewLayout}
 use Rattle.ldm_words.specs.Limits.{IsCreate}
 use Rattle.ldm_edits.specs.declared.reply.Refusal.{Refusal}

@@ -22,7 +22,7 @@ use Rattle.ldm_layout.specs.Volumes.{layout_of}
 use Rattle.ldm_layout.specs.Parts.{extent_of, extent_in, extents_of, plex_of, plex_in, plexes_of}
 use Rattle.ldm_layout.specs.declared.parts.Extent.{Extent}
 use Rattle.ldm_layout.specs.declared.parts.Plex.{Plex}
-use Rattle.ldm_layout.proofs.ChildLaws.{plexes_by, extents_by}
+use Rattle.ldm_layout.proofs.VolumeLaws.{plexes_by, extents_by}
 use Rattle.ldm_rules.specs.Rules.{first_broken, lacks_volume, lacks_component}
 use Rattle.ldm_rules.proofs.CarryLaws.{disk_there, KeepsVolume, KeepsComponent, KeepsRules}
 use Rattle.ldm_space.specs.declared.taken.Taken.{Taken}

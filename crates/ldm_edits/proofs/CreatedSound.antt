@@ -13,7 +13,7 @@ use Rattle.ldm_group.proofs.InOrder.{max_above}
 use Rattle.ldm_label.specs.declared.Label.{Label}
 use Rattle.ldm_rules.specs.Ends.{data_size}
 use Rattle.ldm_rules.proofs.CarryLaws.{SameComponents, SamePartitions, HasSameKin, Carries, heads}
-use Rattle.ldm_rules.proofs.HeadLaws.{SameHeads, AreNamed, names_next}
+use Rattle.ldm_rules.proofs.GroupLaws.{SameHeads, AreNamed, names_next}
 use Rattle.ldm_rules.proofs.SoundLaws.{EachRule}
 use Rattle.ldm_space.specs.declared.taken.Taken.{Taken}
 use Rattle.ldm_space.specs.Free.{taken_in}

@@ -20,7 +20,7 @@ use Rattle.ldm_group.proofs.Rise.{tested}
 use Rattle.ldm_label.specs.declared.Label.{Label}
 use Rattle.ldm_layout.proofs.VolumeLaws.{one_component}
 use Rattle.ldm_rules.proofs.CarryLaws.{SameComponents, SamePartitions, HasSameKin, Carries, heads}
-use Rattle.ldm_rules.proofs.HeadLaws.{names_kept}
+use Rattle.ldm_rules.proofs.GroupLaws.{names_kept}
 use Rattle.ldm_rules.proofs.SoundLaws.{EachRule, sound_from, sound_parts}
 use Rattle.ldm_rules.specs.Ends.{data_size}
 use Rattle.ldm_space.specs.declared.taken.Taken.{Taken}

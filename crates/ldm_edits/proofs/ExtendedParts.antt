@@ -28,9 +28,7 @@ use Rattle.ldm_layout.specs.declared.parts.Extent.{Extent}
 use Rattle.ldm_layout.specs.declared.shape.Shape.TheVariants.{Span, Mirror}
 use Rattle.ldm_layout.specs.Parts.{plex_of, plexes_of, extent_of, extents_of, by_offset, tile_key, tiles_from}
 use Rattle.ldm_layout.specs.Volumes.{layout_of, shape_of, is_basic}
-use Rattle.ldm_layout.proofs.ChildLaws.{plex_there}
-use Rattle.ldm_layout.proofs.LongerSpan.{rising_sum, few_by, many_extents}
-use Rattle.ldm_layout.proofs.VolumeLaws.{IsExtentOf, extents_are, one_component}
+use Rattle.ldm_layout.proofs.VolumeLaws.{plex_there, rising_sum, few_by, many_extents, IsExtentOf, extents_are, one_component}
 use Rattle.ldm_rules.proofs.CarryLaws.{component_kept, partition_kept}
 use Rattle.ldm_rules.proofs.SoundLaws.{EachRule, sound_parts}
 use Rattle.ldm_rules.specs.Ends.{data_size}
@@ -39,7 +37,7 @@ use Rattle.ldm_space.specs.declared.taken.Taken.{Taken}
 use Rattle.ldm_space.specs.Free.{taken_of, taken_in}
 use Rattle.ldm_space.specs.declared.placed.Wanted.{Wanted}
 use Rattle.ldm_space.specs.Placed.{AreFirstFits, AllEndWithin, AreDisjoint}
-use Rattle.ldm_space.proofs.PlacedLaws.{placed_fit, as_many, fits_apart, fits_within}
+use Rattle.ldm_space.proofs.FreeLaws.{placed_fit, as_many, fits_apart, fits_within}
 use Rattle.ldm_edits.specs.Asked.{is_much}
 use Rattle.ldm_edits.specs.Changes.{changed}
 use Rattle.ldm_edits.specs.Extending.{span_changes, lengthened, held, component_in, component_of, MayExtend, longer_parts}

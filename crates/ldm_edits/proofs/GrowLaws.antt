@@ -29,7 +29,7 @@ use Rattle.ldm_space.specs.declared.taken.Taken.{Taken}
 use Rattle.ldm_space.specs.Free.{taken_in}
 use Rattle.ldm_space.specs.declared.placed.Wanted.{Wanted}
 use Rattle.ldm_space.specs.Placed.{AllEndWithin, AreDisjoint, AreFirstFits}
-use Rattle.ldm_space.proofs.PlacedLaws.{placed_fit, as_many, fits_apart, fits_within}
+use Rattle.ldm_space.proofs.FreeLaws.{placed_fit, as_many, fits_apart, fits_within}
 use Rattle.ldm_edits.specs.Changes.{Change, changed}
 use Rattle.ldm_edits.specs.Extending.{held}
 use Rattle.ldm_edits.specs.Mirroring.{mirror_changes, components_of, grown, MayGrow}

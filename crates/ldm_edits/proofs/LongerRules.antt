@@ -21,11 +21,10 @@ use Rattle.ldm_layout.specs.declared.shape.Shape.{Shape}
 use Rattle.ldm_layout.specs.Layouts.{Layout, is_tiled}
 use Rattle.ldm_layout.specs.Parts.{plex_of, plex_in, plexes_of, extent_of, extent_in, extents_of, by_offset, tiles, tiles_from, least}
 use Rattle.ldm_layout.specs.Volumes.{layout_of, shape_of}
-use Rattle.ldm_layout.proofs.ChildLaws.{plexes_by, extents_by}
-use Rattle.ldm_layout.proofs.LongerSpan.{tiles_append, by_offset_more, some_tiles}
-use Rattle.ldm_layout.proofs.TileLaws.{tiles_zero}
+use Rattle.ldm_layout.proofs.VolumeLaws.{plexes_by, extents_by, tiles_append, by_offset_more, some_tiles}
+use Rattle.ldm_layout.proofs.SpotLaws.{tiles_zero}
 use Rattle.ldm_rules.proofs.CarryLaws.{KeepsVolume, KeepsComponent, KeepsPartition, KeepsRules, SamePartitions, HasSameKin, Carries, volume_kept, component_kept}
-use Rattle.ldm_rules.proofs.HeadLaws.{names_kept}
+use Rattle.ldm_rules.proofs.GroupLaws.{names_kept}
 use Rattle.ldm_rules.proofs.SoundLaws.{EachRule}
 use Rattle.ldm_edits.specs.Extending.{held}
 use Rattle.ldm_edits.specs.Mirroring.{held_in}

@@ -13,14 +13,12 @@ use Rattle.ldm_label.specs.declared.Label.{Label}
 use Rattle.ldm_rules.specs.Ends.{data_size}
 use Rattle.ldm_rules.specs.Rules.{first_broken, has_namesake, passes_end}
 use Rattle.ldm_rules.proofs.CarryLaws.{Carries, carried}
-use Rattle.ldm_rules.proofs.GroupLaws.{not_broken}
-use Rattle.ldm_rules.proofs.HeadLaws.{none_by}
-use Rattle.ldm_rules.proofs.MeetLaws.{NoneMeet, none_meet}
+use Rattle.ldm_rules.proofs.GroupLaws.{not_broken, none_by, NoneMeet, none_meet}
 use Rattle.ldm_rules.proofs.SoundLaws.{EachRule}
 use Rattle.ldm_space.specs.declared.taken.Taken.{Taken}
 use Rattle.ldm_space.specs.Free.{taken_of, taken_by, taken_in, clash}
 use Rattle.ldm_space.specs.Placed.{AreDisjoint, AllEndWithin}
-use Rattle.ldm_space.proofs.PlacedLaws.{apart_old, apart_new, clash_back}
+use Rattle.ldm_space.proofs.FreeLaws.{apart_old, apart_new, clash_back}
 
 map_at : {X Y : Type 0} (f : X → Y) (xs : List X) (k : ℕ) (x : X) (y : Y) → k < length xs → get_or xs k x ≡ x → get_or (map f xs) k y ≡ f x
 map_at f xs k x y lt is = get_or-map f xs k x y lt ∙ ap f is

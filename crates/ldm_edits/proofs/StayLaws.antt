@@ -14,8 +14,7 @@ use Rattle.ldm_group.specs.Looks.{by_id, is_at}
 use Rattle.ldm_group.proofs.LookLaws.{find_there, found_again}
 use Rattle.ldm_layout.specs.declared.parts.Plex.{Plex}
 use Rattle.ldm_layout.specs.Parts.{plex_of, plexes_of}
-use Rattle.ldm_layout.proofs.ChildLaws.{plex_there}
-use Rattle.ldm_layout.proofs.VolumeLaws.{plexes_are}
+use Rattle.ldm_layout.proofs.VolumeLaws.{plex_there, plexes_are}
 use Rattle.ldm_edits.specs.Staying.{is_own, is_component_of}
 
 -- a component of the volume, of this id

@@ -15,8 +15,8 @@ use Rattle.ldm_layout.specs.declared.shape.Shape.TheVariants.{Span, Stripe, Mirr
 use Rattle.ldm_layout.specs.Parts.{tiles, by_offset, by_index, least, plexes_of, extents_of}
 use Rattle.ldm_layout.specs.Layouts.{Layout, has_gap, lacks_chunk, lacks_columns, has_columns, is_short, is_tiled, plex_capacity, capacity_of}
 use Rattle.ldm_layout.specs.Volumes.{layout_of, shape_of, striping_of, laid_out, draft_of, checked}
-use Rattle.ldm_layout.proofs.PlanLaws.{has_none}
-use Rattle.ldm_layout.proofs.DraftLaws.{laid_out_volume}
+use Rattle.ldm_layout.proofs.SpotLaws.{has_none}
+use Rattle.ldm_layout.proofs.VolumeLaws.{laid_out_volume}
 use Rattle.ldm_edits.specs.Mirroring.{held_in}
 
 -- the partitions of each component, in the order of the volume's sectors

@@ -10,7 +10,7 @@ use Rattle.ldm_layout.specs.Layouts.{Layout}
 use Rattle.ldm_layout.specs.Volumes.{layout_of}
 use Rattle.ldm_layout.specs.declared.shape.LayoutFault.{LayoutFault}
 use Rattle.ldm_dump.specs.Sources.{IsLeastLost}
-use Rattle.ldm_dump.proofs.FindLaws.{least_found}
+use Rattle.ldm_dump.proofs.RunLaws.{least_found}
 use Rattle.ldm_run.specs.Streaming.{laid_answer, named_answer, bytes_answer, volume_dump, dump_answer, is_compared, scrub_status, places_answer, volume_scrub, scrub_answer}
 use Rattle.ldm_scrub.specs.Missing.{missing_of}
 use Rattle.ldm_run.specs.declared.running.Status.TheVariants.{Done, Refused}
