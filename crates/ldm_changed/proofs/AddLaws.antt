@@ -13,7 +13,8 @@ use Rattle.ldm_records.specs.Plain.{IsRecord}
 use Rattle.ldm_records.specs.Views.{plain_of}
 use Rattle.ldm_frags.specs.Blocks.{parts}
 use Rattle.ldm_frags.specs.Written.{Holds, IsInUse, block_at, parts_of}
-use Rattle.ldm_frags.proofs.HoldEdits.{number_within, hold_permuted, hold_more}
+use Rattle.ldm_frags.proofs.WriteLaws.{number_within}
+use Rattle.ldm_frags.proofs.HoldEdits.{hold_permuted, hold_more}
 use Rattle.ldm_group.specs.Room.{own_len, need_of}
 use Rattle.ldm_copy.specs.Body.{Stored, placed_of}
 use Rattle.ldm_changed.specs.Plan.{has_record, lacks, slots_from, LeavesOrAdds}
