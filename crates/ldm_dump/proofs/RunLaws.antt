@@ -15,7 +15,7 @@ use Rattle.ldm_found.specs.Labels.{image_of}
 use Rattle.ldm_dump.specs.Sources.{is_here, data_start, spot_at, first_copy, copy_spot, other_spot, other_spots, is_beside, is_raid5, can_rebuild, sources_by, sources_of, is_lost, IsLeastLost}
 use Rattle.ldm_dump.specs.Runs.{behind, IsRun}
 use Rattle.ldm_dump.specs.declared.spots.Spot.{Spot}
-use Rattle.ldm_dump.proofs.RangeLaws.{find_first, find_nothing, all_in, all_but, all_at, all_same, made_moved, not_all}
+use Rattle.ldm_dump.proofs.RangeLaws.{find_first, find_nothing, all_in, all_but, all_at, made_moved, not_all, all_same_in}
 use Rattle.std.proofs.Math.Nat.{mod-eq_of_lt, div-eq_of_lt, add-mod_right, mul-div-le}
 use Rattle.std.proofs.lemmas.Nat.{div-mul-add, mod_below, mul-le}
 use Rattle.ldm_layout.proofs.SpotLaws.{place_by}
@@ -72,7 +72,7 @@ beside_moved found l x i column own place =
 
 pub rebuild_same : (found : Found) (l : Layout) (x y : ℕ) (s : Shape) → l.shape ≡ s → (s ≡ Raid5 → (c : ℕ) → is_beside found l y c ≡ is_beside found l x c) → can_rebuild found l y ≡ can_rebuild found l x
 unfolding can_rebuild
-rebuild_same found l x y Raid5 is same = ap (λ (b : Bool). is_raid5 l.shape && b) (all_same (is_beside found l y) (is_beside found l x) (range_with_len 0 (length (columns_of l))) (same refl))
+rebuild_same found l x y Raid5 is same = ap (λ (b : Bool). is_raid5 l.shape && b) (all_same_in (is_beside found l y) (is_beside found l x) 0 (length (columns_of l)) (λ c low high. same refl c))
 rebuild_same found l x y s is same =
     ap (λ (t : Shape). is_raid5 t && list_all (is_beside found l y) (range_with_len 0 (length (columns_of l)))) is
     ∙ sym (ap (λ (t : Shape). is_raid5 t && list_all (is_beside found l x) (range_with_len 0 (length (columns_of l)))) is)

@@ -87,6 +87,9 @@ sound_of blocks k e =
       new = λ h. (f h).0;
     }
 
+pub both_of : (a b : Bool) → (a && b) ≡ true → (a ≡ true) × (b ≡ true)
+both_of a b e = and_parts a b e
+
 eqb_sym : (a b : ℕ) → eqb a b ≡ true → eqb b a ≡ true
 eqb_sym a b e = eq-eqb b a (sym (eqb-true a b e))
 

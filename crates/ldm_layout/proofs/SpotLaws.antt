@@ -463,7 +463,7 @@ spot_at e o = Some (e, o)
 abbrev pub along : ℕ → Option (Extent × ℕ) → Option (Extent × ℕ)
 along i spot = option_map (λ s. (s.0, s.1 + i)) spot
 
-spot_along : (g : Option Extent) (o p i : ℕ) → o ≡ p + i → option_map {U = Extent × ℕ} (λ (f : Extent). (f, o)) g ≡ along i (option_map {U = Extent × ℕ} (λ (f : Extent). (f, p)) g)
+pub spot_along : (g : Option Extent) (o p i : ℕ) → o ≡ p + i → option_map {U = Extent × ℕ} (λ (f : Extent). (f, o)) g ≡ along i (option_map {U = Extent × ℕ} (λ (f : Extent). (f, p)) g)
 spot_along None o p i e = refl
 spot_along (Some f) o p i e = ap (λ (n : ℕ). spot_at f n) e
 

@@ -46,10 +46,7 @@ plexes_by q (kinds.Component c ∷ records) =
     let rest = plexes_by q records in
     elim (c.parent == q) as (λ (b : Bool). (if b then plex_of c ∷ plexes_of q records else plexes_of q records) ≡ filter_map plex_in (if b then kinds.Component c ∷ filter (is_child 3 q) records else filter (is_child 3 q) records))
     [ true ↦ ap (λ (l : List Plex). plex_of c ∷ l) rest | false ↦ rest ]
-plexes_by q (kinds.Volume v ∷ records) = plexes_by q records
-plexes_by q (kinds.Disk d ∷ records) = plexes_by q records
-plexes_by q (kinds.Group g ∷ records) = plexes_by q records
-plexes_by q (kinds.Partition p ∷ records) = plexes_by q records
+plexes_by q (r ∷ records) = plexes_by q records
 
 -- and the partitions of a component
 pub extents_by : (q : ℕ) (records : List Record) → extents_of q records ≡ filter_map extent_in (filter (is_child 4 q) records)
@@ -58,10 +55,7 @@ extents_by q (kinds.Partition p ∷ records) =
     let rest = extents_by q records in
     elim (p.parent == q) as (λ (b : Bool). (if b then extent_of p ∷ extents_of q records else extents_of q records) ≡ filter_map extent_in (if b || false then kinds.Partition p ∷ filter (is_child 4 q) records else filter (is_child 4 q) records))
     [ true ↦ ap (λ (l : List Extent). extent_of p ∷ l) rest | false ↦ rest ]
-extents_by q (kinds.Volume v ∷ records) = extents_by q records
-extents_by q (kinds.Disk d ∷ records) = extents_by q records
-extents_by q (kinds.Group g ∷ records) = extents_by q records
-extents_by q (kinds.Component c ∷ records) = extents_by q records
+extents_by q (r ∷ records) = extents_by q records
 
 map_same : {X Y : Type 0} (f g : X → Y) (xs : List X) → ((k : ℕ) (d : X) → k < length xs → f (get_or xs k d) ≡ g (get_or xs k d)) → map f xs ≡ map g xs
 map_same f g [] same = refl
@@ -296,10 +290,7 @@ record_ends volume c all (kinds.Partition p ∷ rs) own hs =
     All-cons (EndsAt c) (extent_of p) (filter_map extent_in rs)
     (λ same. hs 0 (kinds.Partition p) (omega arith) (ap (λ (n : ℕ). list_any (λ q. q.id == n) (plexes_of volume all)) (eqb-true p.parent c same) ∙ own))
     (record_ends volume c all rs own (All-tail (λ r. is_partition_of volume all r ≡ true → EndsInRange r) (kinds.Partition p) rs hs))
-record_ends volume c all (kinds.Group g ∷ rs) own hs = record_ends volume c all rs own (All-tail (λ r. is_partition_of volume all r ≡ true → EndsInRange r) (kinds.Group g) rs hs)
-record_ends volume c all (kinds.Disk g ∷ rs) own hs = record_ends volume c all rs own (All-tail (λ r. is_partition_of volume all r ≡ true → EndsInRange r) (kinds.Disk g) rs hs)
-record_ends volume c all (kinds.Volume g ∷ rs) own hs = record_ends volume c all rs own (All-tail (λ r. is_partition_of volume all r ≡ true → EndsInRange r) (kinds.Volume g) rs hs)
-record_ends volume c all (kinds.Component g ∷ rs) own hs = record_ends volume c all rs own (All-tail (λ r. is_partition_of volume all r ≡ true → EndsInRange r) (kinds.Component g) rs hs)
+record_ends volume c all (s ∷ rs) own hs = record_ends volume c all rs own (All-tail (λ r. is_partition_of volume all r ≡ true → EndsInRange r) s rs hs)
 
 -- the partitions of the components of a volume end in range
 pub extents_end : (records : List Record) (volume : ℕ) → All (λ r. is_partition_of volume records r ≡ true → EndsInRange r) records → All (λ p. AllEnd (extents_of p.id records)) (plexes_of volume records)
@@ -451,7 +442,4 @@ many_extents q (kinds.Partition p ∷ records) =
     let rest = many_extents q records in
     elim (p.parent == q) as (λ (b : Bool). length (if b || false then kinds.Partition p ∷ filter (is_child 4 q) records else filter (is_child 4 q) records) ≡ length (if b then extent_of p ∷ extents_of q records else extents_of q records))
     [ true ↦ ap suc rest | false ↦ rest ]
-many_extents q (kinds.Volume v ∷ records) = many_extents q records
-many_extents q (kinds.Component c ∷ records) = many_extents q records
-many_extents q (kinds.Disk d ∷ records) = many_extents q records
-many_extents q (kinds.Group g ∷ records) = many_extents q records
+many_extents q (r ∷ records) = many_extents q records

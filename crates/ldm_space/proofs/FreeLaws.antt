@@ -290,10 +290,6 @@ fits_within sectors (w ∷ more) taken (s ∷ spots) limits h =
 
 -- ---- what lies apart
 
--- partitions meet where what they take does
-pub meets_clash : (p q : Partition) → meets p q ≡ clash (taken_of p) (taken_of q)
-meets_clash p q = refl
-
 -- from what was taken before all of them,
 pub apart_old : (taken new : List Taken) (a b : Taken) → AreDisjoint taken new → Contains new a → Contains taken b → clash a b ≡ false
 apart_old taken [] a b h (k, lt, is) there = absurd (omega arith)
