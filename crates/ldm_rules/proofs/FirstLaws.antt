@@ -199,6 +199,7 @@ apart_once xs x apart there twice =
 pub overlap_of : (p q : Partition) → meets p q ≡ true → (overlaps (span p) (span q) ≡ true) × (overlaps (span p) (span p) ≡ true)
 overlap_of p q h =
     let both = and_parts (p.disk == q.disk) (nat_lt (max p.start q.start) (min (p.start + p.size) (q.start + q.size))) h in
+    let disk : p.disk ≡ q.disk = eqb-true p.disk q.disk both.0 in
     let lt : max p.start q.start < min (p.start + p.size) (q.start + q.size) = ltb-true _ _ both.1 in
     (lt-ltb _ _ (omega arith), lt-ltb _ _ (omega arith))
 

@@ -305,12 +305,6 @@ pub column_moved : (found : Found) (l : Layout) (c o : ℕ) → option_map (behi
 column_moved found l c o = sym (spot_moved found o (column_start l c))
 
 module _ (found : Found) (l : Layout) (x : ℕ) (is : IsColumned l) where
-  k : ℕ
-  k = length (columns_of l)
-
-  u : ℕ
-  u = l.chunk
-
   -- ---- a stripe
 
   column_got : (c : ℕ) → c < length (columns_of l) → get_or (column_spots found l) c None ≡ column_begin found l c
@@ -420,9 +414,6 @@ module _ (found : Found) (l : Layout) (x : ℕ) (is : IsColumned l) where
   unfolding sources_of first_copy can_rebuild
   raid5_sources raid5 = go (is_here found (place_in l x 0)) refl
     where
-      beside : Bool
-      beside = list_all (is_beside found l x) (range_with_len 0 (length (columns_of l)))
-
       one : copies_of l ≡ 1
       one = ap (λ (s : Shape). copies_by s (length l.plexes)) raid5
 
@@ -467,9 +458,6 @@ head_spot (Some (s ∷ spots)) = s
 head_spot _ = record { image = 0; sector = 0 }
 
 module _ (found : Found) (l : Layout) (none : volume_fault found l ≡ None) where
-  source : ℕ → Spot
-  source x = head_spot (sources_of found l x)
-
   -- ---- what whole rows leave
 
   single_is : (x : ℕ) → in_rows l ≤ x → x < l.size → sources_of found l x ≡ some_spot (head_spot (sources_of found l x)).image (head_spot (sources_of found l x)).sector
