@@ -88,8 +88,10 @@ pub sources_moved : (found : Found) (l : Layout) (x i : ℕ) (o : Option ℕ) (r
     → can_rebuild found l (x + i) ≡ r → can_rebuild found l x ≡ r → (r ≡ true → other_spots found l (x + i) ≡ map (behind i) (other_spots found l x))
     → sources_of found l (x + i) ≡ option_map (map (behind i)) (sources_of found l x)
 unfolding sources_of
-sources_moved found l x i (Some c) r a b spots p q others = rw (a, b, spots c refl) (ap (λ (s : List Spot). Some s) (list_moved i (copy_spot found l x c)))
-sources_moved found l x i None true a b spots p q others = rw (a, b, p, q) (ap (λ (s : List Spot). Some s) (others refl))
+sources_moved found l x i (Some c) r a b spots p q others =
+    rw (a, b, spots c refl) (ap (λ (s : List Spot). Some s) (list_moved i (copy_spot found l x c)))
+sources_moved found l x i None true a b spots p q others =
+    rw (a, b, p, q) (ap (λ (s : List Spot). Some s) (others refl))
 sources_moved found l x i None false a b spots p q others = rw (a, b, p, q) refl
 
 -- a sector that is read from a copy isn't lost

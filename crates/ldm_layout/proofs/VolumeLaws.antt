@@ -190,7 +190,10 @@ plexes_rise (r ∷ rs) up = go (plex_in r) refl (plexes_rise rs (λ i j d lt le.
     go : (o : Option Plex) → plex_in r ≡ o → AllPairs Above (filter_map plex_in rs) → AllPairs Above (cons_option (plex_in r) (filter_map plex_in rs))
     go None e rest = subst (λ (o : Option Plex). AllPairs Above (cons_option o (filter_map plex_in rs))) (sym e) rest
     go (Some p) e rest = subst (λ (o : Option Plex). AllPairs Above (cons_option o (filter_map plex_in rs))) (sym e)
-        (AllPairs-cons Above p (filter_map plex_in rs) (named plex_in (Above p) rs (λ k d h q is. ids_rise r (get_or rs k d) p q (up 0 (suc k) d (omega arith) (omega arith)) e is)) rest)
+        (AllPairs-cons Above p (filter_map plex_in rs)
+        (named plex_in (Above p) rs
+        (λ k d h q is. ids_rise r (get_or rs k d) p q
+        (up 0 (suc k) d (omega arith) (omega arith)) e is)) rest)
 
 once : (ps : List Plex) (i j : ℕ) (p : Plex) → AllPairs Above ps → slice_get ps i ≡ Some p → slice_get ps j ≡ Some p → i ≡ j
 once ps i j p up f g =
@@ -332,12 +335,17 @@ pub record IsDraft (ps : List Plex) (extents : ℕ → List Extent) (l : Layout)
 
 -- the draft of a shape
 abbrev drafted : ℕ → List Plex → (ℕ → List Extent) → Shape → Layout
-drafted size ps extents s = record { shape = s; size = size; chunk = (striping_of ps).chunk; columns = (striping_of ps).columns; plexes = map (λ p. laid_out s (extents p.id)) ps }
+drafted size ps extents s =
+    record { shape = s; size = size; chunk = (striping_of ps).chunk;
+    columns = (striping_of ps).columns; plexes = map (λ p. laid_out s (extents p.id)) ps }
 
-draft_shape : (size : ℕ) (ps : List Plex) (extents : ℕ → List Extent) (l : Layout) → draft_of size ps extents ≡ Some l → (s : Shape) × (shape_of ps ≡ Some s) × (drafted size ps extents s ≡ l)
+draft_shape : (size : ℕ) (ps : List Plex) (extents : ℕ → List Extent) (l : Layout)
+    → draft_of size ps extents ≡ Some l
+    → (s : Shape) × (shape_of ps ≡ Some s) × (drafted size ps extents s ≡ l)
 draft_shape size ps extents l h = go (shape_of ps) refl h
   where
-    go : (o : Option Shape) → shape_of ps ≡ o → option_map (drafted size ps extents) o ≡ Some l → (s : Shape) × (shape_of ps ≡ Some s) × (drafted size ps extents s ≡ l)
+    go : (o : Option Shape) → shape_of ps ≡ o → option_map (drafted size ps extents) o ≡ Some l
+        → (s : Shape) × (shape_of ps ≡ Some s) × (drafted size ps extents s ≡ l)
     go None is e = absurd cc
     go (Some s) is e = (s, is, same_Some (drafted size ps extents s) l e)
 
@@ -346,7 +354,8 @@ draft_parts size ps extents l h =
     let of = draft_shape size ps extents l h in
     record {
       shape = of.1 ∙ ap (λ (x : Layout). Some x.shape) of.2;
-      plexes = sym (ap (λ (x : Layout). x.plexes) of.2) ∙ ap (λ (x : Layout). map (λ p. laid_out x.shape (extents p.id)) ps) of.2;
+      plexes = sym (ap (λ (x : Layout). x.plexes) of.2)
+          ∙ ap (λ (x : Layout). map (λ p. laid_out x.shape (extents p.id)) ps) of.2;
     }
 
 -- a draft without faults is a plan
@@ -382,7 +391,9 @@ laid_out_volume records v l h =
     let both = checked_ok (draft_of v.size (plexes_of v.head.id records) (λ c. extents_of c records)) l h in
     record {
       sound = both.1;
-      size = sym (ap (λ (x : Layout). x.size) (draft_shape v.size (plexes_of v.head.id records) (λ c. extents_of c records) l both.0).2);
+      size = sym (ap (λ (x : Layout). x.size)
+          (draft_shape v.size (plexes_of v.head.id records)
+          (λ c. extents_of c records) l both.0).2);
       parts = draft_parts v.size (plexes_of v.head.id records) (λ c. extents_of c records) l both.0;
     }
 
@@ -405,7 +416,8 @@ tiles_append at (x ∷ xs) ys here behind =
 -- tiles that follow those that are there stay behind them in the sort
 pub by_offset_more : (es more : List Extent) → tiles_from 0 (by_offset es ++ more) ≡ true → by_offset (es ++ more) ≡ by_offset es ++ more
 by_offset_more es more tiled =
-    sym (stable_is tile_key (es ++ more) (by_offset es ++ more) (tiles_rise tile_key 0 (by_offset es ++ more) (λ e f le. omega arith) tiled) (λ k.
+    sym (stable_is tile_key (es ++ more) (by_offset es ++ more)
+    (tiles_rise tile_key 0 (by_offset es ++ more) (λ e f le. omega arith) tiled) (λ k.
     filter-append (λ e. tile_key e == k) (by_offset es) more ∙ ap (λ (l : List Extent). l ++ filter (λ e. tile_key e == k) more) (rising_numbers tile_key k es) ∙ sym (filter-append (λ e. tile_key e == k) es more)))
 
 pub some_tiles : (xs ys : List Extent) → tiles xs ≡ true → tiles_from 0 (xs ++ ys) ≡ true → tiles (xs ++ ys) ≡ true

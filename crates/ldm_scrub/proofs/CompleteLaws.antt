@@ -117,7 +117,8 @@ module _ (found : Found) (v : Volume) (l : Layout) (sound : IsSoundGroup found) 
           let kept : lacks_disk (λ id. count_by (is_at 2 id) found.db.records) (kinds.Partition p) ≡ false =
           not_broken (lacks_disk (λ id. count_by (is_at 2 id) found.db.records)) found.db.records (kinds.Partition p) (sound_parts found.db.records found.labels sound.group.sound).disks there in
           let some = counted_there (is_at 2 p.disk) found.db.records (kinds.Partition p) kept in
-          let other : is_at 2 p.disk some.0 ≡ false = ap (is_at 2 p.disk) (sym some.1.2) ∙ none_found (is_at 2 p.disk) found.db.records some.1.0 some.0 e some.1.1 in
+          let other : is_at 2 p.disk some.0 ≡ false = ap (is_at 2 p.disk) (sym some.1.2)
+          ∙ none_found (is_at 2 p.disk) found.db.records some.1.0 some.0 e some.1.1 in
           absurd (let both : true ≡ false = sym some.2 ∙ other in cc)
       look (Some r) e =
           let at = find_there (is_at 2 p.disk) found.db.records r e in

@@ -1,4 +1,5 @@
--- Free sectors: the first fit is exactly the least free start, and what is placed one after the other lies apart.
+-- Free sectors: the first fit is exactly the least free start, and what is placed one after the
+-- other lies apart.
 use Rattle.std.proofs.Common.{◌≡◌, inl, inr, ℕ, zero, suc, ◌+◌, ◌-◌, ◌<◌, ◌≤◌, ◌==◌, max, min, not, List, [], ◌∷◌, length, get_or, refl, sym, ap, ◌∙◌, arith, Bool, true, false, cond, ltb, Option, Some, None, ◌||◌, ◌++◌, drop, append_assoc, Result, Ok, Err, drop-cons, ◌&&◌, subst, nat_lt}
 use Rattle.std.specs.List.{Contains, list_any, cons_option}
 use Rattle.std.proofs.lemmas.Bool.{cases_order, not-true, not-false, ltb-true, ltb-false, lt-ltb, le-ltb, cond-false, false_from_ne_true, false≢true, and_parts, and_from, ne_eqb, eq-eqb, cases_eq}

@@ -43,14 +43,18 @@ behind_both a b c next =
 
 pub before_next : (a b : Stretch) (rest : List Stretch) → is_next_to a b ≡ true → before a (before b rest) ≡ before (with_next a b) rest
 before_next a b [] is = cond-true (is_next_to a b) (with_next a b ∷ []) (a ∷ b ∷ []) is
-before_next a b (c ∷ cs) is = let behind = sym (behind_both a b c (next_is a b is)) in elim (cases_Bool (is_next_to b c)) [
-  | inl e ↦ rw (e, is, behind ∙ e) (ap (λ (n : ℕ). record a { sectors = n } ∷ cs) (sym (add_assoc a.sectors b.sectors c.sectors)))
-  | inr e ↦ rw (e, is, behind ∙ e) refl
-]
+before_next a b (c ∷ cs) is =
+    let behind = sym (behind_both a b c (next_is a b is)) in
+    elim (cases_Bool (is_next_to b c)) [
+      | inl e ↦ rw (e, is, behind ∙ e)
+          (ap (λ (n : ℕ). record a { sectors = n } ∷ cs) (sym (add_assoc a.sectors b.sectors c.sectors)))
+      | inr e ↦ rw (e, is, behind ∙ e) refl
+    ]
 
 pub before_apart : (a b : Stretch) (rest : List Stretch) → is_next_to a b ≡ false → before a (before b rest) ≡ a ∷ before b rest
 before_apart a b [] is = cond-false (is_next_to a b) (with_next a b ∷ []) (a ∷ b ∷ []) is
-before_apart a b (c ∷ cs) is = elim (cases_Bool (is_next_to b c)) [ inl e ↦ rw (e, is) refl | inr e ↦ rw (e, is) refl ]
+before_apart a b (c ∷ cs) is =
+    elim (cases_Bool (is_next_to b c)) [ inl e ↦ rw (e, is) refl | inr e ↦ rw (e, is) refl ]
 
 -- ---- sectors side by side are one stretch
 
@@ -226,7 +230,8 @@ module _ (g : ℕ → Spot) where
 -- a list with what is made of the next number
 pub more_made : {X : Type 0} (f : ℕ → X) (n : ℕ) (so more : List X) (x : X) → so ≡ map f (range_with_len 0 n) → x ≡ f n → more ≡ so ++ x ∷ [] → more ≡ map f (range_with_len 0 (n + 1))
 more_made {X} f n so more x is at said =
-    said ∙ (ap (λ (y : X). so ++ y ∷ []) at ∙ (ap (λ (l : List X). l ++ f n ∷ []) is ∙ sym (map-range_with_len_more f 0 n n (omega arith))))
+    said ∙ (ap (λ (y : X). so ++ y ∷ []) at
+    ∙ (ap (λ (l : List X). l ++ f n ∷ []) is ∙ sym (map-range_with_len_more f 0 n n (omega arith))))
 
 pub three_parts : (t a b c m n o : List ℕ) → m ≡ t ++ a → n ≡ m ++ b → o ≡ n ++ c → o ≡ t ++ ((a ++ b) ++ c)
 three_parts t a b c m n o x y z =

@@ -1,4 +1,5 @@
--- The device of a volume's table has the volume's sectors: those of whole rows through a target, and the rest from one image each.
+-- The device of a volume's table has the volume's sectors: those of whole rows through a target,
+-- and the rest from one image each.
 use Rattle.std.proofs.Common.{◌≡◌, ◌∙◌, ℕ, ◌+◌, ◌-◌, ◌<◌, ◌≤◌, true, false, [], ◌∷◌, map, refl, ap, sym, subst, arith, Option, Some, None, is_none, is_some, inl, inr, find, zero, suc, ◌*◌, ◌/◌, ◌%◌, ◌==◌, Bool, length, slice_get, ◌≢◌, if◌then◌else◌, List, get_or, zero-add, filter_map, ◌++◌}
 use Rattle.std.specs.List.{range_with_len, list_all}
 use Rattle.std.specs.Option.{option_map, option_to_list}
@@ -67,7 +68,8 @@ run_copied found l x run is some i lt = go run.copy refl some
         let there = copy_there found l x c (sym e ∙ is.copy_is) in
         let spot = there_is found (place_in l x c) there.1 in
         let moved : copy_spot found l (x + i) c ≡ Some (behind i spot.0) = is.copies i c lt e ∙ ap (option_map (behind i)) spot.1 in
-        copied_by found l (x + i) c there.0 (here_is found (place_in l (x + i) c) ∙ ap is_some moved)
+        copied_by found l (x + i) c there.0 (here_is found (place_in l (x + i) c)
+        ∙ ap is_some moved)
 
 -- what is not from the first on up to there, and in a run there
 pub copied_more : (found : Found) (l : Layout) (first x : ℕ) (run : Run) → IsRun found l x run → is_none run.copy ≡ false → first ≤ x → ((y : ℕ) → first ≤ y → y < x → is_rebuilt found l y ≡ false)
@@ -107,12 +109,18 @@ no_times : (n : ℕ) → 0 * n ≡ 0
 no_times n = omega arith
 
 -- whole rows, and what the last one has in part
-rows_of : (l : Layout) → (row_sectors l == 0) ≡ false → whole_rows l * row_sectors l + l.size % row_sectors l ≡ l.size
-rows_of l is = ap (λ (n : ℕ). n * row_sectors l + l.size % row_sectors l) (cond-false (row_sectors l == 0) 0 (l.size / row_sectors l) is) ∙ div-add-mod' l.size (row_sectors l)
+rows_of : (l : Layout) → (row_sectors l == 0) ≡ false
+    → whole_rows l * row_sectors l + l.size % row_sectors l ≡ l.size
+rows_of l is =
+    ap (λ (n : ℕ). n * row_sectors l + l.size % row_sectors l)
+    (cond-false (row_sectors l == 0) 0 (l.size / row_sectors l) is)
+    ∙ div-add-mod' l.size (row_sectors l)
 
 pub rows_within : (l : Layout) → whole_rows l * row_sectors l ≤ l.size
 rows_within l = elim (cases_Bool (row_sectors l == 0)) [
-  | inl is ↦ (let none = ap (λ (n : ℕ). n * row_sectors l) (cond-true (row_sectors l == 0) 0 (l.size / row_sectors l) is) ∙ no_times (row_sectors l) in omega (arith, none))
+  | inl is ↦ (let none = ap (λ (n : ℕ). n * row_sectors l)
+      (cond-true (row_sectors l == 0) 0 (l.size / row_sectors l) is)
+      ∙ no_times (row_sectors l) in omega (arith, none))
   | inr is ↦ (let all = rows_of l is in omega (arith, all))
 ]
 
@@ -127,7 +135,8 @@ whole_of l some = (let all = rows_of l (ne_eqb (row_sectors l) 0 some) in omega 
 -- a volume with whole rows has sectors in each row
 pub row_there : (l : Layout) → 0 < whole_rows l → 0 < row_sectors l
 row_there l some = elim (cases_Bool (row_sectors l == 0)) [
-  | inl is ↦ (let none : whole_rows l ≡ 0 = cond-true (row_sectors l == 0) 0 (l.size / row_sectors l) is in absurd (omega arith))
+  | inl is ↦ (let none : whole_rows l ≡ 0 =
+      cond-true (row_sectors l == 0) 0 (l.size / row_sectors l) is in absurd (omega arith))
   | inr is ↦ (let ne = eqb-false (row_sectors l) 0 is in grind (arith, ne))
 ]
 
@@ -308,7 +317,9 @@ module _ (found : Found) (l : Layout) (x : ℕ) (is : IsColumned l) where
   -- ---- a stripe
 
   column_got : (c : ℕ) → c < length (columns_of l) → get_or (column_spots found l) c None ≡ column_begin found l c
-  column_got c lt = get_or-map-range_with_len (column_begin found l) 0 (length (columns_of l)) c c None lt (omega arith)
+  column_got c lt =
+      get_or-map-range_with_len (column_begin found l) 0 (length (columns_of l)) c c None lt
+      (omega arith)
 
   striped_at : l.shape ≡ Stripe → striped_spot l.chunk (column_spots found l) x ≡ copy_spot found l x 0
   striped_at stripe =
@@ -369,7 +380,9 @@ module _ (found : Found) (l : Layout) (x : ℕ) (is : IsColumned l) where
       go (Some p) = made (whole_rows l * chunk_of l) p (image_of p.disk found.db.records found.labels)
 
   member_got : (c : ℕ) → c < length (columns_of l) → get_or (members_of found l) c None ≡ member_at found l c
-  member_got c lt = get_or-map-range_with_len (member_at found l) 0 (length (columns_of l)) c c None lt (omega arith)
+  member_got c lt =
+      get_or-map-range_with_len (member_at found l) 0 (length (columns_of l)) c c None lt
+      (omega arith)
 
   members_count : length (members_of found l) ≡ length (columns_of l)
   members_count = length-map-range_with_len (member_at found l) 0 (length (columns_of l))
@@ -488,7 +501,8 @@ module _ (found : Found) (l : Layout) (none : volume_fault found l ≡ None) whe
     pub sectors : (x : ℕ) → x < l.size → spots_in lines x ≡ sources_of found l x
 
   -- no row is whole
-  none_whole : in_rows l ≡ 0 → row_lines found l ≡ [] → AreSectors (row_lines found l ++ rest_lines found l)
+  none_whole : in_rows l ≡ 0 → row_lines found l ≡ []
+      → AreSectors (row_lines found l ++ rest_lines found l)
   none_whole empty lines =
       subst (λ (front : List Line). AreSectors (front ++ rest_lines found l)) (sym lines) (record {
         tile = subst (λ (n : ℕ). Tile n l.size (rest_lines found l)) empty rest_tile;
@@ -532,7 +546,8 @@ module _ (found : Found) (l : Layout) (none : volume_fault found l ≡ None) whe
   by_rows columned true is s shape =
       let empty : whole_rows l ≡ 0 = eqb-true (whole_rows l) 0 is in
       let times : 0 * row_sectors l ≡ 0 = omega arith in
-      none_whole (ap (λ (n : ℕ). n * row_sectors l) empty ∙ times) (cond-true (whole_rows l == 0) [] (row_lines_by found l l.shape) is)
+      none_whole (ap (λ (n : ℕ). n * row_sectors l) empty ∙ times)
+      (cond-true (whole_rows l == 0) [] (row_lines_by found l l.shape) is)
   by_rows columned false is Stripe shape =
       let within = rows_within l in
       with_rows (striped (chunk_of l) (column_spots found l)) (row_in_rows l (some_rows is)) (lines_some Stripe shape is)
