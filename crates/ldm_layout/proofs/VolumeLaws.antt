@@ -336,8 +336,13 @@ pub record IsDraft (ps : List Plex) (extents : ℕ → List Extent) (l : Layout)
 -- the draft of a shape
 abbrev drafted : ℕ → List Plex → (ℕ → List Extent) → Shape → Layout
 drafted size ps extents s =
-    record { shape = s; size = size; chunk = (striping_of ps).chunk;
-    columns = (striping_of ps).columns; plexes = map (λ p. laid_out s (extents p.id)) ps }
+    record {
+      shape = s;
+      size = size;
+      chunk = (striping_of ps).chunk;
+      columns = (striping_of ps).columns;
+      plexes = map (λ p. laid_out s (extents p.id)) ps;
+    }
 
 draft_shape : (size : ℕ) (ps : List Plex) (extents : ℕ → List Extent) (l : Layout)
     → draft_of size ps extents ≡ Some l

@@ -329,8 +329,8 @@ clean_redundant images found l columned clean =
 filter_all : (t : ℕ → Bool) (a n : ℕ) → ((p : ℕ) → a ≤ p → p < a + n → t p ≡ true) → filter t (range_with_len a n) ≡ range_with_len a n
 filter_all t a zero all = refl
 filter_all t a (suc n) all =
-    rw (all a (omega arith) (omega arith),
-    filter_all t (a + 1) n (λ p low lt. all p (omega (arith, low)) (omega (arith, lt)))) refl
+    let rest = filter_all t (a + 1) n (λ p low lt. all p (omega (arith, low)) (omega (arith, lt))) in
+    rw (all a (omega arith) (omega arith), rest) refl
 
 filter_none : (t : ℕ → Bool) (a n : ℕ) → ((p : ℕ) → a ≤ p → p < a + n → t p ≡ false) → filter t (range_with_len a n) ≡ []
 filter_none t a zero none = refl
