@@ -1,9 +1,10 @@
--- What is read of the sources of a sector: it lies on the images, and reads the same without one of them.
+-- What is read of the sources of a sector: it lies on the images, and reads the same without one of
+-- them.
 use Rattle.std.proofs.Common.{◌≡◌, ℕ, ◌+◌, ◌-◌, ◌*◌, ◌<◌, ◌≤◌, ◌==◌, if◌then◌else◌, Bool, true, false, List, [], ◌∷◌, ◌++◌, map, fold, bit_xor, slice_index, refl, ap, sym, subst, ◌∙◌, arith, add-one, Option, Some, None, is_some, is_none, Result, Ok, Err, OnOk, filter_map, inl, inr, length, get_or, slice_get, option_and_then, unwrap_or, zero, suc, cond, ltb}
 use Rattle.std.specs.List.{range_with_len, position_or_len, cons_option}
 use Rattle.std.specs.Option.{option_map, option_to_list}
 use Rattle.ldm_layout.specs.Layouts.{Layout, copies_of, place_in, is_tiled, fewest, plex_capacity, place_at, copies_by, plex_spot, place_at as place_sector}
-use Rattle.std.proofs.lemmas.Bool.{eqb-true, not-false, cases_lt, ltb-false, lt-ltb, cond-true, eq-eqb, false_from_ne_true}
+use Rattle.std.proofs.lemmas.Bool.{eqb-true, not-false, cases_lt, ltb-false, lt-ltb, cond-true, eq-eqb, false_from_ne_true, false≢true}
 use Rattle.ldm_layout.specs.Columns.{own_column, column_in, columns_of, column_spot, IsColumned}
 use Rattle.ldm_layout.specs.declared.shape.Place.{Place}
 use Rattle.ldm_layout.specs.declared.shape.Shape.TheVariants.{Raid5}
@@ -13,7 +14,7 @@ use Rattle.ldm_dump.specs.Sources.{is_here, data_start, spot_of, spot_at, first_
 use Rattle.ldm_dump.specs.Bytes.{byte_at, joined_byte, joined_sector, sector_of}
 use Rattle.ldm_dump.specs.Runs.{behind, IsOn, HasBytes, LiesOn, RowsLieOn}
 use Rattle.ldm_dump.specs.declared.spots.Spot.{Spot}
-use Rattle.ldm_dump.proofs.RangeLaws.{range_more, made_more, found_in, find_first}
+use Rattle.ldm_dump.proofs.RangeLaws.{range_more, made_more, found_in, find_first, map_same_in}
 use Rattle.ldm_dump.proofs.RunLaws.{none_lost, rebuilds_raid5, others_here}
 use Rattle.ldm_dump.proofs.ByteLaws.{joined_more}
 use Rattle.std.proofs.lemmas.List.Quantifiers.{position-Some}
@@ -63,12 +64,25 @@ pub copy_there : (found : Found) (l : Layout) (x c : ℕ) → Some c ≡ first_c
 unfolding first_copy
 copy_there found l x c is = (let all = found_in (λ copy. is_here found (place_in l x copy)) 0 (copies_of l) c (sym is) in (omega (arith, all.1), all.2))
 
+-- a place is here exactly where it is a sector of an image
+pub here_is : (found : Found) (p : Option Place) → is_here found p ≡ is_some (spot_at found p)
+here_is found None = refl
+here_is found (Some place) = elim (image_of place.disk found.db.records found.labels) as
+    (λ o. is_some o ≡ is_some
+    (option_map {U = Spot}
+    (λ image. record { image = image; sector = data_start found.labels image + place.sector }) o))
+    [ None ↦ refl | Some image ↦ refl ]
+
+some_there : {A : Type 0} (o : Option A) → is_some o ≡ true → (x : A) × (o ≡ Some x)
+some_there None h = absurd cc
+some_there (Some x) h = (x, refl)
+
+pub there_is : (found : Found) (p : Option Place) → is_here found p ≡ true → (s : Spot) × (spot_at found p ≡ Some s)
+there_is found p here = some_there (spot_at found p) (sym (here_is found p) ∙ here)
+
 pub here_spot : (found : Found) (place : Place) → is_here found (Some place) ≡ true → spot_of found place ≡ None → ⊥
-here_spot found place here none = go (image_of place.disk found.db.records found.labels) here none
-  where
-    go : (o : Option ℕ) → is_some o ≡ true → option_map {U = Spot} (λ image. record { image = image; sector = data_start found.labels image + place.sector }) o ≡ None → ⊥
-    go None h n = absurd cc
-    go (Some image) h n = absurd cc
+here_spot found place here none =
+    false≢true (ap is_some (sym none) ∙ sym (here_is found (Some place)) ∙ here)
 
 -- ---- sources
 
@@ -359,13 +373,6 @@ pull acc b (x ∷ xs) =
 same_from : (a b : ℕ) → bit_xor a b ≡ 0 → a ≡ b
 same_from a b is = sym (xor_zero_r a) ∙ (ap (λ (n : ℕ). bit_xor a n) (sym (xor_self b)) ∙ (sym (xor_assoc a b b) ∙ ap (λ (n : ℕ). bit_xor n b) is))
 
-map_in : (v w : ℕ → ℕ) (a n : ℕ) → ((c : ℕ) → a ≤ c → c < a + n → v c ≡ w c) → map v (range_with_len a n) ≡ map w (range_with_len a n)
-map_in v w a zero same = refl
-map_in v w a (suc n) same =
-    let first : v a ≡ w a = same a (omega arith) (omega arith) in
-    let rest = map_in v w (a + 1) n (λ c low lt. same c (omega (arith, low)) (omega (arith, lt))) in
-    cc
-
 -- all numbers of a range, and all but one
 split : (v w : ℕ → ℕ) (own a n acc : ℕ) → a ≤ own → own < a + n → w own ≡ 0 → ((c : ℕ) → (c ≡ own → ⊥) → v c ≡ w c)
     → fold bit_xor acc (map v (range_with_len a n)) ≡ bit_xor (fold bit_xor acc (map w (range_with_len a n))) (v own)
@@ -377,7 +384,7 @@ split v w own a (suc n) acc low lt none same = elim (cases_lt a own) [
       ∙ split v w own (a + 1) n (bit_xor acc (w a)) (omega arith) (omega arith) none same)
   | inr ge ↦ (
       let e : a ≡ own = omega arith in
-      let rest : map v (range_with_len (a + 1) n) ≡ map w (range_with_len (a + 1) n) = map_in v w (a + 1) n (λ c more _. same c (λ is. omega (arith, is, more, e))) in
+      let rest : map v (range_with_len (a + 1) n) ≡ map w (range_with_len (a + 1) n) = map_same_in v w (a + 1) n (λ c more _. same c (λ is. omega (arith, is, more, e))) in
       let zero_there : w a ≡ 0 = ap w e ∙ none in
       ap (λ (b : ℕ). fold bit_xor (bit_xor acc b) (map v (range_with_len (a + 1) n))) (ap v e)
       ∙ (ap (λ (l : List ℕ). fold bit_xor (bit_xor acc (v own)) l) rest
@@ -404,15 +411,6 @@ bytes_by images j f acc (x ∷ xs) = go (f x) (λ n. bytes_by images j f n xs)
         → fold bit_xor acc (map (byte_at images j) (cons_option o (filter_map f xs))) ≡ fold bit_xor (bit_xor acc (byte_of images j o)) (map (λ c. byte_of images j (f c)) xs)
     go None rest = ap (λ (n : ℕ). fold bit_xor n (map (byte_at images j) (filter_map f xs))) (sym (xor_zero_r acc)) ∙ rest (bit_xor acc 0)
     go (Some s) rest = rest (bit_xor acc (byte_at images j s))
-
--- what is there is a sector of an image
-there_is : (found : Found) (p : Option Place) → is_here found p ≡ true → (s : Spot) × (spot_at found p ≡ Some s)
-there_is found None here = absurd cc
-there_is found (Some place) here = go (image_of place.disk found.db.records found.labels) here
-  where
-    go : (o : Option ℕ) → is_some o ≡ true → (s : Spot) × (option_map {U = Spot} (λ image. record { image = image; sector = data_start found.labels image + place.sector }) o ≡ Some s)
-    go None h = absurd cc
-    go (Some k) h = (record { image = k; sector = data_start found.labels k + place.sector }, refl)
 
 -- ---- a group on fewer images
 
@@ -446,7 +444,7 @@ module _ (images : List (List ℕ)) (i : ℕ) (found fewer : Found) (is : IsGrou
     unfolding sector_of
     sectors_same a b at_a at_b same =
         ap (λ (o : Option (List Spot)). option_map (joined_sector some) o) at_a
-        ∙ (ap (λ (s : List ℕ). Some s) (map_in (joined_byte some a) (joined_byte images b) 0 512 (λ c _ lt. same c (omega (arith, lt))))
+        ∙ (ap (λ (s : List ℕ). Some s) (map_same_in (joined_byte some a) (joined_byte images b) 0 512 (λ c _ lt. same c (omega (arith, lt))))
         ∙ sym (ap (λ (o : Option (List Spot)). option_map (joined_sector images) o) at_b))
 
     by_copy : (c : ℕ) → Some c ≡ first_copy fewer l x → sector_of some fewer l x ≡ sector_of images found l x
@@ -482,7 +480,7 @@ module _ (images : List (List ℕ)) (i : ℕ) (found fewer : Found) (is : IsGrou
         let parts = split v w own 0 k 0 (omega arith) (omega (arith, own_there)) (own_none j) (λ c apart. other_same c j apart) in
         let joined : fold bit_xor 0 (map w (range_with_len 0 k)) ≡ v own = same_from (fold bit_xor 0 (map w (range_with_len 0 k))) (v own) (sym parts ∙ all) in
         bytes_by some j (other_spot fewer l x) 0 (range_with_len 0 k)
-        ∙ (ap (λ (xs : List ℕ). fold bit_xor 0 xs) (map_in (λ c. byte_of some j (other_spot fewer l x c)) w 0 k (λ c _ there. column_same c j (omega (arith, there))))
+        ∙ (ap (λ (xs : List ℕ). fold bit_xor 0 xs) (map_same_in (λ c. byte_of some j (other_spot fewer l x c)) w 0 k (λ c _ there. column_same c j (omega (arith, there))))
         ∙ (joined ∙ (ap (λ (p : Option Place). byte_of images j (spot_at found p)) (sym own_place) ∙ ap (λ (o : Option Spot). byte_of images j o) b.1))))
       where
         own_none : (j : ℕ) → byte_of images j (other_spot found l x (own_column l x)) ≡ 0

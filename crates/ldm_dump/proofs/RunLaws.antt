@@ -15,7 +15,7 @@ use Rattle.ldm_found.specs.Labels.{image_of}
 use Rattle.ldm_dump.specs.Sources.{is_here, data_start, spot_at, first_copy, copy_spot, other_spot, other_spots, is_beside, is_raid5, can_rebuild, sources_by, sources_of, is_lost, IsLeastLost}
 use Rattle.ldm_dump.specs.Runs.{behind, IsRun}
 use Rattle.ldm_dump.specs.declared.spots.Spot.{Spot}
-use Rattle.ldm_dump.proofs.RangeLaws.{find_first, find_nothing, all_in, all_but, all_at, all_same, made_moved, not_all}
+use Rattle.ldm_dump.proofs.RangeLaws.{find_first, find_nothing, all_in, all_but, all_at, made_moved, not_all, all_same_in}
 use Rattle.std.proofs.Math.Nat.{mod-eq_of_lt, div-eq_of_lt, add-mod_right, mul-div-le}
 use Rattle.std.proofs.lemmas.Nat.{div-mul-add, mod_below, mul-le}
 use Rattle.ldm_layout.proofs.SpotLaws.{place_by}
@@ -72,7 +72,7 @@ beside_moved found l x i column own place =
 
 pub rebuild_same : (found : Found) (l : Layout) (x y : ℕ) (s : Shape) → l.shape ≡ s → (s ≡ Raid5 → (c : ℕ) → is_beside found l y c ≡ is_beside found l x c) → can_rebuild found l y ≡ can_rebuild found l x
 unfolding can_rebuild
-rebuild_same found l x y Raid5 is same = ap (λ (b : Bool). is_raid5 l.shape && b) (all_same (is_beside found l y) (is_beside found l x) (range_with_len 0 (length (columns_of l))) (same refl))
+rebuild_same found l x y Raid5 is same = ap (λ (b : Bool). is_raid5 l.shape && b) (all_same_in (is_beside found l y) (is_beside found l x) 0 (length (columns_of l)) (λ c low high. same refl c))
 rebuild_same found l x y s is same =
     ap (λ (t : Shape). is_raid5 t && list_all (is_beside found l y) (range_with_len 0 (length (columns_of l)))) is
     ∙ sym (ap (λ (t : Shape). is_raid5 t && list_all (is_beside found l x) (range_with_len 0 (length (columns_of l)))) is)
@@ -89,24 +89,10 @@ pub sources_moved : (found : Found) (l : Layout) (x i : ℕ) (o : Option ℕ) (r
     → sources_of found l (x + i) ≡ option_map (map (behind i)) (sources_of found l x)
 unfolding sources_of
 sources_moved found l x i (Some c) r a b spots p q others =
-    ap (λ (o : Option ℕ). sources_by found l (x + i) o (can_rebuild found l (x + i))) a
-    ∙ (ap (λ (s : Option Spot). some_list (option_to_list s)) (spots c refl)
-    ∙ (ap some_list (list_moved i (copy_spot found l x c))
-    ∙ sym (ap (λ (o : Option ℕ). option_map (map (behind i)) (sources_by found l x o (can_rebuild found l x))) b)))
-  where
-    some_list : List Spot → Option (List Spot)
-    some_list spots = Some spots
+    rw (a, b, spots c refl) (ap (λ (s : List Spot). Some s) (list_moved i (copy_spot found l x c)))
 sources_moved found l x i None true a b spots p q others =
-    ap (λ (o : Option ℕ). sources_by found l (x + i) o (can_rebuild found l (x + i))) a
-    ∙ (ap (λ (t : Bool). sources_by found l (x + i) None t) p
-    ∙ (ap (λ (s : List Spot). Some s) (others refl)
-    ∙ (sym (ap (λ (t : Bool). option_map (map (behind i)) (sources_by found l x None t)) q)
-    ∙ sym (ap (λ (o : Option ℕ). option_map (map (behind i)) (sources_by found l x o (can_rebuild found l x))) b))))
-sources_moved found l x i None false a b spots p q others =
-    ap (λ (o : Option ℕ). sources_by found l (x + i) o (can_rebuild found l (x + i))) a
-    ∙ (ap (λ (t : Bool). sources_by found l (x + i) None t) p
-    ∙ (sym (ap (λ (t : Bool). option_map (map (behind i)) (sources_by found l x None t)) q)
-    ∙ sym (ap (λ (o : Option ℕ). option_map (map (behind i)) (sources_by found l x o (can_rebuild found l x))) b)))
+    rw (a, b, p, q) (ap (λ (s : List Spot). Some s) (others refl))
+sources_moved found l x i None false a b spots p q others = rw (a, b, p, q) refl
 
 -- a sector that is read from a copy isn't lost
 pub copy_kept : (found : Found) (l : Layout) (x c : ℕ) → Some c ≡ first_copy found l x → is_lost found l x ≡ false

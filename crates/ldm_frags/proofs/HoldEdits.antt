@@ -1,6 +1,7 @@
--- Blocks that lose a record or take one more, their records in another order, and how many are unused.
+-- Blocks that lose a record or take one more, their records in another order, and how many are
+-- unused.
 use Rattle.std.proofs.Common.{◌≡◌, ◌≢◌, inl, inr, ℕ, suc, ◌+◌, ◌-◌, ◌*◌, ◌<◌, ◌≤◌, List, ◌∷◌, ◌++◌, length, take, drop, get_or, All, sym, ap, subst, ◌∙◌, arith, ◌⊎◌, zero, not, Bool, true, false, [], replicate, AllPairs, Contains, refl, add-one, set}
-use Rattle.std.proofs.lemmas.Bool.{cases_lt, eq-eqb, cases_eq}
+use Rattle.std.proofs.lemmas.Bool.{cases_lt, eq-eqb, cases_eq, not-true}
 use Rattle.std.proofs.lemmas.List.{get_or_default, take-append-le, drop-append-le, length-drop, length-append, get_or-set_same, get_or-set_other, length-set}
 use Rattle.std.proofs.lemmas.List.Elements.{All-cons, All-nil, Contains-append_left, Contains-append_right, Contains-get_or, filter-append, All-filter, filter_passes}
 use Rattle.std.proofs.lemmas.List.Kept.{AllPairs-cons, AllPairs-filter}
@@ -16,6 +17,7 @@ use Rattle.ldm_frags.proofs.WriteLaws.{HasFields, fields_of}
 use Rattle.ldm_frags.specs.Free.{is_free, free_numbers}
 use Rattle.std.proofs.lemmas.List.Edits.{swap_is, length-swap}
 use Rattle.ldm_frags.proofs.Below.{numbers_push}
+use Rattle.std.proofs.lemmas.List.Recursion.{is_sum_by}
 
 -- ---- Blocks that lose a record, or take one more.
 
@@ -134,16 +136,9 @@ few_sum {X} f (x ∷ xs) ys apart there =
 
 -- numbers that differ and stand in a list are no more than it has
 pub few : (xs ys : List ℕ) → AllPairs (λ a b. a ≢ b) xs → All (Contains ys) xs → length xs ≤ length ys
-few [] ys apart there = omega arith
-few (x ∷ xs) ys apart there =
-    let at : Contains ys x = there 0 x (omega arith) in
-    let rest : List ℕ = remove ys at.0 in
-    let moved : IsPermutation ys (x ∷ rest) = IsPermutation-remove ys at.0 x at.1 (sym at.2) in
-    let size : length (x ∷ rest) ≡ length ys = length_permutation ys (x ∷ rest) moved in
-    let more : length xs ≤ length rest =
-    few xs rest (λ i j d below lt. apart (suc i) (suc j) d (omega arith) (omega arith))
-    (λ k d lt. other x (get_or xs k d) rest (apart 0 (suc k) d (omega arith) (omega arith)) (Contains-permutation ys (x ∷ rest) (get_or xs k d) moved (there (suc k) d (omega arith)))) in
-    omega (arith, more, size)
+few xs ys apart there =
+    let size = is_sum_by {X = ℕ} length (λ x. 1) refl (λ x rest. omega arith) in
+    omega (arith, size xs, size ys, few_sum (λ x. 1) xs ys apart there)
 
 -- numbers that rise differ
 pub numbers_apart : (a n : ℕ) → AllPairs (λ x y. x ≢ y) (numbers_from a n)
@@ -190,10 +185,6 @@ used_there blocks records b small holds low high used =
           absurd cc
     ]
 
-not_true : (b : Bool) → not b ≡ true → b ≡ false
-not_true true e = absurd cc
-not_true false e = refl
-
 -- no more blocks are used than the records have
 pub enough_free : (blocks : List ℕ) (records : List Placed) → length blocks ≤ 1048576 → Holds blocks records → count blocks ≤ length (free_numbers blocks) + length (slots_in records)
 enough_free blocks records small holds =
@@ -211,7 +202,8 @@ enough_free blocks records small holds =
     let within = numbers_within 4 (count blocks) i e li in
     let high = within.1 in
     used_there blocks records (get_or all i e) small holds within.0 (omega (arith, high)) in_use) k d lt
-    (not_true (is_free blocks (get_or used k d)) (filter_passes (λ b. not (is_free blocks b)) all k d lt))) in
+    (not-true (is_free blocks (get_or used k d))
+    (filter_passes (λ b. not (is_free blocks b)) all k d lt))) in
     omega (arith, size, sum, parts_sum, le)
 
 -- ---- numbers that pass, one after the other
@@ -222,7 +214,8 @@ pass_more p n before after b x is test at more =
     let m : ℕ = n + 4 in
     let place : 4 + n ≡ m = omega arith in
     let whole : filter p (numbers_from 4 (n + 1)) ≡ filter p (numbers_from 4 n) ++ filter p (m ∷ []) =
-    ap (filter p) (numbers_push 4 n ∙ ap (λ (k : ℕ). numbers_from 4 n ++ k ∷ []) place) ∙ filter-append p (numbers_from 4 n) (m ∷ []) in
+    ap (filter p) (numbers_push 4 n ∙ ap (λ (k : ℕ). numbers_from 4 n ++ k ∷ []) place)
+    ∙ filter-append p (numbers_from 4 n) (m ∷ []) in
     more ∙ ap (λ (l : List ℕ). l ++ (if b then x ∷ [] else [])) is
     ∙ ap (λ (k : ℕ). filter p (numbers_from 4 n) ++ (if b then k ∷ [] else [])) at
     ∙ ap (λ (c : Bool). filter p (numbers_from 4 n) ++ (if c then m ∷ [] else [])) test

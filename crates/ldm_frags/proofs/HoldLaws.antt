@@ -309,9 +309,13 @@ joined_more : (records : List Placed) (k : ℕ) → joined_below records (suc k)
 unfolding joined_below
 joined_more records k = sym (ap (joined_below records) (add-one k)) ∙ flat_map_below (λ (j : ℕ). map joined_of (begin_at records (j + 4))) k
 
-entries_held : (blocks : List ℕ) (records : List Placed) → length blocks ≤ 1048576 → Holds blocks records → joined_below records (count blocks) ≡ entries blocks (count blocks)
+entries_held : (blocks : List ℕ) (records : List Placed) → length blocks ≤ 1048576
+    → Holds blocks records → joined_below records (count blocks) ≡ entries blocks (count blocks)
 unfolding joined_below entries
-entries_held blocks records small holds = flat_map_same _ (entry blocks) (count blocks) (λ k lt. sym (entry_held blocks records k small holds lt (stands blocks records small holds k lt)))
+entries_held blocks records small holds =
+    flat_map_same _ (entry blocks) (count blocks)
+    (λ k lt. sym (entry_held blocks records k small holds lt
+    (stands blocks records small holds k lt)))
 
 -- Blocks that hold records, wherever their parts stand, join to these records in rising number of part 0.
 pub holds_joins : (blocks : List ℕ) (records : List Placed) → length blocks ≤ 1048576 → Holds blocks records → Joins blocks (joined_below records (count blocks))

@@ -11,6 +11,7 @@ use Rattle.ldm_bytes.specs.Places.{put}
 use Rattle.std.specs.Prelude.{bytes_eq}
 use Rattle.std.proofs.Math.Seq.{take-add}
 use Rattle.std.proofs.lemmas.Slice.Eq.{bytes_eq-Decides}
+use Rattle.ldm_bytes.proofs.PlaceLaws.{drop-put, length-put, get_or-put_outside, same_range}
 
 -- ---- The fields of a block that is written are those that it is written with.
 
@@ -55,61 +56,6 @@ fields_of blocks k number sequence g p n bytes e block small-g small-p small-n =
 
 -- ---- Blocks that are put into a list of blocks.
 
--- what stands up to the end of what was put
-put_front : (old : List ℕ) (at : ℕ) (x : List ℕ) → at ≤ length old → length (take at old ++ x) ≡ at + length x
-put_front old at x le = length-append (take at old) x ∙ ap (λ (n : ℕ). n + length x) (length-take-le at old le)
-
--- two puts one behind the other are one
-pub put-put : (old : List ℕ) (at next : ℕ) (x y : List ℕ) → at ≤ length old → next ≡ at + length x → put (put old at x) next y ≡ put old at (x ++ y)
-put-put old at next x y le e =
-    let front : length (take at old ++ x) ≡ next = put_front old at x le ∙ sym e in
-    let before : take next (put old at x) ≡ take at old ++ x = take_at (take at old ++ x) (drop (at + length x) old) next front in
-    let behind : drop next (put old at x) ≡ drop (at + length x) old = drop_at (take at old ++ x) (drop (at + length x) old) next front in
-    let after : drop (next + length y) (put old at x) ≡ drop (at + length (x ++ y)) old =
-    sym (drop-drop (length y) next (put old at x)) ∙ ap (drop (length y)) behind ∙ drop-drop (length y) (at + length x) old
-    ∙ ap (λ (n : ℕ). drop n old) (omega (arith, length-append x y)) in
-    ap (λ (r : List ℕ). r ++ y ++ drop (next + length y) (put old at x)) before
-    ∙ ap (λ (r : List ℕ). take at old ++ x ++ y ++ r) after
-    ∙ ap (λ (r : List ℕ). r ++ drop (at + length (x ++ y)) old) (append_assoc (take at old) x y)
-
--- the block that was put
-pub block_at-put : (old : List ℕ) (number : ℕ) (x : List ℕ) → 128 * (number - 4) ≤ length old → length x ≡ 128 → block_at (put old (128 * (number - 4)) x) number ≡ x
-block_at-put old number x le len =
-    let at : ℕ = 128 * (number - 4) in
-    let rest : List ℕ = drop (at + length x) old in
-    ap (λ (r : List ℕ). take 128 (drop at r)) (append_assoc (take at old) x rest)
-    ∙ ap (take 128) (drop_at (take at old) (x ++ rest) at (length-take-le at old le))
-    ∙ take_at x rest 128 len
-
--- all other blocks
-pub block_at-put_other : (old : List ℕ) (number b : ℕ) (x : List ℕ) → 4 ≤ number → 4 ≤ b → (b ≡ number → ⊥) → 128 * (number - 4) ≤ length old → length x ≡ 128 → block_at (put old (128 * (number - 4)) x) b ≡ block_at old b
-block_at-put_other old number b x from_n from_b apart le len =
-    let at : ℕ = 128 * (number - 4) in
-    elim (cases_lt b number) [
-      | inl below ↦ before old at (128 * (b - 4)) x (omega arith) le
-      | inr above ↦ elim (cases_lt number b) [
-        | inl later ↦ ap (take 128) (behind old at (128 * (b - 4)) x (omega arith) le)
-        | inr same ↦ absurd (apart (omega arith))
-      ]
-    ]
-  where
-    before : (old : List ℕ) (at a : ℕ) (x : List ℕ) → a + 128 ≤ at → at ≤ length old → take 128 (drop a (put old at x)) ≡ take 128 (drop a old)
-    before old at a x le in_old =
-        let rest : List ℕ = drop (at + length x) old in
-        let front = put_front old at x in_old in
-        let kept : take (a + 128) (put old at x) ≡ take (a + 128) old =
-        take-append-le (a + 128) (take at old ++ x) rest (omega arith)
-        ∙ take-append-le (a + 128) (take at old) x (omega (arith, length-take-le at old in_old))
-        ∙ take-take (a + 128) at old le in
-        sym (drop-take a 128 (put old at x)) ∙ ap (drop a) kept ∙ drop-take a 128 old
-
-    behind : (old : List ℕ) (at a : ℕ) (x : List ℕ) → at + length x ≤ a → at ≤ length old → drop a (put old at x) ≡ drop a old
-    behind old at a x le in_old =
-        let n : ℕ = at + length x in
-        let more : a ≡ n + (a - n) = omega arith in
-        let step : drop n (put old at x) ≡ drop n old = drop_at (take at old ++ x) (drop n old) n (put_front old at x in_old) in
-        ap (λ (m : ℕ). drop m (put old at x)) more ∙ sym (drop-drop (a - n) n (put old at x)) ∙ ap (drop (a - n)) step ∙ drop-drop (a - n) n old ∙ ap (λ (m : ℕ). drop m old) (sym more)
-
 pub written_length : (number group part parts : ℕ) (bytes : List ℕ) → length bytes ≡ 112 → length (written_block number group part parts bytes) ≡ 128
 unfolding written_block
 written_length number group part parts bytes e = ap (λ (n : ℕ). suc (suc (suc (suc (suc (suc (suc (suc (suc (suc (suc (suc (suc (suc (suc (suc n)))))))))))))))) e
@@ -121,17 +67,32 @@ pub record Writes (old new : List ℕ) (number : ℕ) (x : List ℕ) : Type 0 wh
   pub block : length x ≡ 128
   pub put : new ≡ put old (128 * (number - 4)) x
 
-pub written_here : (old new : List ℕ) (number : ℕ) (x : List ℕ) → Writes old new number x → block_at new number ≡ x
-written_here old new number x w =
-    let from = w.from in
-    let within = w.within in
-    ap (λ (b : List ℕ). block_at b number) w.put ∙ block_at-put old number x (omega arith) w.block
+module _ (old new : List ℕ) (number : ℕ) (x : List ℕ) (w : Writes old new number x) where
+  fits : 128 * (number - 4) + length x ≤ length old
+  fits = (let from = w.from in let within = w.within in let block = w.block in omega arith)
 
-pub written_other : (old new : List ℕ) (number b : ℕ) (x : List ℕ) → Writes old new number x → 4 ≤ b → (b ≡ number → ⊥) → block_at new b ≡ block_at old b
-written_other old new number b x w from_b apart =
-    let from = w.from in
-    let within = w.within in
-    ap (λ (y : List ℕ). block_at y b) w.put ∙ block_at-put_other old number b x from from_b apart (omega arith) w.block
+  pub written_here : block_at new number ≡ x
+  written_here =
+      ap (λ (b : List ℕ). block_at b number) w.put
+      ∙ ap (take 128) (drop-put old (128 * (number - 4)) x fits)
+      ∙ take_at x (drop (128 * (number - 4) + length x) old) 128 w.block
+
+  pub written_other : (b : ℕ) → 4 ≤ b → (b ≡ number → ⊥) → block_at new b ≡ block_at old b
+  written_other b from_b apart =
+      let at : ℕ = 128 * (b - 4) in
+      let span : 128 ≡ at + 128 - at = omega arith in
+      let from = w.from in
+      let block = w.block in
+      ap (λ (y : List ℕ). block_at y b) w.put
+      ∙ ap (λ (n : ℕ). take n (drop at (put old (128 * (number - 4)) x))) span
+      ∙ same_range (put old (128 * (number - 4)) x) old at (at + 128)
+      (length-put old (128 * (number - 4)) x fits) (λ k low high.
+      get_or-put_outside old (128 * (number - 4)) x k fits
+      (elim (cases_lt k (128 * (number - 4))) [
+        | inl before ↦ inl before
+        | inr behind ↦ inr (omega arith)
+      ]))
+      ∙ ap (λ (n : ℕ). take n (drop at old)) (sym span)
 
 -- bytes with zeros behind them
 pub zeros_behind : (bytes : List ℕ) → put (replicate 112 0) 0 bytes ≡ bytes ++ replicate (112 - length bytes) 0

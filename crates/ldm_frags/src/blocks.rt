@@ -62,6 +62,7 @@ pub fn piece_of(alloc: Global, block: &[u8; 128]) -> Result<Piece, NoMemory>
 }
 
 /// The piece of block `k`.
+#[tactic(auto, using(crate::proofs::KeptLaws::count_of))]
 pub fn piece_at(pieces: &[Piece], k: usize) -> &Piece
     requires within { k < count (blocks_of pieces.now) }
     requires small { length pieces.now ≤ 8192 }

@@ -13,6 +13,7 @@ use ldm_bytes::{Bytes, NoMemory};
 use std::alloc::Global;
 
 // Whether block `k` is of a group that lacks a part.
+#[tactic(auto, using(crate::proofs::KeptLaws::count_of))]
 fn missing_of(groups: &Groups, pieces: &[Piece], k: usize) -> Option<FragFault>
     requires kept { IsKeptTable pieces.now groups.now }
     requires within { k < count (blocks_of pieces.now) }
@@ -27,6 +28,7 @@ fn missing_of(groups: &Groups, pieces: &[Piece], k: usize) -> Option<FragFault>
 }
 
 // The first block whose group lacks a part.
+#[tactic(auto, using(crate::proofs::KeptLaws::count_of))]
 fn first_missing(groups: &Groups, pieces: &[Piece]) -> Option<FragFault>
     requires kept { IsKeptTable pieces.now groups.now }
     requires small { length pieces.now ≤ 8192 }
@@ -64,6 +66,7 @@ fn gather(
 }
 
 // What block `k` adds to the list.
+#[tactic(auto, using(crate::proofs::KeptLaws::count_of))]
 fn entry_of(
     alloc: Global,
     groups: &Groups,
@@ -111,6 +114,7 @@ fn push_entry(
 }
 
 // The list of all blocks, which have no fault.
+#[tactic(auto, using(crate::proofs::KeptLaws::count_of))]
 fn all_entries(alloc: Global, groups: &Groups, pieces: &[Piece]) -> Result<Vec<Joined>, NoMemory>
     requires kept { IsKeptTable pieces.now groups.now }
     requires small { length pieces.now ≤ 8192 }

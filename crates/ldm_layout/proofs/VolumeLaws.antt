@@ -46,10 +46,7 @@ plexes_by q (kinds.Component c ∷ records) =
     let rest = plexes_by q records in
     elim (c.parent == q) as (λ (b : Bool). (if b then plex_of c ∷ plexes_of q records else plexes_of q records) ≡ filter_map plex_in (if b then kinds.Component c ∷ filter (is_child 3 q) records else filter (is_child 3 q) records))
     [ true ↦ ap (λ (l : List Plex). plex_of c ∷ l) rest | false ↦ rest ]
-plexes_by q (kinds.Volume v ∷ records) = plexes_by q records
-plexes_by q (kinds.Disk d ∷ records) = plexes_by q records
-plexes_by q (kinds.Group g ∷ records) = plexes_by q records
-plexes_by q (kinds.Partition p ∷ records) = plexes_by q records
+plexes_by q (r ∷ records) = plexes_by q records
 
 -- and the partitions of a component
 pub extents_by : (q : ℕ) (records : List Record) → extents_of q records ≡ filter_map extent_in (filter (is_child 4 q) records)
@@ -58,10 +55,7 @@ extents_by q (kinds.Partition p ∷ records) =
     let rest = extents_by q records in
     elim (p.parent == q) as (λ (b : Bool). (if b then extent_of p ∷ extents_of q records else extents_of q records) ≡ filter_map extent_in (if b || false then kinds.Partition p ∷ filter (is_child 4 q) records else filter (is_child 4 q) records))
     [ true ↦ ap (λ (l : List Extent). extent_of p ∷ l) rest | false ↦ rest ]
-extents_by q (kinds.Volume v ∷ records) = extents_by q records
-extents_by q (kinds.Disk d ∷ records) = extents_by q records
-extents_by q (kinds.Group g ∷ records) = extents_by q records
-extents_by q (kinds.Component c ∷ records) = extents_by q records
+extents_by q (r ∷ records) = extents_by q records
 
 map_same : {X Y : Type 0} (f g : X → Y) (xs : List X) → ((k : ℕ) (d : X) → k < length xs → f (get_or xs k d) ≡ g (get_or xs k d)) → map f xs ≡ map g xs
 map_same f g [] same = refl
@@ -196,7 +190,10 @@ plexes_rise (r ∷ rs) up = go (plex_in r) refl (plexes_rise rs (λ i j d lt le.
     go : (o : Option Plex) → plex_in r ≡ o → AllPairs Above (filter_map plex_in rs) → AllPairs Above (cons_option (plex_in r) (filter_map plex_in rs))
     go None e rest = subst (λ (o : Option Plex). AllPairs Above (cons_option o (filter_map plex_in rs))) (sym e) rest
     go (Some p) e rest = subst (λ (o : Option Plex). AllPairs Above (cons_option o (filter_map plex_in rs))) (sym e)
-        (AllPairs-cons Above p (filter_map plex_in rs) (named plex_in (Above p) rs (λ k d h q is. ids_rise r (get_or rs k d) p q (up 0 (suc k) d (omega arith) (omega arith)) e is)) rest)
+        (AllPairs-cons Above p (filter_map plex_in rs)
+        (named plex_in (Above p) rs
+        (λ k d h q is. ids_rise r (get_or rs k d) p q
+        (up 0 (suc k) d (omega arith) (omega arith)) e is)) rest)
 
 once : (ps : List Plex) (i j : ℕ) (p : Plex) → AllPairs Above ps → slice_get ps i ≡ Some p → slice_get ps j ≡ Some p → i ≡ j
 once ps i j p up f g =
@@ -296,10 +293,7 @@ record_ends volume c all (kinds.Partition p ∷ rs) own hs =
     All-cons (EndsAt c) (extent_of p) (filter_map extent_in rs)
     (λ same. hs 0 (kinds.Partition p) (omega arith) (ap (λ (n : ℕ). list_any (λ q. q.id == n) (plexes_of volume all)) (eqb-true p.parent c same) ∙ own))
     (record_ends volume c all rs own (All-tail (λ r. is_partition_of volume all r ≡ true → EndsInRange r) (kinds.Partition p) rs hs))
-record_ends volume c all (kinds.Group g ∷ rs) own hs = record_ends volume c all rs own (All-tail (λ r. is_partition_of volume all r ≡ true → EndsInRange r) (kinds.Group g) rs hs)
-record_ends volume c all (kinds.Disk g ∷ rs) own hs = record_ends volume c all rs own (All-tail (λ r. is_partition_of volume all r ≡ true → EndsInRange r) (kinds.Disk g) rs hs)
-record_ends volume c all (kinds.Volume g ∷ rs) own hs = record_ends volume c all rs own (All-tail (λ r. is_partition_of volume all r ≡ true → EndsInRange r) (kinds.Volume g) rs hs)
-record_ends volume c all (kinds.Component g ∷ rs) own hs = record_ends volume c all rs own (All-tail (λ r. is_partition_of volume all r ≡ true → EndsInRange r) (kinds.Component g) rs hs)
+record_ends volume c all (s ∷ rs) own hs = record_ends volume c all rs own (All-tail (λ r. is_partition_of volume all r ≡ true → EndsInRange r) s rs hs)
 
 -- the partitions of the components of a volume end in range
 pub extents_end : (records : List Record) (volume : ℕ) → All (λ r. is_partition_of volume records r ≡ true → EndsInRange r) records → All (λ p. AllEnd (extents_of p.id records)) (plexes_of volume records)
@@ -341,12 +335,22 @@ pub record IsDraft (ps : List Plex) (extents : ℕ → List Extent) (l : Layout)
 
 -- the draft of a shape
 abbrev drafted : ℕ → List Plex → (ℕ → List Extent) → Shape → Layout
-drafted size ps extents s = record { shape = s; size = size; chunk = (striping_of ps).chunk; columns = (striping_of ps).columns; plexes = map (λ p. laid_out s (extents p.id)) ps }
+drafted size ps extents s =
+    record {
+      shape = s;
+      size = size;
+      chunk = (striping_of ps).chunk;
+      columns = (striping_of ps).columns;
+      plexes = map (λ p. laid_out s (extents p.id)) ps;
+    }
 
-draft_shape : (size : ℕ) (ps : List Plex) (extents : ℕ → List Extent) (l : Layout) → draft_of size ps extents ≡ Some l → (s : Shape) × (shape_of ps ≡ Some s) × (drafted size ps extents s ≡ l)
+draft_shape : (size : ℕ) (ps : List Plex) (extents : ℕ → List Extent) (l : Layout)
+    → draft_of size ps extents ≡ Some l
+    → (s : Shape) × (shape_of ps ≡ Some s) × (drafted size ps extents s ≡ l)
 draft_shape size ps extents l h = go (shape_of ps) refl h
   where
-    go : (o : Option Shape) → shape_of ps ≡ o → option_map (drafted size ps extents) o ≡ Some l → (s : Shape) × (shape_of ps ≡ Some s) × (drafted size ps extents s ≡ l)
+    go : (o : Option Shape) → shape_of ps ≡ o → option_map (drafted size ps extents) o ≡ Some l
+        → (s : Shape) × (shape_of ps ≡ Some s) × (drafted size ps extents s ≡ l)
     go None is e = absurd cc
     go (Some s) is e = (s, is, same_Some (drafted size ps extents s) l e)
 
@@ -355,7 +359,8 @@ draft_parts size ps extents l h =
     let of = draft_shape size ps extents l h in
     record {
       shape = of.1 ∙ ap (λ (x : Layout). Some x.shape) of.2;
-      plexes = sym (ap (λ (x : Layout). x.plexes) of.2) ∙ ap (λ (x : Layout). map (λ p. laid_out x.shape (extents p.id)) ps) of.2;
+      plexes = sym (ap (λ (x : Layout). x.plexes) of.2)
+          ∙ ap (λ (x : Layout). map (λ p. laid_out x.shape (extents p.id)) ps) of.2;
     }
 
 -- a draft without faults is a plan
@@ -391,7 +396,9 @@ laid_out_volume records v l h =
     let both = checked_ok (draft_of v.size (plexes_of v.head.id records) (λ c. extents_of c records)) l h in
     record {
       sound = both.1;
-      size = sym (ap (λ (x : Layout). x.size) (draft_shape v.size (plexes_of v.head.id records) (λ c. extents_of c records) l both.0).2);
+      size = sym (ap (λ (x : Layout). x.size)
+          (draft_shape v.size (plexes_of v.head.id records)
+          (λ c. extents_of c records) l both.0).2);
       parts = draft_parts v.size (plexes_of v.head.id records) (λ c. extents_of c records) l both.0;
     }
 
@@ -414,7 +421,8 @@ tiles_append at (x ∷ xs) ys here behind =
 -- tiles that follow those that are there stay behind them in the sort
 pub by_offset_more : (es more : List Extent) → tiles_from 0 (by_offset es ++ more) ≡ true → by_offset (es ++ more) ≡ by_offset es ++ more
 by_offset_more es more tiled =
-    sym (stable_is tile_key (es ++ more) (by_offset es ++ more) (tiles_rise tile_key 0 (by_offset es ++ more) (λ e f le. omega arith) tiled) (λ k.
+    sym (stable_is tile_key (es ++ more) (by_offset es ++ more)
+    (tiles_rise tile_key 0 (by_offset es ++ more) (λ e f le. omega arith) tiled) (λ k.
     filter-append (λ e. tile_key e == k) (by_offset es) more ∙ ap (λ (l : List Extent). l ++ filter (λ e. tile_key e == k) more) (rising_numbers tile_key k es) ∙ sym (filter-append (λ e. tile_key e == k) es more)))
 
 pub some_tiles : (xs ys : List Extent) → tiles xs ≡ true → tiles_from 0 (xs ++ ys) ≡ true → tiles (xs ++ ys) ≡ true
@@ -451,7 +459,4 @@ many_extents q (kinds.Partition p ∷ records) =
     let rest = many_extents q records in
     elim (p.parent == q) as (λ (b : Bool). length (if b || false then kinds.Partition p ∷ filter (is_child 4 q) records else filter (is_child 4 q) records) ≡ length (if b then extent_of p ∷ extents_of q records else extents_of q records))
     [ true ↦ ap suc rest | false ↦ rest ]
-many_extents q (kinds.Volume v ∷ records) = many_extents q records
-many_extents q (kinds.Component c ∷ records) = many_extents q records
-many_extents q (kinds.Disk d ∷ records) = many_extents q records
-many_extents q (kinds.Group g ∷ records) = many_extents q records
+many_extents q (r ∷ records) = many_extents q records

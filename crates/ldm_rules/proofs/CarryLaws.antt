@@ -1,4 +1,5 @@
--- What makes the next group sound: a change that carries the rules over, or records that are all new.
+-- What makes the next group sound: a change that carries the rules over, or records that are all
+-- new.
 use Rattle.std.proofs.Common.{◌≡◌, ◌⊎◌, inl, inr, ℕ, ◌≤◌, ◌==◌, not, List, get_or, refl, sym, ap, subst, ◌∙◌, arith, true, false, None, Ok, Contains, count_by, zero, suc, ◌+◌, ◌<◌, Bool, cond, [], ◌∷◌, length, slice_get, Some, find, position}
 use Rattle.std.specs.Prelude.{filter, is_none, map, nat_le, nat_lt}
 use Rattle.std.proofs.lemmas.Bool.{not-false, eqb-true, eq-eqb, cases_lt, false≢true}
@@ -112,12 +113,10 @@ pub record Carries (old next : List Record) : Type 0 where
 
 -- ---- what rules say of one record
 
-at_disk : (id : ℕ) (r : Record) → is_at 2 id r ≡ true → (d : Disk) × (r ≡ kinds.Disk d) × (d.head.id ≡ id)
+pub at_disk : (id : ℕ) (r : Record) → is_at 2 id r ≡ true
+    → (d : Disk) × (r ≡ kinds.Disk d) × (d.head.id ≡ id)
 at_disk id (kinds.Disk d) h = (d, refl, eqb-true d.head.id id h)
-at_disk id (kinds.Group g) h = absurd cc
-at_disk id (kinds.Volume v) h = absurd cc
-at_disk id (kinds.Component c) h = absurd cc
-at_disk id (kinds.Partition p) h = absurd cc
+at_disk id r h = absurd cc
 
 -- what is counted is there
 pub disk_there : (records : List Record) (r : Record) (id : ℕ) → (count_by (is_at 2 id) records == 0) ≡ false → HasDisk records id
@@ -182,17 +181,13 @@ module _ {old next : List Record} (carries : Carries old next) where
       there : (r : Record) → kind_of r ≤ 2 → Contains old r → Contains next r
       there (kinds.Group g) low at = carries.groups g at
       there (kinds.Disk d) low at = carries.disks d at
-      there (kinds.Volume v) low at = absurd (omega arith)
-      there (kinds.Component c) low at = absurd (omega arith)
-      there (kinds.Partition p) low at = absurd (omega arith)
+      there r low at = absurd (omega arith)
 
       back : (r : Record) → kind_of r ≤ 2 → (Contains old r × HasSameKin old next r) ⊎ KeepsRules next r → Contains old r
       back r low (inl was) = was.0
       back (kinds.Group g) low (inr new) = absurd new
       back (kinds.Disk d) low (inr new) = absurd new
-      back (kinds.Volume v) low (inr new) = absurd (omega arith)
-      back (kinds.Component c) low (inr new) = absurd (omega arith)
-      back (kinds.Partition p) low (inr new) = absurd (omega arith)
+      back r low (inr new) = absurd (omega arith)
 
   module _ (labels : List Label) (each : EachRule old labels) where
     volume_next : (v : Volume) → Contains next (kinds.Volume v) → KeepsVolume next v

@@ -1,4 +1,5 @@
--- How the tests find the first broken rule: walks over records, layouts and sorted spans, and the table of all.
+-- How the tests find the first broken rule: walks over records, layouts and sorted spans, and the
+-- table of all.
 use Rattle.std.proofs.Common.{◌≡◌, ℕ, List, [], ◌∷◌, ◌++◌, refl, Option, Some, None, Err, ◌+◌, ◌<◌, ◌==◌, inl, inr, Bool, true, false, cond, length, get_or, ap, sym, subst, ◌∙◌, arith, count_by, find, Bor, not, option_copied, take, drop, Result, Ok, ◌≢◌, ◌≤◌, ◌&&◌, max, min, zero-add, eq-eqb, nat_lt}
 use Rattle.ldm_bytes.specs.Tables.{first_of}
 use Rattle.ldm_rules.specs.Table.{ChecksAs}
@@ -6,7 +7,7 @@ use Rattle.ldm_rules.specs.declared.fault.RuleError.{RuleError}
 use Rattle.ldm_rules.specs.declared.fault.RuleError.TheVariants.{Fault, NoMemory}
 use Rattle.std.specs.Prelude.{is_none, is_some}
 use Rattle.std.specs.List.{position_or_len, slice_get, filter_map, cons_option, AllAdjacentBelow, Contains, list_any}
-use Rattle.std.proofs.lemmas.Bool.{cases_lt, cases_eq, ltb-true, lt-ltb, eqb-true}
+use Rattle.std.proofs.lemmas.Bool.{cases_lt, cases_eq, ltb-true, lt-ltb, eqb-true, and_parts, not-true}
 use Rattle.std.proofs.lemmas.List.{get_or_default, take_more, take-append-drop, append-nil}
 use Rattle.std.proofs.lemmas.List.Folds.{find_at, Any-from_list_any}
 use Rattle.std.proofs.lemmas.List.Sums.{position_or_len_is, sum_by-cons}
@@ -93,10 +94,7 @@ Seen true ids = (id : ℕ) × (ids ≡ id ∷ [])
 
 no_group : (r : Record) → ((g : GroupRec) → r ≡ kinds.Group g → ⊥) → group_id r ≡ None
 no_group (kinds.Group g) other = absurd (other g refl)
-no_group (kinds.Disk d) other = refl
-no_group (kinds.Volume v) other = refl
-no_group (kinds.Component c) other = refl
-no_group (kinds.Partition p) other = refl
+no_group r other = refl
 
 module _ (records : List Record) (i : ℕ) (r : Record) (lt : i < length records) (is : r ≡ get_or records i r) where
   grown : (o : Option ℕ) → group_id r ≡ o → filter_map group_id (take (i + 1) records) ≡ filter_map group_id (take i records) ++ cons_option o []
@@ -145,25 +143,14 @@ step test v (Err f) faults found h = by_test (test f)
 pub first_of_kind : (test : LayoutFault → Bool) (records rs : List Record) → first_passing test (filter_map (fault_at records) rs) ≡ first_broken (fails_at test records) rs
 first_of_kind test records [] = refl
 first_of_kind test records (kinds.Volume v ∷ rs) = step test v (layout_of records v) (filter_map (fault_at records) rs) (find (fails_at test records) rs) (first_of_kind test records rs)
-first_of_kind test records (kinds.Group g ∷ rs) = first_of_kind test records rs
-first_of_kind test records (kinds.Disk d ∷ rs) = first_of_kind test records rs
-first_of_kind test records (kinds.Component c ∷ rs) = first_of_kind test records rs
-first_of_kind test records (kinds.Partition p ∷ rs) = first_of_kind test records rs
+first_of_kind test records (r ∷ rs) = first_of_kind test records rs
 
 -- the two kinds of the rules
 other_is : (records : List Record) (r : Record) → fails_at (λ f. not (is_short_fault f)) records r ≡ has_layout_fault records r
-other_is records (kinds.Volume v) = refl
-other_is records (kinds.Group g) = refl
-other_is records (kinds.Disk d) = refl
-other_is records (kinds.Component c) = refl
-other_is records (kinds.Partition p) = refl
+other_is records r = refl
 
 short_is : (records : List Record) (r : Record) → fails_at is_short_fault records r ≡ passes_layout records r
-short_is records (kinds.Volume v) = refl
-short_is records (kinds.Group g) = refl
-short_is records (kinds.Disk d) = refl
-short_is records (kinds.Component c) = refl
-short_is records (kinds.Partition p) = refl
+short_is records r = refl
 
 pub first_faulty : (records : List Record) → first_passing (λ f. not (is_short_fault f)) (layout_faults records) ≡ first_broken (has_layout_fault records) records
 first_faulty records = first_of_kind (λ f. not (is_short_fault f)) records records ∙ ap (λ (test : Record → Bool). first_broken test records) (λ i r. other_is records r i)
@@ -173,18 +160,6 @@ first_too_large records = first_of_kind is_short_fault records records ∙ ap (�
 
 -- ---- Where the sorted spans lie apart, no partition meets another.
 
-both_left : (a b : Bool) → (a && b) ≡ true → a ≡ true
-both_left true b h = refl
-both_left false b h = h
-
-both_right : (a b : Bool) → (a && b) ≡ true → b ≡ true
-both_right true b h = h
-both_right false b h = cc
-
-not_true : (a : Bool) → not a ≡ true → a ≡ false
-not_true true h = cc
-not_true false h = refl
-
 -- a test on what may be there
 abbrev pub passes : {Y : Type 0} → (Y → Bool) → Option Y → Bool
 passes test None = false
@@ -193,17 +168,14 @@ passes test (Some y) = test y
 -- a count of what a list names is a count of the list
 pub count-filter_map : {X Y : Type 0} (f : X → Option Y) (test : Y → Bool) (xs : List X) → count_by test (filter_map f xs) ≡ count_by (λ x. passes test (f x)) xs
 count-filter_map f test [] = refl
-count-filter_map {X} {Y} f test (x ∷ xs) = step (f x) refl (count-filter_map f test xs)
-  where
-    step : (o : Option Y) → f x ≡ o → count_by test (filter_map f xs) ≡ count_by (λ z. passes test (f z)) xs → count_by test (filter_map f (x ∷ xs)) ≡ count_by (λ z. passes test (f z)) (x ∷ xs)
-    step None e h =
-        let same : count_by (λ z. passes test (f z)) (x ∷ xs) ≡ count_by (λ z. passes test (f z)) xs = count_no (λ z. passes test (f z)) x xs (ap (passes test) e) ∙ zero-add _ in
-        ap (λ o. count_by test (cons_option o (filter_map f xs))) e ∙ (h ∙ sym same)
-    step (Some y) e h = ap (λ o. count_by test (cons_option o (filter_map f xs))) e
-        ∙ (sum_by-cons (λ z. cond (test z) 1 0) y (filter_map f xs)
-        ∙ (ap (λ n. cond (test y) 1 0 + n) h
-        ∙ (ap (λ o. cond (passes test o) 1 0 + count_by (λ z. passes test (f z)) xs) (sym e)
-        ∙ sym (sum_by-cons (λ z. cond (passes test (f z)) 1 0) x xs))))
+count-filter_map f test (x ∷ xs) =
+    let rest = count-filter_map f test xs in
+    (elim (f x) as (λ o. count_by test (cons_option o (filter_map f xs))
+    ≡ cond (passes test o) 1 0 + count_by (λ z. passes test (f z)) xs) [
+      | None ↦ rest ∙ sym (zero-add _)
+      | Some y ↦ sum_by-cons (λ z. cond (test z) 1 0) y (filter_map f xs)
+          ∙ ap (λ n. cond (test y) 1 0 + n) rest
+    ]) ∙ sym (sum_by-cons (λ z. cond (passes test (f z)) 1 0) x xs)
 
 abbrev pub overlaps : Span → Span → Bool
 overlaps a b = nat_lt (max a.start b.start) (min a.end b.end)
@@ -229,9 +201,11 @@ apart_once xs x apart there twice =
 -- where two partitions of the list meet, and both are of one disk
 pub overlap_of : (p q : Partition) → meets p q ≡ true → (overlaps (span p) (span q) ≡ true) × (overlaps (span p) (span p) ≡ true)
 overlap_of p q h =
-    let disk : p.disk ≡ q.disk = eqb-true p.disk q.disk (both_left (p.disk == q.disk) (nat_lt (max p.start q.start) (min (p.start + p.size) (q.start + q.size))) h) in
+    let both = and_parts (p.disk == q.disk)
+    (nat_lt (max p.start q.start) (min (p.start + p.size) (q.start + q.size))) h in
+    let disk : p.disk ≡ q.disk = eqb-true p.disk q.disk both.0 in
     let lt : max p.start q.start < min (p.start + p.size) (q.start + q.size) =
-    ltb-true (max p.start q.start) (min (p.start + p.size) (q.start + q.size)) (both_right (p.disk == q.disk) (nat_lt (max p.start q.start) (min (p.start + p.size) (q.start + q.size))) h) in
+    ltb-true _ _ both.1 in
     (lt-ltb _ _ (omega arith), lt-ltb _ _ (omega arith))
 
 pub two_met : (records : List Record) (sorted : List Span) (d : Record) (p q : Partition) (k j : ℕ) → Apart sorted → IsPermutation (filter_map span_of records) sorted
@@ -242,7 +216,7 @@ two_met records sorted d p q k j apart perm hk hj at_k at_j other meet =
     let test : Record → Bool = λ r. passes (overlaps (span p)) (span_of r) in
     let pass_k : passes (overlaps (span p)) (span_of (get_or records k d)) ≡ true = ap (λ r. passes (overlaps (span p)) (span_of r)) at_k ∙ over.1 in
     let pass_j : passes (overlaps (span p)) (span_of (get_or records j d)) ≡ true = ap (λ r. passes (overlaps (span p)) (span_of r)) at_j ∙ over.0 in
-    let apart_ids : q.head.id ≡ p.head.id → ⊥ = λ e. (let t = eq-eqb q.head.id p.head.id e in let f = not_true _ other in cc) in
+    let apart_ids : q.head.id ≡ p.head.id → ⊥ = λ e. (let t = eq-eqb q.head.id p.head.id e in let f = not-true _ other in cc) in
     let ne : k ≢ j = λ e. (let same : kinds.Partition p ≡ kinds.Partition q = sym at_k ∙ (ap (λ n. get_or records n d) e ∙ at_j) in
     let same_id : q.head.id ≡ p.head.id = (let part : p ≡ q = cc in ap (λ (y : Partition). y.head.id) (sym part)) in apart_ids same_id) in
     let many : 2 ≤ count_by (λ r. passes (overlaps (span p)) (span_of r)) records =
@@ -258,11 +232,10 @@ pub meets_none : (records : List Record) (sorted : List Span) → Apart sorted �
 meets_none records sorted apart perm = ap (λ o. option_map id_of o) (find_none (meets_another records) records (λ k d h. at (get_or records k d) k d h refl))
   where
     met : (r : Record) (p : Partition) (k : ℕ) (d : Record) → k < length records → get_or records k d ≡ kinds.Partition p → (j : ℕ) → j < length records → get_or records j d ≡ r → is_other_meeting p r ≡ true → ⊥
-    met (kinds.Partition q) p k d hk at_k j hj at_j t = two_met records sorted d p q k j apart perm hk hj at_k at_j (both_left _ _ t) (both_right _ _ t)
-    met (kinds.Group g) p k d hk at_k j hj at_j t = cc
-    met (kinds.Disk g) p k d hk at_k j hj at_j t = cc
-    met (kinds.Volume g) p k d hk at_k j hj at_j t = cc
-    met (kinds.Component g) p k d hk at_k j hj at_j t = cc
+    met (kinds.Partition q) p k d hk at_k j hj at_j t =
+        two_met records sorted d p q k j apart perm hk hj at_k at_j (and_parts _ _ t).0
+        (and_parts _ _ t).1
+    met r p k d hk at_k j hj at_j t = cc
 
     at : (r : Record) (k : ℕ) (d : Record) → k < length records → get_or records k d ≡ r → meets_another records (get_or records k d) ≡ false
     at (kinds.Partition p) k d h e = ap (meets_another records) e ∙ elim (tested (list_any (is_other_meeting p) records)) [
@@ -270,10 +243,7 @@ meets_none records sorted apart perm = ap (λ o. option_map id_of o) (find_none 
       | inl some ↦ (let any = Any-from_list_any (is_other_meeting p) records some in
           absurd (met any.1 p k d h e any.0 any.2 (get_or_default records any.0 d any.1 any.2 ∙ any.3) any.4))
     ]
-    at (kinds.Group g) k d h e = ap (meets_another records) e
-    at (kinds.Disk g) k d h e = ap (meets_another records) e
-    at (kinds.Volume g) k d h e = ap (meets_another records) e
-    at (kinds.Component g) k d h e = ap (meets_another records) e
+    at r k d h e = ap (meets_another records) e
 
 -- spans that rise, each of which ends before the next
 pub apart_from : (xs : List Span) → IsNonDecreasingBy (λ s. s.start) xs → AllAdjacentBelow (λ a b. a.end ≤ b.start) xs (length xs) → Apart xs

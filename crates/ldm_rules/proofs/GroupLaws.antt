@@ -35,7 +35,7 @@ use Rattle.ldm_group.specs.Partitions.{meets, EndsInRange}
 same_partition : {p q : Partition} → kinds.Partition p ≡ kinds.Partition q → p ≡ q
 same_partition h = cc
 
-map_none : {A B : Type 0} (f : A → B) (o : Option A) → option_map f o ≡ None → o ≡ None
+pub map_none : {A B : Type 0} (f : A → B) (o : Option A) → option_map f o ≡ None → o ≡ None
 map_none f None h = refl
 map_none f (Some a) h = absurd cc
 
@@ -217,10 +217,7 @@ meet_none records apart = none_by (meets_another records) records (λ g. refl) (
       | inl same ↦ and_left (not (q.head.id == p.head.id)) (meets p q) (ap not (eq-eqb q.head.id p.head.id same))
       | inr none ↦ and_right (not (q.head.id == p.head.id)) (meets p q) none
     ]
-    other p at (kinds.Group g) there = refl
-    other p at (kinds.Disk g) there = refl
-    other p at (kinds.Volume g) there = refl
-    other p at (kinds.Component g) there = refl
+    other p at r there = refl
 
     one : (p : Partition) → Contains records (kinds.Partition p) → meets_another records (kinds.Partition p) ≡ false
     one p at = list_any_none (is_other_meeting p) records (λ k d lt. other p at (get_or records k d) (Contains-get_or records k d lt))
@@ -232,10 +229,7 @@ record_ends sectors (kinds.Partition p) low h =
     let most : sectors p.disk < 2 ^ 64 = low p.disk in
     let ends : p.start + p.size ≤ sectors p.disk = ltb-false (sectors p.disk) (p.start + p.size) h in
     omega (arith, most, ends)
-record_ends sectors (kinds.Group g) low h = tt
-record_ends sectors (kinds.Disk g) low h = tt
-record_ends sectors (kinds.Volume g) low h = tt
-record_ends sectors (kinds.Component g) low h = tt
+record_ends sectors r low h = tt
 
 pub all_end : (sectors : ℕ → ℕ) (records : List Record) → ((disk : ℕ) → sectors disk < 2 ^ 64) → first_broken (passes_end sectors) records ≡ None → All EndsInRange records
 all_end sectors records low sound k d h =

@@ -30,10 +30,7 @@ label_at_image guid labels = find_at (has_guid guid) labels ∙ by (ltb at (leng
 
 guid_disk : (guid : ℕ) (r : Record) → is_disk_with guid r ≡ true → kind_of r ≡ 2
 guid_disk guid (kinds.Disk d) e = refl
-guid_disk guid (kinds.Group g) e = absurd cc
-guid_disk guid (kinds.Volume v) e = absurd cc
-guid_disk guid (kinds.Component c) e = absurd cc
-guid_disk guid (kinds.Partition p) e = absurd cc
+guid_disk guid r e = absurd cc
 
 same_disk : (a b : List Record) (guid : ℕ) → HasSameDisks a b → disk_with guid a ≡ disk_with guid b
 same_disk a b guid disks = ap disk_in (same_found 2 (is_disk_with guid) a b (guid_disk guid) disks)

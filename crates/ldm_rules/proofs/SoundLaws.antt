@@ -3,7 +3,7 @@ use Rattle.std.proofs.Common.{◌≡◌, ℕ, zero, suc, ◌<◌, ◌≤◌, ◌
 use Rattle.std.specs.List.{All, list_all, filter_map}
 use Rattle.std.specs.Option.{option_map, option_and_then, IsSomeAnd}
 use Rattle.std.specs.Result.{result_ok}
-use Rattle.std.proofs.lemmas.Bool.{and_parts, eqb-true}
+use Rattle.std.proofs.lemmas.Bool.{and_parts, eqb-true, not-false, not_from_false}
 use Rattle.std.proofs.lemmas.List.{length-map, get_or-map}
 use Rattle.std.proofs.lemmas.Option.{slice_get-get_or}
 use Rattle.ldm_records.specs.declared.types.Record.{Record}
@@ -37,6 +37,7 @@ use Rattle.ldm_rules.specs.declared.fault.RuleError.TheVariants.{Fault, NoMemory
 use Rattle.ldm_layout.specs.Answers.{PlansAs}
 use Rattle.ldm_layout.specs.declared.shape.LayoutError.{LayoutError}
 use Rattle.ldm_layout.specs.declared.shape.LayoutError.TheVariants as layout_errors
+use Rattle.std.proofs.lemmas.List.Sums.{AllPass-from_list_all}
 
 -- ---- What the spots of a volume's sectors stand on: a component of the volume, and a partition of it.
 
@@ -89,14 +90,10 @@ copy_facts records v l copy has h =
       size = laid.size;
     }
 
-one_copy : (s : Shape) (n : ℕ) → s ≡ Raid5 → 0 < copies_by s n
-one_copy Span n h = absurd cc
-one_copy Stripe n h = absurd cc
-one_copy Mirror n h = absurd cc
-one_copy Raid5 n h = omega arith
-
 pub raid5_copy : (records : List Record) (v : Volume) (l : Layout) (x : ℕ) → IsRaid5Sector records v l x → IsCopy records v l 0
-raid5_copy records v l x s = copy_facts records v l 0 s.volume (one_copy l.shape (length l.plexes) s.raid5)
+raid5_copy records v l x s =
+    copy_facts records v l 0 s.volume
+    (subst (λ (t : Shape). 0 < copies_by t (length l.plexes)) (sym s.raid5) (omega arith))
 
 -- ---- spots
 
@@ -167,23 +164,14 @@ spot_in_own records v copy spot s =
 
 -- ---- columns
 
-all_at : {X : Type 0} (p : X → Bool) (xs : List X) (k : ℕ) (d : X) → list_all p xs ≡ true → k < length xs → p (get_or xs k d) ≡ true
-all_at p [] k d h lt = absurd (omega arith)
-all_at p (x ∷ xs) zero d h lt = (and_parts (p x) (list_all p xs) h).0
-all_at p (x ∷ xs) (suc k) d h lt = all_at p xs k d (and_parts (p x) (list_all p xs) h).1 (omega arith)
-
-untiled_holds : (s : Shape) (b : Bool) → s ≡ Raid5 → (not (is_tiled s) && not b) ≡ false → b ≡ true
-untiled_holds Span b h e = absurd cc
-untiled_holds Mirror b h e = absurd cc
-untiled_holds Stripe b h e = absurd cc
-untiled_holds Raid5 true h e = refl
-untiled_holds Raid5 false h e = absurd cc
-
 -- the columns that the component says are as many as its partitions
 pub columns_are : (l : Layout) → l.shape ≡ Raid5 → HasNone l → 0 < length l.plexes → l.columns ≡ length (parts_at l 0)
 columns_are l raid5 has h =
-    let all : list_all (has_columns l) l.plexes ≡ true = untiled_holds l.shape (list_all (has_columns l) l.plexes) raid5 has.columns in
-    let one : has_columns l (parts_at l 0) ≡ true = all_at (has_columns l) l.plexes 0 [] all h in
+    let all : list_all (has_columns l) l.plexes ≡ true =
+    not-false (list_all (has_columns l) l.plexes)
+    (rw (not_from_false (is_tiled l.shape) (ap is_tiled raid5)) at has.columns) in
+    let one : has_columns l (parts_at l 0) ≡ true =
+    AllPass-from_list_all (has_columns l) l.plexes all 0 [] h in
     eqb-true l.columns (length (parts_at l 0))
     (and_parts (l.columns == length (parts_at l 0)) (nat_le (fewest l.shape) (length (parts_at l 0)) && rises_from 0 (parts_at l 0)) one).0
 
@@ -211,10 +199,8 @@ one_place records v w c d s t up apart at_v at_w e =
     let start_q : q.start ≡ b.part.start = ap (λ (f : Extent). f.start) b.has.is in
     let size_p : p.size ≡ a.part.size = ap (λ (f : Extent). f.size) a.has.is in
     let size_q : q.size ≡ b.part.size = ap (λ (f : Extent). f.size) b.has.is in
-    let in_p : a.offset < a.part.size = a.within in
-    let in_q : b.offset < b.part.size = b.within in
-    let low_p : a.offset < p.size = omega (arith, size_p, in_p) in
-    let low_q : b.offset < q.size = omega (arith, size_q, in_q) in
+    let low_p : a.offset < p.size = omega (arith, size_p, a.within) in
+    let low_q : b.offset < q.size = omega (arith, size_q, b.within) in
     let sectors : p.start + a.offset ≡ q.start + b.offset = omega (arith, sector, start_p, start_q) in
     let one : (p ≡ q) × (a.offset ≡ b.offset) = one_spot records p q a.offset b.offset up apart a.has.there b.has.there low_p low_q disk sectors in
     let parts : a.part ≡ b.part = sym a.has.is ∙ (ap (λ (z : Partition). extent_of z) one.0 ∙ b.has.is) in
@@ -269,23 +255,11 @@ places_beside records v w l m x y d up apart at_x at_y e =
 
 -- ---- parity
 
-raid5_untiled : (s : Shape) → s ≡ Raid5 → is_tiled s ≡ false
-raid5_untiled Span h = absurd cc
-raid5_untiled Mirror h = absurd cc
-raid5_untiled Stripe h = refl
-raid5_untiled Raid5 h = refl
-
-raid5_parity : (s : Shape) (u : ℕ) (es : List Extent) (x : ℕ) → s ≡ Raid5 → parity_at s u es x ≡ parity_spot es u x
-raid5_parity Span u es x h = absurd cc
-raid5_parity Mirror u es x h = absurd cc
-raid5_parity Stripe u es x h = absurd cc
-raid5_parity Raid5 u es x h = refl
-
 -- the parity of a sector, by the columns of its volume
 parity_by : (records : List Record) (v : Volume) (l : Layout) (x y : ℕ) → IsRaid5Sector records v l x → parity_spot_in l y ≡ parity_spot (parts_at l 0) l.chunk y
 parity_by records v l x y s =
-    let here = raid5_copy records v l x s in
-    parity_spot_is l y here.listed ∙ raid5_parity l.shape l.chunk (parts_at l 0) y s.raid5
+    parity_spot_is l y (raid5_copy records v l x s).listed
+    ∙ ap (λ (t : Shape). parity_at t l.chunk (parts_at l 0) y) s.raid5
 
 columns_of : (records : List Record) (v : Volume) (l : Layout) (x : ℕ) → IsRaid5Sector records v l x → l.columns ≡ length (parts_at l 0)
 columns_of records v l x s = columns_are l s.raid5 (has_none l (laid_out_volume records v l s.volume.layout).sound) (raid5_copy records v l x s).listed
@@ -299,7 +273,7 @@ parities_shared records v w l m x y up apart at_x at_y e =
     (sym (parity_is records v l x at_x.volume) ∙ (e ∙ parity_is records w m y at_y.volume)) in
     let layouts : m ≡ l = one_layout records v w l m at_x.volume at_y.volume one.0 in
     let here = raid5_copy records v l x at_x in
-    let untiled : is_tiled l.shape ≡ false = raid5_untiled l.shape at_x.raid5 in
+    let untiled : is_tiled l.shape ≡ false = ap is_tiled at_x.raid5 in
     let first : parity_spot (parts_at l 0) l.chunk x ≡ Some (spot_x.inside.part, spot_x.inside.offset) = sym (parity_by records v l x x at_x) ∙ spot_x.inside.is in
     let second : parity_spot (parts_at l 0) l.chunk y ≡ Some (spot_x.inside.part, spot_x.inside.offset) =
     sym (parity_by records v l x y at_x) ∙ (ap (λ (k : Layout). parity_spot_in k y) (sym layouts) ∙ (sym one.2 ∙ spot_x.inside.is)) in
@@ -316,7 +290,7 @@ pub rows_share : (records : List Record) (v w : Volume) (l m : Layout) (x y : �
     → v ≡ w → IsSameRow l x y → parity_of records v x ≡ parity_of records w y
 rows_share records v w l m x y at_x at_y same row =
     let here = raid5_copy records v l x at_x in
-    let untiled : is_tiled l.shape ≡ false = raid5_untiled l.shape at_x.raid5 in
+    let untiled : is_tiled l.shape ≡ false = ap is_tiled at_x.raid5 in
     let columns : l.columns ≡ length (parts_at l 0) = columns_of records v l x at_x in
     let rows = subst (λ (k : ℕ). x / (l.chunk * (k - 1)) ≡ y / (l.chunk * (k - 1))) columns row.row in
     let spots : parity_spot_in l x ≡ parity_spot_in l y = parity_by records v l x x at_x
@@ -463,7 +437,8 @@ planned records v result plan plans is = subst (λ (r : Result Layout LayoutErro
 
 -- where all volumes have layouts, no plan is a fault
 pub no_fault : (records : List Record) (v : Volume) (result : Result Layout LayoutError) (error : LayoutError) (fault : LayoutFault) → AllLaidOut records → Contains records (kinds.Volume v)
-    → PlansAs result (layout_of records v) → result ≡ Err error → error ≡ layout_errors.Fault fault → ⊥
+    → PlansAs result (layout_of records v) → result ≡ Err error
+    → error ≡ layout_errors.Fault fault → ⊥
 no_fault records v result error fault laid_out there plans is fault_is =
     let faulty : layout_of records v ≡ Err fault = subst (λ (r : Result Layout LayoutError). PlansAs r (layout_of records v)) (is ∙ ap (λ (e : LayoutError). Err e) fault_is) plans in
     let good = laid_out v there in

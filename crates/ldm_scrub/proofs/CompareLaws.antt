@@ -1,4 +1,5 @@
--- Places of a volume: where they lie, how many there are, what is compared at each, and what is said of those that are bad.
+-- Places of a volume: where they lie, how many there are, what is compared at each, and what is
+-- said of those that are bad.
 use Rattle.std.proofs.Common.{◌≡◌, ℕ, ◌+◌, ◌-◌, ◌*◌, ◌/◌, ◌%◌, ◌<◌, ◌≤◌, Bool, false, length, refl, ap, sym, ◌∙◌, arith, add_assoc, Option, Some, None, if◌then◌else◌, slice_get, List, true, not, ◌||◌, [], ◌∷◌, ◌++◌, map, take, drop, slice_index, add-one, zero, suc, ◌==◌, get_or, replicate, filter_map, inl, inr, min, cond, nat_lt, filter, flat_map, count_by, subst, append_assoc, zero-add}
 use Rattle.std.specs.Option.{option_map, option_to_list}
 use Rattle.std.proofs.lemmas.Nat.{div-add-mod', div-mul-add, mod-mul-add, mod_below, mul-le}
@@ -22,7 +23,7 @@ use Rattle.std.proofs.lemmas.List.FromFn.{length-map-range_with_len, get_or-map-
 use Rattle.ldm_dump.specs.Bytes.{joined_byte, joined_sector}
 use Rattle.ldm_dump.proofs.ByteLaws.{joined_behind}
 use Rattle.ldm_dump.specs.Redundant.{row_spots, IsRedundant}
-use Rattle.ldm_dump.proofs.RangeLaws.{range_more, made_moved, range_append}
+use Rattle.ldm_dump.proofs.RangeLaws.{range_more, made_moved, range_append, at_number}
 use Rattle.ldm_dump.proofs.ReadLaws.{run_bytes}
 use Rattle.std.specs.Str.{bytes_eq}
 use Rattle.std.proofs.lemmas.Bool.{eq-eqb, eqb-true, not-false, false_from_ne_true, true≢false, cases_lt, lt-ltb, le-ltb}
@@ -33,6 +34,7 @@ use Rattle.std.proofs.lemmas.List.Sums.{sum_by-append}
 use Rattle.std.proofs.lemmas.Grind.{flat_map-append}
 use Rattle.ldm_host.specs.Moves.{Begins}
 use Rattle.ldm_scrub.specs.Lines.{text_of_differing, text_of_failing, bad_line, line_at, bad_lines, bad_of, text_of_end}
+use Rattle.ldm_layout.proofs.SpotLaws.{spot_along, place_along}
 
 -- ---- Places of a RAID-5: what lies beside them in the columns.
 
@@ -84,10 +86,9 @@ place_of_row k u x some first =
 -- ---- the columns
 
 at_offset : (o : Option Extent) (p i : ℕ) → option_map place_at (option_map {U = Extent × ℕ} (λ e. (e, p + i)) o) ≡ option_map (moved i) (option_map place_at (option_map {U = Extent × ℕ} (λ e. (e, p)) o))
-at_offset None p i = refl
-at_offset (Some e) p i =
-    let make : ℕ → Option Place = λ n. Some (record { disk = e.disk; sector = n }) in
-    ap make (sym (add_assoc e.start p i))
+at_offset o p i =
+    ap (λ (s : Option (Extent × ℕ)). option_map place_at s) (spot_along o (p + i) p i refl)
+    ∙ place_along (option_map {U = Extent × ℕ} (λ e. (e, p)) o) i
 
 -- what is in a column at a place
 column_at : (l : Layout) (p column : ℕ) → l.shape ≡ Raid5 → IsColumned l
@@ -204,8 +205,10 @@ copy_bytes sizes found l x copy n bytes s lies run copied few is =
 
 none_passes : (t : ℕ → Bool) (a n c : ℕ) → list_any t (range_with_len a n) ≡ false → a ≤ c → c < a + n → t c ≡ false
 none_passes t a n c h low lt =
-    let at : get_or (range_with_len a n) (c - a) 0 ≡ c = get_or-range_with_len a n (c - a) 0 (omega (arith, low, lt)) ∙ (let e : a + (c - a) ≡ c = omega (arith, low) in e) in
-    false_from_ne_true (t c) (λ yes. true≢false (sym (list_any_at t (range_with_len a n) (c - a) 0 (omega (arith, low, lt, length-range_with_len a n)) (ap t at ∙ yes)) ∙ h))
+    let at = at_number a n c 0 low lt in
+    false_from_ne_true (t c)
+    (λ yes. true≢false (sym (list_any_at t (range_with_len a n) (c - a) 0 at.0 (ap t at.1 ∙ yes))
+    ∙ h))
 
 byte_in : (images : List (List ℕ)) (spots : List Spot) (j : ℕ) → j < 512 → get_or (joined_sector images spots) j 0 ≡ joined_byte images spots j
 byte_in images spots j lt = get_or-map-range_with_len (joined_byte images spots) 0 512 j j 0 lt (omega arith)
@@ -256,44 +259,35 @@ module _ (images : List (List ℕ)) (found : Found) (l : Layout) (columned : l.s
     abbrev k : ℕ
     k = length (columns_of l)
 
-    abbrev row : ℕ
-    row = x / u / (k - 1)
+    -- where it is in its column, and the first sector there
+    abbrev at : ℕ
+    at = raid5_offset k u x
 
     abbrev first : ℕ
-    first = row * (k - 1) * u + x % u
+    first = row_sector k u at
 
-    has : IsColumned l
-    has = columned raid5
-
-    rest_low : x % u < u
-    rest_low = mod_below x u has.chunked
-
-    chunk_at : first / u ≡ row * (k - 1)
-    chunk_at = div-mul-add (row * (k - 1)) u (x % u) rest_low
-
-    rest_at : first % u ≡ x % u
-    rest_at = mod-mul-add (row * (k - 1)) u (x % u) rest_low
-
-    many : 0 < k - 1
-    many = (let m = has.many in omega (arith, m))
-
-    row_at : first / u / (k - 1) ≡ row
-    row_at = ap (λ n. n / (k - 1)) chunk_at ∙ (ap (λ n. n / (k - 1)) (let e : row * (k - 1) ≡ row * (k - 1) + 0 = omega arith in e) ∙ div-mul-add row (k - 1) 0 many)
+    parts : RowParts k u at
+    parts = row_parts k u at (columned raid5).chunked (columned raid5).many
 
     on_place : is_place l first ≡ true
-    on_place = ap (λ (s : Shape). if is_raid5 s then (first / u % (k - 1)) == 0 else true) raid5
-        ∙ eq-eqb (first / u % (k - 1)) 0 (ap (λ n. n % (k - 1)) chunk_at ∙ (ap (λ n. n % (k - 1)) (let e : row * (k - 1) ≡ row * (k - 1) + 0 = omega arith in e) ∙ mod-mul-add row (k - 1) 0 many))
+    on_place =
+        let many = (columned raid5).many in
+        let chunk : first / u ≡ at / u * (k - 1) + 0 = omega (arith, parts.chunk) in
+        ap (λ (s : Shape). if is_raid5 s then (first / u % (k - 1)) == 0 else true) raid5
+        ∙ eq-eqb (first / u % (k - 1)) 0 (ap (λ n. n % (k - 1)) chunk
+        ∙ mod-mul-add (at / u) (k - 1) 0 (omega (arith, many)))
 
     first_low : first ≤ x
     first_low =
+        let low : x % u < u = mod_below x u (columned raid5).chunked in
+        let row = ap (λ n. n * (k - 1) * u) (div-mul-add (x / u / (k - 1)) u (x % u) low) in
+        let rest = mod-mul-add (x / u / (k - 1)) u (x % u) low in
         let whole : x / u * u + x % u ≡ x = div-add-mod' x u in
-        let chunks : row * (k - 1) + x / u % (k - 1) ≡ x / u = div-add-mod' (x / u) (k - 1) in
-        let few : row * (k - 1) ≤ x / u = omega (arith, chunks) in
-        let less : row * (k - 1) * u ≤ x / u * u = mul-le (row * (k - 1)) u (x / u) u few (omega arith) in
-        omega (arith, whole, less)
-
-    offset_at : raid5_offset k u first ≡ raid5_offset k u x
-    offset_at = ap (λ n. n * u + first % u) row_at ∙ ap (λ n. row * u + n) rest_at
+        let chunks : x / u / (k - 1) * (k - 1) + x / u % (k - 1) ≡ x / u = div-add-mod' (x / u) (k - 1) in
+        let few : x / u / (k - 1) * (k - 1) ≤ x / u = omega (arith, chunks) in
+        let less : x / u / (k - 1) * (k - 1) * u ≤ x / u * u = mul-le (x / u / (k - 1) * (k - 1)) u
+        (x / u) u few (omega arith) in
+        omega (arith, whole, less, row, rest)
 
   row_zero : (x j : ℕ) → x < l.size → l.shape ≡ Raid5 → j < 512 → joined_byte images (row_spots found l x) j ≡ 0
   row_zero x j within raid5 lt =
@@ -305,7 +299,7 @@ module _ (images : List (List ℕ)) (found : Found) (l : Layout) (columned : l.s
       row_same x raid5 j ∙ (sym (byte_in images (row_spots found l at) j lt) ∙ (ap (λ (s : List ℕ). get_or s j 0) equal ∙ get_or-replicate 512 j zero_byte zero_byte lt))
     where
       row_same : (y : ℕ) (is : l.shape ≡ Raid5) (i : ℕ) → joined_byte images (row_spots found l y) i ≡ joined_byte images (row_spots found l (first y is)) i
-      row_same y is i = rows_by found l y (first y is) images i (sym (offset_at y is))
+      row_same y is i = rows_by found l y (first y is) images i (sym (parts y is).offset)
 
 -- each of them is the sector of a place
 at_place : (l : Layout) (x : ℕ) → (l.shape ≡ Raid5 → IsColumned l) → is_place l x ≡ true → (p : ℕ) × (place_sector l p ≡ x)
@@ -336,15 +330,13 @@ filter_all : (t : ℕ → Bool) (a n : ℕ) → ((p : ℕ) → a ≤ p → p < a
 filter_all t a zero all = refl
 filter_all t a (suc n) all =
     let rest = filter_all t (a + 1) n (λ p low lt. all p (omega (arith, low)) (omega (arith, lt))) in
-    ap (λ (b : Bool). cond b (a ∷ filter t (range_with_len (a + 1) n)) (filter t (range_with_len (a + 1) n))) (all a (omega arith) (omega arith))
-    ∙ ap (λ (r : List ℕ). a ∷ r) rest
+    rw (all a (omega arith) (omega arith), rest) refl
 
 filter_none : (t : ℕ → Bool) (a n : ℕ) → ((p : ℕ) → a ≤ p → p < a + n → t p ≡ false) → filter t (range_with_len a n) ≡ []
 filter_none t a zero none = refl
 filter_none t a (suc n) none =
-    let rest = filter_none t (a + 1) n (λ p low lt. none p (omega (arith, low)) (omega (arith, lt))) in
-    ap (λ (b : Bool). cond b (a ∷ filter t (range_with_len (a + 1) n)) (filter t (range_with_len (a + 1) n))) (none a (omega arith) (omega arith))
-    ∙ rest
+    rw (none a (omega arith) (omega arith))
+    (filter_none t (a + 1) n (λ p low lt. none p (omega (arith, low)) (omega (arith, lt))))
 
 -- those that pass a test stand in front
 filter_front : (t : ℕ → Bool) (size n : ℕ) → n ≤ size → ((p : ℕ) → p < n → t p ≡ true) → ((p : ℕ) → n ≤ p → t p ≡ false) → filter t (range_with_len 0 size) ≡ range_with_len 0 n

@@ -36,6 +36,7 @@ use Rattle.ldm_found.specs.Labels.{image_of}
 use Rattle.ldm_dump.specs.Sources.{is_here}
 use Rattle.ldm_dump.specs.Redundant.{IsComplete}
 use Rattle.std.proofs.lemmas.Option.{slice_get-get_or}
+use Rattle.ldm_rules.proofs.CarryLaws.{at_disk}
 
 -- ---- Which partitions are of a volume.
 
@@ -87,18 +88,6 @@ owner_test records volume parent up = go (by_id 4 parent records) refl
 
 -- ---- Where no disk of a volume is missing, all of them are there.
 
-at_disk : (id : ℕ) (r : Record) → is_at 2 id r ≡ true → (d : Disk) × (r ≡ kinds.Disk d) × (d.head.id ≡ id)
-at_disk id (kinds.Disk d) h = (d, refl, eqb-true d.head.id id h)
-at_disk id r h = absurd cc
-
-nothing_found : (o : Option Record) → option_map id_of o ≡ None → o ≡ None
-nothing_found None h = refl
-nothing_found (Some r) h = absurd cc
-
--- what a search that finds nothing passes over
-passed : (t : Record → Bool) (records : List Record) (r : Record) → find t records ≡ None → Contains records r → t r ≡ false
-passed t records r e there = ap t (sym there.2) ∙ none_found t records there.0 r e there.1
-
 module _ (found : Found) (v : Volume) (l : Layout) (sound : IsSoundGroup found) (has : HasLayout found.db.records v l) (complete : missing_of found v.head.id ≡ None) where
   -- a disk with a partition of the volume
   disk_here : (p : Partition) (copy : ℕ) → copy < length (plexes_of v.head.id found.db.records) → Contains found.db.records (kinds.Partition p)
@@ -120,7 +109,7 @@ module _ (found : Found) (v : Volume) (l : Layout) (sound : IsSoundGroup found) 
           let absent : is_absent found.labels (kinds.Disk d) ≡ true = ap (λ (i : Option ℕ). is_none i) e in
           let missing : is_missing found v.head.id (kinds.Disk d) ≡ true = ap (λ (b : Bool). b && has_part found.db.records v.head.id d.head.id) absent ∙ parted d id in
           let other : is_missing found v.head.id (kinds.Disk d) ≡ false =
-          passed (is_missing found v.head.id) found.db.records (kinds.Disk d) (nothing_found (find (is_missing found v.head.id) found.db.records) complete) at in
+          not_broken (is_missing found v.head.id) found.db.records (kinds.Disk d) complete at in
           absurd (let both : true ≡ false = sym missing ∙ other in cc)
 
       look : (o : Option Record) → by_id 2 p.disk found.db.records ≡ o → is_some (image_of p.disk found.db.records found.labels) ≡ true
@@ -128,7 +117,8 @@ module _ (found : Found) (v : Volume) (l : Layout) (sound : IsSoundGroup found) 
           let kept : lacks_disk (λ id. count_by (is_at 2 id) found.db.records) (kinds.Partition p) ≡ false =
           not_broken (lacks_disk (λ id. count_by (is_at 2 id) found.db.records)) found.db.records (kinds.Partition p) (sound_parts found.db.records found.labels sound.group.sound).disks there in
           let some = counted_there (is_at 2 p.disk) found.db.records (kinds.Partition p) kept in
-          let other : is_at 2 p.disk some.0 ≡ false = passed (is_at 2 p.disk) found.db.records some.0 e some.1 in
+          let other : is_at 2 p.disk some.0 ≡ false = ap (is_at 2 p.disk) (sym some.1.2)
+          ∙ none_found (is_at 2 p.disk) found.db.records some.1.0 some.0 e some.1.1 in
           absurd (let both : true ≡ false = sym some.2 ∙ other in cc)
       look (Some r) e =
           let at = find_there (is_at 2 p.disk) found.db.records r e in

@@ -1,4 +1,5 @@
--- Free sectors: the first fit is exactly the least free start, and what is placed one after the other lies apart.
+-- Free sectors: the first fit is exactly the least free start, and what is placed one after the
+-- other lies apart.
 use Rattle.std.proofs.Common.{◌≡◌, inl, inr, ℕ, zero, suc, ◌+◌, ◌-◌, ◌<◌, ◌≤◌, ◌==◌, max, min, not, List, [], ◌∷◌, length, get_or, refl, sym, ap, ◌∙◌, arith, Bool, true, false, cond, ltb, Option, Some, None, ◌||◌, ◌++◌, drop, append_assoc, Result, Ok, Err, drop-cons, ◌&&◌, subst, nat_lt}
 use Rattle.std.specs.List.{Contains, list_any, cons_option}
 use Rattle.std.proofs.lemmas.Bool.{cases_order, not-true, not-false, ltb-true, ltb-false, lt-ltb, le-ltb, cond-false, false_from_ne_true, false≢true, and_parts, and_from, ne_eqb, eq-eqb, cases_eq}
@@ -289,10 +290,6 @@ fits_within sectors (w ∷ more) taken (s ∷ spots) limits h =
     All-cons (λ (t : Taken). t.start + t.size ≤ sectors t.disk) s spots (omega arith) (fits_within sectors more (s ∷ taken) spots (All-tail (λ (v : Wanted). v.limit ≡ sectors v.disk) w more limits) h.1)
 
 -- ---- what lies apart
-
--- partitions meet where what they take does
-pub meets_clash : (p q : Partition) → meets p q ≡ clash (taken_of p) (taken_of q)
-meets_clash p q = refl
 
 -- from what was taken before all of them,
 pub apart_old : (taken new : List Taken) (a b : Taken) → AreDisjoint taken new → Contains new a → Contains taken b → clash a b ≡ false

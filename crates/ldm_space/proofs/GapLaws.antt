@@ -1,10 +1,11 @@
--- Gaps between what is taken: the first that is long enough begins at the first fit, and what a taking leaves.
+-- Gaps between what is taken: the first that is long enough begins at the first fit, and what a
+-- taking leaves.
 use Rattle.std.proofs.Common.{◌≡◌, ◌≢◌, ◌⊎◌, inl, inr, ℕ, zero, suc, ◌+◌, ◌<◌, ◌≤◌, ◌==◌, max, min, List, [], ◌∷◌, length, get_or, sym, ap, subst, ◌∙◌, arith, Bool, true, false, cond, Some, None, find, eq-eqb, ◌-◌, ◌^◌, ◌&&◌, ◌||◌, ◌++◌, take, refl, nat_lt, set, get_or-set_same, get_or-set_other, ltb, Option, MatchOption}
-use Rattle.std.specs.List.{All, AllPairs, Contains, filter_map, list_any, cons_option, remove, position, position_or_len}
+use Rattle.std.specs.List.{All, AllPairs, Contains, filter_map, list_any, cons_option, remove, position, position_or_len, slice_get}
 use Rattle.std.proofs.lemmas.Bool.{cases_order, and_parts, and_from, ltb-true, lt-ltb, leb-true, le-leb, eqb-true, false_from_ne_true, true_from_ne_false, false≢true, cases_lt, le-ltb, or_from, or_parts, cases_eq, ltb-false, ne_eqb}
 use Rattle.std.proofs.lemmas.List.{get_or_default, take_more, take_all}
 use Rattle.std.proofs.lemmas.List.Elements.{All-contains, All-nil, All-cons, All-push, All-tail, All-head, All-weaker, Contains-append_left, Contains-push, Contains-push_cases, Contains-get_or}
-use Rattle.std.proofs.lemmas.List.Folds.{list_any_at, Any-from_list_any, list_any-append, list_any_none}
+use Rattle.std.proofs.lemmas.List.Folds.{list_any_at, Any-from_list_any, list_any-append, list_any_none, find_at}
 use Rattle.ldm_space.specs.Free.{Taken, takes_one, is_taken, first_free_start, taken_of, taken_in}
 use Rattle.ldm_space.specs.Gaps.{Gap, IsIn, AreGaps, has_length, taken_on, with_gap, TakesFirst, first_gap, shorter, rest_of, without_first}
 use Rattle.ldm_space.proofs.FreeLaws.{is_first, is_none, first_is, none_is, taken_both, put_last}
@@ -18,11 +19,12 @@ use Rattle.ldm_group.specs.Partitions.{EndsInRange}
 use Rattle.std.specs.Option.{option_map}
 use Rattle.std.proofs.Math.ListN.{length-set}
 use Rattle.std.proofs.lemmas.List.Edits.{length-remove, get_or-remove_below, get_or-remove_above}
-use Rattle.std.proofs.lemmas.List.Sums.{fails_before_first}
+use Rattle.std.proofs.lemmas.List.Sums.{fails_before_first, position_or_len_is}
 use Rattle.std.specs.Ordering.{nat_cmp}
 use Rattle.std.specs.BTreeMap.{BTreeMap, get, Updates, IsEmpty, is_at}
 use Rattle.std.specs.Map.{lookup}
 use Rattle.std.specs.Cmp.{unsigned_tied}
+use Rattle.std.proofs.lemmas.Option.{slice_get-get_or}
 
 -- ---- The first gap that is long enough begins at the first fit.
 
@@ -82,20 +84,17 @@ apart gaps g h rising (i, lt_i, is_g) (j, lt_j, is_h) = elim (cases_order i j) [
 
 pub run_in : (gaps : List Gap) (taken : List Taken) (disk size len q : ℕ) (h : Gap) → AreGaps gaps taken disk size → Contains gaps h → IsIn h q → q + len ≤ size
     → ((s : ℕ) → q ≤ s → s < q + len → is_taken taken disk 1 s ≡ false) → q + len ≤ h.start + h.len
-run_in gaps taken disk size len q h are there in_h ends each = elim (cases_order (q + len) (h.start + h.len)) [
-  | inl same ↦ omega arith
-  | inr off ↦ elim off [
-    | inl low ↦ omega arith
-    | inr high ↦ (let from = in_h.from in let below = in_h.below in
-        let next = are.all (h.start + h.len) (omega arith) (each (h.start + h.len) (omega arith) (omega arith)) in
-        let k : Gap = next.0 in
-        let k_from = next.2.from in
-        let k_below = next.2.below in
-        elim (apart gaps h k are.rising there next.1) [
-          | inl one ↦ (let starts : h.start ≡ k.start = ap (λ (g : Gap). g.start) one in let lens : h.len ≡ k.len = ap (λ (g : Gap). g.len) one in absurd (omega arith))
-          | inr two ↦ elim two [ inl before ↦ absurd (omega arith) | inr after ↦ absurd (omega arith) ]
-        ])
-  ]
+run_in gaps taken disk size len q h are there in_h ends each = elim (cases_lt (h.start + h.len) (q + len)) [
+  | inr le ↦ le
+  | inl high ↦ (let from = in_h.from in let below = in_h.below in
+      let next = are.all (h.start + h.len) (omega arith) (each (h.start + h.len) (omega arith) (omega arith)) in
+      let k : Gap = next.0 in
+      let k_from = next.2.from in
+      let k_below = next.2.below in
+      elim (apart gaps h k are.rising there next.1) [
+        | inl one ↦ (let starts : h.start ≡ k.start = ap (λ (g : Gap). g.start) one in let lens : h.len ≡ k.len = ap (λ (g : Gap). g.len) one in absurd (omega arith))
+        | inr two ↦ elim two [ inl before ↦ absurd (omega arith) | inr after ↦ absurd (omega arith) ]
+      ])
 ]
 
 -- ---- the first that is long enough
@@ -114,10 +113,12 @@ first_behind len x gaps at f = record {
 }
 
 pub found_first : (len : ℕ) (gaps : List Gap) (at : ℕ) (d : Gap) → IsFirstLong len gaps at → find (has_length len) gaps ≡ Some (get_or gaps at d)
-found_first len [] at d f = let lt = f.within in absurd (omega arith)
-found_first len (x ∷ gaps) zero d f = ap (λ (b : Bool). cond b (Some x) (find (has_length len) gaps)) (f.long d)
-found_first len (x ∷ gaps) (suc at) d f =
-    ap (λ (b : Bool). cond b (Some x) (find (has_length len) gaps)) (f.before 0 d (omega arith)) ∙ found_first len gaps at d (first_behind len x gaps at f)
+found_first len gaps at d f =
+    let within = f.within in
+    find_at (has_length len) gaps
+    ∙ ap (slice_get gaps)
+    (position_or_len_is (has_length len) gaps at d (omega arith) (λ k lt. f.before k d lt)
+    (λ lt. f.long d)) ∙ slice_get-get_or gaps at d within
 
 -- ---- the law
 
@@ -190,10 +191,7 @@ on_disk (kinds.Partition p ∷ records) disk s = go ((p.disk == disk) && nat_lt 
     go false is rest =
         ap (λ (b : Bool). list_any (takes_one disk 1 s) (cons_option (cond b (Some (taken_of p)) None) (filter_map (taken_on disk) records))) is
         ∙ (rest ∙ sym (ap (λ (b : Bool). b || list_any (takes_one disk 1 s) (taken_in records)) (off_disk p disk s is)))
-on_disk (kinds.Group r ∷ records) disk s = on_disk records disk s
-on_disk (kinds.Disk r ∷ records) disk s = on_disk records disk s
-on_disk (kinds.Volume r ∷ records) disk s = on_disk records disk s
-on_disk (kinds.Component r ∷ records) disk s = on_disk records disk s
+on_disk (r ∷ records) disk s = on_disk records disk s
 
 -- in any order
 pub sorted_same : (records : List Record) (taken : List Taken) (disk s : ℕ) → IsPermutation (filter_map (taken_on disk) records) taken → is_taken taken disk 1 s ≡ is_taken (taken_in records) disk 1 s
@@ -216,10 +214,7 @@ all_on (kinds.Partition p ∷ records) disk ends = go ((p.disk == disk) && nat_l
         (All-cons (IsOn disk) (taken_of p) (filter_map (taken_on disk) records)
         (record { on = eqb-true p.disk disk (and_parts (p.disk == disk) _ is).0; some = ltb-true 0 p.size (and_parts (p.disk == disk) _ is).1; ends = range }) rest)
     go false is range rest = subst (λ (b : Bool). All (IsOn disk) (cons_option (cond b (Some (taken_of p)) None) (filter_map (taken_on disk) records))) (sym is) rest
-all_on (kinds.Group r ∷ records) disk ends = all_on records disk (All-tail EndsInRange (kinds.Group r) records ends)
-all_on (kinds.Disk r ∷ records) disk ends = all_on records disk (All-tail EndsInRange (kinds.Disk r) records ends)
-all_on (kinds.Volume r ∷ records) disk ends = all_on records disk (All-tail EndsInRange (kinds.Volume r) records ends)
-all_on (kinds.Component r ∷ records) disk ends = all_on records disk (All-tail EndsInRange (kinds.Component r) records ends)
+all_on (r ∷ records) disk ends = all_on records disk (All-tail EndsInRange r records ends)
 
 -- ---- the walk
 

@@ -1,7 +1,7 @@
 -- Stretches of sectors that lie side by side, and the lines and texts that are made of them.
 use Rattle.std.proofs.Common.{◌≡◌, ◌∙◌, ℕ, zero, suc, ◌+◌, ◌-◌, ◌<◌, ◌==◌, ◌&&◌, Bool, true, false, List, [], ◌∷◌, refl, ap, sym, arith, add_assoc, Option, Some, filter_map, ◌≤◌, inl, inr, map, subst, zero-add, ◌++◌, flat_map, append_assoc}
 use Rattle.std.specs.List.{range_with_len, cons_option}
-use Rattle.std.proofs.lemmas.Bool.{and_parts, and_from, cond-true, cond-false, eqb-true, eq-eqb, and_right, cases_lt, le-leb, lt-ltb, le-ltb}
+use Rattle.std.proofs.lemmas.Bool.{and_parts, and_from, cond-true, cond-false, eqb-true, eq-eqb, and_right, cases_lt, le-leb, lt-ltb, le-ltb, cases_Bool}
 use Rattle.ldm_layout.specs.Layouts.{Layout}
 use Rattle.ldm_found.specs.declared.found.Found.{Found}
 use Rattle.ldm_table.specs.declared.stretch.Stretch.{Stretch}
@@ -12,8 +12,8 @@ use Rattle.ldm_dump.specs.declared.spots.Spot.{Spot}
 use Rattle.ldm_table.specs.Targets.{Line, linear, spots_of, has_sector, spots_in}
 use Rattle.ldm_table.specs.Laws.{Tile}
 use Rattle.std.proofs.lemmas.List.{append-nil, map-append}
-use Rattle.ldm_dump.proofs.RangeLaws.{range_more}
 use Rattle.ldm_table.specs.Spelling.{text_of_line}
+use Rattle.std.proofs.lemmas.List.FromFn.{map-range_with_len_more}
 
 -- ---- Stretches that are put in front of others, one after the other.
 
@@ -43,36 +43,18 @@ behind_both a b c next =
 
 pub before_next : (a b : Stretch) (rest : List Stretch) → is_next_to a b ≡ true → before a (before b rest) ≡ before (with_next a b) rest
 before_next a b [] is = cond-true (is_next_to a b) (with_next a b ∷ []) (a ∷ b ∷ []) is
-before_next a b (c ∷ cs) is = go (is_next_to b c) refl
-  where
-    go : (t : Bool) → is_next_to b c ≡ t → before a (before b (c ∷ cs)) ≡ before (with_next a b) (c ∷ cs)
-    go true e =
-        let whole : List Stretch → List Stretch = before a in
-        ap whole (cond-true (is_next_to b c) (with_next b c ∷ cs) (b ∷ c ∷ cs) e)
-        ∙ (cond-true (is_next_to a b) (with_next a (with_next b c) ∷ cs) (a ∷ with_next b c ∷ cs) is
-        ∙ (ap (λ (n : ℕ). record a { sectors = n } ∷ cs) (sym (add_assoc a.sectors b.sectors c.sectors))
-        ∙ sym (cond-true (is_next_to (with_next a b) c) (with_next (with_next a b) c ∷ cs) (with_next a b ∷ c ∷ cs) (sym (behind_both a b c (next_is a b is)) ∙ e))))
-    go false e =
-        let whole : List Stretch → List Stretch = before a in
-        ap whole (cond-false (is_next_to b c) (with_next b c ∷ cs) (b ∷ c ∷ cs) e)
-        ∙ (cond-true (is_next_to a b) (with_next a b ∷ c ∷ cs) (a ∷ b ∷ c ∷ cs) is
-        ∙ sym (cond-false (is_next_to (with_next a b) c) (with_next (with_next a b) c ∷ cs) (with_next a b ∷ c ∷ cs) (sym (behind_both a b c (next_is a b is)) ∙ e)))
+before_next a b (c ∷ cs) is =
+    let behind = sym (behind_both a b c (next_is a b is)) in
+    elim (cases_Bool (is_next_to b c)) [
+      | inl e ↦ rw (e, is, behind ∙ e)
+          (ap (λ (n : ℕ). record a { sectors = n } ∷ cs) (sym (add_assoc a.sectors b.sectors c.sectors)))
+      | inr e ↦ rw (e, is, behind ∙ e) refl
+    ]
 
 pub before_apart : (a b : Stretch) (rest : List Stretch) → is_next_to a b ≡ false → before a (before b rest) ≡ a ∷ before b rest
 before_apart a b [] is = cond-false (is_next_to a b) (with_next a b ∷ []) (a ∷ b ∷ []) is
-before_apart a b (c ∷ cs) is = go (is_next_to b c) refl
-  where
-    go : (t : Bool) → is_next_to b c ≡ t → before a (before b (c ∷ cs)) ≡ a ∷ before b (c ∷ cs)
-    go true e =
-        let whole : List Stretch → List Stretch = before a in
-        ap whole (cond-true (is_next_to b c) (with_next b c ∷ cs) (b ∷ c ∷ cs) e)
-        ∙ (cond-false (is_next_to a b) (with_next a (with_next b c) ∷ cs) (a ∷ with_next b c ∷ cs) is
-        ∙ ap (λ (l : List Stretch). a ∷ l) (sym (cond-true (is_next_to b c) (with_next b c ∷ cs) (b ∷ c ∷ cs) e)))
-    go false e =
-        let whole : List Stretch → List Stretch = before a in
-        ap whole (cond-false (is_next_to b c) (with_next b c ∷ cs) (b ∷ c ∷ cs) e)
-        ∙ (cond-false (is_next_to a b) (with_next a b ∷ c ∷ cs) (a ∷ b ∷ c ∷ cs) is
-        ∙ ap (λ (l : List Stretch). a ∷ l) (sym (cond-false (is_next_to b c) (with_next b c ∷ cs) (b ∷ c ∷ cs) e)))
+before_apart a b (c ∷ cs) is =
+    elim (cases_Bool (is_next_to b c)) [ inl e ↦ rw (e, is) refl | inr e ↦ rw (e, is) refl ]
 
 -- ---- sectors side by side are one stretch
 
@@ -245,16 +227,11 @@ module _ (g : ℕ → Spot) where
 
 -- ---- The text of lines, stretch by stretch.
 
--- what is made of one number more
-pub made_more : {X : Type 0} (f : ℕ → X) (n : ℕ) → map f (range_with_len 0 (n + 1)) ≡ map f (range_with_len 0 n) ++ f n ∷ []
-made_more f n =
-    let more : n + 1 ≡ suc n = omega arith in
-    ap (λ (m : ℕ). map f (range_with_len 0 m)) more ∙ (ap (map f) (range_more 0 n) ∙ (map-append f (range_with_len 0 n) ((0 + n) ∷ []) ∙ ap (λ (m : ℕ). map f (range_with_len 0 n) ++ (f m ∷ [])) (zero-add n)))
-
 -- a list with what is made of the next number
 pub more_made : {X : Type 0} (f : ℕ → X) (n : ℕ) (so more : List X) (x : X) → so ≡ map f (range_with_len 0 n) → x ≡ f n → more ≡ so ++ x ∷ [] → more ≡ map f (range_with_len 0 (n + 1))
 more_made {X} f n so more x is at said =
-    said ∙ (ap (λ (y : X). so ++ y ∷ []) at ∙ (ap (λ (l : List X). l ++ f n ∷ []) is ∙ sym (made_more f n)))
+    said ∙ (ap (λ (y : X). so ++ y ∷ []) at
+    ∙ (ap (λ (l : List X). l ++ f n ∷ []) is ∙ sym (map-range_with_len_more f 0 n n (omega arith))))
 
 pub three_parts : (t a b c m n o : List ℕ) → m ≡ t ++ a → n ≡ m ++ b → o ≡ n ++ c → o ≡ t ++ ((a ++ b) ++ c)
 three_parts t a b c m n o x y z =

@@ -1,8 +1,9 @@
--- The device of a volume's table has the volume's sectors: those of whole rows through a target, and the rest from one image each.
+-- The device of a volume's table has the volume's sectors: those of whole rows through a target,
+-- and the rest from one image each.
 use Rattle.std.proofs.Common.{◌≡◌, ◌∙◌, ℕ, ◌+◌, ◌-◌, ◌<◌, ◌≤◌, true, false, [], ◌∷◌, map, refl, ap, sym, subst, arith, Option, Some, None, is_none, is_some, inl, inr, find, zero, suc, ◌*◌, ◌/◌, ◌%◌, ◌==◌, Bool, length, slice_get, ◌≢◌, if◌then◌else◌, List, get_or, zero-add, filter_map, ◌++◌}
 use Rattle.std.specs.List.{range_with_len, list_all}
 use Rattle.std.specs.Option.{option_map, option_to_list}
-use Rattle.std.proofs.lemmas.Bool.{cases_lt, cond-true, cond-false, eqb-true, eqb-false}
+use Rattle.std.proofs.lemmas.Bool.{cases_lt, cond-true, cond-false, eqb-true, eqb-false, cases_Bool, ne_eqb}
 use Rattle.ldm_layout.specs.Layouts.{Layout, copies_of, place_in, is_tiled, place_at, plex_spot, copies_by}
 use Rattle.ldm_layout.specs.declared.shape.Place.{Place}
 use Rattle.ldm_found.specs.declared.found.Found.{Found}
@@ -11,11 +12,10 @@ use Rattle.ldm_dump.specs.Sources.{is_here, data_start, spot_at, first_copy, cop
 use Rattle.ldm_dump.specs.Runs.{behind, IsRun}
 use Rattle.ldm_dump.specs.declared.spots.Spot.{Spot}
 use Rattle.ldm_dump.specs.declared.runs.Run.{Run}
-use Rattle.ldm_dump.proofs.ReadLaws.{copy_there, copy_sources, made_raid5}
+use Rattle.ldm_dump.proofs.ReadLaws.{copy_there, copy_sources, made_raid5, here_is, there_is}
 use Rattle.ldm_table.specs.Faults.{is_rebuilt, is_bad_chunk, has_many_columns, fault_if, volume_fault}
 use Rattle.ldm_table.specs.Tables.{one_sector, data_columns, row_sectors, whole_rows, in_rows, column_start, column_begin, column_spots, member_of, member_from, member_at, members_of, sector_at, stretches_of, array_by, array_of, row_lines_by, row_lines, rest_lines, table_of}
 use Rattle.ldm_table.specs.Runs.{IsStretchOf}
-use Rattle.ldm_table.proofs.RangeLaws.{none_in, all_same_in, made_same_in, made_length, made_at}
 use Rattle.std.proofs.Math.Nat.{mul-le-mul_left}
 use Rattle.std.proofs.lemmas.Nat.{div-add-mod', div-mul-add, mod-mul-add}
 use Rattle.ldm_layout.specs.Columns.{columns_of, chunk_of, IsColumned, column_in, moved, own_column}
@@ -25,44 +25,28 @@ use Rattle.ldm_layout.specs.declared.shape.Shape.{Shape}
 use Rattle.ldm_layout.specs.declared.shape.Shape.TheVariants.{Stripe, Raid5, Span, Mirror}
 use Rattle.ldm_layout.proofs.SpotLaws.{place_by}
 use Rattle.ldm_bytes.specs.Tables.{first_of}
-use Rattle.ldm_dump.proofs.RunLaws.{least_found, here_moved, spot_moved}
+use Rattle.ldm_dump.proofs.RunLaws.{least_found, here_moved, spot_moved, chunk_is}
 use Rattle.ldm_table.specs.declared.faults.TableFault.{TableFault}
 use Rattle.ldm_table.specs.declared.faults.TableFault.TheVariants.{Empty, Lost, Chunk, Columns, Rebuilt}
 use Rattle.std.specs.Prelude.{◌&&◌, ◌||◌, option_and_then}
-use Rattle.ldm_dump.proofs.RangeLaws.{find_first, find_nothing}
+use Rattle.ldm_dump.proofs.RangeLaws.{find_first, find_nothing, none_in, all_same_in, made_same_in}
 use Rattle.ldm_table.specs.declared.parts.Member.{Member}
 use Rattle.ldm_table.specs.Targets.{striped, raid5_ls, spots_of, striped_spot, row_in, data_device, member_spot, device_spot, other_device, others_there, raid5_by, raid5_spots, Line, Target, spots_in}
 use Rattle.ldm_dump.specs.Bytes.{joined_sector, sector_of}
 use Rattle.ldm_table.specs.Laws.{Tile, IsDeviceOf, TablesAreVolumes}
 use Rattle.ldm_table.proofs.LineLaws.{in_first, in_others, some_spot, AreLinesOf, lines_joined}
+use Rattle.std.proofs.lemmas.List.FromFn.{length-map-range_with_len, get_or-map-range_with_len}
 
 -- ---- Sectors that are read from one image.
 
 -- ---- places that are here
 
-pub spot_here : (found : Found) (p : Option Place) → is_here found p ≡ true → (s : Spot) × (spot_at found p ≡ Some s)
-spot_here found None h = absurd cc
-spot_here found (Some place) h = go (image_of place.disk found.db.records found.labels) h
+spot_absent : (found : Found) (p : Option Place) → is_here found p ≡ false → spot_at found p ≡ None
+spot_absent found p h = go (spot_at found p) (sym (here_is found p) ∙ h)
   where
-    go : (o : Option ℕ) → is_some o ≡ true → (s : Spot) × (option_map {U = Spot} (λ image. record { image = image; sector = data_start found.labels image + place.sector }) o ≡ Some s)
-    go None h = absurd cc
-    go (Some image) h = (record { image = image; sector = data_start found.labels image + place.sector }, refl)
-
-pub here_spot : (found : Found) (p : Option Place) (s : Spot) → spot_at found p ≡ Some s → is_here found p ≡ true
-here_spot found None s h = absurd cc
-here_spot found (Some place) s h = go (image_of place.disk found.db.records found.labels) h
-  where
-    go : (o : Option ℕ) → option_map {U = Spot} (λ image. record { image = image; sector = data_start found.labels image + place.sector }) o ≡ Some s → is_some o ≡ true
-    go None h = absurd cc
-    go (Some image) h = refl
-
-pub spot_absent : (found : Found) (p : Option Place) → is_here found p ≡ false → spot_at found p ≡ None
-spot_absent found None h = refl
-spot_absent found (Some place) h = go (image_of place.disk found.db.records found.labels) h
-  where
-    go : (o : Option ℕ) → is_some o ≡ false → option_map {U = Spot} (λ image. record { image = image; sector = data_start found.labels image + place.sector }) o ≡ None
+    go : (o : Option Spot) → is_some o ≡ false → o ≡ None
     go None h = refl
-    go (Some image) h = absurd cc
+    go (Some s) h = absurd cc
 
 -- ---- runs that have a copy
 
@@ -82,9 +66,10 @@ run_copied found l x run is some i lt = go run.copy refl some
     go None e h = absurd cc
     go (Some c) e h =
         let there = copy_there found l x c (sym e ∙ is.copy_is) in
-        let spot = spot_here found (place_in l x c) there.1 in
+        let spot = there_is found (place_in l x c) there.1 in
         let moved : copy_spot found l (x + i) c ≡ Some (behind i spot.0) = is.copies i c lt e ∙ ap (option_map (behind i)) spot.1 in
-        copied_by found l (x + i) c there.0 (here_spot found (place_in l (x + i) c) (behind i spot.0) moved)
+        copied_by found l (x + i) c there.0 (here_is found (place_in l (x + i) c)
+        ∙ ap is_some moved)
 
 -- what is not from the first on up to there, and in a run there
 pub copied_more : (found : Found) (l : Layout) (first x : ℕ) (run : Run) → IsRun found l x run → is_none run.copy ≡ false → first ≤ x → ((y : ℕ) → first ≤ y → y < x → is_rebuilt found l y ≡ false)
@@ -103,7 +88,7 @@ sector_single found l x is = go (first_copy found l x) refl is
     go : (o : Option ℕ) → first_copy found l x ≡ o → is_none o ≡ false → (s : Spot) × (sources_of found l x ≡ Some (s ∷ []))
     go None e h = absurd cc
     go (Some c) e h =
-        let spot = spot_here found (place_in l x c) (copy_there found l x c (sym e)).1 in
+        let spot = there_is found (place_in l x c) (copy_there found l x c (sym e)).1 in
         (spot.0, copy_sources found l x c spot.0 (sym e) spot.1)
 
 -- the stretch of a run that is read from this copy
@@ -123,19 +108,21 @@ run_stretch found l x c run s is copy spot =
 no_times : (n : ℕ) → 0 * n ≡ 0
 no_times n = omega arith
 
+-- whole rows, and what the last one has in part
+rows_of : (l : Layout) → (row_sectors l == 0) ≡ false
+    → whole_rows l * row_sectors l + l.size % row_sectors l ≡ l.size
+rows_of l is =
+    ap (λ (n : ℕ). n * row_sectors l + l.size % row_sectors l)
+    (cond-false (row_sectors l == 0) 0 (l.size / row_sectors l) is)
+    ∙ div-add-mod' l.size (row_sectors l)
+
 pub rows_within : (l : Layout) → whole_rows l * row_sectors l ≤ l.size
-rows_within l = go (row_sectors l == 0) refl
-  where
-    go : (b : Bool) → (row_sectors l == 0) ≡ b → whole_rows l * row_sectors l ≤ l.size
-    go true is =
-        let none : whole_rows l ≡ 0 = cond-true (row_sectors l == 0) 0 (l.size / row_sectors l) is in
-        let zero_times : whole_rows l * row_sectors l ≡ 0 = ap (λ (n : ℕ). n * row_sectors l) none ∙ no_times (row_sectors l) in
-        omega (arith, zero_times)
-    go false is =
-        let some : whole_rows l ≡ l.size / row_sectors l = cond-false (row_sectors l == 0) 0 (l.size / row_sectors l) is in
-        let whole : l.size / row_sectors l * row_sectors l + l.size % row_sectors l ≡ l.size = div-add-mod' l.size (row_sectors l) in
-        let same : whole_rows l * row_sectors l ≡ l.size / row_sectors l * row_sectors l = ap (λ (n : ℕ). n * row_sectors l) some in
-        omega (arith, whole, same)
+rows_within l = elim (cases_Bool (row_sectors l == 0)) [
+  | inl is ↦ (let none = ap (λ (n : ℕ). n * row_sectors l)
+      (cond-true (row_sectors l == 0) 0 (l.size / row_sectors l) is)
+      ∙ no_times (row_sectors l) in omega (arith, none))
+  | inr is ↦ (let all = rows_of l is in omega (arith, all))
+]
 
 -- where there are no rows
 pub no_rows : (l : Layout) → row_sectors l ≡ 0 → in_rows l ≡ 0
@@ -143,27 +130,15 @@ no_rows l is = grind (arith, ap (λ (n : ℕ). whole_rows l * n) is)
 
 -- what the last row in part leaves
 pub whole_of : (l : Layout) → (row_sectors l ≡ 0 → ⊥) → l.size - l.size % row_sectors l ≡ in_rows l
-whole_of l some = go (row_sectors l == 0) refl
-  where
-    go : (b : Bool) → (row_sectors l == 0) ≡ b → l.size - l.size % row_sectors l ≡ in_rows l
-    go true is = absurd (some (eqb-true (row_sectors l) 0 is))
-    go false is =
-        let some : whole_rows l ≡ l.size / row_sectors l = cond-false (row_sectors l == 0) 0 (l.size / row_sectors l) is in
-        let whole : l.size / row_sectors l * row_sectors l + l.size % row_sectors l ≡ l.size = div-add-mod' l.size (row_sectors l) in
-        let same : whole_rows l * row_sectors l ≡ l.size / row_sectors l * row_sectors l = ap (λ (n : ℕ). n * row_sectors l) some in
-        omega (arith, whole, same)
-
--- a stripe's and a RAID-5's own chunk
-pub chunk_is : (l : Layout) → is_tiled l.shape ≡ false → chunk_of l ≡ l.chunk
-chunk_is l untiled = cond-false (is_tiled l.shape) 0 l.chunk untiled
+whole_of l some = (let all = rows_of l (ne_eqb (row_sectors l) 0 some) in omega (arith, all))
 
 -- a volume with whole rows has sectors in each row
 pub row_there : (l : Layout) → 0 < whole_rows l → 0 < row_sectors l
-row_there l some = go (row_sectors l == 0) refl
-  where
-    go : (b : Bool) → (row_sectors l == 0) ≡ b → 0 < row_sectors l
-    go true is = (let none : whole_rows l ≡ 0 = cond-true (row_sectors l == 0) 0 (l.size / row_sectors l) is in absurd (omega arith))
-    go false is = (let ne = eqb-false (row_sectors l) 0 is in grind (arith, ne))
+row_there l some = elim (cases_Bool (row_sectors l == 0)) [
+  | inl is ↦ (let none : whole_rows l ≡ 0 =
+      cond-true (row_sectors l == 0) 0 (l.size / row_sectors l) is in absurd (omega arith))
+  | inr is ↦ (let ne = eqb-false (row_sectors l) 0 is in grind (arith, ne))
+]
 
 -- a part of a product
 part_of : (u d : ℕ) → 0 < u * d → u ≤ u * d
@@ -220,26 +195,6 @@ raid5_at l x raid5 is =
     ∙ spot_from l (raid5_column (length (columns_of l)) l.chunk x) (raid5_offset (length (columns_of l)) l.chunk x))
 
 -- ---- the first of each
-
-no_offset : (k u : ℕ) → 0 < u → raid5_offset k u 0 ≡ 0
-no_offset k u some =
-    let quotient : 0 / u ≡ 0 = div_zero u some in
-    let rest : 0 % u ≡ 0 = mod_zero u some in
-    ap (λ (q : ℕ). q / (k - 1) * u + 0 % u) quotient ∙ (ap (λ (r : ℕ). 0 / (k - 1) * u + r) rest ∙ go (k - 1))
-  where
-    div_zero : (u : ℕ) → 0 < u → 0 / u ≡ 0
-    div_zero u some = (let none : 0 ≡ 0 * u + 0 = omega arith in ap (λ (n : ℕ). n / u) none ∙ div-mul-add 0 u 0 some)
-
-    mod_zero : (u : ℕ) → 0 < u → 0 % u ≡ 0
-    mod_zero u some = (let none : 0 ≡ 0 * u + 0 = omega arith in ap (λ (n : ℕ). n % u) none ∙ mod-mul-add 0 u 0 some)
-
-    go : (n : ℕ) → 0 / n * u + 0 ≡ 0
-    go zero = grind arith
-    go (suc n) = (let q : 0 / suc n ≡ 0 = div_zero (suc n) (omega arith) in let none : 0 * u + 0 ≡ 0 = omega arith in ap (λ (m : ℕ). m * u + 0) q ∙ none)
-
-pub column_first : (l : Layout) (c : ℕ) → 0 < l.chunk → column_in l 0 c ≡ column_start l c
-column_first l c some =
-    column_at l 0 c ∙ (ap (λ (o : ℕ). option_map (moved o) (column_start l c)) (no_offset (length (columns_of l)) l.chunk some) ∙ moved_none (column_start l c))
 
 pub stripe_first : (l : Layout) (c : ℕ) → l.shape ≡ Stripe → IsColumned l → c < length (columns_of l) → place_in l (l.chunk * c) 0 ≡ column_start l c
 stripe_first l c stripe is lt =
@@ -359,16 +314,12 @@ pub column_moved : (found : Found) (l : Layout) (c o : ℕ) → option_map (behi
 column_moved found l c o = sym (spot_moved found o (column_start l c))
 
 module _ (found : Found) (l : Layout) (x : ℕ) (is : IsColumned l) where
-  k : ℕ
-  k = length (columns_of l)
-
-  u : ℕ
-  u = l.chunk
-
   -- ---- a stripe
 
   column_got : (c : ℕ) → c < length (columns_of l) → get_or (column_spots found l) c None ≡ column_begin found l c
-  column_got c lt = made_at (column_begin found l) 0 (length (columns_of l)) c None lt ∙ ap (column_begin found l) (zero-add c)
+  column_got c lt =
+      get_or-map-range_with_len (column_begin found l) 0 (length (columns_of l)) c c None lt
+      (omega arith)
 
   striped_at : l.shape ≡ Stripe → striped_spot l.chunk (column_spots found l) x ≡ copy_spot found l x 0
   striped_at stripe =
@@ -376,7 +327,7 @@ module _ (found : Found) (l : Layout) (x : ℕ) (is : IsColumned l) where
       let c = stripe_column (length (columns_of l)) l.chunk x in
       let o = stripe_offset (length (columns_of l)) l.chunk x in
       let lt : c < length (columns_of l) = omega (arith, many) in
-      ap (λ (n : ℕ). option_map (behind (x / l.chunk / n * l.chunk + x % l.chunk)) (get_or (column_spots found l) (x / l.chunk % n) None)) (made_length (column_begin found l) 0 (length (columns_of l)))
+      ap (λ (n : ℕ). option_map (behind (x / l.chunk / n * l.chunk + x % l.chunk)) (get_or (column_spots found l) (x / l.chunk % n) None)) (length-map-range_with_len (column_begin found l) 0 (length (columns_of l)))
       ∙ (ap (option_map (behind o)) (column_got c lt)
       ∙ (column_moved found l c o
       ∙ ap (λ (p : Option Place). spot_at found p) (sym (stripe_at l x stripe is))))
@@ -391,7 +342,7 @@ module _ (found : Found) (l : Layout) (x : ℕ) (is : IsColumned l) where
           let there = copy_there found l x c (sym e) in
           let lt = there.0 in
           let first : c ≡ 0 = omega (arith, lt, one) in
-          let spot = spot_here found (place_in l x c) there.1 in
+          let spot = there_is found (place_in l x c) there.1 in
           (spot.0, ap (λ (d : ℕ). copy_spot found l x d) (sym first) ∙ spot.1, copy_sources found l x c spot.0 (sym e) spot.1)
 
   pub stripe_spots : l.shape ≡ Stripe → is_lost found l x ≡ false → spots_of (striped (chunk_of l) (column_spots found l)) x ≡ sources_of found l x
@@ -429,10 +380,12 @@ module _ (found : Found) (l : Layout) (x : ℕ) (is : IsColumned l) where
       go (Some p) = made (whole_rows l * chunk_of l) p (image_of p.disk found.db.records found.labels)
 
   member_got : (c : ℕ) → c < length (columns_of l) → get_or (members_of found l) c None ≡ member_at found l c
-  member_got c lt = made_at (member_at found l) 0 (length (columns_of l)) c None lt ∙ ap (member_at found l) (zero-add c)
+  member_got c lt =
+      get_or-map-range_with_len (member_at found l) 0 (length (columns_of l)) c c None lt
+      (omega arith)
 
   members_count : length (members_of found l) ≡ length (columns_of l)
-  members_count = made_length (member_at found l) 0 (length (columns_of l))
+  members_count = length-map-range_with_len (member_at found l) 0 (length (columns_of l))
 
   device_at : (c : ℕ) → c < length (columns_of l) → device_spot l.chunk (members_of found l) x c ≡ spot_at found (column_in l x c)
   device_at c lt =
@@ -474,9 +427,6 @@ module _ (found : Found) (l : Layout) (x : ℕ) (is : IsColumned l) where
   unfolding sources_of first_copy can_rebuild
   raid5_sources raid5 = go (is_here found (place_in l x 0)) refl
     where
-      beside : Bool
-      beside = list_all (is_beside found l x) (range_with_len 0 (length (columns_of l)))
-
       one : copies_of l ≡ 1
       one = ap (λ (s : Shape). copies_by s (length l.plexes)) raid5
 
@@ -487,7 +437,7 @@ module _ (found : Found) (l : Layout) (x : ℕ) (is : IsColumned l) where
       go : (b : Bool) → is_here found (place_in l x 0) ≡ b → raid5_by (spot_at found (place_in l x 0)) (list_all (is_beside found l x) (range_with_len 0 (length (columns_of l)))) (other_spots found l x)
           ≡ sources_by found l x (find (λ copy. is_here found (place_in l x copy)) (range_with_len 0 (copies_of l))) (is_raid5 l.shape && list_all (is_beside found l x) (range_with_len 0 (length (columns_of l))))
       go true here =
-          let spot = spot_here found (place_in l x 0) here in
+          let spot = there_is found (place_in l x 0) here in
           let first : find (λ copy. is_here found (place_in l x copy)) (range_with_len 0 (copies_of l)) ≡ Some 0 =
           find_first (λ copy. is_here found (place_in l x copy)) 0 (copies_of l) 0 (omega arith) (omega (arith, one)) (λ d low lt. absurd (omega (arith, lt))) here in
           let listed : Option Spot → Option (List Spot) = λ o. Some (option_to_list o) in
@@ -521,9 +471,6 @@ head_spot (Some (s ∷ spots)) = s
 head_spot _ = record { image = 0; sector = 0 }
 
 module _ (found : Found) (l : Layout) (none : volume_fault found l ≡ None) where
-  source : ℕ → Spot
-  source x = head_spot (sources_of found l x)
-
   -- ---- what whole rows leave
 
   single_is : (x : ℕ) → in_rows l ≤ x → x < l.size → sources_of found l x ≡ some_spot (head_spot (sources_of found l x)).image (head_spot (sources_of found l x)).sector
@@ -554,15 +501,13 @@ module _ (found : Found) (l : Layout) (none : volume_fault found l ≡ None) whe
     pub sectors : (x : ℕ) → x < l.size → spots_in lines x ≡ sources_of found l x
 
   -- no row is whole
-  no_rows : in_rows l ≡ 0 → row_lines found l ≡ [] → AreSectors (row_lines found l ++ rest_lines found l)
-  no_rows empty lines =
+  none_whole : in_rows l ≡ 0 → row_lines found l ≡ []
+      → AreSectors (row_lines found l ++ rest_lines found l)
+  none_whole empty lines =
       subst (λ (front : List Line). AreSectors (front ++ rest_lines found l)) (sym lines) (record {
         tile = subst (λ (n : ℕ). Tile n l.size (rest_lines found l)) empty rest_tile;
         sectors = λ x high. rest_sector x (omega (arith, empty)) high;
       })
-
-  row_line : Target → Line
-  row_line target = record { start = 0; sectors = in_rows l; target = target }
 
   -- so many sectors in whole rows
   with_rows : (target : Target) → 0 < in_rows l → row_lines found l ≡ record { start = 0; sectors = in_rows l; target = target } ∷ [] → ((x : ℕ) → x < in_rows l → spots_of target x ≡ sources_of found l x)
@@ -594,32 +539,23 @@ module _ (found : Found) (l : Layout) (none : volume_fault found l ≡ None) whe
       let times : row_sectors l ≡ chunk_of l * 0 = ap (λ (n : ℕ). chunk_of l * n) none_there in
       grind (arith, row, times)
 
+  some_rows : (whole_rows l == 0) ≡ false → 0 < whole_rows l
+  some_rows h = (let ne = eqb-false (whole_rows l) 0 h in grind (arith, ne))
+
   by_rows : (is_tiled l.shape ≡ false → IsColumned l) → (b : Bool) → (whole_rows l == 0) ≡ b → (s : Shape) → l.shape ≡ s → AreSectors (table_of found l)
   by_rows columned true is s shape =
       let empty : whole_rows l ≡ 0 = eqb-true (whole_rows l) 0 is in
       let times : 0 * row_sectors l ≡ 0 = omega arith in
-      no_rows (ap (λ (n : ℕ). n * row_sectors l) empty ∙ times) (cond-true (whole_rows l == 0) [] (row_lines_by found l l.shape) is)
-  by_rows columned false is Span shape = absurd (tiled_rows (ap (λ (t : Shape). data_columns t (length (columns_of l))) shape) (some_rows is))
-    where
-      some_rows : (whole_rows l == 0) ≡ false → 0 < whole_rows l
-      some_rows h = (let ne = eqb-false (whole_rows l) 0 h in grind (arith, ne))
-  by_rows columned false is Mirror shape = absurd (tiled_rows (ap (λ (t : Shape). data_columns t (length (columns_of l))) shape) (some_rows is))
-    where
-      some_rows : (whole_rows l == 0) ≡ false → 0 < whole_rows l
-      some_rows h = (let ne = eqb-false (whole_rows l) 0 h in grind (arith, ne))
+      none_whole (ap (λ (n : ℕ). n * row_sectors l) empty ∙ times)
+      (cond-true (whole_rows l == 0) [] (row_lines_by found l l.shape) is)
   by_rows columned false is Stripe shape =
       let within = rows_within l in
       with_rows (striped (chunk_of l) (column_spots found l)) (row_in_rows l (some_rows is)) (lines_some Stripe shape is)
       (λ x lt. stripe_spots found l x (columned (ap is_tiled shape)) shape (kept x (omega (arith, lt, within))))
-    where
-      some_rows : (whole_rows l == 0) ≡ false → 0 < whole_rows l
-      some_rows h = (let ne = eqb-false (whole_rows l) 0 h in grind (arith, ne))
   by_rows columned false is Raid5 shape =
       with_rows (raid5_ls (chunk_of l) (array_of found l)) (row_in_rows l (some_rows is)) (lines_some Raid5 shape is)
       (λ x lt. ap (λ (m : List (Option Member)). spots_of (raid5_ls (chunk_of l) m) x) (array_some shape is) ∙ array_spots found l x (columned (ap is_tiled shape)) shape)
-    where
-      some_rows : (whole_rows l == 0) ≡ false → 0 < whole_rows l
-      some_rows h = (let ne = eqb-false (whole_rows l) 0 h in grind (arith, ne))
+  by_rows columned false is s shape = absurd (tiled_rows (ap (λ (t : Shape). data_columns t (length (columns_of l))) shape) (some_rows is))
 
   pub device_of : (is_tiled l.shape ≡ false → IsColumned l) → IsDeviceOf found l (table_of found l)
   unfolding sector_of

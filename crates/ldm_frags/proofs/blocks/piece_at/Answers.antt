@@ -3,12 +3,6 @@ use Rattle.ldm_frags.specs.Kept.{blocks_of, IsPiece}
 use Rattle.ldm_frags.proofs.KeptLaws.{count_of, piece_read}
 use Rattle.ldm_frags.proofs.blocks.piece_at.Goals as goal
 
-pub bounds-pieces-k : goal.bounds-pieces-k
-bounds-pieces-k c = omega (arith, count_of c.args.pieces.now)
-
-pub offset_bounds-pieces-k : goal.offset_bounds-pieces-k
-offset_bounds-pieces-k c = omega (arith, count_of c.args.pieces.now)
-
 pub returns : goal.returns
 returns c =
     subst (IsPiece (blocks_of c.args.pieces.now) c.args.k) (sym c.index-pieces-k.is)

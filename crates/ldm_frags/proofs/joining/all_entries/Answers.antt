@@ -19,9 +19,6 @@ loop-k-preserved c =
     ∙ ap (λ (x : List Joined). x ++ entry blocks c.loop-k.k) c.loop-k.invariant
     ∙ sym (entries_more blocks c.loop-k.k)
 
-pub push_entry-requires-clause-within : goal.push_entry-requires-clause-within
-push_entry-requires-clause-within c = omega (arith, count_of c.args.pieces.now)
-
 pub push_entry-requires-clause-complete : goal.push_entry-requires-clause-complete
 push_entry-requires-clause-complete c =
     let blocks = blocks_of c.args.pieces.now in

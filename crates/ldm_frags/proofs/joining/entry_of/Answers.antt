@@ -8,12 +8,6 @@ use Rattle.ldm_frags.proofs.KeptLaws.{count_of, kept_few}
 use Rattle.ldm_frags.proofs.joining.entry_of.Goals as goal
 use Rattle.ldm_frags.proofs.joining.entry_of.Goals.{else-head-ge2-via-then-head-ge2+else-head-eq0, else-head-ge2-via-else-head-ge2}
 
-pub overflow_cast-block : goal.overflow_cast-block
-overflow_cast-block c = omega (arith, count_of c.args.pieces.now)
-
-pub overflow_add-block : goal.overflow_add-block
-overflow_add-block c = omega (arith, count_of c.args.pieces.now)
-
 pub gather-requires-clause-few : goal.gather-requires-clause-few
 gather-requires-clause-few c = kept_few c.args.pieces.now c.args.groups.now c.args.k c.piece_at-piece.result.now.head c.requires.kept c.piece_at-piece.ensures.head c.requires.within
 

@@ -6,9 +6,6 @@ use Rattle.ldm_frags.proofs.Below.{first_there}
 use Rattle.ldm_frags.proofs.KeptLaws.{count_of}
 use Rattle.ldm_frags.proofs.joining.first_missing.Goals as goal
 
-pub missing_of-requires-clause-within : goal.missing_of-requires-clause-within
-missing_of-requires-clause-within c = omega (arith, count_of c.args.pieces.now)
-
 pub returns-in-Some : goal.returns-in-Some
 returns-in-Some c =
     let blocks = blocks_of c.args.pieces.now in

@@ -8,12 +8,6 @@ use Rattle.ldm_frags.proofs.joining.missing_of.Goals.{else-head-ge2-via-then-hea
 pub has_all-requires : goal.has_all-requires
 has_all-requires c = kept_few c.args.pieces.now c.args.groups.now c.args.k c.piece_at.result.now.head c.requires.kept c.piece_at.ensures.head c.requires.within
 
-pub overflow_cast-result : goal.overflow_cast-result
-overflow_cast-result c = omega (arith, count_of c.args.pieces.now)
-
-pub overflow_add-result : goal.overflow_add-result
-overflow_add-result c = omega (arith, count_of c.args.pieces.now)
-
 pub returns-then-not-has_all : goal.returns-then-not-has_all
 returns-then-not-has_all c =
     let pieces = c.args.pieces.now in

@@ -1,7 +1,7 @@
 use Rattle.std.proofs.Common.{◌+◌, ◌-◌, ◌*◌, ◌++◌, ◌∙◌, List, ℕ, ap, length, replicate, refl, arith}
 use Rattle.ldm_bytes.specs.Places.{put}
 use Rattle.ldm_frags.specs.Written.{head, written_block}
-use Rattle.ldm_frags.proofs.WriteLaws.{put-put}
+use Rattle.ldm_bytes.proofs.PlaceLaws.{put-put}
 use Rattle.ldm_frags.proofs.writing.write_block.Goals as goal
 
 pub returns : goal.returns
@@ -13,4 +13,4 @@ returns c =
     c.put_bytes-2.ensures
     ∙ ap (put c.put_bytes.new.buf (128 * (number - 4) + 16)) c.payload_of.ensures
     ∙ ap (λ (b : List ℕ). put b (128 * (number - 4) + 16) bytes) (c.put_bytes.ensures ∙ ap (put c.args.out.now (128 * (number - 4))) c.head_of.ensures)
-    ∙ put-put c.args.out.now (128 * (number - 4)) (128 * (number - 4) + 16) first bytes (omega arith) refl
+    ∙ put-put c.args.out.now (128 * (number - 4)) first bytes (omega arith)

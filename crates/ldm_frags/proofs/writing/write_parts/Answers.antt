@@ -28,12 +28,12 @@ loop-part-preserved c =
     } in
     record {
       written = below_more _ _
-          (λ i lt. written_other c.loop-part.out c.write_block.new.out number (slice_index numbers i) block w
+          (λ i lt. written_other c.loop-part.out c.write_block.new.out number block w (slice_index numbers i)
           (c.requires.within i 0 (omega (arith, lt, c.loop-part-test.true))).0
           (λ e. c.requires.apart i part 0 lt c.loop-part-test.true e)
           ∙ c.loop-part.invariant.written i lt)
           (written_here c.loop-part.out c.write_block.new.out number block w);
       others = λ b from avoid.
-          written_other c.loop-part.out c.write_block.new.out number b block w from (λ e. avoid part 0 c.loop-part-test.true (sym e))
+          written_other c.loop-part.out c.write_block.new.out number block w b from (λ e. avoid part 0 c.loop-part-test.true (sym e))
           ∙ c.loop-part.invariant.others b from avoid;
     }

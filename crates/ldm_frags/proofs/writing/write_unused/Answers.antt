@@ -10,5 +10,5 @@ returns-clause-here c =
 
 pub returns-clause-others : goal.returns-clause-others
 returns-clause-others c b low ne =
-    written_other c.args.out.now c.write_block.new.out c.args.number b (unused_block c.args.number)
-    (record { from = c.requires.within.0; within = c.requires.within.1; block = written_length c.args.number 0 0 0 (replicate 112 0) refl; put = c.write_block.ensures }) low ne
+    written_other c.args.out.now c.write_block.new.out c.args.number (unused_block c.args.number)
+    (record { from = c.requires.within.0; within = c.requires.within.1; block = written_length c.args.number 0 0 0 (replicate 112 0) refl; put = c.write_block.ensures }) b low ne
