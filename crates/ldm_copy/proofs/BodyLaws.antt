@@ -1,6 +1,6 @@
 -- Bodies: made of a database, read, and as copies.
-use Rattle.std.proofs.Common.{◌≡◌, ℕ, zero, suc, ◌<◌, List, [], ◌∷◌, ◌++◌, length, get_or, map, refl, sym, ap, arith, ◌+◌, ◌*◌, ◌≤◌, drop, slice_index, None, subst, ◌∙◌, length-append, ◌/◌, slice_range, Bool, true, false, Ok, ⊎_elim, ◌-◌, take}
-use Rattle.std.proofs.lemmas.List.Elements.{All-cons, All-nil, All-head, All-tail}
+use Rattle.std.proofs.Common.{◌≡◌, ℕ, zero, suc, ◌<◌, List, [], ◌∷◌, ◌++◌, length, get_or, map, refl, sym, ap, arith, ◌+◌, ◌*◌, ◌≤◌, drop, slice_index, None, subst, ◌∙◌, length-append, ◌/◌, slice_range, Bool, true, false, eqb, inl, inr, Ok, ⊎_elim, ◌-◌, take}
+use Rattle.std.proofs.lemmas.List.Elements.{All-cons, All-nil, All-head, All-tail, All-weaker, All-map}
 use Rattle.ldm_records.specs.declared.types.Record.{Record}
 use Rattle.ldm_copy.specs.Body.{Stored, stored_at, placed_of, Store, IsBodyOf, IsMadeOf, counts_of, spellings, IsBody, IsBodyOn, HasBody, IsWritten}
 use Rattle.std.specs.List.{All}
@@ -11,7 +11,7 @@ use Rattle.std.proofs.lemmas.List.Sorted.{IsPermutation-refl, IsPermutation-sym,
 use Rattle.ldm_records.specs.Plain.{Plain, own_spelling, IsRecord}
 use Rattle.ldm_records.specs.Views.{plain_of}
 use Rattle.ldm_frags.specs.Blocks.{numbers_from, count}
-use Rattle.ldm_frags.specs.Written.{Placed, Holds, parts_of, laid_in_order, IsPlaced, slot, joined_of, joined_below}
+use Rattle.ldm_frags.specs.Written.{Placed, Holds, parts_of, laid_in_order, IsPlaced, IsInUse, slot, joined_of, joined_below}
 use Rattle.ldm_vmdb.specs.Headers.{vmdb_fault, written, IsHeaderOf, ReadsBack}
 use Rattle.ldm_vmdb.specs.declared.header.Header.{Header}
 use Rattle.ldm_vmdb.specs.declared.header.Counts.{Counts}
@@ -24,17 +24,16 @@ use Rattle.ldm_copy.proofs.RoomLaws.{magic_of}
 use Rattle.ldm_vmdb.proofs.HeaderLaws.{no_fault_is_vmdb, vmdb_without_fault}
 use Rattle.ldm_copy.specs.Table.{IsTabled}
 use Rattle.ldm_copy.specs.Finding.{HoldsTable}
-use Rattle.std.specs.Prelude.{filter, ◌==◌, ◌||◌, nat_lt, if◌then◌else◌}
-use Rattle.std.proofs.lemmas.Bool.Decides.{nat_tests}
+use Rattle.std.specs.Prelude.{filter, ◌==◌, if◌then◌else◌}
 use Rattle.ldm_frags.specs.declared.faults.Joined.{Joined}
 use Rattle.ldm_frags.specs.Joins.{Joins}
 use Rattle.ldm_frags.proofs.Below.{flat_map_below}
-use Rattle.ldm_frags.proofs.HoldLaws.{holds_joins}
+use Rattle.ldm_frags.proofs.HoldLaws.{few_slots, holds_joins}
 use Rattle.ldm_records.proofs.PlainLaws.{own_spells}
 use Rattle.ldm_vmdb.specs.Sectors.{last_of}
 use Rattle.ldm_copy.specs.declared.answer.CopyState.TheVariants.{Valid}
 use Rattle.ldm_copy.specs.Records.{SpellRecords, HoldRecords}
-use Rattle.std.proofs.lemmas.Bool.{cases_eq}
+use Rattle.std.proofs.lemmas.Bool.{cases_eq, eq-eqb, ne_eqb}
 use Rattle.std.proofs.lemmas.Grind.{same_number_lists}
 use Rattle.ldm_label.specs.declared.Label.{Label}
 
@@ -68,10 +67,6 @@ pub all_mapped : {X Y : Type 0} (f : X → Y) (P : Y → Type 0) (xs : List X) �
 all_mapped f P [] all = All-nil (λ x. P (f x))
 all_mapped f P (x ∷ xs) all = All-cons (λ y. P (f y)) x xs (All-head P (f x) (map f xs) all) (all_mapped f P xs (All-tail P (f x) (map f xs) all))
 
-pub mapped_all : {X Y : Type 0} (f : X → Y) (P : Y → Type 0) (xs : List X) → All (λ x. P (f x)) xs → All P (map f xs)
-mapped_all f P [] all = All-nil P
-mapped_all f P (x ∷ xs) all = All-cons P (f x) (map f xs) (All-head (λ y. P (f y)) x xs all) (mapped_all f P xs (All-tail (λ y. P (f y)) x xs all))
-
 abbrev pub record_of : Stored → Record
 record_of s = s.record_is
 
@@ -96,94 +91,6 @@ few_records (r ∷ records) =
     let rest : length records ≤ need_of records = few_records records in
     omega (arith, sum_by-cons (λ (r : Record). parts_of (own_len r)) r records)
 
--- the records one after the other, from a block on
-abbrev stored_from : ℕ → List Record → List Stored
-stored_from number [] = []
-stored_from number (r ∷ records) =
-    let n = parts_of (length (own_spelling (plain_of r))) in
-    record { record_is = r; slots = numbers_from number n } ∷ stored_from (number + n) records
-
-stored_placed : (number : ℕ) (records : List Record) → map placed_of (stored_from number records) ≡ laid_in_order number (spellings records)
-stored_placed number [] = refl
-stored_placed number (r ∷ records) =
-    let n = parts_of (length (own_spelling (plain_of r))) in
-    ap (λ (l : List Placed). record { payload = own_spelling (plain_of r); slots = numbers_from number n } ∷ l) (stored_placed (number + n) records)
-
-made_records : (number : ℕ) (records : List Record) → map (λ (s : Stored). s.record_is) (stored_from number records) ≡ records
-made_records number [] = refl
-made_records number (r ∷ records) = ap (λ (l : List Record). r ∷ l) (made_records (number + parts_of (length (own_spelling (plain_of r)))) records)
-
-stored_sound : (number : ℕ) (records : List Record) → All (λ r. IsRecord (plain_of r)) records → All (λ (s : Stored). IsRecord (plain_of s.record_is)) (stored_from number records)
-stored_sound number [] sound k d lt = absurd (omega arith)
-stored_sound number (r ∷ records) sound zero d lt = sound 0 r (omega arith)
-stored_sound number (r ∷ records) sound (suc k) d lt =
-    stored_sound (number + parts_of (length (own_spelling (plain_of r)))) records (λ j e le. sound (suc j) e (omega arith)) k d (omega arith)
-
-store_of : (blocks : List ℕ) (records : List Record) → All (λ r. IsRecord (plain_of r)) records → Holds blocks (laid_in_order 4 (spellings records)) → Store blocks records
-store_of blocks records sound holds = record {
-  stored = stored_from 4 records;
-  once = subst (λ (l : List Record). IsPermutation l records) (sym (made_records 4 records)) (IsPermutation-refl records);
-  sound = stored_sound 4 records sound;
-  holds = subst (Holds blocks) (sym (stored_placed 4 records)) holds;
-}
-
-module _ (sector blocks : List ℕ) (whole : length sector ≡ 512) where
-  pub head_of : header_sector (sector ++ blocks) ≡ sector
-  head_of =
-      let full : 512 ≤ length sector = omega arith in
-      take-append-le 512 sector blocks full ∙ take_all 512 sector (omega arith)
-
-  pub rest_of : drop 512 (sector ++ blocks) ≡ blocks
-  rest_of = drop-append-le 512 sector blocks (omega arith) ∙ ap (λ (l : List ℕ). l ++ blocks) (drop_all 512 sector (omega arith))
-
-  pub made_body : (db : Database) → ReadsBack db.header db.header.seq sector
-      → ((sectors : ℕ) → db.header.last ≤ 4 * sectors → vmdb_fault sector sectors ≡ None)
-      → All (λ r. IsRecord (plain_of r)) db.records → Holds blocks (laid_in_order 4 (spellings db.records)) → length blocks ≡ 128 * room_of db.header.last
-      → 4 ≤ db.header.last → Rising db.records → IsBodyOf db (sector ++ blocks)
-  made_body db reads faultless sound holds size low rising = record {
-    is = record {
-      size = omega (arith, length-append sector blocks, whole, size, low);
-      gate =
-          sym (gate_there (sector ++ blocks)) ∙ ap (λ (l : List ℕ). slice_index l 0) head_of
-          ∙ magic_of sector db.header.last (faultless db.header.last (omega arith));
-      faultless = λ sectors fits. ap (λ (l : List ℕ). vmdb_fault l sectors) head_of ∙ faultless sectors fits;
-      header_is = subst (IsHeaderOf db.header) (sym head_of) (record {
-        last_is = sym reads.last_is;
-        seq_is = sym reads.seq_is;
-        name_is = sym reads.name_is;
-        guid_is = reads.guid_is;
-        raw_is = sym reads.raw_is;
-      });
-      blocks = subst (λ (l : List ℕ). Store l db.records) (sym rest_of) (store_of blocks db.records sound holds);
-    };
-    rising = rising;
-    low = low;
-  }
-
--- what the parts of the code make
-pub made_of : (db : Database) (header : Header) (records : List Record) (counts : Counts) (payloads : List (List ℕ)) (room : ℕ) (sector blocks bytes : List ℕ)
-    → header ≡ db.header → records ≡ db.records → Rising db.records → 4 ≤ db.header.last
-    → payloads ≡ spellings records → All (λ r. IsRecord (plain_of r)) records → room ≡ room_of db.header.last → length blocks ≡ 128 * room → Holds blocks (laid_in_order 4 payloads)
-    → counts ≡ counts_of records → length sector ≡ 512 → sector ≡ written header header.seq counts → ReadsBack header header.seq sector
-    → ((sectors : ℕ) → header.last ≤ 4 * sectors → vmdb_fault sector sectors ≡ None) → bytes ≡ sector ++ blocks → IsBodyOf db bytes × IsMadeOf db bytes
-made_of db header records counts payloads room sector blocks bytes same_header same_records rising low spelled sound has_room size holds counted whole wrote reads faultless is =
-    let sound' = subst (λ (l : List Record). All (λ r. IsRecord (plain_of r)) l) same_records sound in
-    let holds' = subst (λ (l : List (List ℕ)). Holds blocks (laid_in_order 4 l)) (spelled ∙ ap spellings same_records) holds in
-    let reads' = subst (λ (h : Header). ReadsBack h h.seq sector) same_header reads in
-    let faultless' = subst (λ (h : Header). (sectors : ℕ) → h.last ≤ 4 * sectors → vmdb_fault sector sectors ≡ None) same_header faultless in
-    let wrote' : sector ≡ written db.header db.header.seq (counts_of db.records) =
-    wrote ∙ ap (λ (h : Header). written h h.seq counts) same_header ∙ ap (written db.header db.header.seq) (counted ∙ ap counts_of same_records) in
-    let both : IsBodyOf db (sector ++ blocks) × IsMadeOf db (sector ++ blocks) = (
-      made_body sector blocks whole db reads' faultless' sound' holds' (size ∙ ap (λ (n : ℕ). 128 * n) has_room) low rising,
-      record {
-        header_is = head_of sector blocks whole ∙ wrote';
-        blocks_are = subst (λ (l : List ℕ). Holds l (laid_in_order 4 (spellings db.records))) (sym (rest_of sector blocks whole)) holds';
-      },
-    ) in
-    subst (λ (l : List ℕ). IsBodyOf db l × IsMadeOf db l) (sym is) both
-
--- ---- A body that was read.
-
 -- records at the slots of a table are stored
 pub table_store : (blocks : List ℕ) (records : List Record) (table : List (List ℕ)) → HoldsTable blocks records table → Store blocks records
 table_store blocks records table held =
@@ -195,41 +102,96 @@ table_store blocks records table held =
       holds = held.holds;
     }
 
+-- the records one after the other, from a block on
+abbrev laid_slots : ℕ → List Record → List (List ℕ)
+laid_slots number records = map (λ (p : Placed). p.slots) (laid_in_order number (spellings records))
+
+laid_length : (number : ℕ) (records : List Record) → length (laid_slots number records) ≡ length records
+laid_length number [] = refl
+laid_length number (r ∷ records) = omega (arith, laid_length (number + parts_of (length (own_spelling (plain_of r)))) records)
+
+laid_placed : (number : ℕ) (records : List Record) → map placed_of (stored_at records (laid_slots number records)) ≡ laid_in_order number (spellings records)
+laid_placed number [] = refl
+laid_placed number (r ∷ records) =
+    let n = parts_of (length (own_spelling (plain_of r))) in
+    ap (λ (l : List Placed). record { payload = own_spelling (plain_of r); slots = numbers_from number n } ∷ l) (laid_placed (number + n) records)
+
+pub store_of : (blocks : List ℕ) (records : List Record) → All (λ r. IsRecord (plain_of r)) records → Holds blocks (laid_in_order 4 (spellings records)) → Store blocks records
+store_of blocks records sound holds =
+    table_store blocks records (laid_slots 4 records) (record { one_each = laid_length 4 records; sound = sound; holds = subst (Holds blocks) (sym (laid_placed 4 records)) holds })
+
+-- bytes that begin with a header without a fault, behind which the records are stored
+body_by : (db : Database) (bytes : List ℕ) → length bytes ≡ 512 * (db.header.last / 4) → ((sectors : ℕ) → db.header.last ≤ 4 * sectors → vmdb_fault (header_sector bytes) sectors ≡ None)
+    → IsHeaderOf db.header (header_sector bytes) → Store (drop 512 bytes) db.records → Rising db.records → 4 ≤ db.header.last → IsBodyOf db bytes
+body_by db bytes size faultless header store rising low = record {
+  is = record {
+    size = size;
+    gate = sym (gate_there bytes) ∙ magic_of (header_sector bytes) db.header.last (faultless db.header.last (omega arith));
+    faultless = faultless;
+    header_is = header;
+    blocks = store;
+  };
+  rising = rising;
+  low = low;
+}
+
+module _ (sector blocks : List ℕ) (whole : length sector ≡ 512) where
+  pub head_of : header_sector (sector ++ blocks) ≡ sector
+  head_of =
+      let full : 512 ≤ length sector = omega arith in
+      take-append-le 512 sector blocks full ∙ take_all 512 sector (omega arith)
+
+  pub rest_of : drop 512 (sector ++ blocks) ≡ blocks
+  rest_of = drop-append-le 512 sector blocks (omega arith) ∙ ap (λ (l : List ℕ). l ++ blocks) (drop_all 512 sector (omega arith))
+
+  -- a header sector that reads back, and blocks that store the records
+  pub body_with : (db : Database) → ReadsBack db.header db.header.seq sector → ((sectors : ℕ) → db.header.last ≤ 4 * sectors → vmdb_fault sector sectors ≡ None)
+      → Store blocks db.records → length blocks ≡ 128 * room_of db.header.last → 4 ≤ db.header.last → Rising db.records → IsBodyOf db (sector ++ blocks)
+  body_with db reads faultless store size low rising =
+      body_by db (sector ++ blocks) (omega (arith, length-append sector blocks, whole, size, low)) (λ sectors fits. ap (λ (l : List ℕ). vmdb_fault l sectors) head_of ∙ faultless sectors fits)
+      (subst (IsHeaderOf db.header) (sym head_of) (record {
+        last_is = sym reads.last_is;
+        seq_is = sym reads.seq_is;
+        name_is = sym reads.name_is;
+        guid_is = reads.guid_is;
+        raw_is = sym reads.raw_is;
+      }))
+      (subst (λ (l : List ℕ). Store l db.records) (sym rest_of) store) rising low
+
+-- what the parts of the code make
+pub made_of : (db : Database) (sector blocks : List ℕ) → length sector ≡ 512 → sector ≡ written db.header db.header.seq (counts_of db.records)
+    → Holds blocks (laid_in_order 4 (spellings db.records)) → IsMadeOf db (sector ++ blocks)
+made_of db sector blocks whole wrote holds = record {
+  header_is = head_of sector blocks whole ∙ wrote;
+  blocks_are = subst (λ (l : List ℕ). Holds l (laid_in_order 4 (spellings db.records))) (sym (rest_of sector blocks whole)) holds;
+}
+
+-- ---- A body that was read.
+
 -- the database of the header that was read
-abbrev pub read_as : Header → Database → Database
+abbrev read_as : Header → Database → Database
 read_as h db = record { header = h; records = db.records }
 
-pub same_core_as : (h : Header) (db : Database) → IsSameHeader h db.header → IsSameCore (read_as h db) db
+same_core_as : (h : Header) (db : Database) → IsSameHeader h db.header → IsSameCore (read_as h db) db
 same_core_as h db same = λ i. record { last = same.last i; seq = same.seq i; name = same.name i; guid = same.guid i; records = db.records }
 
-pub read_body_is : (db : Database) (h : Header) (bytes : List ℕ) (area : ℕ) (table : List (List ℕ)) → length bytes ≡ 512 * (db.header.last / 4) → 4 ≤ db.header.last → Rising db.records
-    → vmdb_fault (header_sector bytes) area ≡ None → IsHeaderOf h (header_sector bytes) → IsSameHeader h db.header → HoldsTable (drop 512 bytes) db.records table → IsBodyOf (read_as h db) bytes
-read_body_is db h bytes area table size low rising none header same held =
-    let last : h.last ≡ db.header.last = same.last in
-    let faultless : (sectors : ℕ) → h.last ≤ 4 * sectors → vmdb_fault (header_sector bytes) sectors ≡ None = λ sectors fits.
-    vmdb_without_fault (header_sector bytes) sectors h.guid (no_fault_is_vmdb (header_sector bytes) area none) (omega (arith, header.last_is, fits)) header.guid_is in
-    record {
-      is = record {
-        size = size ∙ ap (λ (n : ℕ). 512 * (n / 4)) (sym last);
-        gate = sym (gate_there bytes) ∙ magic_of (header_sector bytes) h.last (faultless h.last (omega arith));
-        faultless = faultless;
-        header_is = header;
-        blocks = table_store (drop 512 bytes) db.records table held;
-      };
-      rising = rising;
-      low = omega (arith, last, low);
-    }
-
-pub read_tabled : (db : Database) (h : Header) (bytes : List ℕ) (area : ℕ) (table : List (List ℕ)) → length bytes ≡ 512 * (db.header.last / 4) → 4 ≤ db.header.last → db.header.last ≤ 8192 → Rising db.records
-    → vmdb_fault (header_sector bytes) area ≡ None → IsHeaderOf h (header_sector bytes) → IsSameHeader h db.header → HoldsTable (drop 512 bytes) db.records table → IsTabled bytes table
-read_tabled db h bytes area table size low high rising none header same held = record {
-  db = read_as h db;
-  body = read_body_is db h bytes area table size low rising none header same held;
-  small = omega (arith, same.last, high);
-  one_each = held.one_each;
-  sound = held.sound;
-  holds = held.holds;
-}
+-- what was read is the body of that one, with its table
+pub read_tabled : (db : Database) (h : Header) (bytes : List ℕ) (area : ℕ) (table : List (List ℕ)) → length bytes ≡ 512 * (db.header.last / 4) → 4 ≤ db.header.last → db.header.last ≤ 8192
+    → Rising db.records → (vmdb_fault (header_sector bytes) area ≡ None) × IsHeaderOf h (header_sector bytes) × IsSameHeader h db.header → HoldsTable (drop 512 bytes) db.records table
+    → (tabled : IsTabled bytes table) × IsSameCore tabled.db db
+read_tabled db h bytes area table size low high rising (none, header, same) held = (
+  record {
+    db = read_as h db;
+    body = body_by (read_as h db) bytes (size ∙ ap (λ (n : ℕ). 512 * (n / 4)) (sym same.last))
+        (λ sectors fits. vmdb_without_fault (header_sector bytes) sectors h.guid (no_fault_is_vmdb (header_sector bytes) area none) (omega (arith, header.last_is, fits)) header.guid_is)
+        header (table_store (drop 512 bytes) db.records table held) rising (omega (arith, same.last, low));
+    small = omega (arith, same.last, high);
+    one_each = held.one_each;
+    sound = held.sound;
+    holds = held.holds;
+  },
+  same_core_as h db same,
+)
 
 -- ---- An area that begins with a body is a valid copy.
 
@@ -258,15 +220,15 @@ below_none (suc n) = ap (λ (l : List Stored). l ++ []) (below_none n)
 below_skip : (x : Stored) (xs : List Stored) (n : ℕ) → n + 4 ≤ key x → below (x ∷ xs) n ≡ below xs n
 below_skip x xs zero le = refl
 below_skip x xs (suc n) le =
-    let other : (key x == n + 4) ≡ false = ne_eqb (key x) (n + 4) (λ e. omega arith) in
+    let other : eqb (key x) (n + 4) ≡ false = ne_eqb (key x) (n + 4) (λ e. omega arith) in
     rw (below_skip x xs n (omega arith), other) refl
 
 below_cons : (x : Stored) (xs : List Stored) (n : ℕ) → (4 ≤ key x) × (key x < n + 4) → IsPermutation (below (x ∷ xs) n) (x ∷ below xs n)
 below_cons x xs zero (low, high) = absurd (omega arith)
 below_cons x xs (suc n) (low, high) = elim (cases_eq (key x) (n + 4)) [
-  | inl is ↦ (let here : (key x == n + 4) ≡ true = eq-eqb (key x) (n + 4) is in
+  | inl is ↦ (let here : eqb (key x) (n + 4) ≡ true = eq-eqb (key x) (n + 4) is in
       rw (below_skip x xs n (omega arith), here) (IsPermutation-middle (below xs n) x (filter (λ s. key s == n + 4) xs)))
-  | inr ne ↦ (let other : (key x == n + 4) ≡ false = ne_eqb (key x) (n + 4) ne in
+  | inr ne ↦ (let other : eqb (key x) (n + 4) ≡ false = ne_eqb (key x) (n + 4) ne in
       rw other (IsPermutation-append_left (filter (λ s. key s == n + 4) xs) (below (x ∷ xs) n) (x ∷ below xs n) (below_cons x xs n (low, omega (arith, ne)))))
 ]
 

@@ -1,7 +1,6 @@
 -- The copy on a disk, by what the steps of reading it answer.
-use Rattle.std.proofs.Common.{◌≡◌, ℕ, ◌^◌, ◌<◌, List, length, take, get_or, Some, None, Result, Ok, Err, IsErrAnd, refl, sym, subst, ◌∙◌, slice_index, ◌≢◌, ◌+◌, ◌-◌, ◌*◌, ◌/◌, ◌≤◌, [], ◌++◌, drop, slice_range, Option, IfOk, ap, arith}
+use Rattle.std.proofs.Common.{◌≡◌, ℕ, ◌^◌, ◌<◌, List, length, take, get_or, Some, None, Result, Ok, Err, refl, sym, subst, ◌∙◌, slice_index, ◌≢◌, ◌+◌, ◌-◌, ◌*◌, ◌/◌, ◌≤◌, [], ◌++◌, drop, slice_range, Option, IfOk, ap, arith}
 use Rattle.std.specs.Global.{Vec}
-use Rattle.std.proofs.lemmas.Result.{err_from_is_err_and}
 use Rattle.ldm_vmdb.specs.declared.header.Header.{Header}
 use Rattle.ldm_vmdb.specs.Headers.{IsHeaderOf}
 use Rattle.ldm_frags.specs.declared.faults.Joined.{Joined}
@@ -17,7 +16,7 @@ use Rattle.ldm_copy.specs.declared.answer.CopyError.TheVariants.{Fault, Disk, No
 use Rattle.ldm_copy.specs.Records.{SpellRecords, HoldRecords}
 use Rattle.ldm_copy.specs.Copy.{header_sector, blocks_in_use, IsOpen, HasHeader, IsCopyOf, config_area}
 use Rattle.ldm_copy.specs.Answers.{IsAnswer, AnswersCopy, FitsArea}
-use Rattle.ldm_copy.specs.Steps.{OpensHeader, ReadsRecord, ReadsRecords, MakesDatabase, ReadsFirstSector, JoinsBlocks, IsRead, ReadsDatabase}
+use Rattle.ldm_copy.specs.Steps.{OpensHeader, ReadsRecord, ReadsRecords, MakesDatabase, OrDisk, ReadsFirstSector, JoinsBlocks, IsRead, ReadsDatabase}
 use Rattle.ldm_records.specs.declared.types.Record.{Record}
 use Rattle.ldm_copy.proofs.OneCopy.{fault_at, one_copy}
 use Rattle.ldm_copy.proofs.AreaLaws.{gate_there, split, chunk_is, header_there, behind_header, blocks_there}
@@ -39,17 +38,13 @@ use Rattle.ldm_copy.proofs.RoomLaws.{fits_area_of}
 
 -- ---- the errors of the parts, handed on
 
-records_failed : (header : Header) (blocks : List ℕ) (list : List Joined) (e : CopyError) → Joins blocks list → ReadsRecords list (Err e) → MakesDatabase header blocks (Err e)
+pub records_failed : (header : Header) (blocks : List ℕ) (list : List Joined) (e : CopyError) → Joins blocks list → ReadsRecords list (Err e) → MakesDatabase header blocks (Err e)
 records_failed header blocks list (Fault (Vmdb f)) joins a = a
 records_failed header blocks list (Fault (Frag f)) joins a = absurd a
 records_failed header blocks list (Fault (BadRecord b f)) joins a = record { list = list; joined = joins; first = a }
 records_failed header blocks list (Fault (SameId k i)) joins a = absurd a
 records_failed header blocks list Disk joins a = a
 records_failed header blocks list NoMemory joins a = tt
-
-pub records_passed : (header : Header) (blocks : List ℕ) (list : List Joined) (r : Result Database CopyError) (e : CopyError) → IsErrAnd r (λ x. x ≡ e) → Joins blocks list
-    → ReadsRecords list (Err e) → MakesDatabase header blocks r
-records_passed header blocks list r e h joins a = let p = err_from_is_err_and r h in rw (p.1, p.2) (records_failed header blocks list e joins a)
 
 -- the blocks hold the records that their list spells
 pub holds : (blocks : List ℕ) (list : List Joined) (records : List Record) → Joins blocks list → SpellRecords list records → HoldRecords blocks records
@@ -59,7 +54,7 @@ pub twice_made : (header : Header) (blocks : List ℕ) (records : List Record) (
     → IsLeastTwice records kind id → MakesDatabase header blocks (Err (Fault fault))
 twice_made header blocks records kind id fault is small held twice = rw is (small, (records, held, twice))
 
-first_failed : (list : List Joined) (i : ℕ) (records : List Record) (joined : Joined) (e : CopyError) → i < length list → joined ≡ get_or list i joined
+pub first_failed : (list : List Joined) (i : ℕ) (records : List Record) (joined : Joined) (e : CopyError) → i < length list → joined ≡ get_or list i joined
     → SpellRecords (take i list) records → ReadsRecord joined (Err e) → ReadsRecords list (Err e)
 first_failed list i records joined (Fault (Vmdb f)) lt is before a = a
 first_failed list i records joined (Fault (Frag f)) lt is before a = a
@@ -67,10 +62,6 @@ first_failed list i records joined (Fault (BadRecord b f)) lt is before a = faul
 first_failed list i records joined (Fault (SameId k j)) lt is before a = a
 first_failed list i records joined Disk lt is before a = a
 first_failed list i records joined NoMemory lt is before a = tt
-
-pub record_passed : (list : List Joined) (i : ℕ) (records : List Record) (joined : Joined) (r : Result (Vec Record) CopyError) (e : CopyError) → IsErrAnd r (λ x. x ≡ e)
-    → i < length list → joined ≡ get_or list i joined → SpellRecords (take i list) records → ReadsRecord joined (Err e) → ReadsRecords list r
-record_passed list i records joined r e h lt is before a = let p = err_from_is_err_and r h in rw (p.1, p.2) (first_failed list i records joined e lt is before a)
 
 -- ---- the copy, by what its parts answer
 
@@ -106,9 +97,6 @@ module _ (area : List ℕ) (sectors : ℕ) where
   database_is header db h m =
       let own : IsDatabaseOf db db.header m.0 = record { header_is = refl; same = m.2.same; rising = m.2.rising } in
       (has_header header h, subst (λ (x : Header). IsHeaderOf x (header_sector area)) (sym m.2.header_is) h.2, (m.0, m.1, own))
-
-  pub passed : (r : Result CopyState CopyError) (e : CopyError) → IsErrAnd r (λ x. x ≡ e) → IsAnswer area sectors (Err e) → IsAnswer area sectors r
-  passed r e h a = let p = err_from_is_err_and r h in rw (p.1, p.2) a
 
   -- what is the copy is answered
   pub answers_only : (r : Result CopyState CopyError) → IsAnswer area sectors r → (copy : Result CopyState CopyFault) → IsCopyOf area sectors copy → AnswersCopy r copy
@@ -175,28 +163,19 @@ module _ (told : Type 0) (image : List ℕ) (from : ℕ) where
 
 -- ---- the header and the database of a disk
 
-pub header_read : (first : List ℕ) (sectors : ℕ) (r : Result (Option Header) CopyError) → OpensHeader first sectors r → ReadsFirstSector first sectors r
-header_read first sectors (Ok header) h = h
-header_read first sectors (Err (Fault f)) h = h
-header_read first sectors (Err Disk) h = tt
-header_read first sectors (Err NoMemory) h = tt
+pub or_disk : {T : Type 0} (P : Result T CopyError → Type 0) (r : Result T CopyError) → P r → OrDisk P r
+or_disk P (Ok value) h = h
+or_disk P (Err (Fault f)) h = h
+or_disk P (Err Disk) h = tt
+or_disk P (Err NoMemory) h = tt
 
-pub database_read : (header : Header) (blocks : List ℕ) (r : Result Database CopyError) → MakesDatabase header blocks r → ReadsDatabase header blocks r
-database_read header blocks (Ok db) h = h
-database_read header blocks (Err (Fault f)) h = h
-database_read header blocks (Err Disk) h = tt
-database_read header blocks (Err NoMemory) h = tt
-
-not_joined : (header : Header) (blocks : List ℕ) (e : CopyError) → JoinsBlocks blocks (Err e) → ReadsDatabase header blocks (Err e)
+pub not_joined : (header : Header) (blocks : List ℕ) (e : CopyError) → JoinsBlocks blocks (Err e) → ReadsDatabase header blocks (Err e)
 not_joined header blocks (Fault (Vmdb f)) h = absurd h
 not_joined header blocks (Fault (Frag f)) h = h
 not_joined header blocks (Fault (BadRecord b f)) h = absurd h
 not_joined header blocks (Fault (SameId k i)) h = absurd h
 not_joined header blocks Disk h = tt
 not_joined header blocks NoMemory h = tt
-
-pub joining_failed : (header : Header) (blocks : List ℕ) (r : Result Database CopyError) (e : CopyError) → IsErrAnd r (λ x. x ≡ e) → JoinsBlocks blocks (Err e) → ReadsDatabase header blocks r
-joining_failed header blocks r e same h = let p = err_from_is_err_and r same in rw (p.1, p.2) (not_joined header blocks e h)
 
 -- the database of these blocks fits each area that its last VBLK sequence lies in
 pub database_fits : (sectors : ℕ) (header : Header) (blocks : List ℕ) (r : Result Database CopyError) → MakesDatabase header blocks r → header.last ≤ 4 * sectors
@@ -220,36 +199,31 @@ module _ (disk : List ℕ) (label : Label) (some : label.area_sectors ≢ 0) (st
       ap (λ (k : ℕ). sectors_from k 1 disk) start_is ∙ sym (chunk_is disk (label.config_start + label.area_start) 1 512 refl)
       ∙ header_there disk (label.config_start + label.area_start) label.area_sectors (omega arith)
 
-  opened_at : (header found : Option Header) → header ≡ found → ReadsFirstSector first_sector label.area_sectors (Ok header) → OpensHeader (header_sector area) label.area_sectors (Ok found)
-  opened_at header found is h =
-      subst (λ (s : List ℕ). OpensHeader s label.area_sectors (Ok found)) header_is (subst (λ (o : Option Header). OpensHeader first_sector label.area_sectors (Ok o)) is h)
+  opened_at : (header : Option Header) → ReadsFirstSector first_sector label.area_sectors (Ok header) → OpensHeader (header_sector area) label.area_sectors (Ok header)
+  opened_at header h = subst (λ (s : List ℕ). OpensHeader s label.area_sectors (Ok header)) header_is h
 
-  pub closed_found : (found : Option Header) → found ≡ None → ReadsFirstSector first_sector label.area_sectors (Ok found) → IsOpen area → ⊥
-  closed_found found is h = closed_is area label.area_sectors (opened_at found None is h)
+  pub closed_found : ReadsFirstSector first_sector label.area_sectors (Ok None) → IsOpen area → ⊥
+  closed_found h = closed_is area label.area_sectors (opened_at None h)
 
-  pub header_found : (r : Result CopyState CopyError) (e : CopyError) → ReadsFirstSector first_sector label.area_sectors (Err e) → IsErrAnd r (λ x. x ≡ e) → IsAnswer area label.area_sectors r
-  header_found r (Fault f) h same =
-      passed area label.area_sectors r (Fault f) same
-      (header_failed area label.area_sectors (Fault f) (subst (λ (s : List ℕ). OpensHeader s label.area_sectors (Err (Fault f))) header_is h))
-  header_found r Disk h same = passed area label.area_sectors r Disk same tt
-  header_found r NoMemory h same = passed area label.area_sectors r NoMemory same tt
+  pub header_found : (e : CopyError) → ReadsFirstSector first_sector label.area_sectors (Err e) → IsAnswer area label.area_sectors (Err e)
+  header_found (Fault f) h = header_failed area label.area_sectors (Fault f) (subst (λ (s : List ℕ). OpensHeader s label.area_sectors (Err (Fault f))) header_is h)
+  header_found Disk h = tt
+  header_found NoMemory h = tt
 
-  module _ (found : Option Header) (header : Header) (is : found ≡ Some header) (small : header.last ≤ 4 * label.area_sectors)
-      (opened : ReadsFirstSector first_sector label.area_sectors (Ok found)) where
+  module _ (header : Header) (small : header.last ≤ 4 * label.area_sectors) (opened : ReadsFirstSector first_sector label.area_sectors (Ok (Some header))) where
     opened_there : OpensHeader (header_sector area) label.area_sectors (Ok (Some header))
-    opened_there = opened_at found (Some header) is opened
+    opened_there = opened_at (Some header) opened
 
     blocks_are : blocks_to header.last ≡ blocks_in_use area
     blocks_are =
         ap (λ (k : ℕ). sectors_from (k + 1) (header.last / 4 - 1) disk) start_is ∙ behind_header disk (label.config_start + label.area_start) (header.last / 4) ∙ blocks_there disk (label.config_start + label.area_start) label.area_sectors (header.last / 4) (omega arith) (omega arith)
         ∙ ap (λ (last : ℕ). slice_range area 512 (512 * (last / 4))) opened_there.2.last_is
 
-    pub fault_found : (r : Result CopyState CopyError) (e : CopyError) → ReadsDatabase header (blocks_to header.last) (Err e) → IsErrAnd r (λ x. x ≡ e) → IsAnswer area label.area_sectors r
-    fault_found r (Fault f) made same =
-        passed area label.area_sectors r (Fault f) same
-        (database_failed area label.area_sectors header (Fault f) opened_there (subst (λ (b : List ℕ). MakesDatabase header b (Err (Fault f))) blocks_are made))
-    fault_found r Disk made same = passed area label.area_sectors r Disk same tt
-    fault_found r NoMemory made same = passed area label.area_sectors r NoMemory same tt
+    pub fault_found : (e : CopyError) → ReadsDatabase header (blocks_to header.last) (Err e) → IsAnswer area label.area_sectors (Err e)
+    fault_found (Fault f) made =
+        database_failed area label.area_sectors header (Fault f) opened_there (subst (λ (b : List ℕ). MakesDatabase header b (Err (Fault f))) blocks_are made)
+    fault_found Disk made = tt
+    fault_found NoMemory made = tt
 
     pub database_found : (db : Database) → ReadsDatabase header (blocks_to header.last) (Ok db) → IsCopyOf area label.area_sectors (Ok (Valid db))
     database_found db made = database_is area label.area_sectors header db opened_there (subst (λ (b : List ℕ). MakesDatabase header b (Ok db)) blocks_are made)

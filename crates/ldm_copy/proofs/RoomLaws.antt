@@ -1,5 +1,5 @@
 -- What a header without a fault and the records of blocks take.
-use Rattle.std.proofs.Common.{◌≡◌, ℕ, zero, suc, ◌+◌, ◌<◌, ◌≤◌, inl, inr, refl, ap, subst, ◌∙◌, arith, ◌-◌, ◌*◌, ◌==◌, Bool, true, false, cond, List, [], ◌∷◌, length, drop, sym, add-one, length-append, length-take, length-drop, ◌/◌, not, take, slice_index, Option, Some, None}
+use Rattle.std.proofs.Common.{◌≡◌, ℕ, zero, suc, ◌+◌, ◌<◌, ◌≤◌, inl, inr, refl, ap, subst, ◌∙◌, arith, ◌-◌, ◌*◌, ◌==◌, Bool, true, false, cond, List, [], ◌∷◌, ◌++◌, length, drop, sym, add-one, length-append, length-take, length-drop, ◌/◌, not, take, slice_index, Option, Some, None}
 use Rattle.std.proofs.lemmas.Bool.{cases_eq, eqb-true, eq-eqb, leb-true, or_cases, and_parts, and_from, or_left, or_right}
 use Rattle.std.specs.Prelude.{◌⊎◌, ◌&&◌, ◌||◌, sum_by, All, nat_lt, bytes_eq, codes}
 use Rattle.std.proofs.lemmas.List.Sums.{sum_by-cons, sum_by-append}
@@ -56,10 +56,10 @@ total_both zero p q r each = omega arith
 total_both (suc n) p q r each = let rest = total_both n p q r each in let last = each n in omega arith
 
 total_one : (n k : ℕ) (p : ℕ → Bool) → k < n → p k ≡ true → 1 ≤ total n p
-total_one zero k p lt yes = absurd (omega arith)
-total_one (suc n) k p lt yes = elim (cases_eq k n) [
-  | inl is ↦ (let last : 1 ≤ number (p n) = number_some (p n) (ap p (sym is) ∙ yes) in omega arith)
-  | inr ne ↦ (let rest : 1 ≤ total n p = total_one n k p (omega arith) yes in omega arith)
+total_one zero k p lt holds = absurd (omega arith)
+total_one (suc n) k p lt holds = elim (cases_eq k n) [
+  | inl is ↦ (let last : 1 ≤ number (p n) = number_some (p n) (ap p (sym is) ∙ holds) in omega arith)
+  | inr ne ↦ (let rest : 1 ≤ total n p = total_one n k p (omega arith) holds in omega arith)
 ]
 
 total_few : (n : ℕ) (p : ℕ → Bool) → total n p ≤ n
@@ -102,7 +102,7 @@ module _ (blocks : List ℕ) (list : List Joined) (joins : Joins blocks list) wh
   adds i j = (whole i && (j == i)) || (leads i && is_of blocks (group blocks i) j)
 
   adds_is : (i j : ℕ) → adds i j ≡ true → ((parts blocks j ≡ 1) × (j ≡ i)) ⊎ ((leads i ≡ true) × (is_fragment blocks j ≡ true) × (group blocks j ≡ group blocks i))
-  adds_is i j yes = elim (or_cases (whole i && (j == i)) (leads i && is_of blocks (group blocks i) j) yes) [
+  adds_is i j holds = elim (or_cases (whole i && (j == i)) (leads i && is_of blocks (group blocks i) j) holds) [
     | inl w ↦ (let two = and_parts (whole i) (j == i) w in
         let is : j ≡ i = eqb-true j i two.1 in
         inl (ap (parts blocks) is ∙ eqb-true (parts blocks i) 1 two.0, is))
@@ -168,8 +168,8 @@ module _ (blocks : List ℕ) (list : List Joined) (joins : Joins blocks list) wh
       let many = group_size k (parts blocks k) lt (and_parts (is_fragment blocks k) (part blocks k == 0) lead).0 (omega arith) in
       let more = total_both n (λ j. is_of blocks (group blocks k) j && nat_lt (part blocks j) (parts blocks k)) (λ j. false) (adds k)
       (λ j. number_both _ false (adds k j)
-      (λ yes. or_right (whole k && (j == k)) _ (and_from (leads k) (is_of blocks (group blocks k) j) lead (and_parts (is_of blocks (group blocks k) j) _ yes).0))
-      (λ no. absurd cc) (λ yes no. absurd cc)) in
+      (λ holds. or_right (whole k && (j == k)) _ (and_from (leads k) (is_of blocks (group blocks k) j) lead (and_parts (is_of blocks (group blocks k) j) _ holds).0))
+      (λ no. absurd cc) (λ holds no. absurd cc)) in
       omega (arith, many, more)
 
   entry_fits : (k : ℕ) → k < n → (sum_by need (entry blocks k) ≤ total n (adds k)) × All IsShort (entry blocks k)
@@ -196,8 +196,8 @@ module _ (blocks : List ℕ) (list : List Joined) (joins : Joins blocks list) wh
   taken (suc k) j = taken k j || adds k j
 
   taken_by : (k j : ℕ) → taken k j ≡ true → (i : ℕ) × (i < k) × (adds i j ≡ true)
-  taken_by zero j yes = absurd cc
-  taken_by (suc k) j yes = elim (or_cases (taken k j) (adds k j) yes) [
+  taken_by zero j holds = absurd cc
+  taken_by (suc k) j holds = elim (or_cases (taken k j) (adds k j) holds) [
     | inl before ↦ (let more = taken_by k j before in (more.0, (let lt = more.1 in omega (arith, lt)), more.2))
     | inr here ↦ (k, omega arith, here)
   ]
@@ -209,8 +209,8 @@ module _ (blocks : List ℕ) (list : List Joined) (joins : Joins blocks list) wh
       let here = entry_fits k (omega arith) in
       let next : entries blocks (suc k) ≡ entries blocks k ++ entry blocks k = ap (entries blocks) (sym (add-one k)) ∙ entries_more blocks k in
       let both = total_both n (taken k) (adds k) (taken (suc k)) (λ j. number_both (taken k j) (adds k j) (taken k j || adds k j)
-      (λ yes. or_left (taken k j) (adds k j) yes) (λ yes. or_right (taken k j) (adds k j) yes)
-      (λ yes also. let by = taken_by k j yes in let lt = by.1 in let same = apart by.0 k j (omega (arith, lt)) (omega arith) by.2 also in omega (arith, lt, same))) in (
+      (λ holds. or_left (taken k j) (adds k j) holds) (λ holds. or_right (taken k j) (adds k j) holds)
+      (λ holds also. let by = taken_by k j holds in let lt = by.1 in let same = apart by.0 k j (omega (arith, lt)) (omega arith) by.2 also in omega (arith, lt, same))) in (
         omega (arith, before.0, here.0, both, ap (sum_by need) next ∙ sum_by-append need (entries blocks k) (entry blocks k)),
         subst (All IsShort) (sym next) (All-append IsShort (entries blocks k) (entry blocks k) before.1 here.1),
       )

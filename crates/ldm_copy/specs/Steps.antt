@@ -25,12 +25,16 @@ OpensHeader first sectors (Err (Fault (Vmdb fault))) = (slice_index first 0 ≡ 
 OpensHeader first sectors (Err NoMemory) = Unit {0}
 OpensHeader first sectors (Err _) = ⊥
 
+-- what a step answers in which a call of the disk may fail, or memory run out
+abbrev pub OrDisk : {T : Type 0} → (Result T CopyError → Type 0) → Result T CopyError → Type 0
+OrDisk P (Ok value) = P (Ok value)
+OrDisk P (Err (Fault fault)) = P (Err (Fault fault))
+OrDisk P (Err Disk) = Unit {0}
+OrDisk P (Err NoMemory) = Unit {0}
+
 -- the header of the copy that begins with this sector of a disk, or nothing of a closed one
 abbrev pub ReadsFirstSector : List ℕ → ℕ → Result (Option Header) CopyError → Type 0
-ReadsFirstSector first sectors (Ok header) = OpensHeader first sectors (Ok header)
-ReadsFirstSector first sectors (Err (Fault fault)) = OpensHeader first sectors (Err (Fault fault))
-ReadsFirstSector first sectors (Err Disk) = Unit {0}
-ReadsFirstSector first sectors (Err NoMemory) = Unit {0}
+ReadsFirstSector first sectors = OrDisk (OpensHeader first sectors)
 
 -- the records that blocks hold, joined, or the first fault of a block
 abbrev pub JoinsBlocks : List ℕ → Result (Vec Joined) CopyError → Type 0
@@ -72,7 +76,4 @@ MakesDatabase header blocks (Err _) = ⊥
 
 -- the database of a header and blocks of a disk, or the first fault
 abbrev pub ReadsDatabase : Header → List ℕ → Result Database CopyError → Type 0
-ReadsDatabase header blocks (Ok db) = MakesDatabase header blocks (Ok db)
-ReadsDatabase header blocks (Err (Fault fault)) = MakesDatabase header blocks (Err (Fault fault))
-ReadsDatabase header blocks (Err Disk) = Unit {0}
-ReadsDatabase header blocks (Err NoMemory) = Unit {0}
+ReadsDatabase header blocks = OrDisk (MakesDatabase header blocks)

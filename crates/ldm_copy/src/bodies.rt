@@ -181,7 +181,8 @@ pub fn read_body<H: Host>(
 pub(crate) fn with_table(alloc: Global, bytes: Bytes, db: &Db) -> Result<Body, NoMemory>
     requires body { IsBodyOf db.now bytes }
     requires high { db.now.header.last ≤ 8192 }
-    ensures { IfOk result (λ body. body ≡ bytes) }
+    ensures bytes { IfOk result (λ body. body ≡ bytes) }
+    ensures body { IfOk result (λ body. IsBodyOf db.now body) }
 {
     let all = bytes.as_slice();
     let Some(table) = table_of(alloc, &all[512..], db.as_slice())? else {

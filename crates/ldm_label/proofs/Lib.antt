@@ -1,9 +1,3 @@
-pub mod FitLaws
-pub mod HeaderLaws
-pub mod AnswerLaws
-pub mod CopyLaws
-pub mod TocLaws
-pub mod LabelLaws
-pub mod GivesLaws
+pub mod ReadLaws
 pub mod OkLaws
 pub mod WrittenLaws

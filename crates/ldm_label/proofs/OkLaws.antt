@@ -11,8 +11,7 @@ use Rattle.ldm_label.specs.Answer.{answer}
 use Rattle.ldm_label.specs.Fields.{sectors_of, sector, is_privhead, has_version, config_size, disk_guid, header_of, is_out_of_range, is_out_of_database}
 use Rattle.ldm_label.specs.Parts.{HeaderFits, TocFits}
 use Rattle.ldm_label.specs.LabelOf.{label_of, label_from, mbr_faults, header_faults, copy_faults, toc_faults, tocs_in, first_toc, some_differ, label_faults, Fits, SameOutsideArea}
-use Rattle.ldm_label.proofs.AnswerLaws.{ok_value, both_ok, last_absent}
-use Rattle.ldm_label.proofs.FitLaws.{header_fits, toc_fits}
+use Rattle.ldm_label.proofs.ReadLaws.{ok_value, both_ok, last_absent, header_fits, toc_fits}
 
 pub same_sector : (old new : List ℕ) (a : ℕ) → length new ≡ length old → ((k : ℕ) → 512 * a ≤ k → k < 512 * a + 512 → slice_index new k ≡ slice_index old k) → sector new a ≡ sector old a
 same_sector old new a size same = same_range new old (512 * a) (512 * a + 512) size same

@@ -1,10 +1,11 @@
-use Rattle.ldm_copy.proofs.ReadLaws.{records_passed, holds, twice_made}
+use Rattle.ldm_label.proofs.ReadLaws.{handed_on}
+use Rattle.ldm_copy.proofs.ReadLaws.{records_failed, holds, twice_made}
 use Rattle.ldm_copy.proofs.RoomLaws.{records_within}
 use Rattle.ldm_copy.proofs.database.database_of.Goals as goal
 
 pub returns-in_err-records-clause-makes : goal.returns-in_err-records-clause-makes
 returns-in_err-records-clause-makes c = λ blocks joins.
-    records_passed c.args.header blocks c.args.list.now c.from_residual.result c.in_err-records.field-0.0 c.from_residual.ensures.1 joins c.in_err-records.ensures
+    rw (handed_on c.from_residual.result c.in_err-records.field-0.0 c.from_residual.ensures.1) (records_failed c.args.header blocks c.args.list.now c.in_err-records.field-0.0 joins c.in_err-records.ensures)
 
 pub returns-in-Err-SameId-clause-makes : goal.returns-in-Err-SameId-clause-makes
 returns-in-Err-SameId-clause-makes c = λ blocks joins.

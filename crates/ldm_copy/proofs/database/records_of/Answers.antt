@@ -4,13 +4,15 @@ use Rattle.ldm_frags.specs.declared.faults.Joined.{Joined}
 use Rattle.ldm_records.specs.declared.types.Record.{Record}
 use Rattle.ldm_copy.specs.Records.{SpellRecords}
 use Rattle.ldm_copy.proofs.OneCopy.{spell_next}
-use Rattle.ldm_copy.proofs.ReadLaws.{record_passed}
+use Rattle.ldm_label.proofs.ReadLaws.{handed_on}
+use Rattle.ldm_copy.proofs.ReadLaws.{first_failed}
 use Rattle.ldm_copy.proofs.database.records_of.Goals as goal
 
 pub returns-in_err-record_of : goal.returns-in_err-record_of
 returns-in_err-record_of c =
-    record_passed c.args.list.now c.loop-joined.joined-index c.loop-joined.records.items c.joined-item.result c.from_residual.result c.in_err-record_of.field-0.0
-    c.from_residual.ensures.1 c.loop-joined-test.true c.joined-item.is c.loop-joined.invariant c.in_err-record_of.ensures
+    rw (handed_on c.from_residual.result c.in_err-record_of.field-0.0 c.from_residual.ensures.1)
+    (first_failed c.args.list.now c.loop-joined.joined-index c.loop-joined.records.items c.joined-item.result c.in_err-record_of.field-0.0
+    c.loop-joined-test.true c.joined-item.is c.loop-joined.invariant c.in_err-record_of.ensures)
 
 pub loop-joined-preserved : goal.loop-joined-preserved
 loop-joined-preserved c =

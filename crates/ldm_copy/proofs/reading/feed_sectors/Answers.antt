@@ -1,5 +1,5 @@
 use Rattle.std.proofs.Common.{rules, ◌≡◌, ◌+◌, ◌-◌, ◌*◌, ◌<◌, ◌≤◌, min, ◌++◌, ◌∙◌, subst, ℕ, List, Err, refl, arith}
-use Rattle.std.proofs.lemmas.Result.{err_from_is_err_and}
+use Rattle.ldm_label.proofs.ReadLaws.{handed_on}
 use Rattle.ldm_frags.specs.Fed.{IsFed}
 use Rattle.ldm_host.specs.Seen.{image}
 use Rattle.ldm_host.proofs.Relations.{looks_itself, looks_then, looks_as}
@@ -56,8 +56,7 @@ returns-in_err-feed_few-clause-fault g c tells =
     let few : c.min-few.result ≡ min 8 (c.args.sectors - 8 * i) = omega arith in
     let done : min (8 * i) c.args.sectors ≡ 8 * i = omega arith in
     let within : 8 * i + c.min-few.result ≤ c.args.sectors = omega arith in
-    let passed = err_from_is_err_and c.from_residual.result c.from_residual.ensures.1 in
-    rw (passed.1, passed.2)
+    rw (handed_on c.from_residual.result c.in_err-feed_few.field-0.0 c.from_residual.ensures.1)
     (fault_read g.H.Host.tells_disks disk c.args.from (8 * i) c.min-few.result c.loop-chunk.joiner
     (subst (λ (n : ℕ). IsRead g.H.Host.tells_disks disk c.args.from n (IsFed c.loop-chunk.joiner)) done c.loop-chunk.invariant.read)
     c.args.sectors c.in_err-feed_few.field-0.0 within tells

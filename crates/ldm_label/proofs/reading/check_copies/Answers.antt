@@ -3,8 +3,7 @@ use Rattle.ldm_host.specs.Seen.{image}
 use Rattle.ldm_label.specs.Fields.{sector, sectors_of}
 use Rattle.ldm_label.specs.LabelOf.{copy_faults}
 use Rattle.ldm_host.proofs.Relations.{looks_then, looks_as}
-use Rattle.ldm_label.proofs.GivesLaws.{failed}
-use Rattle.ldm_label.proofs.CopyLaws.{copy_there}
+use Rattle.ldm_label.proofs.ReadLaws.{failed, copy_there}
 use Rattle.ldm_label.proofs.reading.check_copies.Goals as goal
 
 pub returns-then-differs_from-clause-is : goal.returns-then-differs_from-clause-is

@@ -2,8 +2,7 @@ use Rattle.std.proofs.Common.{◌≡◌, ◌+◌, get_or, refl}
 use Rattle.ldm_host.specs.Seen.{image}
 use Rattle.ldm_host.proofs.Relations.{looks_then, looks_as}
 use Rattle.ldm_label.specs.Fields.{sector}
-use Rattle.ldm_label.proofs.TocLaws.{places, common_next, common_err, common_is}
-use Rattle.ldm_label.proofs.GivesLaws.{failed, faulty, not_disk}
+use Rattle.ldm_label.proofs.ReadLaws.{places, common_next, common_err, common_is, failed, faulty, not_disk}
 use Rattle.ldm_label.proofs.reading.read_common.Goals as goal
 
 pub returns-in_err-common-clause-is : goal.returns-in_err-common-clause-is

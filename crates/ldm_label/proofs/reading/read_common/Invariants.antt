@@ -1,7 +1,7 @@
 use Rattle.std.proofs.Common.{◌≡◌, drop, None}
 use Rattle.ldm_host.specs.Moves.{Looks}
 use Rattle.ldm_host.specs.Seen.{image}
-use Rattle.ldm_label.proofs.TocLaws.{all_joined, reads, places}
+use Rattle.ldm_label.proofs.ReadLaws.{all_joined, reads, places}
 use Rattle.ldm_label.proofs.reading.read_common.Given as goal
 
 abbrev pub invariant-loop-at : goal.invariant-loop-at

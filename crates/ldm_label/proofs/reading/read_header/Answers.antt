@@ -3,8 +3,7 @@ use Rattle.ldm_host.specs.Seen.{image}
 use Rattle.ldm_host.proofs.Relations.{looks_then, looks_as}
 use Rattle.ldm_label.specs.Fields.{sector, header_of}
 use Rattle.ldm_label.specs.LabelOf.{mbr_faults, header_faults}
-use Rattle.ldm_label.proofs.AnswerLaws.{front_err, front_ok}
-use Rattle.ldm_label.proofs.GivesLaws.{failed, faulty, not_disk}
+use Rattle.ldm_label.proofs.ReadLaws.{front_err, front_ok, failed, faulty, not_disk}
 use Rattle.ldm_label.proofs.reading.read_header.Goals as goal
 
 pub returns-in_err-check_mbr-clause-is : goal.returns-in_err-check_mbr-clause-is

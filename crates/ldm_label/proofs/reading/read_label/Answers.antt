@@ -2,8 +2,7 @@ use Rattle.std.proofs.Common.{◌≡◌, ◌≤◌, refl, sym, ◌∙◌, arith}
 use Rattle.ldm_host.specs.Seen.{image}
 use Rattle.ldm_host.proofs.Relations.{looks_itself, looks_then, looks_as}
 use Rattle.ldm_label.specs.Fields.{sectors_of}
-use Rattle.ldm_label.proofs.LabelLaws.{short_label, header_err, copies_err, toc_err, label_is}
-use Rattle.ldm_label.proofs.GivesLaws.{passed, passed_disk}
+use Rattle.ldm_label.proofs.ReadLaws.{short_label, header_err, copies_err, tables_err, label_is, passed, passed_disk}
 use Rattle.ldm_label.proofs.reading.read_label.Goals as goal
 
 pub returns-then-sectors-lt7-clause-is : goal.returns-then-sectors-lt7-clause-is
@@ -40,7 +39,7 @@ returns-in_err-toc-clause-is g c tells =
     let good = rw count at (c.in_ok-header.ensures.is tells) in
     let agree = rw c.in_ok-header.ensures.looks.still.content at (c.in_ok-check_copies.ensures.is tells) in
     let found = rw (c.in_ok-check_copies.ensures.looks.still.content, c.in_ok-header.ensures.looks.still.content) at (c.in_err-toc.ensures.is tells) in
-    passed c.from_residual-in_err-toc.result c.in_err-toc.field-0.0 _ _ c.from_residual-in_err-toc.ensures.1 found (toc_err disk long c.in_ok-header.header good agree)
+    passed c.from_residual-in_err-toc.result c.in_err-toc.field-0.0 _ _ c.from_residual-in_err-toc.ensures.1 found (tables_err disk long c.in_ok-header.header good agree)
 
 pub returns-in_err-toc-clause-looks : goal.returns-in_err-toc-clause-looks
 returns-in_err-toc-clause-looks g c =

@@ -1,8 +1,7 @@
 use Rattle.ldm_host.specs.Seen.{image}
 use Rattle.ldm_host.proofs.Relations.{looks_as}
 use Rattle.ldm_label.specs.LabelOf.{tocs_in, first_toc}
-use Rattle.ldm_label.proofs.TocLaws.{tocs_err, toc_err, toc_ok}
-use Rattle.ldm_label.proofs.GivesLaws.{faulty, not_disk, passed, passed_disk}
+use Rattle.ldm_label.proofs.ReadLaws.{tocs_err, toc_err, toc_ok, faulty, not_disk, passed, passed_disk}
 use Rattle.ldm_label.proofs.reading.read_toc.Goals as goal
 
 pub returns-in_err-common-clause-is : goal.returns-in_err-common-clause-is

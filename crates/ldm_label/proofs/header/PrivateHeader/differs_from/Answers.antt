@@ -1,6 +1,6 @@
 use Rattle.std.proofs.Common.{ap, ◌∙◌, Bool}
 use Rattle.std.specs.Prelude.{not}
-use Rattle.ldm_label.proofs.CopyLaws.{good_differs}
+use Rattle.ldm_label.proofs.ReadLaws.{good_differs}
 use Rattle.ldm_label.proofs.header.PrivateHeader.differs_from.Goals as goal
 
 pub returns-in-Ok : goal.returns-in-Ok

@@ -2,8 +2,7 @@ use Rattle.std.proofs.Common.{true, false, Ok, sym, ◌∙◌, ap}
 use Rattle.ldm_label.specs.declared.header.PrivateHeader.{PrivateHeader}
 use Rattle.ldm_label.specs.Fields.{header_of, is_out_of_range}
 use Rattle.std.specs.Prelude.{is_none}
-use Rattle.ldm_label.proofs.FitLaws.{header_fits}
-use Rattle.ldm_label.proofs.HeaderLaws.{header_is, none_is, no_magic, no_version, no_size, no_range, by_guid}
+use Rattle.ldm_label.proofs.ReadLaws.{header_fits, header_is, none_is, no_magic, no_version, no_size, no_range, by_guid}
 use Rattle.ldm_label.proofs.header.PrivateHeader.read.Goals as goal
 
 pub returns-then-not-begins_privhead-clause-is : goal.returns-then-not-begins_privhead-clause-is

@@ -1,5 +1,5 @@
 use Rattle.std.proofs.Common.{◌≡◌}
-use Rattle.ldm_label.proofs.FitLaws.{toc_fits}
+use Rattle.ldm_label.proofs.ReadLaws.{toc_fits}
 use Rattle.ldm_label.proofs.toc.Toc.checked.Goals as goal
 
 pub returns-in-Some-2-clause-fits : goal.returns-in-Some-2-clause-fits
