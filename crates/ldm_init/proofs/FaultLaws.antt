@@ -6,7 +6,7 @@ use Rattle.std.proofs.lemmas.Bool.{cases_lt, true_from_ne_false}
 use Rattle.ldm_label.specs.declared.Label.{Label}
 use Rattle.ldm_label.specs.Fields.{sectors_of}
 use Rattle.ldm_found.specs.Labels.{AreTwins}
-use Rattle.ldm_found.proofs.FirstLaws.{none_more, first_here, first_stays}
+use Rattle.ldm_found.proofs.CopyLaws.{none_more, first_here, first_stays}
 use Rattle.ldm_init.specs.Faults.{IsSmall, IsFull, are_zero, is_empty}
 use Rattle.ldm_init.specs.NewGroup.{new_labels}
 

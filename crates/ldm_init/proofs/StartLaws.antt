@@ -11,7 +11,7 @@ use Rattle.ldm_group.specs.Database.{Database}
 use Rattle.ldm_found.specs.Gathers.{IsFirst}
 use Rattle.ldm_found.specs.Labels.{AreApart, AreTwins}
 use Rattle.ldm_found.proofs.DiskLaws.{one_twins}
-use Rattle.ldm_found.proofs.FirstLaws.{first_one}
+use Rattle.ldm_found.proofs.CopyLaws.{first_one}
 use Rattle.ldm_init.specs.declared.faults.InitFault.{InitFault}
 use Rattle.ldm_init.specs.declared.faults.InitFault.TheVariants.{SameGuid, TooSmall, NotEmpty}
 use Rattle.ldm_init.specs.declared.faults.InitError.{InitError}
