@@ -62,7 +62,7 @@ fn keep_or_free(
     kept: &mut Vec<Slots>,
 ) -> Result<(), NoMemory>
     requires within { All (IsInUse out.old) slots.now }
-    ensures { OnOk result (KeepsOrFrees record_stays slots.now kept.old.items kept.new.items
+    ensures { OnOk result (KeepsOrFrees stays slots.now kept.old.items kept.new.items
         out.old out.new) }
 {
     if stays {

@@ -1,6 +1,6 @@
 -- Bodies: made of a database, read, and as copies.
 use Rattle.std.proofs.Common.{◌≡◌, ℕ, zero, suc, ◌<◌, List, [], ◌∷◌, ◌++◌, length, get_or, map, refl, sym, ap, arith, ◌+◌, ◌*◌, ◌≤◌, drop, slice_index, None, subst, ◌∙◌, length-append, ◌/◌, slice_range, Bool, true, false, eqb, inl, inr, Ok, ⊎_elim, ◌-◌, take}
-use Rattle.std.proofs.lemmas.List.Elements.{All-cons, All-nil, All-head, All-tail, All-weaker, All-map}
+use Rattle.std.proofs.lemmas.List.Elements.{All-cons, All-nil, All-head, All-tail, All-weaker}
 use Rattle.ldm_records.specs.declared.types.Record.{Record}
 use Rattle.ldm_copy.specs.Body.{Stored, stored_at, placed_of, Store, IsBodyOf, IsMadeOf, counts_of, spellings, IsBody, IsBodyOn, HasBody, IsWritten}
 use Rattle.std.specs.List.{All}
@@ -14,7 +14,6 @@ use Rattle.ldm_frags.specs.Blocks.{numbers_from, count}
 use Rattle.ldm_frags.specs.Written.{Placed, Holds, parts_of, laid_in_order, IsPlaced, IsInUse, slot, joined_of, joined_below}
 use Rattle.ldm_vmdb.specs.Headers.{vmdb_fault, written, IsHeaderOf, ReadsBack}
 use Rattle.ldm_vmdb.specs.declared.header.Header.{Header}
-use Rattle.ldm_vmdb.specs.declared.header.Counts.{Counts}
 use Rattle.ldm_group.specs.Order.{Rising}
 use Rattle.ldm_group.specs.Database.{Database, IsSameCore, IsSameHeader}
 use Rattle.ldm_group.specs.Room.{own_len, need_of, room_of}

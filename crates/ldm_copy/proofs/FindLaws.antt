@@ -17,7 +17,7 @@ use Rattle.std.proofs.lemmas.Bool.{cases_eq, eq-eqb, ne_eqb, and_left, and_right
 use Rattle.ldm_frags.specs.Groups.{first_passing}
 use Rattle.std.specs.List.Sorted.{IsPermutation, IsNonDecreasingBy}
 use Rattle.std.proofs.lemmas.List.Quantifiers.{all_pairs_push}
-use Rattle.std.proofs.lemmas.List.Sorted.{IsPermutation-refl, IsPermutation-sym, IsPermutation-trans, IsPermutation-cons, IsPermutation-middle, IsPermutation-append_left, IsPermutation-map, All-permutation}
+use Rattle.std.proofs.lemmas.List.Sorted.{IsPermutation-refl, IsPermutation-sym, IsPermutation-trans, IsPermutation-map, All-permutation}
 use Rattle.ldm_records.proofs.PlainLaws.{own_spells}
 use Rattle.ldm_payloads.proofs.WholeLaws.{is_one}
 use Rattle.ldm_frags.proofs.WriteLaws.{HasFields, fields_of}
@@ -27,7 +27,7 @@ use Rattle.ldm_group.proofs.Rise.{strictly}
 use Rattle.ldm_group.proofs.OneOrder.{one_rising}
 use Rattle.ldm_copy.specs.declared.finding.Found.{Found}
 use Rattle.ldm_frags.proofs.HoldEdits.{apart_permuted, hold_permuted}
-use Rattle.ldm_copy.proofs.BodyLaws.{record_of, all_mapped, stored_again, key, below, all_below, all_used, first_used}
+use Rattle.ldm_copy.proofs.BodyLaws.{record_of, all_mapped, stored_again, key, below, all_below, all_used}
 
 -- ---- Records that are found by the heads of their blocks.
 
@@ -217,8 +217,10 @@ module _ (blocks places : List ℕ) (k n G P : ℕ) (has : HasPlaces blocks k pl
   other_place : (g p : ℕ) → 4 ≤ g → p < 4 → ((G ≡ g) × (P ≡ p)) ⊎ ((4 * (g - 4) + p ≢ 4 * (G - 4) + P) × (is_part blocks g p k ≡ false))
   other_place g p low few =
       elim (cases_eq G g) [
-        | inr ne ↦ inr ((λ e. ne (omega (arith, e, few, few_k, low, low_k))),
-            and_left (is_of blocks g k) (eqb (part blocks k) p) (and_right (is_fragment blocks k) (eqb (group blocks k) g) (ne_eqb (group blocks k) g (λ e. ne (is_g ∙ e)))))
+        | inr ne ↦ inr (
+          (λ e. ne (omega (arith, e, few, few_k, low, low_k))),
+          and_left (is_of blocks g k) (eqb (part blocks k) p) (and_right (is_fragment blocks k) (eqb (group blocks k) g) (ne_eqb (group blocks k) g (λ e. ne (is_g ∙ e)))),
+        )
         | inl same ↦ elim (cases_eq P p) [
           | inl one ↦ inl (same, one)
           | inr ne ↦ inr ((λ e. ne (omega (arith, e, same))), and_right (is_of blocks g k) (eqb (part blocks k) p) (ne_eqb (part blocks k) p (λ e. ne (is_p ∙ e))))

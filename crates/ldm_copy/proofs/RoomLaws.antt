@@ -22,7 +22,7 @@ use Rattle.ldm_vmdb.specs.Headers.{vmdb_fault}
 use Rattle.ldm_records.specs.declared.types.Record.{Record}
 use Rattle.ldm_records.specs.Plain.{Spells}
 use Rattle.ldm_records.specs.Views.{plain_of}
-use Rattle.ldm_group.specs.Room.{own_len, need_of, room_of, IsFitting, HasRoom}
+use Rattle.ldm_group.specs.Room.{own_len, need_of, IsFitting, HasRoom}
 use Rattle.ldm_group.specs.Database.{Database}
 use Rattle.ldm_copy.specs.Records.{SpellRecords}
 use Rattle.ldm_copy.specs.Answers.{FitsArea}

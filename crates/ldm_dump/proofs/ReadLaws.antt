@@ -48,7 +48,7 @@ use Rattle.ldm_label.specs.declared.LabelFault.{LabelFault}
 use Rattle.ldm_rules.specs.Facts.{AreApart}
 use Rattle.ldm_found.specs.Opening.{IsGroupIn}
 use Rattle.ldm_found.proofs.FoundLaws.{holds_group}
-use Rattle.ldm_found.proofs.GatherLaws.{gather_at, gather_length}
+use Rattle.ldm_found.proofs.CopyLaws.{gather_at, gather_length}
 use Rattle.ldm_dump.specs.Redundant.{without_place, IsComplete, IsRedundant}
 use Rattle.std.specs.Int.Bits.{xor_assoc, xor_self, xor_zero_r}
 use Rattle.std.proofs.lemmas.Nat.{xor_comm, mod_below}

@@ -15,8 +15,7 @@ use Rattle.ldm_found.specs.Copies.{newer, newest, Disagrees, note_of}
 use Rattle.ldm_found.specs.Editing.{reasons, blocked_in}
 use Rattle.ldm_found.specs.Opening.{group_faults, found_with, group_at, IsNewestGroup}
 use Rattle.ldm_found.specs.Alike.{AreSameState, AllAlike, TellsSame, AnswerAlike}
-use Rattle.ldm_found.proofs.FirstLaws.{first_one}
-use Rattle.ldm_found.proofs.NewestLaws.{behind}
+use Rattle.ldm_found.proofs.CopyLaws.{first_one, behind}
 
 -- ---- one group
 

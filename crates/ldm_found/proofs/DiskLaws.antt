@@ -14,8 +14,7 @@ use Rattle.ldm_found.specs.declared.fault.OpenError.TheVariants.{Fault, Disk, No
 use Rattle.ldm_found.specs.Gathers.{Gathers}
 use Rattle.ldm_found.specs.Labels.{IsLabelOf, AreOneDisk, AreTwins}
 use Rattle.ldm_found.specs.Steps.{ReadsLabel, ReadsLabels}
-use Rattle.ldm_found.proofs.GatherLaws.{gather_ends}
-use Rattle.ldm_found.proofs.FirstLaws.{none_passes}
+use Rattle.ldm_found.proofs.CopyLaws.{gather_ends, none_passes}
 
 -- ---- an element of a list with one more
 
@@ -117,10 +116,6 @@ one_twins labels (Some p) (Some q) x y =
     same_pair a b c e (inr x) (inr y) = (x.0, omega (arith, x.1, y.1))
 
 -- ---- the answers
-
-pub labels_passed : (images : List (List ℕ)) (r : Result (List Label) OpenError) (error : OpenError) → IsErrAnd r (λ e. e ≡ error) → ReadsLabels images (Err error) → ReadsLabels images r
-labels_passed images (Ok labels) error is reads = absurd is
-labels_passed images (Err e) error is reads = subst (λ (x : OpenError). ReadsLabels images (Err x)) (sym is) reads
 
 -- a fault behind labels that have none is the first of the group
 pub label_fault : (images content : List (List ℕ)) (i : ℕ) (labels : List Label) (error : OpenError) → content ≡ images → i < length images → Gathers IsLabelOf (take i images) (Ok labels)

@@ -3,8 +3,8 @@ use Rattle.std.proofs.Common.{◌≡◌, inl, inr, ⊎_elim, ℕ, zero, suc, ◌
 use Rattle.std.specs.Prelude.{map, nat_lt, slice_get, zip, if◌then◌else◌}
 use Rattle.std.specs.Option.{option_map}
 use Rattle.std.proofs.lemmas.Bool.{cases_lt}
-use Rattle.std.proofs.lemmas.Bool.Decides.{nat_tests}
 use Rattle.std.proofs.lemmas.Option.{slice_get-map, slice_get_within}
+use Rattle.std.proofs.lemmas.Slice.Zip.{length-zip}
 use Rattle.ldm_bytes.specs.Tables.{first_of, unless}
 use Rattle.ldm_label.specs.declared.Label.{Label}
 use Rattle.ldm_group.specs.Database.{Database}
@@ -20,7 +20,7 @@ use Rattle.ldm_found.specs.Labels.{IsLabelOf, AreApart, AreTwins}
 use Rattle.ldm_found.specs.Copies.{IsCopyIn, newer, newest, Disagrees, note_of, HasCopy, IsKnown}
 use Rattle.ldm_found.specs.Editing.{blocked_in}
 use Rattle.ldm_found.specs.Opening.{IsGroupIn, IsGroupOfDisks, IsGroupOfCopies, IsNewestGroup, group_faults, group_at, found_with}
-use Rattle.ldm_found.proofs.GatherLaws.{gather_length}
+use Rattle.ldm_found.proofs.CopyLaws.{gather_length, greatest}
 
 -- the parts of a found group
 pub record HoldsGroup (images : List (List ℕ)) (found : Found) : Type 0 where
@@ -81,68 +81,7 @@ holds_group images found (Ok labels, are, disks) = of_disks disks.0 disks.1 disk
     of_disks (Some pair) apart is = no_group found _ is
     of_disks None apart is = of_copies is.0 apart is.1 is.2
 
--- ---- the greatest sequence
-
-abbrev Shown : Option (ℕ × Database) → Option (ℕ × Database)
-Shown later = option_map (λ (at : ℕ × Database). (suc at.0, at.1)) later
-
--- the newest stands there, and no open copy has a greater sequence
-pub record IsGreatest (copies : List CopyState) (at : ℕ × Database) : Type 0 where
-  pub there : slice_get copies at.0 ≡ Some (Valid at.1)
-  pub top : (k : ℕ) (e : Database) → slice_get copies k ≡ Some (Valid e) → e.header.seq ≤ at.1.header.seq
-
-IsNewestOf : List CopyState → Option (ℕ × Database) → Type 0
-IsNewestOf copies None = (k : ℕ) (e : Database) → slice_get copies k ≡ Some (Valid e) → ⊥
-IsNewestOf copies (Some at) = IsGreatest copies at
-
-valid_seq : (a b : Database) → Some (Valid a) ≡ Some (Valid b) → b.header.seq ≡ a.header.seq
-valid_seq a b e = let same : b ≡ a = cc in ap (λ (d : Database). d.header.seq) same
-
-newest_of : (copies : List CopyState) → IsNewestOf copies (newest copies)
-unfolding IsNewestOf
-newest_of [] = λ k e at. absurd (none_there k e at)
-  where
-    none_there : (k : ℕ) (e : Database) → slice_get [] k ≡ Some (Valid e) → ⊥
-    none_there k e at = absurd cc
-newest_of (Closed ∷ copies) = closed (newest copies) (newest_of copies)
-  where
-    closed : (later : Option (ℕ × Database)) → IsNewestOf copies later → IsNewestOf (Closed ∷ copies) (Shown later)
-    closed None none = passed none
-      where
-        passed : ((k : ℕ) (e : Database) → slice_get copies k ≡ Some (Valid e) → ⊥) → (k : ℕ) (e : Database) → slice_get (Closed ∷ copies) k ≡ Some (Valid e) → ⊥
-        passed none zero e at = absurd cc
-        passed none (suc k) e at = none k e at
-    closed (Some at) is = record { there = is.there; top = shifted at is }
-      where
-        shifted : (at : ℕ × Database) → IsGreatest copies at → (k : ℕ) (e : Database) → slice_get (Closed ∷ copies) k ≡ Some (Valid e) → e.header.seq ≤ at.1.header.seq
-        shifted at is zero e there = absurd cc
-        shifted at is (suc k) e there = is.top k e there
-newest_of (Valid db ∷ copies) = opened (newest copies) (newest_of copies)
-  where
-    first : (later : List CopyState) (most : ℕ) → ((k : ℕ) (e : Database) → slice_get copies k ≡ Some (Valid e) → e.header.seq ≤ most) → most ≤ db.header.seq
-        → (k : ℕ) (e : Database) → slice_get (Valid db ∷ copies) k ≡ Some (Valid e) → e.header.seq ≤ db.header.seq
-    first later most top le zero e at = let s = valid_seq db e at in omega (arith, s)
-    first later most top le (suc k) e at = let t = top k e at in omega (arith, t, le)
-
-    both : (at : ℕ × Database) → IsGreatest copies at → (b : Bool) → nat_lt db.header.seq at.1.header.seq ≡ b → IsNewestOf (Valid db ∷ copies) (if b then Some (suc at.0, at.1) else Some (0, db))
-    both at is true less =
-        let lt : db.header.seq < at.1.header.seq = grind (arith, nat_tests) in
-        record { there = is.there; top = above at is lt }
-      where
-        above : (at : ℕ × Database) → IsGreatest copies at → db.header.seq < at.1.header.seq → (k : ℕ) (e : Database) → slice_get (Valid db ∷ copies) k ≡ Some (Valid e) → e.header.seq ≤ at.1.header.seq
-        above at is lt zero e there = let s = valid_seq db e there in omega (arith, s, lt)
-        above at is lt (suc k) e there = is.top k e there
-    both at is false less =
-        let ge : at.1.header.seq ≤ db.header.seq = grind (arith, nat_tests) in
-        record { there = refl; top = first copies at.1.header.seq is.top ge }
-
-    opened : (later : Option (ℕ × Database)) → IsNewestOf copies later → IsNewestOf (Valid db ∷ copies) (newer (Valid db) (Shown later))
-    opened None none = record { there = refl; top = first copies 0 (λ k e at. absurd (none k e at)) (omega arith) }
-    opened (Some at) is = both at is (nat_lt db.header.seq at.1.header.seq) refl
-
-pub greatest : (copies : List CopyState) (at : ℕ × Database) → newest copies ≡ Some at → IsGreatest copies at
-unfolding IsNewestOf
-greatest copies at is = subst (λ (o : Option (ℕ × Database)). IsNewestOf copies o) is (newest_of copies)
+-- ---- the copies
 
 first_fails : {A : Type 0} (Has : A → Type 0) (xs : List A) → IsFirst Has xs None → (k : ℕ) (x : A) → slice_get xs k ≡ Some x → Has x → ⊥
 first_fails Has [] none k x at has = absurd cc
@@ -160,12 +99,7 @@ copy_at (l ∷ labels) (i ∷ images) (c ∷ copies) same are zero lt = (l, refl
 copy_at (l ∷ labels) (i ∷ images) (c ∷ copies) same are (suc disk) lt = copy_at labels images copies (omega arith) are.1 disk (omega arith)
 
 copies_length : (labels : List Label) (images : List (List ℕ)) (copies : List CopyState) → length images ≡ length labels → Gathers IsCopyIn (zip labels images) (Ok copies) → length copies ≡ length labels
-copies_length [] [] [] same are = refl
-copies_length [] [] (c ∷ copies) same are = absurd are
-copies_length [] (i ∷ images) copies same are = absurd (omega arith)
-copies_length (l ∷ labels) [] copies same are = absurd (omega arith)
-copies_length (l ∷ labels) (i ∷ images) [] same are = absurd are
-copies_length (l ∷ labels) (i ∷ images) (c ∷ copies) same are = ap suc (copies_length labels images copies (omega arith) are.1)
+copies_length labels images copies same are = omega (arith, gather_length IsCopyIn (zip labels images) copies are, length-zip labels images, same)
 
 module _ (images : List (List ℕ)) (found : Found) (held : HoldsGroup images found) where
   pub one_image : length images ≡ length found.labels

@@ -3,7 +3,6 @@ use Rattle.std.proofs.Common.{◌≡◌, ℕ, List, [], ◌∷◌, Option, Some,
 use Rattle.std.specs.Prelude.{zip, map, IfOk, IsErrAnd}
 use Rattle.std.specs.Option.{option_map}
 use Rattle.std.proofs.lemmas.Option.{none-some}
-use Rattle.std.proofs.lemmas.Result.{err_from_is_err_and}
 use Rattle.ldm_bytes.specs.Tables.{first_of, unless}
 use Rattle.ldm_group.specs.Database.{Database}
 use Rattle.ldm_label.specs.declared.Label.{Label}
@@ -28,8 +27,7 @@ use Rattle.ldm_found.specs.Opening.{group_faults, found_with, group_at, IsNewest
 use Rattle.ldm_found.specs.Facts.{LieOn}
 use Rattle.ldm_found.specs.Answers.{FindsIn}
 use Rattle.ldm_found.specs.Steps.{ReadsCopies, IsNewestOf, ChecksGroup, newest_faults, group_from, GivesGroup}
-use Rattle.ldm_found.proofs.GatherLaws.{gathers_one}
-use Rattle.ldm_found.proofs.FirstLaws.{first_one}
+use Rattle.ldm_found.proofs.CopyLaws.{gathers_one, first_one}
 use Rattle.ldm_found.proofs.DiskLaws.{one_twins}
 
 -- ---- one group at most
@@ -127,14 +125,10 @@ module _ (n : Newest) (labels : List Label) (notes : List Note) where
   group_with : (fault : Option OpenFault) → first_of (newest_faults n labels) ≡ fault → group_at n.image n.db n.other labels notes ≡ unless fault (found_with n.db labels notes)
   group_with fault is = group_by n.image n.db n.other labels notes ∙ ap (λ (o : Option OpenFault). unless o (found_with n.db labels notes)) is
 
-  failed : (e : OpenError) → ChecksGroup (Err e) (first_of (newest_faults n labels)) → GivesGroup (Err e) (group_at n.image n.db n.other labels notes)
-  failed (Fault fault) is = group_with (Some fault) is
-  failed Disk is = absurd is
-  failed NoMemory is = tt
-
-  pub newest_failed : (r : Result Found OpenError) (e : OpenError) → IsErrAnd r (λ x. x ≡ e) → ChecksGroup (Err e) (first_of (newest_faults n labels))
-      → GivesGroup r (group_at n.image n.db n.other labels notes)
-  newest_failed r e same is = let p = err_from_is_err_and r same in rw (p.1, p.2) (failed e is)
+  pub newest_failed : (e : OpenError) → ChecksGroup (Err e) (first_of (newest_faults n labels)) → GivesGroup (Err e) (group_at n.image n.db n.other labels notes)
+  newest_failed (Fault fault) is = group_with (Some fault) is
+  newest_failed Disk is = absurd is
+  newest_failed NoMemory is = tt
 
   pub newest_found : (found : Found) → found ≡ found_with n.db labels notes → first_of (newest_faults n labels) ≡ None → GivesGroup (Ok found) (group_at n.image n.db n.other labels notes)
   newest_found found same none = group_with None none ∙ ap (λ (f : Found). Ok f) (sym same)

@@ -1,11 +1,7 @@
-pub mod GatherLaws
-pub mod FirstLaws
-pub mod NewestLaws
+pub mod CopyLaws
 pub mod DiskLaws
 pub mod AlikeLaws
-pub mod CopyLaws
 pub mod GroupLaws
 pub mod ClearLaws
 pub mod FoundLaws
-pub mod SameDisks
 pub mod NewLaws

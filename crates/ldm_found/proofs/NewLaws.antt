@@ -23,7 +23,7 @@ use Rattle.ldm_found.specs.Copies.{IsCopyIn, newer, newest, Disagrees, note_of}
 use Rattle.ldm_found.specs.Editing.{is_small, clashes, reasons, blocked_in}
 use Rattle.ldm_found.specs.New.{HoldCopies, HasOwnArea}
 use Rattle.ldm_found.specs.Opening.{group_faults, group_at, found_with, IsNewestGroup, IsGroupIn}
-use Rattle.ldm_found.proofs.NewestLaws.{behind}
+use Rattle.ldm_found.proofs.CopyLaws.{behind}
 
 gather_labels : (labels : List Label) (images : List (List ℕ)) → length images ≡ length labels
     → ((disk : ℕ) (label : Label) → slice_get labels disk ≡ Some label → IsLabelOf (get_or images disk []) (Ok label)) → Gathers IsLabelOf images (Ok labels)

@@ -7,7 +7,7 @@ use Rattle.std.proofs.lemmas.Bool.{cases_lt, true_from_ne_false, and_parts, le-l
 use Rattle.ldm_label.specs.declared.Label.{Label}
 use Rattle.ldm_label.specs.Fields.{sectors_of}
 use Rattle.ldm_found.specs.Labels.{AreTwins, AreApart}
-use Rattle.ldm_found.proofs.FirstLaws.{none_more, first_here, first_stays, first_one}
+use Rattle.ldm_found.proofs.CopyLaws.{none_more, first_here, first_stays, first_one}
 use Rattle.ldm_init.specs.Faults.{IsSmall, IsFull, are_zero, is_empty, IsFaultOf, IsInitFault, ChecksDisks, InitAnswers}
 use Rattle.ldm_init.specs.NewGroup.{new_labels, new_label}
 use Rattle.std.proofs.lemmas.Grind.{same_number_lists}

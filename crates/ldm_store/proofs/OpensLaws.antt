@@ -33,7 +33,8 @@ use Rattle.ldm_found.specs.Copies.{IsCopyIn, newest, Disagrees, note_of, IsKnown
 use Rattle.ldm_found.proofs.AlikeLaws.{same_faults, same_blocked}
 use Rattle.ldm_host.specs.Seen.{Seen, image}
 use Rattle.ldm_store.proofs.CopyLaws.{same_label}
-use Rattle.ldm_found.proofs.FoundLaws.{holds_group, copy_at, greatest, none_newest}
+use Rattle.ldm_found.proofs.FoundLaws.{holds_group, copy_at, none_newest}
+use Rattle.ldm_found.proofs.CopyLaws.{greatest}
 
 -- ---- What a group that may be edited has: no fault on its disks, and bodies that fit each of them.
 

@@ -8,8 +8,8 @@ use Rattle.ldm_changed.specs.Plan.{has_record, record_stays, changed_numbers}
 use Rattle.ldm_copy.specs.Body.{stored_at}
 use Rattle.ldm_copy.proofs.BodyLaws.{record_of}
 use Rattle.ldm_frags.proofs.HoldEdits.{hold_grown}
-use Rattle.ldm_changed.proofs.StoreLaws.{kept_records_of, changed_grown}
-use Rattle.ldm_changed.proofs.TableLaws.{next_holds}
+use Rattle.ldm_changed.proofs.PlanLaws.{kept_records_of, changed_grown}
+use Rattle.ldm_changed.proofs.NextLaws.{next_holds}
 use Rattle.ldm_changed.proofs.change.next_blocks.Goals as goal
 
 pub weave-requires-clause-kept : goal.weave-requires-clause-kept
@@ -48,5 +48,5 @@ returns-clause-holds c =
     let out = c.rewrite_blocks.new.out in
     let is : c.from_vec.result ≡ out = c.from_vec.ensures ∙ with_items_is c.in_ok-out.out out (c.rewrite_blocks.auto.out ∙ c.deref_mut.ensures.len) in
     subst (λ (l : List ℕ). Holds l (map placed_of (stored_at new c.in_ok-next.next.items))) (sym is)
-    (next_holds old new c.as_slice.result.now c.args.table.now c.in_ok-kept.kept.items c.deref.result.now c.in_ok-kept.made.items c.deref-2.result.now c.in_ok-next.next.items out c.requires.one_each c.as_slice.ensures.all
-    c.deref.ensures.value c.in_ok-kept.ensures.kept c.deref-2.ensures.value c.in_ok-kept.ensures.same c.in_ok-kept.ensures.holds c.in_ok-next.ensures.same)
+    (next_holds old new c.args.table.now c.in_ok-kept.kept.items c.in_ok-kept.made.items c.in_ok-next.next.items out c.requires.one_each c.in_ok-kept.ensures.kept c.in_ok-kept.ensures.same c.in_ok-kept.ensures.holds
+    (rw (c.as_slice.ensures.all, c.deref.ensures.value, c.deref-2.ensures.value) at c.in_ok-next.ensures.same))

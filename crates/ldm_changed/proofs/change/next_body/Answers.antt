@@ -1,5 +1,5 @@
 use Rattle.std.proofs.Common.{ℕ, ◌+◌, ◌*◌, ◌≤◌, List, length, ap, subst, arith}
-use Rattle.ldm_changed.proofs.TableLaws.{few_area}
+use Rattle.ldm_changed.proofs.NextLaws.{few_area}
 use Rattle.ldm_changed.proofs.change.next_body.Goals as goal
 
 pub returns-clause-most : goal.returns-clause-most

@@ -1,4 +1,4 @@
-use Rattle.std.proofs.Common.{◌≡◌, ◌-◌, ◌*◌, ℕ, List, length, take, drop, map, All, sym, ap, subst, ◌∙◌, arith, length-drop}
+use Rattle.std.proofs.Common.{◌≡◌, ◌-◌, ◌*◌, ◌++◌, ℕ, List, length, take, drop, map, All, sym, ap, subst, ◌∙◌, arith, length-drop}
 use Rattle.std.proofs.lemmas.List.{take_rest}
 use Rattle.ldm_records.specs.declared.types.Record.{Record}
 use Rattle.ldm_records.specs.Plain.{IsRecord}
@@ -11,8 +11,8 @@ use Rattle.ldm_copy.specs.Copy.{header_sector}
 use Rattle.ldm_copy.specs.Body.{placed_of, stored_at, Store}
 use Rattle.ldm_copy.specs.Table.{IsTabled}
 use Rattle.ldm_copy.proofs.BodyLaws.{few_records}
-use Rattle.ldm_changed.specs.Plan.{changed_numbers}
-use Rattle.ldm_changed.proofs.TableLaws.{same_records, next_is}
+use Rattle.ldm_changed.specs.Change.{IsNextBody}
+use Rattle.ldm_changed.proofs.NextLaws.{same_records, next_is}
 use Rattle.ldm_changed.proofs.change.next_bytes.Goals as goal
 
 -- the records of the table are those of the old database
@@ -67,11 +67,12 @@ returns-clause-few c =
 pub returns-clause-next : goal.returns-clause-next
 returns-clause-next c =
     let tabled = c.table-slots.ensures in
+    let header = c.header-header.ensures in
+    let blocks = c.in_ok-blocks.ensures in
     let last = last_is c.args.body.now c.table-slots.result.now tabled in
-    let bytes : c.as_slice-bytes.result.now ≡ c.args.body.now = c.as_slice-bytes.ensures.value in
-    next_is c.args.body.now tabled.db.header.last c.args.new.now c.header-header.result.now c.as_slice-records.result.now c.counts_of.result c.write_header.new.out c.in_ok-blocks.blocks c.as_slice.result.now c.in_ok-blocks.numbers c.in_ok-bytes.bytes
-    c.in_ok-blocks.table.items tabled.body.is.size tabled.body.low (omega (arith, last, c.requires.last)) c.requires.high c.as_slice-records.ensures.rising
-    c.header-header.ensures c.as_slice-records.ensures.all c.counts_of.ensures (omega (arith, c.write_header.auto.out)) c.write_header.ensures.bytes c.write_header.ensures.reads_back c.write_header.ensures.no_fault
-    (c.in_ok-blocks.ensures.size ∙ ap (λ (n : ℕ). 128 * n) c.room-room.ensures) c.in_ok-blocks.ensures.store
-    (c.in_ok-blocks.ensures.changed ∙ ap (λ (l : List ℕ). changed_numbers (take (length l - 512) (drop 512 l)) c.in_ok-blocks.blocks) bytes)
-    c.in_ok-blocks.ensures.one_each c.in_ok-blocks.ensures.holds c.as_slice.ensures c.in_ok-bytes.ensures
+    subst (λ (l : List ℕ). IsNextBody c.args.body.now c.args.new.now l c.in_ok-blocks.numbers c.in_ok-blocks.table.items) (sym (c.in_ok-bytes.ensures ∙ ap (λ (l : List ℕ). c.write_header.new.out ++ l) c.as_slice.ensures))
+    (next_is c.args.body.now tabled.db.header.last c.args.new.now c.write_header.new.out c.in_ok-blocks.blocks c.in_ok-blocks.numbers c.in_ok-blocks.table.items
+    tabled.body.is.size tabled.body.low (omega (arith, last, c.requires.last)) c.requires.high c.as_slice-records.ensures.rising (omega (arith, c.write_header.auto.out))
+    (rw (header, c.counts_of.ensures, c.as_slice-records.ensures.all) at c.write_header.ensures.bytes) (rw header at c.write_header.ensures.reads_back) (rw header at c.write_header.ensures.no_fault)
+    (blocks.size ∙ ap (λ (n : ℕ). 128 * n) c.room-room.ensures) blocks.store
+    (rw (take_rest c.as_slice-bytes.result.now 512, c.as_slice-bytes.ensures.value) at blocks.changed) blocks.one_each blocks.holds)

@@ -4,8 +4,7 @@ use Rattle.ldm_records.specs.Views.{plain_of}
 use Rattle.ldm_frags.specs.Written.{parts_of, IsPlaced}
 use Rattle.ldm_group.specs.Room.{own_len}
 use Rattle.ldm_changed.specs.Plan.{slots_from}
-use Rattle.ldm_changed.proofs.AddLaws.{slots_apart}
-use Rattle.ldm_changed.proofs.DiffLaws.{own_len_is}
+use Rattle.ldm_changed.proofs.PlanLaws.{slots_apart, own_len_is}
 use Rattle.ldm_changed.proofs.planning.add.Goals as goal
 
 pub parts_of-requires-clause-few : goal.parts_of-requires-clause-few

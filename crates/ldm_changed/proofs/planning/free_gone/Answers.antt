@@ -1,8 +1,10 @@
-use Rattle.std.proofs.Common.{sym, arith}
-use Rattle.ldm_copy.specs.Body.{Stored}
-use Rattle.ldm_copy.specs.Body.{stored_at}
+use Rattle.std.proofs.Common.{◌≤◌, length, sym, arith}
+use Rattle.std.specs.Prelude.{filter}
+use Rattle.std.proofs.lemmas.List.{append-nil, take_all, drop_all}
+use Rattle.ldm_copy.specs.Body.{Stored, stored_at}
+use Rattle.ldm_changed.specs.Plan.{record_stays}
 use Rattle.ldm_copy.proofs.BodyLaws.{stored_length, stored_get}
-use Rattle.ldm_changed.proofs.GoneLaws.{freed_step, freed_all, slots_used}
+use Rattle.ldm_changed.proofs.PlanLaws.{freed_step, slots_used}
 use Rattle.ldm_changed.proofs.planning.free_gone.Goals as goal
 
 pub keep_or_free-requires : goal.keep_or_free-requires
@@ -22,18 +24,15 @@ loop-i-preserved c =
     freed_step S c.args.new.now.records c.loop-i.i x (omega (arith, size, c.loop-i-test.true)) at c.args.out.now c.loop-i.out c.keep_or_free.new.out c.loop-i.kept.items c.keep_or_free.new.kept.items
     c.has-stays.result (omega (arith, c.keep_or_free.auto.out)) (omega (arith, c.loop-i.auto.out, c.requires.small)) (sym c.has-stays.ensures.is) (λ e. c.has-stays.ensures.there e) c.in_ok-keep_or_free.ensures c.loop-i.invariant
 
-pub returns-clause-kept : goal.returns-clause-kept
-returns-clause-kept c = (let size = stored_length c.args.records.now c.args.table.now c.requires.one_each in
-    freed_all (stored_at c.args.records.now c.args.table.now) c.args.new.now.records c.loop-i.i c.args.out.now c.loop-i.out c.loop-i.kept.items (omega (arith, size, c.loop-i-test.false)) c.loop-i.invariant).kept_is
-
-pub returns-clause-holds : goal.returns-clause-holds
-returns-clause-holds c = (let size = stored_length c.args.records.now c.args.table.now c.requires.one_each in
-    freed_all (stored_at c.args.records.now c.args.table.now) c.args.new.now.records c.loop-i.i c.args.out.now c.loop-i.out c.loop-i.kept.items (omega (arith, size, c.loop-i-test.false)) c.loop-i.invariant).holds
-
-pub returns-clause-others : goal.returns-clause-others
-returns-clause-others c = (let size = stored_length c.args.records.now c.args.table.now c.requires.one_each in
-    freed_all (stored_at c.args.records.now c.args.table.now) c.args.new.now.records c.loop-i.i c.args.out.now c.loop-i.out c.loop-i.kept.items (omega (arith, size, c.loop-i-test.false)) c.loop-i.invariant).others
-
-pub returns-clause-there : goal.returns-clause-there
-returns-clause-there c = (let size = stored_length c.args.records.now c.args.table.now c.requires.one_each in
-    freed_all (stored_at c.args.records.now c.args.table.now) c.args.new.now.records c.loop-i.i c.args.out.now c.loop-i.out c.loop-i.kept.items (omega (arith, size, c.loop-i-test.false)) c.loop-i.invariant).there
+pub returns : goal.returns
+returns c =
+    let S = stored_at c.args.records.now c.args.table.now in
+    let le : length S ≤ c.loop-i.i = omega (arith, stored_length c.args.records.now c.args.table.now c.requires.one_each, c.loop-i-test.false) in
+    let all = take_all c.loop-i.i S le in
+    let w = c.loop-i.invariant in
+    record {
+      kept = rw all at w.kept_is;
+      holds = rw (all, drop_all c.loop-i.i S le, append-nil (filter (record_stays c.args.new.now.records) S)) at w.holds;
+      others = rw all at w.others;
+      there = rw all at w.there;
+    }

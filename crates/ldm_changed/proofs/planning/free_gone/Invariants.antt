@@ -1,5 +1,5 @@
 use Rattle.ldm_copy.specs.Body.{stored_at}
-use Rattle.ldm_changed.proofs.GoneLaws.{IsFreedUpTo}
+use Rattle.ldm_changed.proofs.PlanLaws.{IsFreedUpTo}
 use Rattle.ldm_changed.proofs.planning.free_gone.Given as goal
 
 abbrev pub invariant-loop-i : goal.invariant-loop-i

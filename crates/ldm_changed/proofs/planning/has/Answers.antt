@@ -1,7 +1,7 @@
 use Rattle.std.proofs.Common.{◌≡◌, ℕ, Some, None, sym, ap, ◌∙◌}
 use Rattle.ldm_group.specs.Order.{kind_of, id_of}
 use Rattle.ldm_group.specs.Looks.{by_id}
-use Rattle.ldm_changed.proofs.StoreLaws.{has_by}
+use Rattle.ldm_changed.proofs.PlanLaws.{has_by}
 use Rattle.ldm_changed.proofs.planning.has.Goals as goal
 
 pub returns-in-Some-clause-is : goal.returns-in-Some-clause-is

@@ -1,4 +1,4 @@
-use Rattle.ldm_changed.proofs.OwnLaws.{same_spelled}
+use Rattle.ldm_changed.proofs.PlanLaws.{same_spelled}
 use Rattle.ldm_changed.proofs.planning.is_same.Goals as goal
 
 pub returns-clause-spelled : goal.returns-clause-spelled

@@ -1,7 +1,8 @@
 use Rattle.std.proofs.Common.{ℕ, List, refl, sym, subst, arith}
 use Rattle.std.proofs.lemmas.Bool.{eqb-true}
+use Rattle.std.proofs.lemmas.List.{take_all}
 use Rattle.ldm_changed.specs.Plan.{has_record}
-use Rattle.ldm_changed.proofs.AddLaws.{IsAddedUpTo, added_none, room_for, added_step, added_all}
+use Rattle.ldm_changed.proofs.PlanLaws.{IsAddedUpTo, added_none, room_for, added_step}
 use Rattle.ldm_changed.proofs.planning.write_made.Goals as goal
 
 pub add_if_new-requires-clause-room : goal.add_if_new-requires-clause-room
@@ -25,17 +26,14 @@ loop-j-preserved c =
     c.loop-j.made.items c.add_if_new.new.made.items (has_record old r) (omega (arith, c.add_if_new.auto.out)) (omega (arith, c.loop-j.auto.out, c.requires.small)) c.requires.apart c.requires.within
     (omega (arith, le, c.loop-j.invariant.at_is, c.requires.room)) refl (λ yes. c.add_if_new.ensures.there yes) c.in_ok-at.ensures.adds c.loop-j.invariant
 
-pub returns-clause-one_each : goal.returns-clause-one_each
-returns-clause-one_each c = (added_all c.args.records.now c.args.old.now.records c.args.free.now c.loop-j.j c.args.out.now c.loop-j.out c.loop-j.at c.loop-j.made.items c.loop-j-test.false c.loop-j.invariant).one_each
-
-pub returns-clause-holds : goal.returns-clause-holds
-returns-clause-holds c = (added_all c.args.records.now c.args.old.now.records c.args.free.now c.loop-j.j c.args.out.now c.loop-j.out c.loop-j.at c.loop-j.made.items c.loop-j-test.false c.loop-j.invariant).holds
-
-pub returns-clause-others : goal.returns-clause-others
-returns-clause-others c = (added_all c.args.records.now c.args.old.now.records c.args.free.now c.loop-j.j c.args.out.now c.loop-j.out c.loop-j.at c.loop-j.made.items c.loop-j-test.false c.loop-j.invariant).others
-
-pub returns-clause-sound : goal.returns-clause-sound
-returns-clause-sound c = (added_all c.args.records.now c.args.old.now.records c.args.free.now c.loop-j.j c.args.out.now c.loop-j.out c.loop-j.at c.loop-j.made.items c.loop-j-test.false c.loop-j.invariant).sound
-
-pub returns-clause-there : goal.returns-clause-there
-returns-clause-there c = (added_all c.args.records.now c.args.old.now.records c.args.free.now c.loop-j.j c.args.out.now c.loop-j.out c.loop-j.at c.loop-j.made.items c.loop-j-test.false c.loop-j.invariant).there
+pub returns : goal.returns
+returns c =
+    let all = take_all c.loop-j.j c.args.records.now c.loop-j-test.false in
+    let w = c.loop-j.invariant in
+    record {
+      one_each = rw all at w.one_each;
+      holds = rw all at w.holds;
+      others = rw (w.at_is, all) at w.others;
+      sound = rw all at w.sound;
+      there = rw all at w.there;
+    }

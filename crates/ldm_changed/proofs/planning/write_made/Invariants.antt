@@ -1,4 +1,4 @@
-use Rattle.ldm_changed.proofs.AddLaws.{IsAddedUpTo}
+use Rattle.ldm_changed.proofs.PlanLaws.{IsAddedUpTo}
 use Rattle.ldm_changed.proofs.planning.write_made.Given as goal
 
 abbrev pub invariant-loop-j : goal.invariant-loop-j

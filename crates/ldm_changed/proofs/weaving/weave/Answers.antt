@@ -1,5 +1,5 @@
 use Rattle.std.proofs.Common.{sym}
-use Rattle.ldm_changed.proofs.WeaveLaws.{woven_within, woven_step}
+use Rattle.ldm_changed.proofs.NextLaws.{woven_within, woven_step}
 use Rattle.ldm_changed.proofs.weaving.weave.Goals as goal
 
 pub weave_one-requires : goal.weave_one-requires

@@ -1,4 +1,4 @@
-use Rattle.ldm_changed.proofs.WeaveLaws.{IsWovenUpTo}
+use Rattle.ldm_changed.proofs.NextLaws.{IsWovenUpTo}
 use Rattle.ldm_changed.proofs.weaving.weave.Given as goal
 
 abbrev pub invariant-loop-j : goal.invariant-loop-j

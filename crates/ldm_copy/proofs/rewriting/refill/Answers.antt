@@ -1,6 +1,4 @@
-use Rattle.std.proofs.Common.{rules, ◌+◌, ◌-◌, ◌<◌, ℕ, List, length, refl, sym, subst, arith}
-use Rattle.ldm_host.specs.Seen.{image}
-use Rattle.ldm_host.specs.Moves.{Writes, Changes}
+use Rattle.std.proofs.Common.{rules, ◌<◌, ℕ, List, length, refl, sym, subst, arith}
 use Rattle.ldm_host.proofs.ChangeLaws.{writes_change}
 use Rattle.ldm_copy.proofs.RewriteLaws.{refill_fails, filled_shut, refills}
 use Rattle.ldm_copy.proofs.rewriting.refill.Goals as goal

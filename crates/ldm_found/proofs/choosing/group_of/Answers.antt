@@ -3,12 +3,13 @@ use Rattle.ldm_label.specs.declared.Label.{Label}
 use Rattle.ldm_found.specs.declared.fault.OpenFault.{OpenFault}
 use Rattle.ldm_found.specs.Editing.{blocked_in}
 use Rattle.ldm_found.specs.Opening.{found_with}
+use Rattle.ldm_label.proofs.ReadLaws.{handed_on}
 use Rattle.ldm_found.proofs.GroupLaws.{newest_sound, newest_failed, newest_found}
 use Rattle.ldm_found.proofs.choosing.group_of.Goals as goal
 
 pub returns-in_err-check_newest-clause-is : goal.returns-in_err-check_newest-clause-is
 returns-in_err-check_newest-clause-is c =
-    newest_failed c.args.newest c.args.labels c.args.notes c.from_residual.result c.in_err-check_newest.field-0.0 c.from_residual.ensures.1 c.in_err-check_newest.ensures.is
+    rw (handed_on c.from_residual.result c.in_err-check_newest.field-0.0 c.from_residual.ensures.1) (newest_failed c.args.newest c.args.labels c.args.notes c.in_err-check_newest.field-0.0 c.in_err-check_newest.ensures.is)
 
 pub returns-clause-is : goal.returns-clause-is
 returns-clause-is c =

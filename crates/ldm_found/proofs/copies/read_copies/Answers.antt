@@ -2,21 +2,21 @@ use Rattle.std.proofs.Common.{rules, ◌≡◌, Err, length, length-append, ap, 
 use Rattle.ldm_host.proofs.Relations.{looks_then}
 use Rattle.ldm_found.specs.declared.fault.OpenError.{OpenError}
 use Rattle.ldm_found.specs.declared.notes.Note.{Note}
-use Rattle.ldm_found.proofs.CopyLaws.{copies_next, copies_all, copies_passed, copy_fault, passed_disk, among_roomy}
+use Rattle.ldm_label.proofs.ReadLaws.{handed_on}
+use Rattle.ldm_found.proofs.CopyLaws.{copies_next, copies_all, copy_fault, among_roomy}
 use Rattle.ldm_found.proofs.copies.read_copies.Goals as goal
 
 pub returns-in_err-next-clause-is : goal.returns-in_err-next-clause-is
 returns-in_err-next-clause-is g c tells =
     let content = (g.H.Host.seen c.args.host.now).content in
     let one_each : length content ≡ length c.args.labels.now = omega (arith, g.met.H.Host.one_each tells c.args.host.now, c.requires.one_label) in
-    copies_passed c.args.labels.now content c.from_residual.result c.in_err-next.field-0.0 c.from_residual.ensures.1
+    rw (handed_on c.from_residual.result c.in_err-next.field-0.0 c.from_residual.ensures.1)
     (copy_fault c.args.labels.now content (g.H.Host.seen c.loop-disk.host).content c.loop-disk.disk _ c.loop-disk.newest c.loop-disk.notes.items c.in_err-next.field-0.0
     c.loop-disk.invariant.looks.still.content c.loop-disk-test.true one_each (c.loop-disk.invariant.copies tells) (c.in_err-next.ensures.is tells))
 
 pub returns-in_err-next-clause-looks : goal.returns-in_err-next-clause-looks
 returns-in_err-next-clause-looks g c =
-    looks_then c.loop-disk.invariant.looks c.in_err-next.ensures.looks (λ disk. (ap (λ (e : OpenError). Err e)
-    (passed_disk c.from_residual.result c.in_err-next.field-0.0 c.from_residual.ensures.1 disk)))
+    looks_then c.loop-disk.invariant.looks c.in_err-next.ensures.looks (λ is. search rules)
 
 pub returns-in_err-push-clause-looks : goal.returns-in_err-push-clause-looks
 returns-in_err-push-clause-looks g c = looks_then c.loop-disk.invariant.looks c.in_ok-next.ensures.looks (λ is. search rules)

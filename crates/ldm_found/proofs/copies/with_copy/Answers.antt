@@ -5,8 +5,7 @@ use Rattle.ldm_copy.specs.declared.answer.CopyState.{CopyState}
 use Rattle.ldm_copy.specs.declared.answer.CopyState.TheVariants.{Valid}
 use Rattle.ldm_found.specs.declared.copies.Newest.{Newest}
 use Rattle.ldm_found.specs.Steps.{IsNewestOf, IsAmong}
-use Rattle.ldm_found.proofs.CopyLaws.{among_more}
-use Rattle.ldm_found.proofs.NewestLaws.{with_closed, with_first, with_newer, with_older, with_other, no_other, has_other}
+use Rattle.ldm_found.proofs.CopyLaws.{among_more, with_closed, with_first, with_newer, with_older, with_other, no_other, has_other}
 use Rattle.ldm_found.proofs.copies.with_copy.Goals as goal
 use Rattle.ldm_found.proofs.copies.with_copy.Goals.{then-same_seq+then-is_none+then-not-same_core, else-same_seq, else-same_seq-via-then-same_seq+then-is_none+else-not-same_core, else-same_seq-via-then-same_seq+else-is_none, else-same_seq-via-else-same_seq}
 

@@ -1,15 +1,13 @@
-use Rattle.std.proofs.Common.{◌≡◌, ℕ, List, length, Ok, Err, ap, subst, arith}
+use Rattle.std.proofs.Common.{rules, ◌≡◌, ℕ, List, length, Ok, subst, arith}
 use Rattle.ldm_host.specs.Seen.{image}
 use Rattle.ldm_host.proofs.Relations.{looks_then}
-use Rattle.ldm_found.specs.declared.fault.OpenError.{OpenError}
 use Rattle.ldm_found.specs.Copies.{IsCopyIn}
-use Rattle.ldm_found.proofs.CopyLaws.{one_copy_each, passed_disk}
+use Rattle.ldm_found.proofs.CopyLaws.{one_copy_each}
 use Rattle.ldm_found.proofs.copies.with_image.Goals as goal
 
 pub returns-in_err-copy-clause-looks : goal.returns-in_err-copy-clause-looks
 returns-in_err-copy-clause-looks g c =
-    looks_then c.note_alike.ensures.looks c.in_err-copy.ensures.looks (λ disk. (ap (λ (e : OpenError). Err e)
-    (passed_disk c.from_residual-in_err-copy.result c.in_err-copy.field-0.0 c.from_residual-in_err-copy.ensures.1 disk)))
+    looks_then c.note_alike.ensures.looks c.in_err-copy.ensures.looks (λ is. search rules)
 
 pub returns-clause-is : goal.returns-clause-is
 returns-clause-is g c tells copies all is =

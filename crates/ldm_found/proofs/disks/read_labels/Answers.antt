@@ -4,15 +4,16 @@ use Rattle.ldm_host.proofs.Relations.{looks_then}
 use Rattle.ldm_label.specs.declared.Label.{Label}
 use Rattle.ldm_found.specs.Gathers.{Gathers}
 use Rattle.ldm_found.specs.Labels.{IsLabelOf}
-use Rattle.ldm_found.proofs.DiskLaws.{AllFit, fit_more, label_fault, labels_passed}
-use Rattle.ldm_found.proofs.GatherLaws.{gather_next}
+use Rattle.ldm_label.proofs.ReadLaws.{handed_on}
+use Rattle.ldm_found.proofs.DiskLaws.{AllFit, fit_more, label_fault}
+use Rattle.ldm_found.proofs.CopyLaws.{gather_next}
 use Rattle.ldm_found.proofs.disks.read_labels.Goals as goal
 
 pub returns-in_err-label_at-clause-is : goal.returns-in_err-label_at-clause-is
 returns-in_err-label_at-clause-is g c tells =
     let content = (g.H.Host.seen c.args.host.now).content in
     let lt : c.loop-disk.disk < length content = omega (arith, g.met.H.Host.one_each tells c.args.host.now, c.disks-count.ensures, c.loop-disk-test.true) in
-    labels_passed content c.from_residual.result c.in_err-label_at.field-0.0 c.from_residual.ensures.1
+    rw (handed_on c.from_residual.result c.in_err-label_at.field-0.0 c.from_residual.ensures.1)
     (label_fault content (g.H.Host.seen c.loop-disk.host).content c.loop-disk.disk c.loop-disk.labels.items c.in_err-label_at.field-0.0
     c.loop-disk.invariant.looks.still.content lt (c.loop-disk.invariant.labels tells) (c.in_err-label_at.ensures.is tells))
 

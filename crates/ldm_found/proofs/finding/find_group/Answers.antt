@@ -1,7 +1,5 @@
-use Rattle.std.proofs.Common.{Err, ap}
+use Rattle.std.proofs.Common.{rules}
 use Rattle.ldm_host.proofs.Relations.{looks_then}
-use Rattle.ldm_found.specs.declared.fault.OpenError.{OpenError}
-use Rattle.ldm_found.proofs.CopyLaws.{passed_disk}
 use Rattle.ldm_found.proofs.GroupLaws.{one_group, finds, lies_on}
 use Rattle.ldm_found.proofs.finding.find_group.Goals as goal
 
@@ -28,5 +26,4 @@ returns-clause-looks g c = looks_then c.in_ok-labels.ensures.looks c.in_ok-copie
 
 pub returns-in_err-copies-clause-looks : goal.returns-in_err-copies-clause-looks
 returns-in_err-copies-clause-looks g c =
-    looks_then c.in_ok-labels.ensures.looks c.in_err-copies.ensures.looks (λ disk. (ap (λ (e : OpenError). Err e)
-    (passed_disk c.from_residual-in_err-copies.result c.in_err-copies.field-0.0 c.from_residual-in_err-copies.ensures.1 disk)))
+    looks_then c.in_ok-labels.ensures.looks c.in_err-copies.ensures.looks (λ is. search rules)

@@ -1,5 +1,5 @@
 use Rattle.ldm_rules.proofs.PresentLaws.{same_stranger}
-use Rattle.ldm_found.proofs.SameDisks.{same_reasons, still_editable}
+use Rattle.ldm_found.proofs.ClearLaws.{same_reasons, still_editable}
 use Rattle.ldm_found.proofs.laws.disks_alone.Goals as goal
 
 pub returns-clause-blocked : goal.returns-clause-blocked

@@ -1,4 +1,4 @@
-use Rattle.std.proofs.Common.{◌≡◌, ◌≤◌, refl, sym, ◌∙◌, arith}
+use Rattle.std.proofs.Common.{◌≡◌, ◌≤◌, sym, ◌∙◌, arith}
 use Rattle.ldm_host.specs.Seen.{image}
 use Rattle.ldm_host.proofs.Relations.{looks_itself, looks_then, looks_as}
 use Rattle.ldm_label.specs.Fields.{sectors_of}
