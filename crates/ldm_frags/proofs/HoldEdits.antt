@@ -1,6 +1,6 @@
 -- Blocks that lose a record or take one more, their records in another order, and how many are
 -- unused.
-use Rattle.std.proofs.Common.{◌≡◌, ◌≢◌, inl, inr, ℕ, suc, ◌+◌, ◌-◌, ◌*◌, ◌<◌, ◌≤◌, List, ◌∷◌, ◌++◌, length, take, drop, get_or, All, sym, ap, subst, ◌∙◌, arith, ◌⊎◌, zero, not, Bool, true, false, [], replicate, AllPairs, Contains, refl, add-one, set}
+use Rattle.std.proofs.Common.{◌≡◌, ◌≢◌, inl, inr, ℕ, suc, ◌+◌, ◌-◌, ◌*◌, ◌<◌, ◌≤◌, List, ◌∷◌, ◌++◌, length, take, drop, get_or, All, sym, ap, subst, ◌∙◌, arith, ◌⊎◌, zero, not, Bool, true, false, [], replicate, AllPairs, Contains, refl, set}
 use Rattle.std.proofs.lemmas.Bool.{cases_lt, eq-eqb, cases_eq, not-true}
 use Rattle.std.proofs.lemmas.List.{get_or_default, take-append-le, drop-append-le, length-drop, length-append, get_or-set_same, get_or-set_other, length-set}
 use Rattle.std.proofs.lemmas.List.Elements.{All-cons, All-nil, Contains-append_left, Contains-append_right, Contains-get_or, filter-append, All-filter, filter_passes}

@@ -1,7 +1,7 @@
 -- Lists of blocks with no fault are joined, and those with one are not; blocks that read alike join
 -- alike.
-use Rattle.std.proofs.Common.{◌≡◌, ℕ, ◌+◌, ◌<◌, ◌≤◌, Bool, true, false, not, cond, eqb, ltb, leb, List, [], ◌++◌, Option, Some, None, refl, sym, ap, subst, ◌∙◌, arith, inl, inr, zero, suc, ◌*◌, ◌∷◌, take, drop, add-one}
-use Rattle.std.specs.Prelude.{◌&&◌, ◌⊎◌, ◌↔◌, Result, Ok, Err, IsErrAnd, ◌||◌}
+use Rattle.std.proofs.Common.{◌≡◌, ℕ, ◌+◌, ◌<◌, ◌≤◌, Bool, true, false, not, cond, eqb, ltb, leb, List, [], ◌++◌, Option, Some, None, refl, sym, ap, subst, ◌∙◌, arith, inl, inr, ◌*◌, ◌∷◌, take, drop}
+use Rattle.std.specs.Prelude.{◌&&◌, ◌↔◌, Result, Ok, Err, IsErrAnd}
 use Rattle.std.proofs.lemmas.Bool.{cases_lt, ltb-false, le-ltb, leb-false, lt-leb, le-leb, eqb-true, eq-eqb, false≢true, leb-true, cases_Bool, and_parts, not-false, cases_order, cases_eq, ne_eqb}
 use Rattle.ldm_frags.specs.declared.faults.FragFault.{FragFault}
 use Rattle.ldm_frags.specs.declared.faults.FragFault.TheVariants.{NoMagic, Parts, Part, Mixed, Repeated, Missing}

@@ -1,7 +1,7 @@
 -- A block that is written: what it says, what is compared with it, and what its write leaves.
-use Rattle.std.proofs.Common.{◌≡◌, ℕ, ◌+◌, ◌-◌, ◌*◌, ◌^◌, ◌<◌, ◌≤◌, true, List, ◌++◌, take, drop, sym, ap, subst, ◌∙◌, arith, eq-eqb, suc, length, replicate, min, append_assoc, inl, inr, ◌↔◌, Bool, false, IsTrue}
+use Rattle.std.proofs.Common.{◌≡◌, ℕ, ◌+◌, ◌-◌, ◌*◌, ◌^◌, ◌<◌, ◌≤◌, true, List, ◌++◌, take, drop, sym, ap, subst, ◌∙◌, arith, eq-eqb, suc, length, replicate, min, inl, inr, ◌↔◌, Bool, false, IsTrue}
 use Rattle.std.proofs.Math.Nat.{mod-eq_of_lt}
-use Rattle.std.proofs.lemmas.List.{drop-drop, drop-take, append-nil, drop_at, take_at, take-append-le, take-take, take_all, take_rest, drop-append-le, drop-replicate, length-append, length-take-le, length-drop, length-replicate}
+use Rattle.std.proofs.lemmas.List.{drop-drop, drop-take, append-nil, take_at, take-append-le, take-take, take_all, take_rest, drop-append-le, drop-replicate, length-append, length-take-le, length-drop, length-replicate}
 use Rattle.byteorder.specs.Endian.{big_number, big_bytes}
 use Rattle.byteorder.specs.Numbers.{big_from-take, big_from-bytes}
 use Rattle.ldm_frags.specs.Blocks.{has_magic, group, part, parts, payload, count}

@@ -1,6 +1,6 @@
 -- Where the sectors of a layout without faults lie: each at a spot of its own in each copy, inside
 -- a partition, and side by side with the next.
-use Rattle.std.proofs.Common.{◌≡◌, ℕ, zero, suc, ◌+◌, ◌^◌, ◌<◌, ◌≤◌, List, [], ◌∷◌, length, get_or, map, refl, ap, arith, Option, Some, slice_get, ◌==◌, ◌&&◌, not, Bool, true, false, sym, subst, nat_le, None, inl, inr, drop, ◌∙◌, nat_lt, find, sum_by, ◌-◌, ◌*◌, ◌/◌, ◌%◌, min, cond, add_assoc}
+use Rattle.std.proofs.Common.{◌≡◌, ℕ, zero, suc, ◌+◌, ◌^◌, ◌<◌, ◌≤◌, List, [], ◌∷◌, length, get_or, map, refl, ap, arith, Option, Some, slice_get, ◌==◌, ◌&&◌, Bool, true, false, sym, subst, nat_le, None, inl, inr, drop, ◌∙◌, nat_lt, find, sum_by, ◌-◌, ◌*◌, ◌/◌, ◌%◌, min, cond, add_assoc}
 use Rattle.std.specs.Option.{option_map}
 use Rattle.ldm_layout.specs.Answers.{AllEnd, IsPlan, IsPlexOf}
 use Rattle.ldm_layout.specs.Layouts.{place_at, Layout, is_tiled, has_gap, lacks_chunk, lacks_columns, has_columns, is_short, fewest, plex_capacity, capacity_of, layout_fault, covers, tile_spot, stripe_spot, raid5_spot, parity_spot, plex_spot, parity_at, place_in}
@@ -21,7 +21,7 @@ use Rattle.ldm_layout.specs.declared.shape.Shape.{Shape}
 use Rattle.ldm_layout.specs.declared.shape.Shape.TheVariants.{Span, Stripe, Mirror, Raid5}
 use Rattle.std.specs.Prelude.{option_and_then}
 use Rattle.std.proofs.lemmas.Nat.{div-add-mod', div-mul-add, mod-mul-add}
-use Rattle.ldm_layout.specs.Columns.{columns_of, own_column, column_spot, column_in, moved, IsStretch}
+use Rattle.ldm_layout.specs.Columns.{columns_of, column_spot, moved, IsStretch}
 use Rattle.std.proofs.lemmas.Option.{slice_get-get_or}
 
 -- ---- Columns: none is smaller than the least, and the sectors of a volume lie inside them.

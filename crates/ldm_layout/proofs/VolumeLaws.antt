@@ -1,9 +1,9 @@
 -- What a layout is made of: the components and partitions of a volume, and drafts of them.
-use Rattle.std.proofs.Common.{◌≡◌, ℕ, suc, ◌<◌, ◌==◌, List, [], ◌∷◌, length, get_or, refl, sym, ap, ◌∙◌, arith, Bool, true, false, Option, Some, None, zero, ◌+◌, ◌*◌, ◌^◌, inl, inr, subst, slice_get, cond, map, IfSome, Result, Ok, Err, IfOk, nat_le, ◌≤◌, ◌&&◌, ◌||◌, not, ◌++◌, sum_by}
+use Rattle.std.proofs.Common.{◌≡◌, ℕ, suc, ◌<◌, ◌==◌, List, [], ◌∷◌, length, get_or, refl, sym, ap, ◌∙◌, arith, Bool, true, false, Option, Some, None, ◌+◌, ◌*◌, ◌^◌, inl, inr, subst, slice_get, cond, map, IfSome, Result, Ok, Err, IfOk, nat_le, ◌≤◌, ◌||◌, ◌++◌, sum_by}
 use Rattle.std.specs.Prelude.{filter, if◌then◌else◌}
 use Rattle.std.specs.List.{filter_map, All, AllPairs, Contains, cons_option, list_all, list_any}
 use Rattle.std.specs.Option.{option_map}
-use Rattle.std.proofs.lemmas.Bool.{eq-eqb, cases_lt, eqb-true, and_from, le-ltb}
+use Rattle.std.proofs.lemmas.Bool.{eq-eqb, cases_lt, eqb-true, and_from}
 use Rattle.ldm_records.specs.declared.types.Record.{Record}
 use Rattle.ldm_records.specs.declared.types.Record.TheVariants as kinds
 use Rattle.ldm_records.specs.declared.types.Volume.{Volume}
@@ -13,16 +13,16 @@ use Rattle.ldm_group.proofs.KinLaws.{filter_keeps, named_there}
 use Rattle.ldm_layout.specs.declared.shape.Shape.{Shape}
 use Rattle.ldm_layout.specs.declared.parts.Plex.{Plex}
 use Rattle.ldm_layout.specs.declared.parts.Extent.{Extent}
-use Rattle.ldm_layout.specs.Parts.{plex_of, extent_of, plex_in, plexes_of, extent_in, extents_of, plexes_at, extents_at, insert_by, in_rising, by_offset, by_index, tile_key, is_partition_of, tiles, tiles_from, least}
-use Rattle.ldm_layout.specs.Layouts.{Layout, is_tiled, layout_fault, copies_by, is_short, has_gap, plex_capacity, capacity_of}
+use Rattle.ldm_layout.specs.Parts.{plex_of, extent_of, plex_in, plexes_of, extent_in, extents_of, plexes_at, extents_at, insert_by, in_rising, by_offset, by_index, tile_key, is_partition_of, tiles, tiles_from}
+use Rattle.ldm_layout.specs.Layouts.{Layout, is_tiled, layout_fault, copies_by}
 use Rattle.ldm_layout.specs.Volumes.{layout_of, shape_of, draft_of, checked, laid_out, striping_of, fault_of, fault_at, is_basic}
 use Rattle.std.proofs.lemmas.List.Kept.{AllPairs-filter, AllPairs-cons}
 use Rattle.ldm_group.specs.Order.{Rising, place_of}
 use Rattle.ldm_group.proofs.LookLaws.{one_record}
-use Rattle.std.proofs.lemmas.List.{get_or_default, length-map}
+use Rattle.std.proofs.lemmas.List.{length-map}
 use Rattle.std.proofs.lemmas.List.Elements.{All-cons, All-filter, filter_passes, All-tail, filter-append, Contains-get_or}
 use Rattle.ldm_records.specs.declared.types.Partition.{Partition}
-use Rattle.ldm_layout.proofs.SpotLaws.{some_same, PlexFacts, plex_facts, first_tile, begins_behind, tiles_rise}
+use Rattle.ldm_layout.proofs.SpotLaws.{some_same, first_tile, tiles_rise}
 use Rattle.ldm_layout.specs.Answers.{AllEnd, PlansAs, IsPlan}
 use Rattle.ldm_layout.specs.Grouped.{Lists, IsListsOf}
 use Rattle.ldm_layout.specs.declared.shape.LayoutFault.{LayoutFault}
@@ -32,7 +32,6 @@ use Rattle.ldm_bytes.specs.Tables.{unless}
 use Rattle.ldm_group.specs.Partitions.{EndsInRange}
 use Rattle.ldm_layout.specs.declared.shape.LayoutError.{LayoutError}
 use Rattle.ldm_layout.specs.declared.shape.Shape.TheVariants.{Span, Stripe, Mirror, Raid5}
-use Rattle.std.specs.List.Sorted.{IsNonDecreasingBy}
 use Rattle.std.proofs.lemmas.List.Sums.{sum_by-cons}
 use Rattle.ldm_layout.proofs.SortLaws.{rising_numbers, stable_is}
 use Rattle.std.proofs.lemmas.Option.{slice_get_within, get_or_from_slice_get, same_Some}

@@ -1,6 +1,6 @@
 -- How the tests find the first broken rule: walks over records, layouts and sorted spans, and the
 -- table of all.
-use Rattle.std.proofs.Common.{◌≡◌, ℕ, List, [], ◌∷◌, ◌++◌, refl, Option, Some, None, Err, ◌+◌, ◌<◌, ◌==◌, inl, inr, Bool, true, false, cond, length, get_or, ap, sym, subst, ◌∙◌, arith, count_by, find, Bor, not, option_copied, take, drop, Result, Ok, ◌≢◌, ◌≤◌, ◌&&◌, max, min, zero-add, eq-eqb, nat_lt}
+use Rattle.std.proofs.Common.{◌≡◌, ℕ, List, [], ◌∷◌, ◌++◌, refl, Option, Some, None, Err, ◌+◌, ◌<◌, ◌==◌, inl, inr, Bool, true, false, cond, length, get_or, ap, sym, subst, ◌∙◌, arith, count_by, find, Bor, not, option_copied, take, drop, Result, Ok, ◌≢◌, ◌≤◌, max, min, zero-add, eq-eqb, nat_lt}
 use Rattle.ldm_bytes.specs.Tables.{first_of}
 use Rattle.ldm_rules.specs.Table.{ChecksAs}
 use Rattle.ldm_rules.specs.declared.fault.RuleError.{RuleError}

@@ -1,5 +1,5 @@
 -- What a sound group has: each rule is kept, its volumes have layouts, no two sectors have one place, and its partitions end in range.
-use Rattle.std.proofs.Common.{◌≡◌, ℕ, zero, suc, ◌<◌, ◌≤◌, ◌==◌, ◌&&◌, not, Bool, true, false, List, [], ◌∷◌, length, get_or, refl, ap, sym, subst, ◌∙◌, arith, Option, Some, None, Result, nat_le, Contains, ◌+◌, ◌-◌, ◌*◌, ◌/◌, Ok, ◌^◌, Err, OnOk, IfOk, IfSome}
+use Rattle.std.proofs.Common.{◌≡◌, ℕ, ◌<◌, ◌≤◌, ◌==◌, ◌&&◌, not, Bool, true, false, List, [], ◌∷◌, length, get_or, refl, ap, sym, subst, ◌∙◌, arith, Option, Some, None, Result, nat_le, Contains, ◌+◌, ◌-◌, ◌*◌, ◌/◌, Ok, ◌^◌, Err, OnOk, IfOk, IfSome}
 use Rattle.std.specs.List.{All, list_all, filter_map}
 use Rattle.std.specs.Option.{option_map, option_and_then, IsSomeAnd}
 use Rattle.std.specs.Result.{result_ok}

@@ -1,6 +1,6 @@
 -- Places of a volume: where they lie, how many there are, what is compared at each, and what is
 -- said of those that are bad.
-use Rattle.std.proofs.Common.{◌≡◌, ℕ, ◌+◌, ◌-◌, ◌*◌, ◌/◌, ◌%◌, ◌<◌, ◌≤◌, Bool, false, length, refl, ap, sym, ◌∙◌, arith, add_assoc, Option, Some, None, if◌then◌else◌, slice_get, List, true, not, ◌||◌, [], ◌∷◌, ◌++◌, map, take, drop, slice_index, add-one, zero, suc, ◌==◌, get_or, replicate, filter_map, inl, inr, min, cond, nat_lt, filter, flat_map, count_by, subst, append_assoc, zero-add}
+use Rattle.std.proofs.Common.{◌≡◌, ℕ, ◌+◌, ◌-◌, ◌*◌, ◌/◌, ◌%◌, ◌<◌, ◌≤◌, Bool, false, length, refl, ap, sym, ◌∙◌, arith, Option, Some, if◌then◌else◌, slice_get, List, true, not, ◌||◌, [], ◌∷◌, ◌++◌, map, take, drop, slice_index, add-one, zero, suc, ◌==◌, get_or, replicate, filter_map, inl, inr, min, cond, nat_lt, filter, flat_map, count_by, subst, append_assoc, zero-add}
 use Rattle.std.specs.Option.{option_map, option_to_list}
 use Rattle.std.proofs.lemmas.Nat.{div-add-mod', div-mul-add, mod-mul-add, mod_below, mul-le}
 use Rattle.ldm_layout.specs.Places.{raid5_offset}
@@ -19,7 +19,7 @@ use Rattle.ldm_scrub.specs.Compare.{place_sector, copy_sector, copy_differs, row
 use Rattle.std.proofs.lemmas.List.Folds.{list_any-append, list_any_at}
 use Rattle.std.specs.List.{list_any, range_with_len}
 use Rattle.std.proofs.lemmas.List.{ext_get_or, get_or-take, get_or-drop, length-take-le, length-drop, get_or-replicate, append-nil}
-use Rattle.std.proofs.lemmas.List.FromFn.{length-map-range_with_len, get_or-map-range_with_len, length-range_with_len, get_or-range_with_len}
+use Rattle.std.proofs.lemmas.List.FromFn.{length-map-range_with_len, get_or-map-range_with_len, length-range_with_len}
 use Rattle.ldm_dump.specs.Bytes.{joined_byte, joined_sector}
 use Rattle.ldm_dump.proofs.ByteLaws.{joined_behind}
 use Rattle.ldm_dump.specs.Redundant.{row_spots, IsRedundant}

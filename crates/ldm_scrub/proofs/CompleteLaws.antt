@@ -1,5 +1,5 @@
 -- Which disks of a volume are missing, and that all are there where none is.
-use Rattle.std.proofs.Common.{◌≡◌, ℕ, ◌==◌, Bool, true, false, List, refl, ap, sym, subst, ◌∙◌, Option, Some, None, get_or, ◌<◌, ◌&&◌, [], length, arith, find, is_some, is_none, count_by, option_and_then, if◌then◌else◌}
+use Rattle.std.proofs.Common.{◌≡◌, ℕ, ◌==◌, Bool, true, false, List, refl, ap, sym, subst, ◌∙◌, Option, Some, None, get_or, ◌<◌, ◌&&◌, [], length, arith, is_some, is_none, count_by, option_and_then, if◌then◌else◌}
 use Rattle.std.specs.List.{list_any, Contains}
 use Rattle.std.proofs.lemmas.Bool.{and_parts, eqb-true, eq-eqb, ne_eqb}
 use Rattle.std.proofs.lemmas.List.Folds.{list_any_none, list_any_at}

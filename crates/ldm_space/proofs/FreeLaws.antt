@@ -11,12 +11,10 @@ use Rattle.std.specs.Prelude.{take}
 use Rattle.ldm_records.specs.declared.types.Record.{Record}
 use Rattle.ldm_group.proofs.KinLaws.{named_there}
 use Rattle.ldm_space.specs.declared.taken.Taken.{Taken}
-use Rattle.ldm_space.specs.Free.{taken_by, taken_in, takes_one, is_taken, first_from, first_free_start, past, IsFirstFree, HasNoFree, taken_of, clash}
+use Rattle.ldm_space.specs.Free.{taken_by, taken_in, takes_one, is_taken, first_from, first_free_start, past, IsFirstFree, HasNoFree, clash}
 use Rattle.std.specs.Option.{option_map}
 use Rattle.ldm_space.specs.declared.placed.Wanted.{Wanted}
 use Rattle.ldm_space.specs.Wanted.{placing, first_fit, in_front, place_rest, placed}
-use Rattle.ldm_records.specs.declared.types.Partition.{Partition}
-use Rattle.ldm_group.specs.Partitions.{meets}
 use Rattle.ldm_space.specs.Placed.{AreFirstFits, AreDisjoint, AllEndWithin, AllLimited}
 
 -- ---- The first fit is exactly the least free start.

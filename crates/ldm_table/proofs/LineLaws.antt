@@ -1,5 +1,5 @@
 -- Stretches of sectors that lie side by side, and the lines and texts that are made of them.
-use Rattle.std.proofs.Common.{◌≡◌, ◌∙◌, ℕ, zero, suc, ◌+◌, ◌-◌, ◌<◌, ◌==◌, ◌&&◌, Bool, true, false, List, [], ◌∷◌, refl, ap, sym, arith, add_assoc, Option, Some, filter_map, ◌≤◌, inl, inr, map, subst, zero-add, ◌++◌, flat_map, append_assoc}
+use Rattle.std.proofs.Common.{◌≡◌, ◌∙◌, ℕ, zero, suc, ◌+◌, ◌-◌, ◌<◌, ◌==◌, ◌&&◌, Bool, true, false, List, [], ◌∷◌, refl, ap, sym, arith, add_assoc, Option, Some, filter_map, ◌≤◌, inl, inr, map, subst, ◌++◌, flat_map, append_assoc}
 use Rattle.std.specs.List.{range_with_len, cons_option}
 use Rattle.std.proofs.lemmas.Bool.{and_parts, and_from, cond-true, cond-false, eqb-true, eq-eqb, and_right, cases_lt, le-leb, lt-ltb, le-ltb, cases_Bool}
 use Rattle.ldm_layout.specs.Layouts.{Layout}
@@ -11,7 +11,7 @@ use Rattle.std.specs.Prelude.{nat_le, nat_lt}
 use Rattle.ldm_dump.specs.declared.spots.Spot.{Spot}
 use Rattle.ldm_table.specs.Targets.{Line, linear, spots_of, has_sector, spots_in}
 use Rattle.ldm_table.specs.Laws.{Tile}
-use Rattle.std.proofs.lemmas.List.{append-nil, map-append}
+use Rattle.std.proofs.lemmas.List.{append-nil}
 use Rattle.ldm_table.specs.Spelling.{text_of_line}
 use Rattle.std.proofs.lemmas.List.FromFn.{map-range_with_len_more}
 

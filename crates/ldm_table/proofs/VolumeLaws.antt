@@ -22,7 +22,7 @@ use Rattle.ldm_layout.specs.Columns.{columns_of, chunk_of, IsColumned, column_in
 use Rattle.ldm_layout.specs.Places.{stripe_column, stripe_offset, raid5_column, raid5_offset}
 use Rattle.ldm_layout.specs.declared.parts.Extent.{Extent}
 use Rattle.ldm_layout.specs.declared.shape.Shape.{Shape}
-use Rattle.ldm_layout.specs.declared.shape.Shape.TheVariants.{Stripe, Raid5, Span, Mirror}
+use Rattle.ldm_layout.specs.declared.shape.Shape.TheVariants.{Stripe, Raid5}
 use Rattle.ldm_layout.proofs.SpotLaws.{place_by}
 use Rattle.ldm_bytes.specs.Tables.{first_of}
 use Rattle.ldm_dump.proofs.RunLaws.{least_found, here_moved, spot_moved, chunk_is}
