@@ -31,9 +31,11 @@ use Rattle.ldm_frags.proofs.HoldEdits.{hold_permuted, few, numbers_apart, number
 -- ---- The slots of all records, from those that were kept and those that were made.
 
 -- of the records below j that pass, so many slots of these were taken, and the table has them
-pub record AreTaken (p : Record → Bool) (N : List Record) (slots : List (List ℕ)) (j n : ℕ) (table : List (List ℕ)) : Type 0 where
+pub record AreTaken (p : Record → Bool) (N : List Record) (slots : List (List ℕ)) (j n : ℕ)
+    (table : List (List ℕ)) : Type 0 where
   pub many : n ≡ length (filter p (take j N))
-  pub same : filter (λ (s : Stored). p s.record_is) (stored_at (take j N) table) ≡ stored_at (filter p (take j N)) (take n slots)
+  pub same : filter (λ (s : Stored). p s.record_is) (stored_at (take j N) table)
+      ≡ stored_at (filter p (take j N)) (take n slots)
 
 -- the records below j were looked at
 pub record IsWovenUpTo (N old : List Record) (kept made : List (List ℕ)) (j : ℕ) (taken : ℕ × ℕ) (table : List (List ℕ)) : Type 0 where
@@ -42,7 +44,8 @@ pub record IsWovenUpTo (N old : List Record) (kept made : List (List ℕ)) (j : 
   pub made_are : AreTaken (lacks old) N made j taken.1 table
 
 pub woven_none : (N old : List Record) (kept made : List (List ℕ)) → IsWovenUpTo N old kept made 0 (0, 0) []
-woven_none N old kept made = record { size = refl; kept_are = record { many = refl; same = refl }; made_are = record { many = refl; same = refl } }
+woven_none N old kept made = record { size = refl; kept_are = record { many = refl; same = refl };
+    made_are = record { many = refl; same = refl } }
 
 count_front : (p : Record → Bool) (N : List Record) (j : ℕ) → length (filter p (take j N)) ≤ length (filter p N)
 count_front p N j =
@@ -55,20 +58,28 @@ module _ (N old : List Record) (kept made : List (List ℕ)) (j : ℕ) (r : Reco
   take_step = take_more N j r lt ∙ ap (λ (y : Record). take j N ++ y ∷ []) is
 
   -- one of those that pass, or of the others
-  module _ (p : Record → Bool) (slots : List (List ℕ)) (n : ℕ) (table : List (List ℕ)) (each : length slots ≡ length (filter p N)) (size : length table ≡ length (take j N))
+  module _ (p : Record → Bool) (slots : List (List ℕ)) (n : ℕ) (table : List (List ℕ))
+      (each : length slots ≡ length (filter p N)) (size : length table ≡ length (take j N))
       (w : AreTaken p N slots j n table) where
-    stored_filter : (b : Bool) (s : List ℕ) → p r ≡ b → filter (λ (s : Stored). p s.record_is) (stored_at (take (j + 1) N) (table ++ s ∷ []))
-        ≡ filter (λ (s : Stored). p s.record_is) (stored_at (take j N) table) ++ (if b then record { record_is = r; slots = s } ∷ [] else [])
+    stored_filter : (b : Bool) (s : List ℕ) → p r ≡ b
+        → filter (λ (s : Stored). p s.record_is) (stored_at (take (j + 1) N) (table ++ s ∷ []))
+        ≡ filter (λ (s : Stored). p s.record_is) (stored_at (take j N) table)
+        ++ (if b then record { record_is = r; slots = s } ∷ [] else [])
     stored_filter b s e =
         let x : Stored = record { record_is = r; slots = s } in
         let S : List Stored = stored_at (take j N) table in
-        ap (λ (l : List Record). filter (λ (s : Stored). p s.record_is) (stored_at l (table ++ s ∷ []))) take_step ∙ ap (filter (λ (s : Stored). p s.record_is)) (stored_push (take j N) table r s size)
-        ∙ filter-append (λ (s : Stored). p s.record_is) S (x ∷ []) ∙ ap (λ (c : Bool). filter (λ (s : Stored). p s.record_is) S ++ (if c then x ∷ [] else [])) e
+        ap (λ (l : List Record). filter (λ (s : Stored). p s.record_is)
+        (stored_at l (table ++ s ∷ []))) take_step ∙ ap (filter (λ (s : Stored). p s.record_is))
+        (stored_push (take j N) table r s size)
+        ∙ filter-append (λ (s : Stored). p s.record_is) S (x ∷ [])
+        ∙ ap (λ (c : Bool). filter (λ (s : Stored). p s.record_is) S ++ (if c then x ∷ [] else []))
+        e
 
     within : p r ≡ true → n < length slots
     within e =
         let more = ap (λ (l : List Record). length l) (filter_step p N j r lt is true e) in
-        omega (arith, more, length_push (filter p (take j N)) r, count_front p N (j + 1), w.many, each)
+        omega (arith, more, length_push (filter p (take j N)) r, count_front p N (j + 1), w.many,
+        each)
 
     taken_more : p r ≡ true → AreTaken p N slots (j + 1) (n + 1) (table ++ get_or slots n [] ∷ [])
     taken_more e =
@@ -76,38 +87,50 @@ module _ (N old : List Record) (kept made : List (List ℕ)) (j : ℕ) (r : Reco
         let F : List Record = filter p (take j N) in
         let F' : filter p (take (j + 1) N) ≡ F ++ r ∷ [] = filter_step p N j r lt is true e in
         record {
-          many = ap (λ (m : ℕ). m + 1) w.many ∙ sym (length_push F r) ∙ ap (λ (l : List Record). length l) (sym F');
+          many = ap (λ (m : ℕ). m + 1) w.many ∙ sym (length_push F r)
+              ∙ ap (λ (l : List Record). length l) (sym F');
           same =
-              stored_filter true s e ∙ ap (λ (l : List Stored). l ++ record { record_is = r; slots = s } ∷ []) w.same
-              ∙ sym (stored_push F (take n slots) r s (omega (arith, length-take n slots, within e, w.many)))
-              ∙ ap (stored_at (F ++ r ∷ [])) (sym (take_more slots n [] (within e))) ∙ ap (λ (l : List Record). stored_at l (take (n + 1) slots)) (sym F');
+              stored_filter true s e ∙ ap
+              (λ (l : List Stored). l ++ record { record_is = r; slots = s } ∷ []) w.same
+              ∙ sym (stored_push F (take n slots) r s
+              (omega (arith, length-take n slots, within e, w.many)))
+              ∙ ap (stored_at (F ++ r ∷ [])) (sym (take_more slots n [] (within e)))
+              ∙ ap (λ (l : List Record). stored_at l (take (n + 1) slots)) (sym F');
         }
 
     taken_skip : (s : List ℕ) → p r ≡ false → AreTaken p N slots (j + 1) n (table ++ s ∷ [])
     taken_skip s e =
-        let F' : filter p (take (j + 1) N) ≡ filter p (take j N) = filter_step p N j r lt is false e ∙ append-nil (filter p (take j N)) in
+        let F' : filter p (take (j + 1) N) ≡ filter p (take j N) = filter_step p N j r lt is false e
+        ∙ append-nil (filter p (take j N)) in
         record {
           many = w.many ∙ ap (λ (l : List Record). length l) (sym F');
-          same = stored_filter false s e ∙ append-nil _ ∙ w.same ∙ ap (λ (l : List Record). stored_at l (take n slots)) (sym F');
+          same = stored_filter false s e ∙ append-nil _ ∙ w.same
+              ∙ ap (λ (l : List Record). stored_at l (take n slots)) (sym F');
         }
 
   pub woven_within : (b : Bool) (taken : ℕ × ℕ) (table : List (List ℕ)) → has_record old r ≡ b → IsWovenUpTo N old kept made j taken table → one_of b taken < length (one_of b (kept, made))
-  woven_within true taken table e w = within (has_record old) kept taken.0 table kept_each w.size w.kept_are e
-  woven_within false taken table e w = within (lacks old) made taken.1 table made_each w.size w.made_are (ap not e)
+  woven_within true taken table e w = within (has_record old) kept taken.0 table kept_each w.size
+      w.kept_are e
+  woven_within false taken table e w = within (lacks old) made taken.1 table made_each w.size
+      w.made_are (ap not e)
 
-  size_step : (table : List (List ℕ)) (s : List ℕ) → length table ≡ length (take j N) → length (table ++ s ∷ []) ≡ length (take (j + 1) N)
-  size_step table s size = omega (arith, length_push table s, size, length_push (take j N) r, ap (λ (l : List Record). length l) take_step)
+  size_step : (table : List (List ℕ)) (s : List ℕ) → length table ≡ length (take j N)
+      → length (table ++ s ∷ []) ≡ length (take (j + 1) N)
+  size_step table s size = omega (arith, length_push table s, size, length_push (take j N) r,
+      ap (λ (l : List Record). length l) take_step)
 
   pub woven_step : (b : Bool) (taken next : ℕ × ℕ) (table table' : List (List ℕ)) → has_record old r ≡ b → Weaves b kept made taken next table table'
       → IsWovenUpTo N old kept made j taken table → IsWovenUpTo N old kept made (j + 1) next table'
   woven_step true taken next table table' e (next_is, more) w = rw (next_is, more) (record {
     size = size_step table (get_or kept taken.0 []) w.size;
     kept_are = taken_more (has_record old) kept taken.0 table kept_each w.size w.kept_are e;
-    made_are = taken_skip (lacks old) made taken.1 table made_each w.size w.made_are (get_or kept taken.0 []) (ap not e);
+    made_are = taken_skip (lacks old) made taken.1 table made_each w.size w.made_are
+        (get_or kept taken.0 []) (ap not e);
   })
   woven_step false taken next table table' e (next_is, more) w = rw (next_is, more) (record {
     size = size_step table (get_or made taken.1 []) w.size;
-    kept_are = taken_skip (has_record old) kept taken.0 table kept_each w.size w.kept_are (get_or made taken.1 []) e;
+    kept_are = taken_skip (has_record old) kept taken.0 table kept_each w.size w.kept_are
+        (get_or made taken.1 []) e;
     made_are = taken_more (lacks old) made taken.1 table made_each w.size w.made_are (ap not e);
   })
 
@@ -118,13 +141,21 @@ woven_all N old kept made n taken table e kept_each made_each w =
     let all : take n N ≡ N = ap (λ (m : ℕ). take m N) e ∙ take_all (length N) N (omega arith) in
     let counts = ap (λ (l : List Record). length (filter (has_record old) l)) all in
     let others = ap (λ (l : List Record). length (filter (lacks old) l)) all in
-    let kept_same = rw (all, take_all taken.0 kept (omega (arith, w.kept_are.many, counts, kept_each))) at w.kept_are.same in
-    let made_same = rw (all, take_all taken.1 made (omega (arith, w.made_are.many, others, made_each))) at w.made_are.same in
+    let kept_same = rw (all, take_all taken.0 kept
+    (omega (arith, w.kept_are.many, counts, kept_each))) at w.kept_are.same in
+    let made_same = rw (all, take_all taken.1 made
+    (omega (arith, w.made_are.many, others, made_each))) at w.made_are.same in
     let S : List Stored = stored_at N table in (
       w.size ∙ ap (λ (l : List Record). length l) all,
-      subst (λ (l : List Stored). IsPermutation S (l ++ stored_at (filter (has_record old) N) kept)) made_same
-          (subst (λ (l : List Stored). IsPermutation S (filter (λ (s : Stored). lacks old s.record_is) S ++ l)) kept_same
-          (IsPermutation-trans S _ _ (IsPermutation-filter_both (λ (s : Stored). has_record old s.record_is) (λ (s : Stored). lacks old s.record_is) (λ s. refl) S) (IsPermutation-append_comm _ _))),
+      subst (λ (l : List Stored). IsPermutation S (l ++ stored_at (filter (has_record old) N) kept))
+      made_same
+          (subst (λ (l : List Stored). IsPermutation S
+          (filter (λ (s : Stored). lacks old s.record_is) S ++ l)) kept_same
+          (IsPermutation-trans S _ _
+          (IsPermutation-filter_both (λ (s : Stored). has_record old s.record_is)
+          (λ (s : Stored). lacks old s.record_is) (λ s. refl) S)
+          (IsPermutation-append_comm (filter (λ (s : Stored). has_record old s.record_is) S)
+          (filter (λ (s : Stored). lacks old s.record_is) S)))),
     )
 
 -- ---- Bodies of which the slots of the records are known.
@@ -225,27 +256,39 @@ added_listed old change from some n low high = elim (find_number change.numbers 
 -- ---- the next body
 
 -- the blocks hold the new records at the slots of the woven table
-pub next_holds : (old new : List Record) (table kept made next : List (List ℕ)) (out : List ℕ) → length table ≡ length old
-    → kept ≡ map (λ (s : Stored). s.slots) (filter (record_stays new) (stored_at old table)) → filter (has_record new) old ≡ filter (has_record old) new
+pub next_holds : (old new : List Record) (table kept made next : List (List ℕ)) (out : List ℕ)
+    → length table ≡ length old
+    → kept ≡ map (λ (s : Stored). s.slots) (filter (record_stays new) (stored_at old table))
+    → filter (has_record new) old ≡ filter (has_record old) new
     → Holds out (map placed_of (stored_at (filter (lacks old) new) made ++ filter (record_stays new) (stored_at old table)))
-    → IsPermutation (stored_at new next) (stored_at (filter (lacks old) new) made ++ stored_at (filter (has_record old) new) kept)
+    → IsPermutation (stored_at new next) (stored_at (filter (lacks old) new) made ++ stored_at
+    (filter (has_record old) new) kept)
     → Holds out (map placed_of (stored_at new next))
 next_holds old new table kept made next out one_each kept_is same holds woven =
     let K : List Stored = filter (record_stays new) (stored_at old table) in
     let stored : stored_at (filter (has_record old) new) kept ≡ K =
-    ap (stored_at (filter (has_record old) new)) kept_is ∙ ap (λ (l : List Record). stored_at l (map (λ (s : Stored). s.slots) K)) (sym (kept_records_of old new table one_each ∙ same)) ∙ stored_again K in
-    holds_table out (stored_at new next) (stored_at (filter (lacks old) new) made ++ K) (rw stored at woven) holds
+    ap (stored_at (filter (has_record old) new)) kept_is
+    ∙ ap (λ (l : List Record). stored_at l (map (λ (s : Stored). s.slots) K))
+    (sym (kept_records_of old new table one_each ∙ same)) ∙ stored_again K in
+    holds_table out (stored_at new next) (stored_at (filter (lacks old) new) made ++ K)
+    (rw stored at woven) holds
 
-pub next_is : (old : List ℕ) (last : ℕ) (db : Database) (sector blocks numbers : List ℕ) (table : List (List ℕ))
+pub next_is : (old : List ℕ) (last : ℕ) (db : Database) (sector blocks numbers : List ℕ)
+    (table : List (List ℕ))
     → length old ≡ 512 * (last / 4) → 4 ≤ last → last ≤ db.header.last → db.header.last ≤ 8192 → Rising db.records
-    → length sector ≡ 512 → sector ≡ written db.header db.header.seq (counts_of db.records) → ReadsBack db.header db.header.seq sector
+    → length sector ≡ 512 → sector ≡ written db.header db.header.seq (counts_of db.records)
+    → ReadsBack db.header db.header.seq sector
     → ((sectors : ℕ) → db.header.last ≤ 4 * sectors → vmdb_fault sector sectors ≡ None)
-    → length blocks ≡ 128 * room_of db.header.last → Store blocks db.records → numbers ≡ changed_numbers (drop 512 old) blocks
-    → length table ≡ length db.records → Holds blocks (map placed_of (stored_at db.records table)) → IsNextBody old db (sector ++ blocks) numbers table
-next_is old last db sector blocks numbers table size some rises high rising whole wrote reads faultless room store numbers_are one_each holds =
+    → length blocks ≡ 128 * room_of db.header.last → Store blocks db.records
+    → numbers ≡ changed_numbers (drop 512 old) blocks
+    → length table ≡ length db.records → Holds blocks (map placed_of (stored_at db.records table))
+    → IsNextBody old db (sector ++ blocks) numbers table
+next_is old last db sector blocks numbers table size some rises high rising whole wrote reads
+    faultless room store numbers_are one_each holds =
     let even : length (drop 512 old) ≡ 128 * count (drop 512 old) = omega (arith, length-drop 512 old, size) in
     let full : length blocks ≡ 128 * count blocks = omega (arith, room) in
-    let body : IsBodyOf db (sector ++ blocks) = body_with sector blocks whole db reads faultless store room (omega (arith, some, rises)) rising in
+    let body : IsBodyOf db (sector ++ blocks) = body_with sector blocks whole db reads faultless
+    store room (omega (arith, some, rises)) rising in
     let total : length (sector ++ blocks) ≡ 512 + length blocks = omega (arith, length-append sector blocks, whole) in
     let from = changes_from old sector blocks numbers whole (omega (arith, size, some)) even full numbers_are in
     record {

@@ -77,10 +77,13 @@ all_split P (x ∷ xs) ys all =
     (All-cons P x xs (All-head P x (xs ++ ys) all) rest.0, rest.1)
 
 -- what passes of one more
-pub filter_step : {X : Type 0} (p : X → Bool) (xs : List X) (i : ℕ) (x : X) → i < length xs → get_or xs i x ≡ x → (b : Bool) → p x ≡ b
+pub filter_step : {X : Type 0} (p : X → Bool) (xs : List X) (i : ℕ) (x : X) → i < length xs
+    → get_or xs i x ≡ x → (b : Bool) → p x ≡ b
     → filter p (take (i + 1) xs) ≡ filter p (take i xs) ++ (if b then x ∷ [] else [])
 filter_step {X = X} p xs i x lt at b e =
-    filter_more p xs i x lt ∙ ap (λ (y : X). filter p (take i xs) ++ (if p y then y ∷ [] else [])) at ∙ ap (λ (c : Bool). filter p (take i xs) ++ (if c then x ∷ [] else [])) e
+    filter_more p xs i x lt ∙ ap (λ (y : X). filter p (take i xs)
+    ++ (if p y then y ∷ [] else [])) at ∙ ap (λ (c : Bool). filter p (take i xs)
+    ++ (if c then x ∷ [] else [])) e
 
 -- the records below i were looked at
 pub record IsFreedUpTo (S : List Stored) (new : List Record) (i : ℕ) (before out : List ℕ) (kept : List (List ℕ)) : Type 0 where
@@ -103,18 +106,24 @@ module _ (S : List Stored) (new : List Record) (i : ℕ) (x : Stored) (lt : i < 
   drop_step = drop_more S i x lt ∙ ap (λ (y : Stored). y ∷ drop (i + 1) S) at
 
   -- the next record stands first
-  first_held : (out : List ℕ) (F : List Stored) → Holds out (map placed_of (F ++ drop i S)) → Holds out (placed_of x ∷ map placed_of (F ++ drop (i + 1) S))
+  first_held : (out : List ℕ) (F : List Stored) → Holds out (map placed_of (F ++ drop i S))
+      → Holds out (placed_of x ∷ map placed_of (F ++ drop (i + 1) S))
   first_held out F holds =
       let D : List Stored = drop (i + 1) S in
-      hold_permuted out (map placed_of (F ++ x ∷ D)) (map placed_of (x ∷ (F ++ D))) (IsPermutation-map placed_of (F ++ x ∷ D) (x ∷ (F ++ D)) (IsPermutation-middle F x D)) (rw drop_step at holds)
+      hold_permuted out (map placed_of (F ++ x ∷ D)) (map placed_of (x ∷ (F ++ D)))
+      (IsPermutation-map placed_of (F ++ x ∷ D) (x ∷ (F ++ D)) (IsPermutation-middle F x D))
+      (rw drop_step at holds)
 
   pub freed_step : (before out out' : List ℕ) (kept kept' : List (List ℕ)) (b : Bool) → length out' ≡ length out → length out ≤ 1048576
       → has_record new x.record_is ≡ b → (b ≡ true → Contains new x.record_is) → KeepsOrFrees b x.slots kept kept' out out'
       → IsFreedUpTo S new i before out kept → IsFreedUpTo S new (i + 1) before out' kept'
   freed_step before out out' kept kept' true size small e contains (more, same) w =
       let F : List Stored = filter (record_stays new) (take i S) in
-      let F' : filter (record_stays new) (take (i + 1) S) ≡ F ++ x ∷ [] = filter_step (record_stays new) S i x lt at true e in
-      let G' : filter (record_goes new) (take (i + 1) S) ≡ filter (record_goes new) (take i S) = filter_step (record_goes new) S i x lt at false (ap not e) ∙ append-nil (filter (record_goes new) (take i S)) in
+      let F' : filter (record_stays new) (take (i + 1) S) ≡ F ++ x ∷ [] = filter_step
+      (record_stays new) S i x lt at true e in
+      let G' : filter (record_goes new) (take (i + 1) S) ≡ filter (record_goes new)
+      (take i S) = filter_step (record_goes new) S i x lt at false (ap not e)
+      ∙ append-nil (filter (record_goes new) (take i S)) in
       let joined : F ++ drop i S ≡ filter (record_stays new) (take (i + 1) S) ++ drop (i + 1) S =
       ap (λ (l : List Stored). F ++ l) drop_step ∙ sym (append_assoc F (x ∷ []) (drop (i + 1) S)) ∙ ap (λ (l : List Stored). l ++ drop (i + 1) S) (sym F') in
       record {
@@ -131,15 +140,19 @@ module _ (S : List Stored) (new : List Record) (i : ℕ) (x : Stored) (lt : i < 
       let F : List Stored = filter (record_stays new) (take i S) in
       let G : List Stored = filter (record_goes new) (take i S) in
       let D : List Stored = drop (i + 1) S in
-      let F' : filter (record_stays new) (take (i + 1) S) ≡ F = filter_step (record_stays new) S i x lt at false e ∙ append-nil F in
-      let G' : filter (record_goes new) (take (i + 1) S) ≡ G ++ x ∷ [] = filter_step (record_goes new) S i x lt at true (ap not e) in
+      let F' : filter (record_stays new) (take (i + 1) S) ≡ F = filter_step (record_stays new) S i x
+      lt at false e ∙ append-nil F in
+      let G' : filter (record_goes new) (take (i + 1) S) ≡ G ++ x ∷ [] = filter_step
+      (record_goes new) S i x lt at true (ap not e) in
       record {
         kept_is = more ∙ w.kept_is ∙ ap (map (λ (s : Stored). s.slots)) (sym F');
         holds =
             subst (λ (l : List Stored). Holds out' (map placed_of (l ++ D))) (sym F')
-            (hold_less out out' size small (placed_of x) (map placed_of (F ++ D)) (first_held out F w.holds) freed.unused freed.others);
+            (hold_less out out' size small (placed_of x) (map placed_of (F ++ D))
+            (first_held out F w.holds) freed.unused freed.others);
         others = λ c low avoid.
-            let both = all_split (Avoids c) G (x ∷ []) (subst (λ (l : List Stored). All (Avoids c) l) G' avoid) in
+            let both = all_split (Avoids c) G (x ∷ [])
+            (subst (λ (l : List Stored). All (Avoids c) l) G' avoid) in
             freed.others c low (All-head (Avoids c) x [] both.1) ∙ w.others c low both.0;
         there = subst (λ (l : List Stored). All (λ (s : Stored). Contains new s.record_is) l) (sym F') w.there;
       }
@@ -147,7 +160,8 @@ module _ (S : List Stored) (new : List Record) (i : ℕ) (x : Stored) (lt : i < 
   -- the slots of the next record are in use
   pub slots_used : (before out : List ℕ) (kept : List (List ℕ)) → IsFreedUpTo S new i before out kept → All (IsInUse out) x.slots
   slots_used before out kept w =
-      let is : IsPlaced out (placed_of x) = (first_held out (filter (record_stays new) (take i S)) w.holds).placed 0 (placed_of x) (omega arith) in
+      let is : IsPlaced out (placed_of x) = (first_held out (filter (record_stays new) (take i S))
+      w.holds).placed 0 (placed_of x) (omega arith) in
       λ k d lk. subst (IsInUse out) (get_or_default x.slots k 0 d lk) (is.within k lk)
 
 -- ---- Records that are added to the blocks of a database.
@@ -155,7 +169,9 @@ module _ (S : List Stored) (new : List Record) (i : ℕ) (x : Stored) (lt : i < 
 -- blocks of one number that are equal say the same of their parts
 pub parts_same : (a b : List ℕ) (n : ℕ) → block_at a n ≡ block_at b n → parts a (n - 4) ≡ parts b (n - 4)
 parts_same a b n same =
-    field_within 2 14 (128 * (n - 4)) a (omega arith) ∙ ap (λ (l : List ℕ). big_number 2 (drop 14 l)) same ∙ sym (field_within 2 14 (128 * (n - 4)) b (omega arith))
+    field_within 2 14 (128 * (n - 4)) a (omega arith)
+    ∙ ap (λ (l : List ℕ). big_number 2 (drop 14 l)) same
+    ∙ sym (field_within 2 14 (128 * (n - 4)) b (omega arith))
 
 -- the records below j were looked at
 pub record IsAddedUpTo (N old : List Record) (free : List ℕ) (j : ℕ) (before out : List ℕ) (at : ℕ) (made : List (List ℕ)) : Type 0 where
@@ -191,7 +207,8 @@ module _ (N old : List Record) (free : List ℕ) (j : ℕ) (r : Record) (lt : j 
   pub room_for : (b : Bool) → has_record old r ≡ b → need_of (filter (lacks old) (take j N)) + (if b then 0 else parts_of (own_len r)) ≤ need_of (filter (lacks old) N)
   room_for true e = let le = need_front (lacks old) N j in omega (arith, le)
   room_for false e =
-      let more : filter (lacks old) (take (j + 1) N) ≡ filter (lacks old) (take j N) ++ r ∷ [] = filter_step (lacks old) N j r lt is true (ap not e) in
+      let more : filter (lacks old) (take (j + 1) N) ≡ filter (lacks old) (take j N)
+      ++ r ∷ [] = filter_step (lacks old) N j r lt is true (ap not e) in
       let sum : need_of (filter (lacks old) (take (j + 1) N)) ≡ need_of (filter (lacks old) (take j N)) + parts_of (own_len r) =
       ap need_of more ∙ sum_by_push (λ (q : Record). parts_of (own_len q)) (filter (lacks old) (take j N)) r in
       let le = need_front (lacks old) N (j + 1) in
@@ -203,8 +220,10 @@ module _ (N old : List Record) (free : List ℕ) (j : ℕ) (r : Record) (lt : j 
       → IsAddedUpTo N old free j before out at made → IsAddedUpTo N old free (j + 1) before out' next made'
   added_step before out out' at next made made' true size small apart within room e contains (same_at, same_made, same_out) w =
       let F : List Record = filter (lacks old) (take j N) in
-      let F' : filter (lacks old) (take (j + 1) N) ≡ F = filter_step (lacks old) N j r lt is false (ap not e) ∙ append-nil F in
-      let H' : filter (has_record old) (take (j + 1) N) ≡ filter (has_record old) (take j N) ++ r ∷ [] = filter_step (has_record old) N j r lt is true e in
+      let F' : filter (lacks old) (take (j + 1) N) ≡ F = filter_step (lacks old) N j r lt is false
+      (ap not e) ∙ append-nil F in
+      let H' : filter (has_record old) (take (j + 1) N) ≡ filter (has_record old) (take j N)
+      ++ r ∷ [] = filter_step (has_record old) N j r lt is true e in
       record {
         at_is = same_at ∙ w.at_is ∙ ap need_of (sym F');
         one_each = ap (λ (l : List (List ℕ)). length l) same_made ∙ w.one_each ∙ ap (λ (l : List Record). length l) (sym F');
@@ -223,8 +242,11 @@ module _ (N old : List Record) (free : List ℕ) (j : ℕ) (r : Record) (lt : j 
       let F : List Record = filter (lacks old) (take j N) in
       let T : List Stored = stored_at F made in
       let x : Stored = record { record_is = r; slots = s } in
-      let F' : filter (lacks old) (take (j + 1) N) ≡ F ++ r ∷ [] = filter_step (lacks old) N j r lt is true (ap not e) in
-      let H' : filter (has_record old) (take (j + 1) N) ≡ filter (has_record old) (take j N) = filter_step (has_record old) N j r lt is false e ∙ append-nil (filter (has_record old) (take j N)) in
+      let F' : filter (lacks old) (take (j + 1) N) ≡ F ++ r ∷ [] = filter_step (lacks old) N j r lt
+      is true (ap not e) in
+      let H' : filter (has_record old) (take (j + 1) N) ≡ filter (has_record old)
+      (take j N) = filter_step (has_record old) N j r lt is false e
+      ∙ append-nil (filter (has_record old) (take j N)) in
       let pushed : stored_at (filter (lacks old) (take (j + 1) N)) made' ≡ T ++ x ∷ [] =
       ap (λ (l : List Record). stored_at l made') F' ∙ ap (λ (m : List (List ℕ)). stored_at (F ++ r ∷ []) m) a.made_is ∙ stored_push F made r s w.one_each in
       let at_slot : (k : ℕ) (d : ℕ) → k < length s → get_or s k d ≡ slice_index free (at + k) = λ k d lk.
@@ -267,14 +289,13 @@ slots_apart free slots at n apart is i j d below lt e =
     ap (λ (l : List ℕ). get_or l k d) is ∙ get_or-take n (drop at free) k d (omega (arith, lk, size, length-take n (drop at free))) ∙ get_or-drop at free k d in
     apart (at + i) (at + j) d (omega (arith, below)) (omega (arith, lt, size, length-take n (drop at free), length-drop at free)) (sym (read i (omega (arith, below, lt))) ∙ e ∙ read j lt)
 
--- ---- What the blocks hold when all records that are gone were taken out, and all new ones put in.
-
 -- ---- whether a database has a record
 
 -- a database has its own records
 pub has_own : (records : List Record) (r : Record) → Rising records → Contains records r → has_record records r ≡ true
 unfolding has_record
-has_own records r up there = ap (is_spelled_as r) (found_again records r up there) ∙ (bytes_eq-Decides (own_spelling (plain_of r)) (own_spelling (plain_of r))).1 refl
+has_own records r up there = ap (is_spelled_as r) (found_again records r up there)
+    ∙ (bytes_eq-Decides (own_spelling (plain_of r)) (own_spelling (plain_of r))).1 refl
 
 -- the record that was looked up, and whether it is that one
 pub has_by : (records : List Record) (r : Record) (found : Option Record) → by_id (kind_of r) (id_of r) records ≡ found → has_record records r ≡ is_spelled_as r found
@@ -308,7 +329,8 @@ kept_records_of old new table one_each = filter_records (has_record new) (stored
 
 pub kept_there_of : (old new : List Record) (table : List (List ℕ)) → length table ≡ length old → All (λ (s : Stored). Contains new s.record_is) (filter (record_stays new) (stored_at old table))
     → All (Contains new) (filter (has_record new) old)
-kept_there_of old new table one_each there = rw (kept_records_of old new table one_each) at (All-map (Contains new) record_of (filter (record_stays new) (stored_at old table)) there)
+kept_there_of old new table one_each there = rw (kept_records_of old new table one_each) at (All-map
+    (Contains new) record_of (filter (record_stays new) (stored_at old table)) there)
 
 -- the slots of records that are placed are as many as these need
 pub slots_need : (blocks : List ℕ) (S : List Stored) → All (λ s. IsPlaced blocks (placed_of s)) S → length (slots_in (map placed_of S)) ≡ need_of (map record_of S)
@@ -340,7 +362,8 @@ module _ (old new : List Record) (table : List (List ℕ)) (one_each : length ta
       (λ i j d below lt e. let less : place_of _ < place_of _ = AllPairs-filter (λ a b. place_of a < place_of b) (has_record new) old up i j d below lt in let same = ap place_of e in absurd (omega (arith, less, same)))
       (λ k d lt.
       let in_old = filter_has (has_record new) old _ (Contains-get_or (filter (has_record new) old) k d lt) in
-      filter_keeps (has_record old) new _ (kept_there_of old new table one_each there k d lt) (has_own old _ up in_old.0))
+      filter_keeps (has_record old) new _ (kept_there_of old new table one_each there k d lt)
+      (has_own old _ up in_old.0))
 
   -- there are blocks enough for those that are new
   pub room_left : (out : List ℕ) → length out ≤ 1048576 → need_of new ≤ count out → count out ≤ length (free_numbers out) + length (slots_in (map placed_of (filter (record_stays new) S)))
@@ -349,7 +372,8 @@ module _ (old new : List Record) (table : List (List ℕ)) (one_each : length ta
   room_left out small room enough holds there =
       let K : List Stored = filter (record_stays new) S in
       let slots : length (slots_in (map placed_of K)) ≡ need_of (filter (has_record new) old) =
-      slots_need out K (all_mapped placed_of (IsPlaced out) K holds.placed) ∙ ap need_of (kept_records_of old new table one_each) in
+      slots_need out K (all_mapped placed_of (IsPlaced out) K holds.placed)
+      ∙ ap need_of (kept_records_of old new table one_each) in
       let kept = kept_need there in
       let parts_are : IsPermutation new (filter (has_record old) new ++ filter (lacks old) new) = IsPermutation-filter_both (has_record old) (lacks old) (λ r. refl) new in
       let whole : need_of (filter (has_record old) new ++ filter (lacks old) new) ≡ need_of new = sum_by-IsPermutation (λ (r : Record). parts_of (own_len r)) new _ parts_are in
@@ -366,8 +390,10 @@ module _ (old new : List Record) (table : List (List ℕ)) (one_each : length ta
       let T : List Stored = stored_at (filter (lacks old) new) made in
       let records : map record_of (T ++ K) ≡ filter (lacks old) new ++ filter (has_record new) old =
       map-append record_of T K ∙ ap (λ (l : List Record). l ++ map record_of K) (stored_records (filter (lacks old) new) made many)
-      ∙ ap (λ (l : List Record). filter (lacks old) new ++ l) (kept_records_of old new table one_each) in
-      let kept : filter (has_record new) old ≡ filter (has_record old) new = same_kept old new up vp (kept_there_of old new table one_each there) back in
+      ∙ ap (λ (l : List Record). filter (lacks old) new ++ l)
+      (kept_records_of old new table one_each) in
+      let kept : filter (has_record new) old ≡ filter (has_record old) new = same_kept old new up vp
+      (kept_there_of old new table one_each there) back in
       let both : IsPermutation new (filter (has_record old) new ++ filter (lacks old) new) = IsPermutation-filter_both (has_record old) (lacks old) (λ r. refl) new in
       let turned : IsPermutation new (filter (lacks old) new ++ filter (has_record old) new) =
       IsPermutation-trans new _ _ both (IsPermutation-append_comm (filter (has_record old) new) (filter (lacks old) new)) in
@@ -420,7 +446,8 @@ changed_few old new numbers others =
               let in_range = number_within 4 (count new) x there.0 in
               let high = in_range.1 in
               let yes : bytes_eq (block_at old x) (block_at new x) ≡ true = (bytes_eq-Decides (block_at old x) (block_at new x)).1 (sym (others x in_range.0 (omega arith) none)) in
-              let bad : true ≡ false = sym yes ∙ not-true (bytes_eq (block_at old x) (block_at new x)) there.1 in
+              let bad : true ≡ false = sym yes
+              ∙ not-true (bytes_eq (block_at old x) (block_at new x)) there.1 in
               absurd cc
         ]
 

@@ -19,7 +19,8 @@ use Rattle.ldm_copy.specs.Body.{IsWritten}
 -- ---- The parts of an area, by their places on the disk.
 
 -- a range of a range
-pub range_range : (xs : List ℕ) (a b from to c d : ℕ) → a + from ≡ c → a + to ≡ d → c ≤ b → d ≤ b → slice_range (slice_range xs a b) from to ≡ slice_range xs c d
+pub range_range : (xs : List ℕ) (a b from to c d : ℕ) → a + from ≡ c → a + to ≡ d → c ≤ b → d ≤ b
+    → slice_range (slice_range xs a b) from to ≡ slice_range xs c d
 range_range xs a b from to c d first last begins ends =
     let m : ℕ = b - a - from in
     let whole : b - a ≡ from + m = omega arith in
@@ -54,12 +55,14 @@ chunk_is image from n size is = ap (λ (j : ℕ). slice_range image (512 * from)
 pub header_there : (image : List ℕ) (start sectors : ℕ) → 1 ≤ sectors
     → slice_range image (512 * start) (512 * start + 512) ≡ header_sector (slice_range image (512 * start) (512 * (start + sectors)))
 header_there image start sectors some =
-    sym (range_range image (512 * start) (512 * (start + sectors)) 0 512 (512 * start) (512 * start + 512) (omega arith) (omega arith) (omega arith) (omega arith))
+    sym (range_range image (512 * start) (512 * (start + sectors)) 0 512 (512 * start)
+    (512 * start + 512) (omega arith) (omega arith) (omega arith) (omega arith))
 
 pub blocks_there : (image : List ℕ) (start sectors q : ℕ) → 1 ≤ sectors → q ≤ sectors
     → slice_range image (512 * start + 512) (512 * start + 512 * q) ≡ slice_range (slice_range image (512 * start) (512 * (start + sectors))) 512 (512 * q)
 blocks_there image start sectors q some within =
-    sym (range_range image (512 * start) (512 * (start + sectors)) 512 (512 * q) (512 * start + 512) (512 * start + 512 * q) (omega arith) (omega arith) (omega arith) (omega arith))
+    sym (range_range image (512 * start) (512 * (start + sectors)) 512 (512 * q) (512 * start + 512)
+    (512 * start + 512 * q) (omega arith) (omega arith) (omega arith) (omega arith))
 
 -- the sectors behind the header's
 pub behind_header : (image : List ℕ) (start q : ℕ) → sectors_from (start + 1) (q - 1) image ≡ slice_range image (512 * start + 512) (512 * start + 512 * q)
@@ -98,8 +101,6 @@ area_length label image on =
     let start = label.config_start + label.area_start in
     omega (arith, on, length-take (512 * (start + label.area_sectors) - 512 * start) (drop (512 * start) image), length-drop (512 * start) image)
 
--- ---- Areas that hold the same bytes, and the sectors of which they are found to.
-
 -- ---- the sectors of two images, one part after the other
 
 -- the same so far, and in the next sectors
@@ -112,7 +113,8 @@ same_more x y f g m n k is before next =
 
 part : (image : List ℕ) (from m n k : ℕ) → m + n ≤ k → slice_range (sectors_from from k image) (512 * m) (512 * (m + n)) ≡ sectors_from (from + m) n image
 part image from m n k within =
-    range_range image (512 * from) (512 * (from + k)) (512 * m) (512 * (m + n)) (512 * (from + m)) (512 * (from + m + n)) (omega arith) (omega arith) (omega arith) (omega arith)
+    range_range image (512 * from) (512 * (from + k)) (512 * m) (512 * (m + n)) (512 * (from + m))
+    (512 * (from + m + n)) (omega arith) (omega arith) (omega arith) (omega arith)
 
 -- a part of what is the same
 pub same_part : (x y : List ℕ) (f g m n k : ℕ) → m + n ≤ k → sectors_from f k x ≡ sectors_from g k y → sectors_from (f + m) n x ≡ sectors_from (g + m) n y
@@ -145,12 +147,15 @@ pub in_use_there : (label : Label) (image : List ℕ) (last : ℕ) → max 1 (la
     → in_use last (config_area label image) ≡ sectors_from (label.config_start + label.area_start) (max 1 (last / 4)) image
 in_use_there label image last room =
     let start = label.config_start + label.area_start in
-    range_range image (512 * start) (512 * (start + label.area_sectors)) 0 (512 * max 1 (last / 4)) (512 * start) (512 * (start + max 1 (last / 4))) (omega arith) (omega arith) (omega arith) (omega arith)
+    range_range image (512 * start) (512 * (start + label.area_sectors)) 0 (512 * max 1 (last / 4))
+    (512 * start) (512 * (start + max 1 (last / 4))) (omega arith) (omega arith) (omega arith)
+    (omega arith)
 
 -- ---- one copy
 
 part_in_use : (area : List ℕ) (last i j : ℕ) → i ≤ 512 * max 1 (last / 4) → j ≤ 512 * max 1 (last / 4) → slice_range (in_use last area) i j ≡ slice_range area i j
-part_in_use area last i j begins ends = range_range area 0 (512 * max 1 (last / 4)) i j i j (omega arith) (omega arith) (omega arith) (omega arith)
+part_in_use area last i j begins ends = range_range area 0 (512 * max 1 (last / 4)) i j i j
+    (omega arith) (omega arith) (omega arith) (omega arith)
 
 module _ (area other : List ℕ) (last : ℕ) (same : in_use last area ≡ in_use last other) where
   same_in_use : (i j : ℕ) → i ≤ 512 * max 1 (last / 4) → j ≤ 512 * max 1 (last / 4) → slice_range area i j ≡ slice_range other i j

@@ -105,27 +105,39 @@ table_store blocks records table held =
 abbrev laid_slots : ℕ → List Record → List (List ℕ)
 laid_slots number records = map (λ (p : Placed). p.slots) (laid_in_order number (spellings records))
 
-laid_length : (number : ℕ) (records : List Record) → length (laid_slots number records) ≡ length records
+laid_length : (number : ℕ) (records : List Record) → length (laid_slots number records)
+    ≡ length records
 laid_length number [] = refl
-laid_length number (r ∷ records) = omega (arith, laid_length (number + parts_of (length (own_spelling (plain_of r)))) records)
+laid_length number (r ∷ records) = omega
+    (arith, laid_length (number + parts_of (length (own_spelling (plain_of r)))) records)
 
-laid_placed : (number : ℕ) (records : List Record) → map placed_of (stored_at records (laid_slots number records)) ≡ laid_in_order number (spellings records)
+laid_placed : (number : ℕ) (records : List Record)
+    → map placed_of (stored_at records (laid_slots number records)) ≡ laid_in_order number
+    (spellings records)
 laid_placed number [] = refl
 laid_placed number (r ∷ records) =
     let n = parts_of (length (own_spelling (plain_of r))) in
-    ap (λ (l : List Placed). record { payload = own_spelling (plain_of r); slots = numbers_from number n } ∷ l) (laid_placed (number + n) records)
+    ap (λ (l : List Placed). record { payload = own_spelling (plain_of r);
+    slots = numbers_from number n } ∷ l) (laid_placed (number + n) records)
 
-pub store_of : (blocks : List ℕ) (records : List Record) → All (λ r. IsRecord (plain_of r)) records → Holds blocks (laid_in_order 4 (spellings records)) → Store blocks records
+pub store_of : (blocks : List ℕ) (records : List Record) → All (λ r. IsRecord (plain_of r)) records
+    → Holds blocks (laid_in_order 4 (spellings records)) → Store blocks records
 store_of blocks records sound holds =
-    table_store blocks records (laid_slots 4 records) (record { one_each = laid_length 4 records; sound = sound; holds = subst (Holds blocks) (sym (laid_placed 4 records)) holds })
+    table_store blocks records (laid_slots 4 records)
+    (record { one_each = laid_length 4 records; sound = sound; holds = subst (Holds blocks)
+    (sym (laid_placed 4 records)) holds })
 
 -- bytes that begin with a header without a fault, behind which the records are stored
-body_by : (db : Database) (bytes : List ℕ) → length bytes ≡ 512 * (db.header.last / 4) → ((sectors : ℕ) → db.header.last ≤ 4 * sectors → vmdb_fault (header_sector bytes) sectors ≡ None)
-    → IsHeaderOf db.header (header_sector bytes) → Store (drop 512 bytes) db.records → Rising db.records → 4 ≤ db.header.last → IsBodyOf db bytes
+body_by : (db : Database) (bytes : List ℕ) → length bytes ≡ 512 * (db.header.last / 4)
+    → ((sectors : ℕ) → db.header.last ≤ 4 * sectors → vmdb_fault (header_sector bytes) sectors
+    ≡ None)
+    → IsHeaderOf db.header (header_sector bytes) → Store (drop 512 bytes) db.records
+    → Rising db.records → 4 ≤ db.header.last → IsBodyOf db bytes
 body_by db bytes size faultless header store rising low = record {
   is = record {
     size = size;
-    gate = sym (gate_there bytes) ∙ magic_of (header_sector bytes) db.header.last (faultless db.header.last (omega arith));
+    gate = sym (gate_there bytes) ∙ magic_of (header_sector bytes) db.header.last
+        (faultless db.header.last (omega arith));
     faultless = faultless;
     header_is = header;
     blocks = store;
@@ -144,10 +156,13 @@ module _ (sector blocks : List ℕ) (whole : length sector ≡ 512) where
   rest_of = drop-append-le 512 sector blocks (omega arith) ∙ ap (λ (l : List ℕ). l ++ blocks) (drop_all 512 sector (omega arith))
 
   -- a header sector that reads back, and blocks that store the records
-  pub body_with : (db : Database) → ReadsBack db.header db.header.seq sector → ((sectors : ℕ) → db.header.last ≤ 4 * sectors → vmdb_fault sector sectors ≡ None)
-      → Store blocks db.records → length blocks ≡ 128 * room_of db.header.last → 4 ≤ db.header.last → Rising db.records → IsBodyOf db (sector ++ blocks)
+  pub body_with : (db : Database) → ReadsBack db.header db.header.seq sector
+      → ((sectors : ℕ) → db.header.last ≤ 4 * sectors → vmdb_fault sector sectors ≡ None)
+      → Store blocks db.records → length blocks ≡ 128 * room_of db.header.last → 4 ≤ db.header.last
+      → Rising db.records → IsBodyOf db (sector ++ blocks)
   body_with db reads faultless store size low rising =
-      body_by db (sector ++ blocks) (omega (arith, length-append sector blocks, whole, size, low)) (λ sectors fits. ap (λ (l : List ℕ). vmdb_fault l sectors) head_of ∙ faultless sectors fits)
+      body_by db (sector ++ blocks) (omega (arith, length-append sector blocks, whole, size, low))
+      (λ sectors fits. ap (λ (l : List ℕ). vmdb_fault l sectors) head_of ∙ faultless sectors fits)
       (subst (IsHeaderOf db.header) (sym head_of) (record {
         last_is = sym reads.last_is;
         seq_is = sym reads.seq_is;
@@ -158,11 +173,13 @@ module _ (sector blocks : List ℕ) (whole : length sector ≡ 512) where
       (subst (λ (l : List ℕ). Store l db.records) (sym rest_of) store) rising low
 
 -- what the parts of the code make
-pub made_of : (db : Database) (sector blocks : List ℕ) → length sector ≡ 512 → sector ≡ written db.header db.header.seq (counts_of db.records)
+pub made_of : (db : Database) (sector blocks : List ℕ) → length sector ≡ 512
+    → sector ≡ written db.header db.header.seq (counts_of db.records)
     → Holds blocks (laid_in_order 4 (spellings db.records)) → IsMadeOf db (sector ++ blocks)
 made_of db sector blocks whole wrote holds = record {
   header_is = head_of sector blocks whole ∙ wrote;
-  blocks_are = subst (λ (l : List ℕ). Holds l (laid_in_order 4 (spellings db.records))) (sym (rest_of sector blocks whole)) holds;
+  blocks_are = subst (λ (l : List ℕ). Holds l (laid_in_order 4 (spellings db.records)))
+      (sym (rest_of sector blocks whole)) holds;
 }
 
 -- ---- A body that was read.
@@ -171,19 +188,26 @@ made_of db sector blocks whole wrote holds = record {
 abbrev read_as : Header → Database → Database
 read_as h db = record { header = h; records = db.records }
 
-same_core_as : (h : Header) (db : Database) → IsSameHeader h db.header → IsSameCore (read_as h db) db
+same_core_as : (h : Header) (db : Database) → IsSameHeader h db.header
+    → IsSameCore (read_as h db) db
 same_core_as h db same = λ i. record { last = same.last i; seq = same.seq i; name = same.name i; guid = same.guid i; records = db.records }
 
 -- what was read is the body of that one, with its table
-pub read_tabled : (db : Database) (h : Header) (bytes : List ℕ) (area : ℕ) (table : List (List ℕ)) → length bytes ≡ 512 * (db.header.last / 4) → 4 ≤ db.header.last → db.header.last ≤ 8192
-    → Rising db.records → (vmdb_fault (header_sector bytes) area ≡ None) × IsHeaderOf h (header_sector bytes) × IsSameHeader h db.header → HoldsTable (drop 512 bytes) db.records table
+pub read_tabled : (db : Database) (h : Header) (bytes : List ℕ) (area : ℕ) (table : List (List ℕ))
+    → length bytes ≡ 512 * (db.header.last / 4) → 4 ≤ db.header.last → db.header.last ≤ 8192
+    → Rising db.records → (vmdb_fault (header_sector bytes) area ≡ None)
+    × IsHeaderOf h (header_sector bytes) × IsSameHeader h db.header
+    → HoldsTable (drop 512 bytes) db.records table
     → (tabled : IsTabled bytes table) × IsSameCore tabled.db db
 read_tabled db h bytes area table size low high rising (none, header, same) held = (
   record {
     db = read_as h db;
     body = body_by (read_as h db) bytes (size ∙ ap (λ (n : ℕ). 512 * (n / 4)) (sym same.last))
-        (λ sectors fits. vmdb_without_fault (header_sector bytes) sectors h.guid (no_fault_is_vmdb (header_sector bytes) area none) (omega (arith, header.last_is, fits)) header.guid_is)
-        header (table_store (drop 512 bytes) db.records table held) rising (omega (arith, same.last, low));
+        (λ sectors fits. vmdb_without_fault (header_sector bytes) sectors h.guid
+        (no_fault_is_vmdb (header_sector bytes) area none) (omega (arith, header.last_is, fits))
+        header.guid_is)
+        header (table_store (drop 512 bytes) db.records table held) rising
+        (omega (arith, same.last, low));
     small = omega (arith, same.last, high);
     one_each = held.one_each;
     sound = held.sound;
@@ -222,28 +246,36 @@ below_skip x xs (suc n) le =
     let other : eqb (key x) (n + 4) ≡ false = ne_eqb (key x) (n + 4) (λ e. omega arith) in
     rw (below_skip x xs n (omega arith), other) refl
 
-below_cons : (x : Stored) (xs : List Stored) (n : ℕ) → (4 ≤ key x) × (key x < n + 4) → IsPermutation (below (x ∷ xs) n) (x ∷ below xs n)
+below_cons : (x : Stored) (xs : List Stored) (n : ℕ) → (4 ≤ key x) × (key x < n + 4)
+    → IsPermutation (below (x ∷ xs) n) (x ∷ below xs n)
 below_cons x xs zero (low, high) = absurd (omega arith)
 below_cons x xs (suc n) (low, high) = elim (cases_eq (key x) (n + 4)) [
   | inl is ↦ (let here : eqb (key x) (n + 4) ≡ true = eq-eqb (key x) (n + 4) is in
-      rw (below_skip x xs n (omega arith), here) (IsPermutation-middle (below xs n) x (filter (λ s. key s == n + 4) xs)))
+      rw (below_skip x xs n (omega arith), here)
+      (IsPermutation-middle (below xs n) x (filter (λ s. key s == n + 4) xs)))
   | inr ne ↦ (let other : eqb (key x) (n + 4) ≡ false = ne_eqb (key x) (n + 4) ne in
-      rw other (IsPermutation-append_left (filter (λ s. key s == n + 4) xs) (below (x ∷ xs) n) (x ∷ below xs n) (below_cons x xs n (low, omega (arith, ne)))))
+      rw other (IsPermutation-append_left (filter (λ s. key s == n + 4) xs) (below (x ∷ xs) n)
+      (x ∷ below xs n) (below_cons x xs n (low, omega (arith, ne)))))
 ]
 
-pub all_below : (n : ℕ) (xs : List Stored) → All (λ s. (4 ≤ key s) × (key s < n + 4)) xs → IsPermutation xs (below xs n)
+pub all_below : (n : ℕ) (xs : List Stored) → All (λ s. (4 ≤ key s) × (key s < n + 4)) xs
+    → IsPermutation xs (below xs n)
 all_below n [] all = subst (IsPermutation []) (sym (below_none n)) (IsPermutation-refl [])
 all_below n (x ∷ xs) all =
     IsPermutation-trans (x ∷ xs) (x ∷ below xs n) (below (x ∷ xs) n)
-    (IsPermutation-cons x xs (below xs n) (all_below n xs (All-tail (λ s. (4 ≤ key s) × (key s < n + 4)) x xs all)))
-    (IsPermutation-sym (below (x ∷ xs) n) (x ∷ below xs n) (below_cons x xs n (All-head (λ s. (4 ≤ key s) × (key s < n + 4)) x xs all)))
+    (IsPermutation-cons x xs (below xs n)
+    (all_below n xs (All-tail (λ s. (4 ≤ key s) × (key s < n + 4)) x xs all)))
+    (IsPermutation-sym (below (x ∷ xs) n) (x ∷ below xs n)
+    (below_cons x xs n (All-head (λ s. (4 ≤ key s) × (key s < n + 4)) x xs all)))
 
 -- the first block of a record is in use
 pub first_used : (blocks : List ℕ) (r : Placed) → IsPlaced blocks r → IsInUse blocks (slot r 0)
 first_used blocks r is = is.within 0 (few_slots blocks r is).0
 
-pub all_used : (blocks : List ℕ) (xs : List Stored) → All (IsPlaced blocks) (map placed_of xs) → All (λ s. IsInUse blocks (key s)) xs
-all_used blocks xs placed = All-weaker (λ s. IsPlaced blocks (placed_of s)) (λ s. IsInUse blocks (key s)) (λ s is. first_used blocks (placed_of s) is) xs
+pub all_used : (blocks : List ℕ) (xs : List Stored) → All (IsPlaced blocks) (map placed_of xs)
+    → All (λ s. IsInUse blocks (key s)) xs
+all_used blocks xs placed = All-weaker (λ s. IsPlaced blocks (placed_of s))
+    (λ s. IsInUse blocks (key s)) (λ s is. first_used blocks (placed_of s) is) xs
     (all_mapped placed_of (IsPlaced blocks) xs placed)
 
 filter_placed : (b : ℕ) (xs : List Stored) → filter (λ r. slot r 0 == b) (map placed_of xs) ≡ map placed_of (filter (λ s. key s == b) xs)
@@ -273,7 +305,8 @@ pub store_holds : (blocks : List ℕ) (records : List Record) → length blocks 
 store_holds blocks records small store =
     let xs = store.stored in
     let n = count blocks in
-    let order : IsPermutation xs (below xs n) = all_below n xs (all_used blocks xs store.holds.placed) in
+    let order : IsPermutation xs (below xs n) = all_below n xs
+    (all_used blocks xs store.holds.placed) in
     let sound : All (λ (s : Stored). IsRecord (plain_of s.record_is)) (below xs n) = All-permutation (λ (s : Stored). IsRecord (plain_of s.record_is)) xs (below xs n) order store.sound in
     let names : Stored → Record = λ s. s.record_is in (
       map names (below xs n),

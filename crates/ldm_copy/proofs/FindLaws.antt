@@ -37,7 +37,8 @@ slots_more f number part x before after some is more found =
     let last : 1 + (part - 1) ≡ part = omega arith in
     let next : part - 1 + 1 ≡ part + 1 - 1 = omega arith in
     let pushed : numbers_from 1 (part + 1 - 1) ≡ numbers_from 1 (part - 1) ++ part ∷ [] =
-    ap (numbers_from 1) (sym next) ∙ numbers_push 1 (part - 1) ∙ ap (λ (m : ℕ). numbers_from 1 (part - 1) ++ m ∷ []) last in
+    ap (numbers_from 1) (sym next) ∙ numbers_push 1 (part - 1)
+    ∙ ap (λ (m : ℕ). numbers_from 1 (part - 1) ++ m ∷ []) last in
     more ∙ ap (λ (l : List ℕ). l ++ x ∷ []) is ∙ ap (λ (m : ℕ). number ∷ map f (numbers_from 1 (part - 1)) ++ m ∷ []) found
     ∙ sym (ap (λ (l : List ℕ). number ∷ l) (ap (map f) pushed ∙ map-append f (numbers_from 1 (part - 1)) (part ∷ [])))
 
@@ -47,7 +48,8 @@ slots_done f number n part slots items same e is = same ∙ is ∙ ap (λ (m : �
 -- ---- what the heads say of blocks that hold records
 
 map_at : (f : ℕ → ℕ) (a n i : ℕ) → i < n → slice_index (map f (numbers_from a n)) i ≡ f (a + i)
-map_at f a n i lt = get_or-map f (numbers_from a n) i 0 0 (omega (arith, lt, numbers_length a n)) ∙ ap f (numbers_at a n i lt)
+map_at f a n i lt = get_or-map f (numbers_from a n) i 0 0 (omega (arith, lt, numbers_length a n))
+    ∙ ap f (numbers_at a n i lt)
 
 -- the blocks of a record, by the heads
 pub head_slots : (blocks : List ℕ) (records : List Placed) (m k : ℕ) → length blocks ≤ 1048576 → Holds blocks records → m < length records → slot (record_at records m) 0 ≡ k + 4
@@ -98,7 +100,8 @@ mapped_there : (ss : List Stored) (m : ℕ) (d : Placed) → m < length (map pla
 mapped_there [] m d lt = absurd (omega (arith, lt))
 mapped_there (s ∷ ss) m d lt =
     let near : m < length (s ∷ ss) = omega (arith, lt, length-map ss placed_of) in
-    (get_or (s ∷ ss) m s, Contains-get_or (s ∷ ss) m s near, get_or-map placed_of (s ∷ ss) m s d near)
+    (get_or (s ∷ ss) m s, Contains-get_or (s ∷ ss) m s near,
+    get_or-map placed_of (s ∷ ss) m s d near)
 
 -- the record that begins in a block, where the blocks hold records
 pub record HeldFirst (blocks : List ℕ) (ss : List Stored) (k : ℕ) : Type 0 where
@@ -198,7 +201,8 @@ passing_kept : (n k : ℕ) (p : ℕ → Bool) → first_passing n p ≡ Some k �
 passing_kept n k p e = rw (add-one, some_passes n k p e) (ap Some (passing_least n k p e))
 
 passing_within : (n k : ℕ) (p : ℕ → Bool) → first_passing n p ≡ Some k → k < n
-passing_within n k p e = omega (arith, (least_passes n p (some_passes n k p e)).0, passing_least n k p e)
+passing_within n k p e = omega (arith, (least_passes n p (some_passes n k p e)).0,
+    passing_least n k p e)
 
 -- no block was looked at
 pub places_none : (blocks places : List ℕ) → places ≡ replicate (4 * count blocks) (count blocks + 4) → HasPlaces blocks 0 places
@@ -208,43 +212,59 @@ places_none blocks places is = record {
 }
 
 -- block k, by what was read of its head
-module _ (blocks places : List ℕ) (k n G P : ℕ) (has : HasPlaces blocks k places) (in_range : k < count blocks) (is_n : n ≡ parts blocks k) (is_g : G ≡ group blocks k) (is_p : P ≡ part blocks k)
+module _ (blocks places : List ℕ) (k n G P : ℕ) (has : HasPlaces blocks k places)
+    (in_range : k < count blocks) (is_n : n ≡ parts blocks k) (is_g : G ≡ group blocks k)
+    (is_p : P ≡ part blocks k)
     (frag : 2 ≤ n) (low_k : 4 ≤ G) (high_k : G < count blocks + 4) (few_k : P < 4) where
   abbrev first_of : ℕ → ℕ → ℕ → ℕ
   first_of n g p = first_number (first_passing n (is_part blocks g p)) (count blocks + 4)
 
   -- it is that part of no other group
-  other_place : (g p : ℕ) → 4 ≤ g → p < 4 → ((G ≡ g) × (P ≡ p)) ⊎ ((4 * (g - 4) + p ≢ 4 * (G - 4) + P) × (is_part blocks g p k ≡ false))
+  other_place : (g p : ℕ) → 4 ≤ g → p < 4 → ((G ≡ g) × (P ≡ p))
+      ⊎ ((4 * (g - 4) + p ≢ 4 * (G - 4) + P) × (is_part blocks g p k ≡ false))
   other_place g p low few =
       elim (cases_eq G g) [
         | inr ne ↦ inr (
           (λ e. ne (omega (arith, e, few, few_k, low, low_k))),
-          and_left (is_of blocks g k) (eqb (part blocks k) p) (and_right (is_fragment blocks k) (eqb (group blocks k) g) (ne_eqb (group blocks k) g (λ e. ne (is_g ∙ e)))),
+          and_left (is_of blocks g k) (eqb (part blocks k) p)
+          (and_right (is_fragment blocks k) (eqb (group blocks k) g)
+          (ne_eqb (group blocks k) g (λ e. ne (is_g ∙ e)))),
         )
         | inl same ↦ elim (cases_eq P p) [
           | inl one ↦ inl (same, one)
-          | inr ne ↦ inr ((λ e. ne (omega (arith, e, same))), and_right (is_of blocks g k) (eqb (part blocks k) p) (ne_eqb (part blocks k) p (λ e. ne (is_p ∙ e))))
+          | inr ne ↦ inr ((λ e. ne (omega (arith, e, same))), and_right (is_of blocks g k)
+              (eqb (part blocks k) p) (ne_eqb (part blocks k) p (λ e. ne (is_p ∙ e))))
         ]
       ]
 
   -- this part of this group has its place, and all others stay
-  places_next : (next : List ℕ) → length next ≡ length places → ((g p : ℕ) → 4 * (g - 4) + p ≢ 4 * (G - 4) + P → table_place next g p ≡ table_place places g p)
+  places_next : (next : List ℕ) → length next ≡ length places
+      → ((g p : ℕ) → 4 * (g - 4) + p ≢ 4 * (G - 4) + P
+      → table_place next g p ≡ table_place places g p)
       → table_place next G P ≡ first_of (k + 1) G P → HasPlaces blocks (k + 1) next
   places_next next size others here = record {
     size = size ∙ has.size;
     at = λ g p low high few. elim (other_place g p low few) [
-      | inr (apart, other) ↦ others g p apart ∙ has.at g p low high few ∙ ap (λ (o : Option ℕ). first_number o (count blocks + 4)) (sym (passing_skip k (is_part blocks g p) other))
+      | inr (apart, other) ↦ others g p apart ∙ has.at g p low high few
+          ∙ ap (λ (o : Option ℕ). first_number o (count blocks + 4))
+          (sym (passing_skip k (is_part blocks g p) other))
       | inl (same, one) ↦
-          subst (λ (x : ℕ). table_place next x p ≡ first_of (k + 1) x p) same (subst (λ (x : ℕ). table_place next G x ≡ first_of (k + 1) G x) one here)
+          subst (λ (x : ℕ). table_place next x p ≡ first_of (k + 1) x p) same
+          (subst (λ (x : ℕ). table_place next G x ≡ first_of (k + 1) G x) one here)
     ];
   }
 
   -- it is the first, or there was one before
-  pub places_set : table_place places G P ≡ count blocks + 4 → HasPlaces blocks (k + 1) (set places (4 * (G - 4) + P) (k + 4))
+  pub places_set : table_place places G P ≡ count blocks + 4
+      → HasPlaces blocks (k + 1) (set places (4 * (G - 4) + P) (k + 4))
   places_set empty =
-      places_next (set places at (k + 4)) (length-set places at (k + 4)) (λ g p apart. get_or-set_other places at (4 * (g - 4) + p) (k + 4) 0 apart)
-      (get_or-set_same places at (k + 4) 0 (let size = has.size in omega (arith, size, low_k, high_k, few_k))
-      ∙ sym (ap (λ (o : Option ℕ). first_number o (count blocks + 4)) (passing_here k (is_part blocks G P) found (none (first_passing k (is_part blocks G P)) refl))))
+      places_next (set places at (k + 4)) (length-set places at (k + 4))
+      (λ g p apart. get_or-set_other places at (4 * (g - 4) + p) (k + 4) 0 apart)
+      (get_or-set_same places at (k + 4) 0
+      (let size = has.size in omega (arith, size, low_k, high_k, few_k))
+      ∙ sym (ap (λ (o : Option ℕ). first_number o (count blocks + 4))
+      (passing_here k (is_part blocks G P) found
+      (none (first_passing k (is_part blocks G P)) refl))))
     where
       at : ℕ
       at = 4 * (G - 4) + P
@@ -263,9 +283,11 @@ module _ (blocks places : List ℕ) (k n G P : ℕ) (has : HasPlaces blocks k pl
           absurd (omega (arith, is_j, empty, passing_within k j (is_part blocks G P) e, in_range))
 
   pub places_used : table_place places G P ≢ count blocks + 4 → HasPlaces blocks (k + 1) places
-  places_used used = places_next places refl (λ g p apart. refl) (kept (first_passing k (is_part blocks G P)) refl)
+  places_used used = places_next places refl (λ g p apart. refl)
+      (kept (first_passing k (is_part blocks G P)) refl)
     where
-      kept : (o : Option ℕ) → first_passing k (is_part blocks G P) ≡ o → table_place places G P ≡ first_of (k + 1) G P
+      kept : (o : Option ℕ) → first_passing k (is_part blocks G P) ≡ o
+          → table_place places G P ≡ first_of (k + 1) G P
       kept None e = absurd (used (has.at G P low_k high_k few_k ∙ ap (λ (o : Option ℕ). first_number o (count blocks + 4)) e))
       kept (Some j) e =
           has.at G P low_k high_k few_k ∙ ap (λ (o : Option ℕ). first_number o (count blocks + 4)) (e ∙ sym (passing_kept k j (is_part blocks G P) e))
@@ -292,8 +314,6 @@ module _ (blocks places : List ℕ) (has : HasPlaces blocks (count blocks) place
   slots_are_by number n low high some few =
       ap (λ (l : List ℕ). number ∷ l) (mapped (table_place places number) (part_at blocks number) 1 (n - 1) (λ p from to. place_is number p low high (omega (arith, to, few, some))))
 
--- ---- All records that blocks hold are found, once each.
-
 -- ---- one record
 
 -- the key of a record that was found
@@ -316,15 +336,19 @@ one_placed blocks a b small is_a is_b sound_a sound_b e =
 -- ---- the records that begin in a block
 
 -- pairs of what is mapped
-pairs_mapped : {X Y : Type 0} (f : X → Y) (R : Y → Y → Type 0) (xs : List X) → AllPairs (λ a b. R (f a) (f b)) xs → AllPairs R (map f xs)
+pairs_mapped : {X Y : Type 0} (f : X → Y) (R : Y → Y → Type 0) (xs : List X)
+    → AllPairs (λ a b. R (f a) (f b)) xs → AllPairs R (map f xs)
 pairs_mapped f R [] all i j d less lt = absurd (omega (arith, lt))
 pairs_mapped f R (x ∷ xs) all i j d less lt =
     let near : j < length (x ∷ xs) = omega (arith, lt, length-map xs f) in
-    rw (get_or-map f (x ∷ xs) i x d (omega (arith, less, near)), get_or-map f (x ∷ xs) j x d near) (all i j x less near)
+    rw (get_or-map f (x ∷ xs) i x d (omega (arith, less, near)), get_or-map f (x ∷ xs) j x d near)
+    (all i j x less near)
 
-mapped_pairs : {X Y : Type 0} (f : X → Y) (R : Y → Y → Type 0) (xs : List X) → AllPairs R (map f xs) → AllPairs (λ a b. R (f a) (f b)) xs
+mapped_pairs : {X Y : Type 0} (f : X → Y) (R : Y → Y → Type 0) (xs : List X) → AllPairs R (map f xs)
+    → AllPairs (λ a b. R (f a) (f b)) xs
 mapped_pairs f R xs all i j d less lt =
-    rw (get_or-map f xs i d (f d) (omega (arith, less, lt)), get_or-map f xs j d (f d) lt) at (all i j (f d) less (omega (arith, lt, length-map xs f)))
+    rw (get_or-map f xs i d (f d) (omega (arith, less, lt)), get_or-map f xs j d (f d) lt) at (all i
+    j (f d) less (omega (arith, lt, length-map xs f)))
 
 none_key : (ss : List Stored) (b : ℕ) → All (λ s. key s ≢ b) ss → filter (λ s. key s == b) ss ≡ []
 none_key [] b apart = refl
@@ -377,7 +401,8 @@ module _ (blocks : List ℕ) (k : ℕ) (small : length blocks ≤ 1048576) (lt :
       | inr ne ↦ w.seen j (omega (arith, l, ne))
     ];
     complete = λ ss sound holds.
-        let none : filter (λ s. key s == k + 4) ss ≡ [] = none_key ss (k + 4) (begins_none ss holds) in
+        let none : filter (λ s. key s == k + 4) ss ≡ [] = none_key ss (k + 4)
+        (begins_none ss holds) in
         let one : suc k ≡ k + 1 = omega arith in
         w.complete ss sound holds ∙ sym (append-nil (below ss k)) ∙ ap (λ (l : List Stored). below ss k ++ l) (sym none) ∙ ap (below ss) one;
   }
@@ -385,9 +410,11 @@ module _ (blocks : List ℕ) (k : ℕ) (small : length blocks ≤ 1048576) (lt :
       at_k : k + 4 - 4 ≡ k
       at_k = omega arith
 
-      begins_none : (ss : List Stored) → Holds blocks (map placed_of ss) → All (λ s. key s ≢ k + 4) ss
+      begins_none : (ss : List Stored) → Holds blocks (map placed_of ss)
+          → All (λ s. key s ≢ k + 4) ss
       begins_none ss holds i d li e =
-          let is : IsPlaced blocks (placed_of (get_or ss i d)) = all_mapped placed_of (IsPlaced blocks) ss holds.placed i d li in
+          let is : IsPlaced blocks (placed_of (get_or ss i d)) = all_mapped placed_of
+          (IsPlaced blocks) ss holds.placed i d li in
           let some = (few_slots blocks (placed_of (get_or ss i d)) is).0 in
           let has = part_fields blocks (placed_of (get_or ss i d)) 0 k small is (omega (arith, some)) e in
           ⊎_elim
@@ -414,7 +441,9 @@ module _ (blocks : List ℕ) (k : ℕ) (small : length blocks ≤ 1048576) (lt :
             let h = held_first blocks ss k small lt sound holds first some in
             let slots : s.slots ≡ h.s.slots = found.slots_are ∙ ap (slots_by blocks (k + 4)) (ap (parts blocks) at_k) ∙ h.slots_are in
             let same : s ≡ h.s = one_placed blocks s h.s small found.placed h.placed found.sound h.sound slots in
-            let one : filter (λ t. key t == k + 4) ss ≡ s ∷ [] = one_key ss h.s (k + 4) (mapped_pairs placed_of (λ r s. slot r 0 ≢ slot s 0) ss holds.apart) h.there h.key ∙ ap (λ (t : Stored). t ∷ []) (sym same) in
+            let one : filter (λ t. key t == k + 4) ss ≡ s ∷ [] = one_key ss h.s (k + 4)
+            (mapped_pairs placed_of (λ r s. slot r 0 ≢ slot s 0) ss holds.apart) h.there h.key
+            ∙ ap (λ (t : Stored). t ∷ []) (sym same) in
             let next : suc k ≡ k + 1 = omega arith in
             ap (λ (l : List Stored). l ++ s ∷ []) (w.complete ss sound holds) ∙ ap (λ (l : List Stored). below ss k ++ l) (sym one) ∙ ap (below ss) next;
       }
@@ -442,15 +471,18 @@ later_slot blocks s p found some lt =
 
 pub found_holds : (blocks : List ℕ) (n : ℕ) (S : List Stored) → count blocks ≤ n → IsFoundUpTo blocks n S → Holds blocks (map placed_of S)
 found_holds blocks n S le w = record {
-  placed = All-map (IsPlaced blocks) placed_of S (All-weaker (λ s. IsFoundAt blocks (key s) s) (λ s. IsPlaced blocks (placed_of s)) (λ s found. found.placed) S w.each);
-  apart = pairs_mapped placed_of (λ r s. slot r 0 ≢ slot s 0) S (λ i j d less lt e. let rising = w.rising i j d less lt in absurd (omega (arith, rising, e)));
+  placed = All-map (IsPlaced blocks) placed_of S (All-weaker (λ s. IsFoundAt blocks (key s) s)
+      (λ s. IsPlaced blocks (placed_of s)) (λ s found. found.placed) S w.each);
+  apart = pairs_mapped placed_of (λ r s. slot r 0 ≢ slot s 0) S
+      (λ i j d less lt e. let rising = w.rising i j d less lt in absurd (omega (arith, rising, e)));
   unused = λ number in_use avoid.
       let low = in_use.0 in
       let high = in_use.1 in
       let j : ℕ = number - 4 in
       let at : j + 4 ≡ number = omega (arith, low) in
       let avoid_key : (s : Stored) → Contains S s → All (λ m. m ≢ number) s.slots = λ s there.
-      All-contains (λ s. All (λ m. m ≢ number) s.slots) S s (all_mapped placed_of (λ r. All (λ m. m ≢ number) r.slots) S avoid) there in
+      All-contains (λ s. All (λ m. m ≢ number) s.slots) S s
+      (all_mapped placed_of (λ r. All (λ m. m ≢ number) r.slots) S avoid) there in
       elim (w.seen j (omega (arith, low, high, le))) [
         | inl unused ↦ subst (λ (b : ℕ). block_at blocks b ≡ unused_block b) at unused
         | inr (inr (s, there, e)) ↦ absurd (not_first s number (avoid_key s there) (All-contains (λ t. IsFoundAt blocks (key t) t) S s w.each there) (e ∙ at))
@@ -485,7 +517,9 @@ found_holds blocks n S le w = record {
 -- those that were found are those that are held
 pub found_all : (blocks : List ℕ) (n : ℕ) (S ss : List Stored) → count blocks ≤ n → IsFoundUpTo blocks n S → All (λ s. IsRecord (plain_of s.record_is)) ss → Holds blocks (map placed_of ss) → IsPermutation ss S
 found_all blocks n S ss le w sound holds =
-    let used : All (λ s. (4 ≤ key s) × (key s < n + 4)) ss = All-weaker (λ s. IsInUse blocks (key s)) (λ s. (4 ≤ key s) × (key s < n + 4)) (λ s in_use. (in_use.0, omega (arith, in_use.1, le))) ss
+    let used : All (λ s. (4 ≤ key s) × (key s < n + 4)) ss = All-weaker
+    (λ s. IsInUse blocks (key s)) (λ s. (4 ≤ key s) × (key s < n + 4))
+    (λ s in_use. (in_use.0, omega (arith, in_use.1, le))) ss
     (all_used blocks ss holds.placed) in
     subst (IsPermutation ss) (sym (w.complete ss sound holds)) (all_below n ss used)
 
@@ -513,9 +547,13 @@ table_held blocks records found sorted table are same is slots =
     let stored : stored_at records table ≡ G =
     ap (λ (l : List Record). stored_at l table) (sym records_are) ∙ ap (stored_at (map record_of G)) table_is ∙ stored_again G in
     record {
-      one_each = ap (λ (l : List (List ℕ)). length l) slots ∙ length-map sorted (λ (f : Found). f.slots) ∙ sym (length-map sorted content) ∙ ap (λ (l : List Record). length l) is;
+      one_each = ap (λ (l : List (List ℕ)). length l) slots
+          ∙ length-map sorted (λ (f : Found). f.slots) ∙ sym (length-map sorted content)
+          ∙ ap (λ (l : List Record). length l) is;
       sound = subst (λ (l : List Record). All (λ r. IsRecord (plain_of r)) l) records_are
-          (All-map (λ r. IsRecord (plain_of r)) record_of G (All-permutation (λ s. IsRecord (plain_of s.record_is)) (map stored_of found) G moved are.sound));
+          (All-map (λ r. IsRecord (plain_of r)) record_of G
+          (All-permutation (λ s. IsRecord (plain_of s.record_is)) (map stored_of found) G moved
+          are.sound));
       holds = subst (λ (l : List Stored). Holds blocks (map placed_of l)) (sym stored)
           (hold_permuted blocks (map placed_of (map stored_of found)) (map placed_of G) (IsPermutation-map placed_of (map stored_of found) G moved) are.holds);
     }
@@ -536,4 +574,5 @@ found_records blocks records found sorted are same up rising store =
     let each = mapped_pairs content (λ a b. place_of a ≢ place_of b) sorted moved in
     let strict : AllPairs (λ a b. place_of (content a) < place_of (content b)) sorted =
     strictly (λ (f : Found). place_of f.content) sorted up (λ k d lt. each k (k + 1) d (omega arith) (omega (arith, lt))) in
-    one_rising records (map content sorted) records whole (IsPermutation-refl records) (pairs_mapped content (λ a b. place_of a < place_of b) sorted strict) rising
+    one_rising records (map content sorted) records whole (IsPermutation-refl records)
+    (pairs_mapped content (λ a b. place_of a < place_of b) sorted strict) rising

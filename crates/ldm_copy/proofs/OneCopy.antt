@@ -104,8 +104,6 @@ all_or_first (j ∷ list) [] block fault x y = x
 all_or_first (j ∷ list) (r ∷ records) block fault x (inl y) = unspelled j.payload fault y.0 r x.0
 all_or_first (j ∷ list) (r ∷ records) block fault x (inr y) = all_or_first list records block fault x.1 y.1
 
--- ---- An area is one copy at most.
-
 -- ---- headers and databases
 
 kept_prop : (name : List ℕ) (guid : ℕ) (raw : List ℕ) → IsProp (IsKeptHeader name guid raw)

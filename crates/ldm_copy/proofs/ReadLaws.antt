@@ -34,11 +34,10 @@ use Rattle.ldm_copy.specs.Alike.{sectors_from}
 use Rattle.ldm_copy.specs.Errors.{of_frag}
 use Rattle.ldm_copy.proofs.RoomLaws.{fits_area_of}
 
--- ---- What the steps of reading a copy answer.
-
 -- ---- the errors of the parts, handed on
 
-pub records_failed : (header : Header) (blocks : List ℕ) (list : List Joined) (e : CopyError) → Joins blocks list → ReadsRecords list (Err e) → MakesDatabase header blocks (Err e)
+pub records_failed : (header : Header) (blocks : List ℕ) (list : List Joined) (e : CopyError)
+    → Joins blocks list → ReadsRecords list (Err e) → MakesDatabase header blocks (Err e)
 records_failed header blocks list (Fault (Vmdb f)) joins a = a
 records_failed header blocks list (Fault (Frag f)) joins a = absurd a
 records_failed header blocks list (Fault (BadRecord b f)) joins a = record { list = list; joined = joins; first = a }
@@ -54,7 +53,8 @@ pub twice_made : (header : Header) (blocks : List ℕ) (records : List Record) (
     → IsLeastTwice records kind id → MakesDatabase header blocks (Err (Fault fault))
 twice_made header blocks records kind id fault is small held twice = rw is (small, (records, held, twice))
 
-pub first_failed : (list : List Joined) (i : ℕ) (records : List Record) (joined : Joined) (e : CopyError) → i < length list → joined ≡ get_or list i joined
+pub first_failed : (list : List Joined) (i : ℕ) (records : List Record) (joined : Joined)
+    (e : CopyError) → i < length list → joined ≡ get_or list i joined
     → SpellRecords (take i list) records → ReadsRecord joined (Err e) → ReadsRecords list (Err e)
 first_failed list i records joined (Fault (Vmdb f)) lt is before a = a
 first_failed list i records joined (Fault (Frag f)) lt is before a = a
@@ -163,13 +163,15 @@ module _ (told : Type 0) (image : List ℕ) (from : ℕ) where
 
 -- ---- the header and the database of a disk
 
-pub or_disk : {T : Type 0} (P : Result T CopyError → Type 0) (r : Result T CopyError) → P r → OrDisk P r
+pub or_disk : {T : Type 0} (P : Result T CopyError → Type 0) (r : Result T CopyError) → P r
+    → OrDisk P r
 or_disk P (Ok value) h = h
 or_disk P (Err (Fault f)) h = h
 or_disk P (Err Disk) h = tt
 or_disk P (Err NoMemory) h = tt
 
-pub not_joined : (header : Header) (blocks : List ℕ) (e : CopyError) → JoinsBlocks blocks (Err e) → ReadsDatabase header blocks (Err e)
+pub not_joined : (header : Header) (blocks : List ℕ) (e : CopyError) → JoinsBlocks blocks (Err e)
+    → ReadsDatabase header blocks (Err e)
 not_joined header blocks (Fault (Vmdb f)) h = absurd h
 not_joined header blocks (Fault (Frag f)) h = h
 not_joined header blocks (Fault (BadRecord b f)) h = absurd h
@@ -199,18 +201,23 @@ module _ (disk : List ℕ) (label : Label) (some : label.area_sectors ≢ 0) (st
       ap (λ (k : ℕ). sectors_from k 1 disk) start_is ∙ sym (chunk_is disk (label.config_start + label.area_start) 1 512 refl)
       ∙ header_there disk (label.config_start + label.area_start) label.area_sectors (omega arith)
 
-  opened_at : (header : Option Header) → ReadsFirstSector first_sector label.area_sectors (Ok header) → OpensHeader (header_sector area) label.area_sectors (Ok header)
-  opened_at header h = subst (λ (s : List ℕ). OpensHeader s label.area_sectors (Ok header)) header_is h
+  opened_at : (header : Option Header) → ReadsFirstSector first_sector label.area_sectors
+      (Ok header) → OpensHeader (header_sector area) label.area_sectors (Ok header)
+  opened_at header h = subst (λ (s : List ℕ). OpensHeader s label.area_sectors (Ok header))
+      header_is h
 
   pub closed_found : ReadsFirstSector first_sector label.area_sectors (Ok None) → IsOpen area → ⊥
   closed_found h = closed_is area label.area_sectors (opened_at None h)
 
-  pub header_found : (e : CopyError) → ReadsFirstSector first_sector label.area_sectors (Err e) → IsAnswer area label.area_sectors (Err e)
-  header_found (Fault f) h = header_failed area label.area_sectors (Fault f) (subst (λ (s : List ℕ). OpensHeader s label.area_sectors (Err (Fault f))) header_is h)
+  pub header_found : (e : CopyError) → ReadsFirstSector first_sector label.area_sectors (Err e)
+      → IsAnswer area label.area_sectors (Err e)
+  header_found (Fault f) h = header_failed area label.area_sectors (Fault f)
+      (subst (λ (s : List ℕ). OpensHeader s label.area_sectors (Err (Fault f))) header_is h)
   header_found Disk h = tt
   header_found NoMemory h = tt
 
-  module _ (header : Header) (small : header.last ≤ 4 * label.area_sectors) (opened : ReadsFirstSector first_sector label.area_sectors (Ok (Some header))) where
+  module _ (header : Header) (small : header.last ≤ 4 * label.area_sectors)
+      (opened : ReadsFirstSector first_sector label.area_sectors (Ok (Some header))) where
     opened_there : OpensHeader (header_sector area) label.area_sectors (Ok (Some header))
     opened_there = opened_at (Some header) opened
 
@@ -219,9 +226,11 @@ module _ (disk : List ℕ) (label : Label) (some : label.area_sectors ≢ 0) (st
         ap (λ (k : ℕ). sectors_from (k + 1) (header.last / 4 - 1) disk) start_is ∙ behind_header disk (label.config_start + label.area_start) (header.last / 4) ∙ blocks_there disk (label.config_start + label.area_start) label.area_sectors (header.last / 4) (omega arith) (omega arith)
         ∙ ap (λ (last : ℕ). slice_range area 512 (512 * (last / 4))) opened_there.2.last_is
 
-    pub fault_found : (e : CopyError) → ReadsDatabase header (blocks_to header.last) (Err e) → IsAnswer area label.area_sectors (Err e)
+    pub fault_found : (e : CopyError) → ReadsDatabase header (blocks_to header.last) (Err e)
+        → IsAnswer area label.area_sectors (Err e)
     fault_found (Fault f) made =
-        database_failed area label.area_sectors header (Fault f) opened_there (subst (λ (b : List ℕ). MakesDatabase header b (Err (Fault f))) blocks_are made)
+        database_failed area label.area_sectors header (Fault f) opened_there
+        (subst (λ (b : List ℕ). MakesDatabase header b (Err (Fault f))) blocks_are made)
     fault_found Disk made = tt
     fault_found NoMemory made = tt
 

@@ -110,33 +110,43 @@ rewrites_most most le rewrites = record {
   cause = rewrites.cause;
 }
 
-module _ (disk : ℕ) (label : Label) (a : Seen) (in_range : disk < length a.sizes) (fits : Fits label (slice_index a.sizes disk)) (settled : Settled a disk) where
+module _ (disk : ℕ) (label : Label) (a : Seen) (in_range : disk < length a.sizes)
+    (fits : Fits label (slice_index a.sizes disk)) (settled : Settled a disk) where
   some : 1 ≤ label.area_sectors
   some = some_sectors label (slice_index a.sizes disk) fits
 
-  in_area : (b c : Seen) → Writes disk (gate_at label) 1 b c → Changes disk (gate_at label) (512 * label.area_sectors) b c
-  in_area b c writes = writes_change disk (gate_at label) 1 (gate_at label) (512 * label.area_sectors) b c (omega arith) (omega (arith, some)) writes
+  in_area : (b c : Seen) → Writes disk (gate_at label) 1 b c
+      → Changes disk (gate_at label) (512 * label.area_sectors) b c
+  in_area b c writes = writes_change disk (gate_at label) 1 (gate_at label)
+      (512 * label.area_sectors) b c (omega arith) (omega (arith, some)) writes
 
   -- the gate of a closed copy isn't pending
-  pub settled_shut : IsShut label (image a.content disk) → (x : List ℕ) → a.may_leave disk x → slice_index x (gate_at label) ≢ 0x56
-  settled_shut shut x left is = shut_gate label some (image a.content disk) shut (ap (λ (l : List ℕ). slice_index l (gate_at label)) (sym (settled x left)) ∙ is)
+  pub settled_shut : IsShut label (image a.content disk) → (x : List ℕ) → a.may_leave disk x
+      → slice_index x (gate_at label) ≢ 0x56
+  settled_shut shut x left is = shut_gate label some (image a.content disk) shut
+      (ap (λ (l : List ℕ). slice_index l (gate_at label)) (sym (settled x left)) ∙ is)
 
   -- a copy is filled behind its closed gate, and so many bytes are handed to the disk at most
-  module _ (tells : Type 0) (body : List ℕ) (most : ℕ) (b : Seen) (shut : tells → IsShut label (image a.content disk)) (on : (db : Database) × IsBodyOn db label body)
-      (changes : Changes disk (gate_at label + 1) (length body - 1) a b) (wrote : slice_index b.wrote disk ≤ slice_index a.wrote disk + most) where
+  module _ (tells : Type 0) (body : List ℕ) (most : ℕ) (b : Seen) (shut : tells
+      → IsShut label (image a.content disk)) (on : (db : Database) × IsBodyOn db label body)
+      (changes : Changes disk (gate_at label + 1) (length body - 1) a b)
+      (wrote : slice_index b.wrote disk ≤ slice_index a.wrote disk + most) where
     size : (1 ≤ length body) × (length body ≤ 512 * label.area_sectors)
     size = body_size on.0 label body on.1
 
     filled_area : Changes disk (gate_at label) (512 * label.area_sectors) a b
-    filled_area = changes_wider disk (gate_at label + 1) (length body - 1) (gate_at label) (512 * label.area_sectors) a b (omega arith) (omega (arith, size.0, size.1)) changes
+    filled_area = changes_wider disk (gate_at label + 1) (length body - 1) (gate_at label)
+        (512 * label.area_sectors) a b (omega arith) (omega (arith, size.0, size.1)) changes
 
     -- anything may be pending behind the gate
     at_fill : tells → AtEachMoment a b (λ images said. IsShut label (image images disk))
     at_fill told images said left =
         let m = changes.moments images said left in
-        while_filling label some (length body - 1) (image m.0 disk) (image images disk) (settled_shut (shut told) (image m.0 disk) (m.1.each disk in_range)) m.2.here
+        while_filling label some (length body - 1) (image m.0 disk) (image images disk)
+        (settled_shut (shut told) (image m.0 disk) (m.1.each disk in_range)) m.2.here
 
-    pub refill_fails : (more : ℕ) (result : Result (Unit {0}) Failed) → most ≤ more → IsErr result → DiskFailed a b → Rewrites tells result disk label body more a b
+    pub refill_fails : (more : ℕ) (result : Result (Unit {0}) Failed) → most ≤ more → IsErr result
+        → DiskFailed a b → Rewrites tells result disk label body more a b
     refill_fails more result le failed cause = record {
       any_moment = λ told other is images said left. inr (inl (at_fill told images said left));
       done = λ told. IfOk-from_err result _ failed;
@@ -153,25 +163,38 @@ module _ (disk : ℕ) (label : Label) (a : Seen) (in_range : disk < length a.siz
         while_filling label some (length body - 1) (image a.content disk) (image b.content disk) (shut_gate label some (image a.content disk) (shut told)) changes.content.here
 
     -- and its gate is opened
-    pub refills : (more : ℕ) (result : Result (Unit {0}) Failed) (c : Seen) → (1 ≤ length body → most + 1 ≤ more) → (tells → (x : List ℕ) → b.may_leave disk x → HasBody label body x)
-        → PutsGate tells result disk label 0x56 b c → ((x : List ℕ) → b.may_leave disk x → length x ≡ length (image b.content disk))
-        → (tells → disk < length b.sizes → length (image b.content disk) / 512 ≡ slice_index b.sizes disk) → (tells → disk < length c.sizes → c.may_leave disk (image c.content disk))
+    pub refills : (more : ℕ) (result : Result (Unit {0}) Failed) (c : Seen)
+        → (1 ≤ length body → most + 1 ≤ more) → (tells → (x : List ℕ) → b.may_leave disk x
+        → HasBody label body x)
+        → PutsGate tells result disk label 0x56 b c
+        → ((x : List ℕ) → b.may_leave disk x → length x ≡ length (image b.content disk))
+        → (tells → disk < length b.sizes → length (image b.content disk) / 512
+        ≡ slice_index b.sizes disk)
+        → (tells → disk < length c.sizes → c.may_leave disk (image c.content disk))
         → Rewrites tells result disk label body more a c
     refills more result c le filled opens same_length lengths stays = record {
-      any_moment = λ told db is. moments_trans a b c (λ images said. IsBetween label db (image a.content disk) (image images disk)) changes.later opens.writes.later
+      any_moment = λ told db is. moments_trans a b c
+          (λ images said. IsBetween label db (image a.content disk) (image images disk))
+          changes.later opens.writes.later
           (λ images said left. inr (inl (at_fill told images said left)))
           (λ images said left.
           let m = opens.writes.moments images said left in
           let may = m.1.each disk at_b in
-          inr (while_opening label some db body (image m.0 disk) (image images disk) is (omega (arith, m.2.here.size, room told (image m.0 disk) may)) (filled told (image m.0 disk) may) m.2.here));
+          inr (while_opening label some db body (image m.0 disk) (image images disk) is
+          (omega (arith, m.2.here.size, room told (image m.0 disk) may))
+          (filled told (image m.0 disk) may) m.2.here));
       done = λ told. on_ok_map result _ _ (λ opened db is.
           let from = opens.writes.left (image c.content disk) (stays told at_c) in
-          written_is db label body (image c.content disk) is (omega (arith, from.2.size, room told from.0 from.1)) (opened (image c.content disk) (stays told at_c)) (has told)) (opens.gate told);
+          written_is db label body (image c.content disk) is
+          (omega (arith, from.2.size, room told from.0 from.1))
+          (opened (image c.content disk) (stays told at_c)) (has told)) (opens.gate told);
       has = λ told. on_ok_map result _ _ (λ opened. has told) (opens.gate told);
       settled = opens.settled;
-      changes = changes_trans disk (gate_at label) (512 * label.area_sectors) a b c in_range filled_area (in_area b c opens.writes);
+      changes = changes_trans disk (gate_at label) (512 * label.area_sectors) a b c in_range
+          filled_area (in_area b c opens.writes);
       wrote = omega (arith, wrote, opens.writes.wrote, le size.0);
-      cause = λ failed. rose_sooner a.disk_faults b.disk_faults c.disk_faults changes.later.disk_faults (opens.cause failed);
+      cause = λ failed. rose_sooner a.disk_faults b.disk_faults c.disk_faults
+          changes.later.disk_faults (opens.cause failed);
     }
       where
         at_b : disk < length b.sizes
@@ -180,32 +203,45 @@ module _ (disk : ℕ) (label : Label) (a : Seen) (in_range : disk < length a.siz
         at_c : disk < length c.sizes
         at_c = subst (λ (l : List ℕ). disk < length l) (sym opens.writes.later.sizes) at_b
 
-        room : tells → (x : List ℕ) → b.may_leave disk x → gate_at label + 512 * label.area_sectors ≤ length x
-        room told x left = omega (arith, same_length x left, room_on label disk a b fits changes.later.sizes (lengths told at_b))
+        room : tells → (x : List ℕ) → b.may_leave disk x → gate_at label + 512 * label.area_sectors
+            ≤ length x
+        room told x left = omega (arith, same_length x left,
+            room_on label disk a b fits changes.later.sizes (lengths told at_b))
 
         -- the body stands there still
         has : tells → HasBody label body (image c.content disk)
         has told =
             let from = opens.writes.left (image c.content disk) (stays told at_c) in
-            body_stays label some body from.0 (image c.content disk) (filled told from.0 from.1) from.2
+            body_stays label some body from.0 (image c.content disk) (filled told from.0 from.1)
+            from.2
 
   -- an open copy is closed first
   module _ (tells : Type 0) (b : Seen) where
-    pub after_close : PutsGate tells (Ok tt) disk label 0 a b → (tells → disk < length b.sizes → b.may_leave disk (image b.content disk)) → tells → IsShut label (image b.content disk)
+    pub after_close : PutsGate tells (Ok tt) disk label 0 a b
+        → (tells → disk < length b.sizes → b.may_leave disk (image b.content disk)) → tells
+        → IsShut label (image b.content disk)
     after_close closes stays told =
-        let at = closes.gate told (image b.content disk) (stays told (subst (λ (l : List ℕ). disk < length l) (sym closes.writes.later.sizes) in_range)) in
+        let at = closes.gate told (image b.content disk)
+        (stays told (subst (λ (l : List ℕ). disk < length l) (sym closes.writes.later.sizes)
+        in_range)) in
         gate_shut label some (image b.content disk) (λ is. let bad : 0 ≡ 0x56 = sym at ∙ is in absurd (omega (arith, bad)))
 
-    module _ (body : List ℕ) (was : tells → IsOpen (config_area label (image a.content disk))) (writes : Writes disk (gate_at label) 1 a b) where
-      at_close : tells → AtEachMoment a b (λ images said. (config_area label (image images disk) ≡ config_area label (image a.content disk)) ⊎ IsShut label (image images disk))
+    module _ (body : List ℕ) (was : tells → IsOpen (config_area label (image a.content disk)))
+        (writes : Writes disk (gate_at label) 1 a b) where
+      at_close : tells → AtEachMoment a b
+          (λ images said. (config_area label (image images disk) ≡ config_area label
+          (image a.content disk)) ⊎ IsShut label (image images disk))
       at_close told images said left =
           let m = writes.moments images said left in
           let is = settled (image m.0 disk) (m.1.each disk in_range) in
-          while_closing label some (image a.content disk) (image images disk) (was told) (subst (λ (x : List ℕ). Torn (gate_at label) 1 x (image images disk)) is m.2.here)
+          while_closing label some (image a.content disk) (image images disk) (was told)
+          (subst (λ (x : List ℕ). Torn (gate_at label) 1 x (image images disk)) is m.2.here)
 
-      pub rewrite_fails : (more : ℕ) (result : Result (Unit {0}) Failed) → 1 ≤ more → IsErr result → DiskFailed a b → Rewrites tells result disk label body more a b
+      pub rewrite_fails : (more : ℕ) (result : Result (Unit {0}) Failed) → 1 ≤ more → IsErr result
+          → DiskFailed a b → Rewrites tells result disk label body more a b
       rewrite_fails more result le failed cause = record {
-        any_moment = λ told db is images said left. ⊎_elim (λ same. inl same) (λ closed. inr (inl closed)) (at_close told images said left);
+        any_moment = λ told db is images said left. ⊎_elim (λ same. inl same)
+            (λ closed. inr (inl closed)) (at_close told images said left);
         done = λ told. IfOk-from_err result _ failed;
         has = λ told. IfOk-from_err result _ failed;
         settled = IfOk-from_err result _ failed;
@@ -214,16 +250,25 @@ module _ (disk : ℕ) (label : Label) (a : Seen) (in_range : disk < length a.siz
         cause = λ is. cause;
       }
 
-      pub rewrites : (most more : ℕ) (result : Result (Unit {0}) Failed) (c : Seen) → most + 1 ≤ more → (tells → IsShut label (image b.content disk))
-          → Rewrites tells result disk label body most b c → Rewrites tells result disk label body more a c
+      pub rewrites : (most more : ℕ) (result : Result (Unit {0}) Failed) (c : Seen)
+          → most + 1 ≤ more → (tells → IsShut label (image b.content disk))
+          → Rewrites tells result disk label body most b c
+          → Rewrites tells result disk label body more a c
       rewrites most more result c le shut refills = record {
-        any_moment = λ told db is. moments_trans a b c (λ images said. IsBetween label db (image a.content disk) (image images disk)) writes.later refills.changes.later
-            (λ images said left. ⊎_elim (λ same. inl same) (λ closed. inr (inl closed)) (at_close told images said left))
-            (λ images said left. ⊎_elim (λ same. inr (inl (λ is. shut told (subst (λ (area : List ℕ). IsOpen area) same is)))) (λ other. inr other) (refills.any_moment told db is images said left));
+        any_moment = λ told db is. moments_trans a b c
+            (λ images said. IsBetween label db (image a.content disk) (image images disk))
+            writes.later refills.changes.later
+            (λ images said left. ⊎_elim (λ same. inl same) (λ closed. inr (inl closed))
+            (at_close told images said left))
+            (λ images said left. ⊎_elim
+            (λ same. inr (inl (λ is. shut told (subst (λ (area : List ℕ). IsOpen area) same is))))
+            (λ other. inr other) (refills.any_moment told db is images said left));
         done = refills.done;
         has = refills.has;
         settled = refills.settled;
-        changes = changes_trans disk (gate_at label) (512 * label.area_sectors) a b c in_range (in_area a b writes) refills.changes;
+        changes = changes_trans disk (gate_at label) (512 * label.area_sectors) a b c in_range
+            (in_area a b writes) refills.changes;
         wrote = omega (arith, writes.wrote, refills.wrote, le);
-        cause = λ failed. rose_sooner a.disk_faults b.disk_faults c.disk_faults writes.later.disk_faults (refills.cause failed);
+        cause = λ failed. rose_sooner a.disk_faults b.disk_faults c.disk_faults
+            writes.later.disk_faults (refills.cause failed);
       }

@@ -50,10 +50,13 @@ large_of last label fails = grind (arith, nat_tests)
 
 clear_where : (label : Label) → clashes label ≡ false → IsClearOfLabel label
 clear_where label fails =
-    let two = (or_parts (nat_lt label.area_start 3 || nat_lt 1856 (label.area_start + label.area_sectors))
+    let two = (or_parts (nat_lt label.area_start 3 || nat_lt 1856
+    (label.area_start + label.area_sectors))
     (nat_lt (max label.area_start label.log_start) (min (label.area_start + label.area_sectors) (label.log_start + label.log_sectors))) fails).0 in
-    let one = or_parts (nat_lt label.area_start 3) (nat_lt 1856 (label.area_start + label.area_sectors)) two in
-    record { behind = ltb-false label.area_start 3 one.0; before = ltb-false 1856 (label.area_start + label.area_sectors) one.1 }
+    let one = or_parts (nat_lt label.area_start 3)
+    (nat_lt 1856 (label.area_start + label.area_sectors)) two in
+    record { behind = ltb-false label.area_start 3 one.0;
+        before = ltb-false 1856 (label.area_start + label.area_sectors) one.1 }
 
 several_of : (labels : List Label) → (if nat_lt (length labels) 2 then Some faults.FewDisks else None) ≡ None → 2 ≤ length labels
 several_of labels is = ⊎_elim
@@ -64,22 +67,30 @@ several_of labels is = ⊎_elim
 
 -- where nothing blocks editing, none of the four reasons is there
 none_blocked : (db : Database) (labels : List Label) → blocked_in db labels ≡ None
-    → (option_map (λ r. faults.Absent (id_of r)) (find (is_absent labels) db.records) ≡ None) × ((if nat_lt (length labels) 2 then Some faults.FewDisks else None) ≡ None)
-    × (option_map faults.AreaSmall (position (is_small db.header.last) labels) ≡ None) × (option_map faults.AreaClash (position clashes labels) ≡ None)
+    → (option_map (λ r. faults.Absent (id_of r)) (find (is_absent labels) db.records) ≡ None)
+    × ((if nat_lt (length labels) 2 then Some faults.FewDisks else None) ≡ None)
+    × (option_map faults.AreaSmall (position (is_small db.header.last) labels) ≡ None)
+    × (option_map faults.AreaClash (position clashes labels) ≡ None)
 unfolding reasons
 none_blocked db labels is =
-    let one = first_none (option_map (λ r. faults.Absent (id_of r)) (find (is_absent labels) db.records)) _ is in
+    let one = first_none (option_map (λ r. faults.Absent (id_of r))
+    (find (is_absent labels) db.records)) _ is in
     let two = first_none (if nat_lt (length labels) 2 then Some faults.FewDisks else None) _ one.1 in
-    let three = first_none (option_map faults.AreaSmall (position (is_small db.header.last) labels)) _ two.1 in
-    (one.0, two.0, three.0, (first_none (option_map faults.AreaClash (position clashes labels)) [] three.1).0)
+    let three = first_none (option_map faults.AreaSmall (position (is_small db.header.last) labels))
+    _ two.1 in
+    (one.0, two.0, three.0, (first_none (option_map faults.AreaClash (position clashes labels)) []
+    three.1).0)
 
 pub clear_of : (db : Database) (labels : List Label) → blocked_in db labels ≡ None → IsRoomFor db labels
 clear_of db labels is =
     let none = none_blocked db labels is in
     record {
       several = several_of labels none.1;
-      large = λ disk label at. large_of db.header.last label (no_label (is_small db.header.last) labels (mapped_none faults.AreaSmall _ none.2) disk label at);
-      clear = λ disk label at. clear_where label (no_label clashes labels (mapped_none faults.AreaClash _ none.3) disk label at);
+      large = λ disk label at. large_of db.header.last label
+          (no_label (is_small db.header.last) labels (mapped_none faults.AreaSmall _ none.2) disk
+          label at);
+      clear = λ disk label at. clear_where label
+          (no_label clashes labels (mapped_none faults.AreaClash _ none.3) disk label at);
     }
 
 -- images that differ in such areas alone have the same labels
@@ -132,6 +143,8 @@ unfolding reasons
 still_editable a b labels disks large none =
     let absent : find (is_absent labels) a.records ≡ find (is_absent labels) b.records = same_found 2 (is_absent labels) a.records b.records (absent_disk labels) disks in
     let old = none_blocked a labels none in
-    let first : option_map (λ r. faults.Absent (id_of r)) (find (is_absent labels) b.records) ≡ None = ap (λ (o : Option Record). option_map (λ r. faults.Absent (id_of r)) o) (sym absent) ∙ old.0 in
+    let first : option_map (λ r. faults.Absent (id_of r)) (find (is_absent labels) b.records)
+    ≡ None = ap (λ (o : Option Record). option_map (λ r. faults.Absent (id_of r)) o) (sym absent)
+    ∙ old.0 in
     let third : option_map faults.AreaSmall (position (is_small b.header.last) labels) ≡ None = ap (λ (o : Option ℕ). option_map faults.AreaSmall o) (none_small b.header.last labels large) in
     λ i. first_of (first i ∷ (old.1 i ∷ (third i ∷ (old.3 i ∷ []))))

@@ -70,8 +70,6 @@ none_passes test xs none k d lt = ⊎_elim
     (λ ge. fails_before_first test xs k d (omega (arith, ge, lt)))
     (cases_lt (position_or_len test xs) (length xs))
 
--- ---- The copies on the images: walks that end at the first fault, the newest of the copies, and those so far.
-
 -- ---- Walks along a list that end at the first fault.
 
 -- one more
@@ -212,32 +210,42 @@ below_both (Valid e) None seq below = (below, tt)
 below_both (Valid e) (Some at) seq below = below_chosen e at seq _ refl below
 
 -- so each stands below what the newest stands below
-each_below : (copies : List CopyState) (seq k : ℕ) (e : Database) → IsBelow (newest copies) seq → slice_get copies k ≡ Some (Valid e) → e.header.seq < seq
+each_below : (copies : List CopyState) (seq k : ℕ) (e : Database) → IsBelow (newest copies) seq
+    → slice_get copies k ≡ Some (Valid e) → e.header.seq < seq
 each_below [] seq k e below at = absurd cc
 each_below (c ∷ copies) seq zero e below at =
     let same : c ≡ Valid e = cc in
-    subst (λ (x : CopyState). HasBelow x seq) same (below_both c (behind (newest copies)) seq below).0
-each_below (c ∷ copies) seq (suc k) e below at = each_below copies seq k e (below_behind (newest copies) seq (below_both c (behind (newest copies)) seq below).1) at
+    subst (λ (x : CopyState). HasBelow x seq) same
+    (below_both c (behind (newest copies)) seq below).0
+each_below (c ∷ copies) seq (suc k) e below at = each_below copies seq k e
+    (below_behind (newest copies) seq (below_both c (behind (newest copies)) seq below).1) at
 
 -- the newest stands there
-newest_at : (copies : List CopyState) (at : ℕ × Database) → newest copies ≡ Some at → slice_get copies at.0 ≡ Some (Valid at.1)
+newest_at : (copies : List CopyState) (at : ℕ × Database)
+    → newest copies ≡ Some at → slice_get copies at.0 ≡ Some (Valid at.1)
 newest_at [] at is = absurd cc
 newest_at (x ∷ copies) at is = by x (newest copies) (λ b e. newest_at copies b e) is
   where
-    here : (p : ℕ × Database) (x : CopyState) → p ≡ at → slice_get (x ∷ copies) p.0 ≡ Some (Valid p.1) → slice_get (x ∷ copies) at.0 ≡ Some (Valid at.1)
-    here p x same there = subst (λ (q : ℕ × Database). slice_get (x ∷ copies) q.0 ≡ Some (Valid q.1)) same there
+    here : (p : ℕ × Database) (x : CopyState) → p ≡ at → slice_get (x ∷ copies) p.0
+        ≡ Some (Valid p.1) → slice_get (x ∷ copies) at.0 ≡ Some (Valid at.1)
+    here p x same there = subst (λ (q : ℕ × Database). slice_get (x ∷ copies) q.0
+        ≡ Some (Valid q.1)) same there
 
-    chosen : (e : Database) (b : ℕ × Database) (t : Bool) → slice_get copies b.0 ≡ Some (Valid b.1) → (if t then Some (suc b.0, b.1) else Some (0, e)) ≡ Some at
+    chosen : (e : Database) (b : ℕ × Database) (t : Bool) → slice_get copies b.0 ≡ Some (Valid b.1)
+        → (if t then Some (suc b.0, b.1) else Some (0, e)) ≡ Some at
         → slice_get (Valid e ∷ copies) at.0 ≡ Some (Valid at.1)
     chosen e b true there is = here (suc b.0, b.1) (Valid e) (cc) there
     chosen e b false there is = here (0, e) (Valid e) (cc) refl
 
-    by : (x : CopyState) (later : Option (ℕ × Database)) → ((b : ℕ × Database) → later ≡ Some b → slice_get copies b.0 ≡ Some (Valid b.1)) → newer x (behind later) ≡ Some at
+    by : (x : CopyState) (later : Option (ℕ × Database))
+        → ((b : ℕ × Database) → later ≡ Some b → slice_get copies b.0 ≡ Some (Valid b.1))
+        → newer x (behind later) ≡ Some at
         → slice_get (x ∷ copies) at.0 ≡ Some (Valid at.1)
     by Closed None there is = absurd cc
     by Closed (Some b) there is = here (suc b.0, b.1) Closed (cc) (there b refl)
     by (Valid e) None there is = here (0, e) (Valid e) (cc) refl
-    by (Valid e) (Some b) there is = chosen e b (nat_lt e.header.seq b.1.header.seq) (there b refl) is
+    by (Valid e) (Some b) there is = chosen e b (nat_lt e.header.seq b.1.header.seq) (there b refl)
+        is
 
 -- and no open copy has a greater sequence
 pub record IsGreatest (copies : List CopyState) (at : ℕ × Database) : Type 0 where
@@ -248,7 +256,8 @@ pub greatest : (copies : List CopyState) (at : ℕ × Database) → newest copie
 greatest copies at is = record {
   there = newest_at copies at is;
   top = λ k e there.
-      let below : IsBelow (newest copies) (at.1.header.seq + 1) = subst (λ (o : Option (ℕ × Database)). IsBelow o (at.1.header.seq + 1)) (sym is) (omega arith) in
+      let below : IsBelow (newest copies) (at.1.header.seq + 1) = subst
+      (λ (o : Option (ℕ × Database)). IsBelow o (at.1.header.seq + 1)) (sym is) (omega arith) in
       omega (arith, each_below copies (at.1.header.seq + 1) k e below there);
 }
 
@@ -369,7 +378,9 @@ copies_next labels images content i d before after notes new note kept lt one_ea
       copies ++ next.0 ∷ [],
       gather_next IsCopyIn (zip labels images) i copies (d, []) next.0 (omega arith) all (subst (λ (x : Label × List ℕ). IsCopyIn x (Ok next.0)) (sym there) next.1),
       next.2,
-      pushed ∙ ap (λ (n : Note). notes ++ n ∷ []) next.3 ∙ ap (λ (l : List Note). l ++ note_of next.0 ∷ []) same ∙ sym (map_push note_of copies next.0),
+      pushed ∙ ap (λ (n : Note). notes ++ n ∷ []) next.3
+      ∙ ap (λ (l : List Note). l ++ note_of next.0 ∷ []) same
+      ∙ sym (map_push note_of copies next.0),
     )
 
 -- of all images

@@ -99,7 +99,8 @@ copy_at (l ∷ labels) (i ∷ images) (c ∷ copies) same are zero lt = (l, refl
 copy_at (l ∷ labels) (i ∷ images) (c ∷ copies) same are (suc disk) lt = copy_at labels images copies (omega arith) are.1 disk (omega arith)
 
 copies_length : (labels : List Label) (images : List (List ℕ)) (copies : List CopyState) → length images ≡ length labels → Gathers IsCopyIn (zip labels images) (Ok copies) → length copies ≡ length labels
-copies_length labels images copies same are = omega (arith, gather_length IsCopyIn (zip labels images) copies are, length-zip labels images, same)
+copies_length labels images copies same are = omega
+    (arith, gather_length IsCopyIn (zip labels images) copies are, length-zip labels images, same)
 
 module _ (images : List (List ℕ)) (found : Found) (held : HoldsGroup images found) where
   pub one_image : length images ≡ length found.labels

@@ -125,7 +125,8 @@ module _ (n : Newest) (labels : List Label) (notes : List Note) where
   group_with : (fault : Option OpenFault) → first_of (newest_faults n labels) ≡ fault → group_at n.image n.db n.other labels notes ≡ unless fault (found_with n.db labels notes)
   group_with fault is = group_by n.image n.db n.other labels notes ∙ ap (λ (o : Option OpenFault). unless o (found_with n.db labels notes)) is
 
-  pub newest_failed : (e : OpenError) → ChecksGroup (Err e) (first_of (newest_faults n labels)) → GivesGroup (Err e) (group_at n.image n.db n.other labels notes)
+  pub newest_failed : (e : OpenError) → ChecksGroup (Err e) (first_of (newest_faults n labels))
+      → GivesGroup (Err e) (group_at n.image n.db n.other labels notes)
   newest_failed (Fault fault) is = group_with (Some fault) is
   newest_failed Disk is = absurd is
   newest_failed NoMemory is = tt

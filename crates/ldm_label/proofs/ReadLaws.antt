@@ -88,14 +88,16 @@ error_passed Disk first is gives more = tt
 
 pub passed : {A B : Type 0} (r : Result B LabelError) (error : LabelError) (first : Result A LabelFault) (is : Result B LabelFault)
     → IsErrAnd r (λ e. e ≡ error) → GivesUnlessDisk {A = A} (Err error) first → ((fault : LabelFault) → first ≡ Err fault → is ≡ Err fault) → GivesUnlessDisk r is
-passed {A = A} {B = B} r error first is h gives more = rw (handed_on r error h) (error_passed {A = A} {B = B} error first is gives more)
+passed {A = A} {B = B} r error first is h gives more = rw (handed_on r error h)
+    (error_passed {A = A} {B = B} error first is gives more)
 
 -- a fault is no failed call, and a step's own error is the whole call's
 pub not_disk : {A : Type 0} (r : Result A LabelError) (fault : LabelFault) → IsErrAnd r (λ e. e ≡ Fault fault) → r ≡ Err Disk → ⊥
 not_disk r fault h is = let p = handed_on r (Fault fault) h in cc
 
 pub passed_disk : {A B : Type 0} (r : Result B LabelError) (error : LabelError) → IsErrAnd r (λ e. e ≡ error) → r ≡ Err Disk → IsErrOf {T = A} {E = LabelError} (Err error) Disk
-passed_disk {A = A} r error h is = let p = handed_on r error h in let same : error ≡ Disk = cc in ap failing same
+passed_disk {A = A} r error h is = let p = handed_on r error h in let same : error
+    ≡ Disk = cc in ap failing same
   where
     failing : LabelError → Result A LabelError
     failing e = Err e
@@ -116,7 +118,8 @@ header_fits header n e =
     let r = in_range header.data_size header.data_start header.config_start n e in
     record { some_data = r.0; before = r.1; room = r.2; inside = r.3 }
 
-in_database_by : (sectors start size log : ℕ) → (nat_eq sectors 0 || nat_lt 2048 (start + sectors) || nat_lt 2048 (log + size)) ≡ false
+in_database_by : (sectors start size log : ℕ)
+    → (nat_eq sectors 0 || nat_lt 2048 (start + sectors) || nat_lt 2048 (log + size)) ≡ false
     → (sectors ≢ 0) × (start + sectors ≤ 2048) × (log + size ≤ 2048)
 in_database_by sectors start size log e =
     let last = or_parts (nat_eq sectors 0 || nat_lt 2048 (start + sectors)) (nat_lt 2048 (log + size)) e in
@@ -443,8 +446,11 @@ module _ (image : List ℕ) (long : 7 ≤ sectors_of image) where
       past_copies : label_of image ≡ answer (toc_faults (tocs read)) (label read)
       past_copies = past_header ∙ front_ok (copy_faults read image) (toc_faults (tocs read)) tt tt (label read) agree
 
-      pub tables_err : (fault : LabelFault) → answer (toc_faults (tocs read)) (first_toc (tocs read)) ≡ Err fault → label_of image ≡ Err fault
-      tables_err fault e = past_copies ∙ without_value (toc_faults (tocs read)) (first_toc (tocs read)) (label read) fault e
+      pub tables_err : (fault : LabelFault)
+          → answer (toc_faults (tocs read)) (first_toc (tocs read)) ≡ Err fault
+          → label_of image ≡ Err fault
+      tables_err fault e = past_copies ∙ without_value (toc_faults (tocs read))
+          (first_toc (tocs read)) (label read) fault e
 
       pub label_is : (toc : Toc) → answer (toc_faults (tocs read)) (first_toc (tocs read)) ≡ Ok toc → label_of image ≡ Ok (label_from read toc)
       label_is toc e = past_copies ∙ with_value (toc_faults (tocs read)) (first_toc (tocs read)) toc (label read) e

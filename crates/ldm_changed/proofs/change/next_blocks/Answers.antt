@@ -48,5 +48,8 @@ returns-clause-holds c =
     let out = c.rewrite_blocks.new.out in
     let is : c.from_vec.result ≡ out = c.from_vec.ensures ∙ with_items_is c.in_ok-out.out out (c.rewrite_blocks.auto.out ∙ c.deref_mut.ensures.len) in
     subst (λ (l : List ℕ). Holds l (map placed_of (stored_at new c.in_ok-next.next.items))) (sym is)
-    (next_holds old new c.args.table.now c.in_ok-kept.kept.items c.in_ok-kept.made.items c.in_ok-next.next.items out c.requires.one_each c.in_ok-kept.ensures.kept c.in_ok-kept.ensures.same c.in_ok-kept.ensures.holds
-    (rw (c.as_slice.ensures.all, c.deref.ensures.value, c.deref-2.ensures.value) at c.in_ok-next.ensures.same))
+    (next_holds old new c.args.table.now c.in_ok-kept.kept.items c.in_ok-kept.made.items
+    c.in_ok-next.next.items out c.requires.one_each c.in_ok-kept.ensures.kept
+    c.in_ok-kept.ensures.same c.in_ok-kept.ensures.holds
+    (rw (c.as_slice.ensures.all, c.deref.ensures.value,
+    c.deref-2.ensures.value) at c.in_ok-next.ensures.same))

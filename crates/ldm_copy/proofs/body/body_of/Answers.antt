@@ -24,15 +24,26 @@ pub with_table-requires-clause-body : goal.with_table-requires-clause-body
 with_table-requires-clause-body c =
     let header = c.header-header.ensures in
     let records = c.as_slice-records.ensures.all in
-    subst (IsBodyOf c.args.db.now) (sym (c.in_ok-bytes.ensures ∙ ap (λ (l : List ℕ). c.write_header.new.out ++ l) c.as_slice.ensures))
-    (body_with c.write_header.new.out c.in_ok-blocks.blocks (omega (arith, c.write_header.auto.out)) c.args.db.now (rw header at c.write_header.ensures.reads_back) (rw header at c.write_header.ensures.no_fault)
-    (store_of c.in_ok-blocks.blocks c.args.db.now.records (rw records at c.in_ok-blocks.ensures.sound) (rw records at c.in_ok-blocks.ensures.holds))
-    (c.in_ok-blocks.ensures.size ∙ ap (λ (n : ℕ). 128 * n) c.room.ensures) c.requires.low c.as_slice-records.ensures.rising)
+    subst (IsBodyOf c.args.db.now)
+    (sym (c.in_ok-bytes.ensures ∙ ap (λ (l : List ℕ). c.write_header.new.out ++ l)
+    c.as_slice.ensures))
+    (body_with c.write_header.new.out c.in_ok-blocks.blocks (omega (arith, c.write_header.auto.out))
+    c.args.db.now (rw header at c.write_header.ensures.reads_back)
+    (rw header at c.write_header.ensures.no_fault)
+    (store_of c.in_ok-blocks.blocks c.args.db.now.records
+    (rw records at c.in_ok-blocks.ensures.sound) (rw records at c.in_ok-blocks.ensures.holds))
+    (c.in_ok-blocks.ensures.size ∙ ap (λ (n : ℕ). 128 * n) c.room.ensures) c.requires.low
+    c.as_slice-records.ensures.rising)
 
 pub returns-clause-made : goal.returns-clause-made
 returns-clause-made c =
     let records = c.as_slice-records.ensures.all in
-    if_ok_along c.with_table.result (IsMadeOf c.args.db.now) c.in_ok-bytes.bytes c.with_table.ensures.bytes
-    (subst (IsMadeOf c.args.db.now) (sym (c.in_ok-bytes.ensures ∙ ap (λ (l : List ℕ). c.write_header.new.out ++ l) c.as_slice.ensures))
-    (made_of c.args.db.now c.write_header.new.out c.in_ok-blocks.blocks (omega (arith, c.write_header.auto.out))
-    (rw (c.header-header.ensures, c.counts_of.ensures, records) at c.write_header.ensures.bytes) (rw records at c.in_ok-blocks.ensures.holds)))
+    if_ok_along c.with_table.result (IsMadeOf c.args.db.now) c.in_ok-bytes.bytes
+    c.with_table.ensures.bytes
+    (subst (IsMadeOf c.args.db.now)
+    (sym (c.in_ok-bytes.ensures ∙ ap (λ (l : List ℕ). c.write_header.new.out ++ l)
+    c.as_slice.ensures))
+    (made_of c.args.db.now c.write_header.new.out c.in_ok-blocks.blocks
+    (omega (arith, c.write_header.auto.out))
+    (rw (c.header-header.ensures, c.counts_of.ensures, records) at c.write_header.ensures.bytes)
+    (rw records at c.in_ok-blocks.ensures.holds)))

@@ -5,7 +5,9 @@ use Rattle.ldm_copy.proofs.database.database_of.Goals as goal
 
 pub returns-in_err-records-clause-makes : goal.returns-in_err-records-clause-makes
 returns-in_err-records-clause-makes c = λ blocks joins.
-    rw (handed_on c.from_residual.result c.in_err-records.field-0.0 c.from_residual.ensures.1) (records_failed c.args.header blocks c.args.list.now c.in_err-records.field-0.0 joins c.in_err-records.ensures)
+    rw (handed_on c.from_residual.result c.in_err-records.field-0.0 c.from_residual.ensures.1)
+    (records_failed c.args.header blocks c.args.list.now c.in_err-records.field-0.0 joins
+    c.in_err-records.ensures)
 
 pub returns-in-Err-SameId-clause-makes : goal.returns-in-Err-SameId-clause-makes
 returns-in-Err-SameId-clause-makes c = λ blocks joins.

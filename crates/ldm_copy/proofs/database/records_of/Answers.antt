@@ -11,7 +11,8 @@ use Rattle.ldm_copy.proofs.database.records_of.Goals as goal
 pub returns-in_err-record_of : goal.returns-in_err-record_of
 returns-in_err-record_of c =
     rw (handed_on c.from_residual.result c.in_err-record_of.field-0.0 c.from_residual.ensures.1)
-    (first_failed c.args.list.now c.loop-joined.joined-index c.loop-joined.records.items c.joined-item.result c.in_err-record_of.field-0.0
+    (first_failed c.args.list.now c.loop-joined.joined-index c.loop-joined.records.items
+    c.joined-item.result c.in_err-record_of.field-0.0
     c.loop-joined-test.true c.joined-item.is c.loop-joined.invariant c.in_err-record_of.ensures)
 
 pub loop-joined-preserved : goal.loop-joined-preserved

@@ -16,7 +16,9 @@ returns-in_err-list-clause-reads g c tells =
     let disk = image (g.H.Host.seen c.args.host.now).content c.args.disk in
     let many : c.saturating_sub-sectors.result ≡ c.args.header.last / 4 - 1 = omega (arith, c.saturating_sub-sectors.ensures, c.from.ensures) in
     rw (handed_on c.from_residual.result c.in_err-list.field-0.0 c.from_residual.ensures.1)
-    (not_joined c.args.header (sectors_from c.args.from (c.args.header.last / 4 - 1) disk) c.in_err-list.field-0.0 (subst (λ (n : ℕ). JoinsBlocks (sectors_from c.args.from n disk) (Err c.in_err-list.field-0.0)) many (c.in_err-list.ensures.fault tells)))
+    (not_joined c.args.header (sectors_from c.args.from (c.args.header.last / 4 - 1) disk)
+    c.in_err-list.field-0.0 (subst (λ (n : ℕ). JoinsBlocks (sectors_from c.args.from n disk)
+    (Err c.in_err-list.field-0.0)) many (c.in_err-list.ensures.fault tells)))
 
 pub returns-clause-reads : goal.returns-clause-reads
 returns-clause-reads g c tells =

@@ -12,7 +12,8 @@ pub returns-clause-opens : goal.returns-clause-opens
 returns-clause-opens g c tells =
     let disk = image (g.H.Host.seen c.args.host.now).content c.args.disk in
     subst (λ (s : List ℕ). ReadsFirstSector s c.args.area_sectors c.open_header.result) (c.in_ok-first.ensures.bytes tells ∙ chunk_is disk c.args.start 1 512 refl)
-    (or_disk (OpensHeader c.in_ok-first.first c.args.area_sectors) c.open_header.result c.open_header.ensures.opens)
+    (or_disk (OpensHeader c.in_ok-first.first c.args.area_sectors) c.open_header.result
+    c.open_header.ensures.opens)
 
 -- the header of a sector that was read never fails by the disk
 pub returns-clause-looks : goal.returns-clause-looks

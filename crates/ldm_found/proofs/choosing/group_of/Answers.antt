@@ -9,7 +9,9 @@ use Rattle.ldm_found.proofs.choosing.group_of.Goals as goal
 
 pub returns-in_err-check_newest-clause-is : goal.returns-in_err-check_newest-clause-is
 returns-in_err-check_newest-clause-is c =
-    rw (handed_on c.from_residual.result c.in_err-check_newest.field-0.0 c.from_residual.ensures.1) (newest_failed c.args.newest c.args.labels c.args.notes c.in_err-check_newest.field-0.0 c.in_err-check_newest.ensures.is)
+    rw (handed_on c.from_residual.result c.in_err-check_newest.field-0.0 c.from_residual.ensures.1)
+    (newest_failed c.args.newest c.args.labels c.args.notes c.in_err-check_newest.field-0.0
+    c.in_err-check_newest.ensures.is)
 
 pub returns-clause-is : goal.returns-clause-is
 returns-clause-is c =

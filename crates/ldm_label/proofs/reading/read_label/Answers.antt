@@ -39,7 +39,9 @@ returns-in_err-toc-clause-is g c tells =
     let good = rw count at (c.in_ok-header.ensures.is tells) in
     let agree = rw c.in_ok-header.ensures.looks.still.content at (c.in_ok-check_copies.ensures.is tells) in
     let found = rw (c.in_ok-check_copies.ensures.looks.still.content, c.in_ok-header.ensures.looks.still.content) at (c.in_err-toc.ensures.is tells) in
-    passed c.from_residual-in_err-toc.result c.in_err-toc.field-0.0 _ _ c.from_residual-in_err-toc.ensures.1 found (tables_err disk long c.in_ok-header.header good agree)
+    passed c.from_residual-in_err-toc.result c.in_err-toc.field-0.0 _ _
+    c.from_residual-in_err-toc.ensures.1 found
+    (tables_err disk long c.in_ok-header.header good agree)
 
 pub returns-in_err-toc-clause-looks : goal.returns-in_err-toc-clause-looks
 returns-in_err-toc-clause-looks g c =
