@@ -119,19 +119,13 @@ module _ (guids sizes : List ℕ) (images : List (List ℕ)) where
   pub one_fault : (a b : Option InitFault) → IsFaultOf guids sizes images a → IsFaultOf guids sizes images b → a ≡ b
   unfolding fault_of_twins
   one_fault (Some (SameGuid i j)) (Some (SameGuid k l)) x y = ap fault_of_twins (twins (Some (i, j)) (Some (k, l)) x y)
-  one_fault (Some (SameGuid i j)) (Some (TooSmall k)) x y = absurd (let e = twins (Some (i, j)) None x y.0 in cc)
-  one_fault (Some (SameGuid i j)) (Some (NotEmpty k)) x y = absurd (let e = twins (Some (i, j)) None x y.0 in cc)
-  one_fault (Some (SameGuid i j)) None x y = absurd (let e = twins (Some (i, j)) None x y.0 in cc)
-  one_fault (Some (TooSmall i)) (Some (SameGuid k l)) x y = absurd (let e = twins None (Some (k, l)) x.0 y in cc)
+  one_fault (Some (SameGuid i j)) other x y = absurd (let e = twins (Some (i, j)) None x y.0 in cc)
+  one_fault other (Some (SameGuid k l)) x y = absurd (let e = twins None (Some (k, l)) x.0 y in cc)
   one_fault (Some (TooSmall i)) (Some (TooSmall k)) x y = (let e = first_one IsSmall sizes (Some i) (Some k) x.1 y.1 in cc)
-  one_fault (Some (TooSmall i)) (Some (NotEmpty k)) x y = absurd (let e = first_one IsSmall sizes (Some i) None x.1 y.1 in cc)
-  one_fault (Some (TooSmall i)) None x y = absurd (let e = first_one IsSmall sizes (Some i) None x.1 y.1 in cc)
-  one_fault (Some (NotEmpty i)) (Some (SameGuid k l)) x y = absurd (let e = twins None (Some (k, l)) x.0 y in cc)
-  one_fault (Some (NotEmpty i)) (Some (TooSmall k)) x y = absurd (let e = first_one IsSmall sizes None (Some k) x.1 y.1 in cc)
+  one_fault (Some (TooSmall i)) other x y = absurd (let e = first_one IsSmall sizes (Some i) None x.1 y.1 in cc)
+  one_fault other (Some (TooSmall k)) x y = absurd (let e = first_one IsSmall sizes None (Some k) x.1 y.1 in cc)
   one_fault (Some (NotEmpty i)) (Some (NotEmpty k)) x y = (let e = first_one IsFull images (Some i) (Some k) x.2 y.2 in cc)
   one_fault (Some (NotEmpty i)) None x y = absurd (let e = first_one IsFull images (Some i) None x.2 y.2 in cc)
-  one_fault None (Some (SameGuid k l)) x y = absurd (let e = twins None (Some (k, l)) x.0 y in cc)
-  one_fault None (Some (TooSmall k)) x y = absurd (let e = first_one IsSmall sizes None (Some k) x.1 y.1 in cc)
   one_fault None (Some (NotEmpty k)) x y = absurd (let e = first_one IsFull images None (Some k) x.2 y.2 in cc)
   one_fault None None x y = refl
 
@@ -140,15 +134,13 @@ pub init_answers : (guids sizes : List ℕ) (images : List (List ℕ)) (result :
     → InitAnswers guids images result
 init_answers guids sizes images (Ok checked) same is = subst (λ (l : List ℕ). IsFaultOf guids l images None) same is
 init_answers guids sizes images (Err (errors.Fault fault)) same is = subst (λ (l : List ℕ). IsFaultOf guids l images (Some fault)) same is
-init_answers guids sizes images (Err errors.Disk) same is = tt
-init_answers guids sizes images (Err errors.NoMemory) same is = tt
+init_answers guids sizes images other same is = tt
 
 -- where disks without a fault were written
 pub written_answers : (guids : List ℕ) (images : List (List ℕ)) (result : Result (Unit {0}) InitError) → IsInitFault guids images None → MayHaveWritten result → InitAnswers guids images result
 written_answers guids images (Ok made) none is = none
 written_answers guids images (Err (errors.Fault fault)) none is = absurd is
-written_answers guids images (Err errors.Disk) none is = tt
-written_answers guids images (Err errors.NoMemory) none is = tt
+written_answers guids images other none is = tt
 
 -- ---- an empty image
 
