@@ -7,8 +7,8 @@ use Rattle.ldm_edits.specs.Answers.{StepsTo}
 use Rattle.ldm_edits.specs.Changes.{change_to}
 use Rattle.ldm_edits.specs.Extending.{held, longer_parts, lengthened}
 use Rattle.ldm_edits.specs.Staying.{staying, change_of}
-use Rattle.ldm_edits.proofs.ExtendedParts.{asks_longer}
-use Rattle.ldm_edits.proofs.LimitTable.{change_spent}
+use Rattle.ldm_edits.proofs.Longer.{asks_longer}
+use Rattle.ldm_edits.proofs.LimitLaws.{change_spent}
 use Rattle.ldm_edits.proofs.extending.lengthen_at.Goals as goal
 
 pub returns-in_default : goal.returns-in_default
