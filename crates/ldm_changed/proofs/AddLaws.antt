@@ -13,14 +13,13 @@ use Rattle.ldm_records.specs.Plain.{IsRecord}
 use Rattle.ldm_records.specs.Views.{plain_of}
 use Rattle.ldm_frags.specs.Blocks.{parts}
 use Rattle.ldm_frags.specs.Written.{Holds, IsInUse, block_at, parts_of}
-use Rattle.ldm_frags.proofs.Fields.{number_within}
+use Rattle.ldm_frags.proofs.WriteLaws.{number_within}
+use Rattle.ldm_frags.proofs.HoldEdits.{hold_permuted, hold_more}
 use Rattle.ldm_group.specs.Room.{own_len, need_of}
 use Rattle.ldm_copy.specs.Body.{Stored, placed_of}
 use Rattle.ldm_changed.specs.Plan.{has_record, lacks, slots_from, LeavesOrAdds}
 use Rattle.ldm_copy.specs.Body.{stored_at}
-use Rattle.ldm_frags.proofs.ApartLaws.{hold_permuted}
-use Rattle.ldm_frags.proofs.HoldEdits.{hold_more}
-use Rattle.ldm_copy.proofs.StoredLaws.{stored_push}
+use Rattle.ldm_copy.proofs.BodyLaws.{stored_push}
 
 -- blocks of one number that are equal say the same of their parts
 pub parts_same : (a b : List ℕ) (n : ℕ) → block_at a n ≡ block_at b n → parts a (n - 4) ≡ parts b (n - 4)

@@ -8,8 +8,7 @@ use Rattle.ldm_records.specs.declared.types.Record.{Record}
 use Rattle.ldm_frags.specs.Written.{Holds, IsPlaced, IsInUse, block_at}
 use Rattle.ldm_copy.specs.Body.{Stored, placed_of}
 use Rattle.ldm_changed.specs.Plan.{has_record, record_stays, record_goes, Avoids, KeepsOrFrees}
-use Rattle.ldm_frags.proofs.ApartLaws.{hold_permuted}
-use Rattle.ldm_frags.proofs.HoldEdits.{hold_less}
+use Rattle.ldm_frags.proofs.HoldEdits.{hold_permuted, hold_less}
 
 pub all_front : {X : Type 0} (P : X → Type 0) (xs : List X) (x : X) → All P (xs ++ x ∷ []) → All P xs × P x
 all_front P [] x all = (All-nil P, all 0 x (omega arith))

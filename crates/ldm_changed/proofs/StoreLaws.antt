@@ -24,10 +24,9 @@ use Rattle.ldm_copy.specs.Body.{Stored, placed_of, Store}
 use Rattle.ldm_changed.specs.Plan.{is_spelled_as, has_record, lacks, touched_blocks, record_stays, record_goes, Avoids, block_differs, changed_numbers}
 use Rattle.ldm_copy.specs.Body.{stored_at}
 use Rattle.ldm_frags.specs.Free.{free_numbers}
-use Rattle.ldm_frags.proofs.HoldLaws.{find_number}
-use Rattle.ldm_frags.proofs.OrderLaws.{numbers_length, numbers_at}
-use Rattle.ldm_frags.proofs.FewLaws.{few, few_sum, numbers_apart, number_within, slots_in}
-use Rattle.ldm_copy.proofs.StoredLaws.{stored_records, record_of, all_mapped, mapped_all}
+use Rattle.ldm_frags.proofs.HoldLaws.{find_number, numbers_length, numbers_at}
+use Rattle.ldm_frags.proofs.HoldEdits.{few, few_sum, numbers_apart, number_within, slots_in}
+use Rattle.ldm_copy.proofs.BodyLaws.{stored_records, record_of, all_mapped, mapped_all}
 use Rattle.ldm_changed.proofs.AddLaws.{all_split}
 
 -- ---- whether a database has a record

@@ -14,7 +14,7 @@ use Rattle.ldm_records.specs.Plain.{IsRecord}
 use Rattle.ldm_records.specs.Views.{plain_of}
 use Rattle.ldm_frags.specs.Blocks.{count, numbers_from}
 use Rattle.ldm_frags.specs.Written.{Holds, block_at}
-use Rattle.ldm_frags.proofs.OrderLaws.{numbers_length, numbers_at}
+use Rattle.ldm_frags.proofs.HoldLaws.{numbers_length, numbers_at, find_number}
 use Rattle.ldm_vmdb.specs.Headers.{vmdb_fault, IsHeaderOf, ReadsBack}
 use Rattle.ldm_group.specs.Order.{Rising}
 use Rattle.ldm_group.specs.Database.{Database}
@@ -27,17 +27,13 @@ use Rattle.ldm_copy.specs.Body.{counts_of}
 use Rattle.ldm_copy.specs.declared.answer.CopyState.TheVariants.{Valid}
 use Rattle.ldm_copy.specs.Body.{Stored, placed_of, Store, IsBodyOf}
 use Rattle.ldm_copy.proofs.AreaLaws.{gate_there}
-use Rattle.ldm_copy.proofs.SoundLaws.{magic_of}
-use Rattle.ldm_copy.proofs.MadeLaws.{head_of, rest_of}
+use Rattle.ldm_copy.proofs.RoomLaws.{magic_of}
+use Rattle.ldm_copy.proofs.BodyLaws.{head_of, rest_of, begun_is, mapped_all, stored_again}
 use Rattle.ldm_copy.proofs.OneCopy.{one_copy}
-use Rattle.ldm_copy.proofs.WrittenLaws.{begun_is}
 use Rattle.ldm_copy.specs.Body.{stored_at}
 use Rattle.ldm_changed.specs.Plan.{has_record, lacks, record_stays, block_differs, changed_numbers}
 use Rattle.ldm_changed.specs.Change.{Changed, ChangesFrom, IsNextBody}
-use Rattle.ldm_frags.proofs.HoldLaws.{find_number}
-use Rattle.ldm_frags.proofs.ApartLaws.{hold_permuted}
-use Rattle.ldm_frags.proofs.FewLaws.{few, numbers_apart, number_within}
-use Rattle.ldm_copy.proofs.StoredLaws.{mapped_all, stored_again}
+use Rattle.ldm_frags.proofs.HoldEdits.{hold_permuted, few, numbers_apart, number_within}
 use Rattle.ldm_changed.proofs.StoreLaws.{kept_records_of, number_there}
 
 -- the records of a body are told by its blocks

@@ -9,7 +9,7 @@ use Rattle.ldm_records.specs.declared.types.Record.{Record}
 use Rattle.ldm_copy.specs.Body.{Stored}
 use Rattle.ldm_changed.specs.Plan.{has_record, lacks, one_of, Weaves}
 use Rattle.ldm_copy.specs.Body.{stored_at}
-use Rattle.ldm_copy.proofs.StoredLaws.{stored_push}
+use Rattle.ldm_copy.proofs.BodyLaws.{stored_push}
 
 -- the records below j were looked at
 pub record IsWovenUpTo (N old : List Record) (kept made : List (List ℕ)) (j : ℕ) (taken : ℕ × ℕ) (table : List (List ℕ)) : Type 0 where

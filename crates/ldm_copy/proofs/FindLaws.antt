@@ -1,19 +1,37 @@
--- Records that are found by the heads of their blocks.
-use Rattle.std.proofs.Common.{◌≡◌, ℕ, zero, suc, ◌+◌, ◌-◌, ◌*◌, ◌<◌, ◌≤◌, List, [], ◌∷◌, ◌++◌, length, get_or, slice_index, take, map, All, Contains, refl, sym, ap, subst, ◌∙◌, arith}
+-- All records that blocks hold are found, by the heads of their blocks.
+use Rattle.std.proofs.Common.{◌≡◌, ℕ, zero, suc, ◌+◌, ◌-◌, ◌*◌, ◌<◌, ◌≤◌, List, [], ◌∷◌, ◌++◌, length, get_or, slice_index, take, map, All, Contains, refl, sym, ap, subst, ◌∙◌, arith, ◌≢◌, ◌⊎◌, inl, inr, Bool, true, false, eqb, set, replicate, Option, Some, None, add-one, ⊎_elim, AllPairs}
 use Rattle.std.proofs.lemmas.Grind.{same_number_lists}
-use Rattle.std.proofs.lemmas.List.{map-append, append-nil, take_more, take_all, length-map}
+use Rattle.std.proofs.lemmas.List.{map-append, append-nil, take_more, take_all, length-map, get_or-set_same, get_or-set_other, length-set, get_or-replicate, length-replicate, get_or_default}
 use Rattle.std.proofs.lemmas.List.Concat.{flat_map-append}
-use Rattle.std.proofs.lemmas.List.Elements.{All-contains}
-use Rattle.ldm_records.specs.Plain.{IsRecord}
+use Rattle.std.proofs.lemmas.List.Elements.{All-contains, All-cons, All-nil, All-push, All-weaker, Contains-push, Contains-append_left, All-tail}
+use Rattle.ldm_records.specs.Plain.{IsRecord, Spells, own_spelling}
 use Rattle.ldm_records.specs.Views.{plain_of}
-use Rattle.ldm_frags.specs.Blocks.{count, group, part, parts, payload, is_part, least_below, numbers_from}
-use Rattle.ldm_frags.specs.Written.{Placed, slot, IsPlaced, Holds, block_at, unused_block, filled}
-use Rattle.ldm_frags.proofs.Below.{least_is, least_none, none_from}
+use Rattle.ldm_frags.specs.Blocks.{count, group, part, parts, payload, is_part, least_below, numbers_from, is_fragment, is_of, some_below}
+use Rattle.ldm_frags.specs.Written.{Placed, slot, IsPlaced, Holds, block_at, unused_block, filled, IsInUse, parts_of}
+use Rattle.ldm_frags.proofs.Below.{least_is, least_none, none_from, least_passes, passing_skip, passing_here, passing_least, passing_past}
 use Rattle.ldm_frags.proofs.Below as below
-use Rattle.ldm_frags.proofs.OrderLaws.{numbers_length}
-use Rattle.ldm_copy.specs.Body.{Stored, placed_of}
-use Rattle.ldm_copy.specs.Finding.{part_at, slots_by, payloads, IsFirstPart, IsLater}
-use Rattle.ldm_frags.proofs.HoldLaws.{nowhere, record_at, few_held, few_slots, part_fields, Stands, in_record, free, stands, place_of, least_of, parts_more, filled_length}
+use Rattle.ldm_frags.proofs.HoldLaws.{numbers_length, nowhere, record_at, few_held, few_slots, part_fields, Stands, in_record, free, stands, place_of as spot_of, least_of, parts_more, filled_length}
+use Rattle.ldm_copy.specs.Body.{Stored, placed_of, Store, stored_at}
+use Rattle.ldm_copy.specs.Finding.{part_at, slots_by, payloads, IsFirstPart, IsLater, first_number, table_place, HasPlaces, slots_in, IsFoundAt, stored_of, AreFound, HoldsTable}
+use Rattle.std.specs.Prelude.{◌&&◌, filter, ◌==◌, ◌||◌, nat_lt, if◌then◌else◌}
+use Rattle.std.proofs.lemmas.Bool.{cases_eq, eq-eqb, ne_eqb}
+use Rattle.ldm_frags.specs.Groups.{first_passing}
+use Rattle.std.specs.List.Sorted.{IsPermutation, IsNonDecreasingBy}
+use Rattle.std.proofs.lemmas.Bool.Decides.{nat_tests}
+use Rattle.std.proofs.lemmas.List.Quantifiers.{all_pairs_push}
+use Rattle.std.proofs.lemmas.List.Sorted.{IsPermutation-refl, IsPermutation-sym, IsPermutation-trans, IsPermutation-cons, IsPermutation-middle, IsPermutation-append_left, IsPermutation-map, All-permutation}
+use Rattle.ldm_records.proofs.PlainLaws.{own_spells}
+use Rattle.ldm_payloads.proofs.WholeLaws.{is_one}
+use Rattle.ldm_frags.proofs.WriteLaws.{HasFields, fields_of}
+use Rattle.ldm_records.specs.declared.types.Record.{Record}
+use Rattle.ldm_group.specs.Order.{place_of, Rising}
+use Rattle.ldm_group.proofs.Rise.{strictly}
+use Rattle.ldm_group.proofs.OneOrder.{one_rising}
+use Rattle.ldm_copy.specs.declared.finding.Found.{Found}
+use Rattle.ldm_frags.proofs.HoldEdits.{apart_permuted, hold_permuted}
+use Rattle.ldm_copy.proofs.BodyLaws.{record_of, mapped_all, stored_again}
+
+-- ---- Records that are found by the heads of their blocks.
 
 pub slots_more : (f : ℕ → ℕ) (number part x : ℕ) (before after : List ℕ) → 1 ≤ part → before ≡ number ∷ map f (numbers_from 1 (part - 1))
     → after ≡ before ++ x ∷ [] → x ≡ f part → after ≡ number ∷ map f (numbers_from 1 (part + 1 - 1))
@@ -50,7 +68,7 @@ head_slots blocks records m k small holds lm at many =
     each : (j : ℕ) → j < length (record_at records m).slots → slice_index ((k + 4) ∷ map (part_at blocks (k + 4)) (numbers_from 1 (parts blocks k - 1))) j ≡ slice_index (record_at records m).slots j
     each zero lj = sym at
     each (suc j) lj =
-        let spot = place_of blocks records m (suc j) holds lm lj in
+        let spot = spot_of blocks records m (suc j) holds lm lj in
         let least : least_below (count blocks) (is_part blocks (slot (record_at records m) 0) (suc j)) ≡ spot.0 = least_of blocks records m (suc j) spot.0 small holds lm lj (omega (arith, lj)) spot.1 spot.2 in
         map_at (part_at blocks (k + 4)) 1 (parts blocks k - 1) j (omega (arith, lj, many))
         ∙ ap (part_at blocks (k + 4)) (let e : 1 + j ≡ suc j = omega arith in e)
@@ -174,3 +192,509 @@ held_unused blocks ss k small lt holds none = by (stands blocks (map placed_of s
 -- a record has four parts at most
 pub held_few : (blocks : List ℕ) (ss : List Stored) (k : ℕ) → length blocks ≤ 1048576 → k < count blocks → Holds blocks (map placed_of ss) → parts blocks k ≤ 4
 held_few blocks ss k small lt holds = few_held blocks (map placed_of ss) k holds (stands blocks (map placed_of ss) small holds k lt)
+
+-- ---- The list of the places of parts, by their groups.
+
+-- the first that passes stays it
+passing_kept : (n k : ℕ) (p : ℕ → Bool) → first_passing n p ≡ Some k → first_passing (n + 1) p ≡ Some k
+passing_kept n k p e = go (some_below n p) refl
+  where
+    go : (b : Bool) → some_below n p ≡ b → first_passing (n + 1) p ≡ Some k
+    go true some = let h : first_passing n p ≡ Some (least_below n p) = rw some refl in (let same : first_passing (n + 1) p ≡ Some (least_below n p) = rw (add-one, some) refl in same ∙ sym h ∙ e)
+    go false none = let h : first_passing n p ≡ None = rw none refl in cc
+
+passing_some_below : (n k : ℕ) (p : ℕ → Bool) → first_passing n p ≡ Some k → k < n
+passing_some_below n k p e = go (some_below n p) refl
+  where
+    go : (b : Bool) → some_below n p ≡ b → k < n
+    go true some = let h : first_passing n p ≡ Some (least_below n p) = rw some refl in (let is : least_below n p ≡ k = cc in let low = (least_passes n p some).0 in omega (arith, is, low))
+    go false none = let h : first_passing n p ≡ None = rw none refl in cc
+
+passing_none : (n : ℕ) (p : ℕ → Bool) → first_passing n p ≡ None → some_below n p ≡ false
+passing_none n p e = go (some_below n p) refl
+  where
+    go : (b : Bool) → some_below n p ≡ b → some_below n p ≡ false
+    go true some = let h : first_passing n p ≡ Some (least_below n p) = rw some refl in cc
+    go false none = none
+
+-- no block was looked at
+pub places_none : (blocks places : List ℕ) → places ≡ replicate (4 * count blocks) (count blocks + 4) → HasPlaces blocks 0 places
+places_none blocks places is = record {
+  size = ap (λ (l : List ℕ). length l) is ∙ length-replicate (4 * count blocks) (count blocks + 4);
+  at = λ g p low high few. ap (λ (l : List ℕ). table_place l g p) is ∙ get_or-replicate (4 * count blocks) (4 * (g - 4) + p) (count blocks + 4) 0 (omega (arith, low, high, few));
+}
+
+-- block k is that part of no other group
+module _ (blocks : List ℕ) (k : ℕ) where
+  not_of : (g p : ℕ) → (parts blocks k < 2) ⊎ (group blocks k ≢ g) ⊎ (part blocks k ≢ p) → is_part blocks g p k ≡ false
+  not_of g p (inl few) = let never : is_fragment blocks k ≡ false = grind arith in rw never refl
+  not_of g p (inr (inl other)) = let never : eqb (group blocks k) g ≡ false = ne_eqb (group blocks k) g other in by (is_fragment blocks k) (eqb (group blocks k) g) (eqb (part blocks k) p) never
+    where
+      by : (a b c : Bool) → b ≡ false → ((a && b) && c) ≡ false
+      by true true c e = absurd cc
+      by true false c e = refl
+      by false b c e = refl
+  not_of g p (inr (inr other)) = let never : eqb (part blocks k) p ≡ false = ne_eqb (part blocks k) p other in by (is_of blocks g k) (eqb (part blocks k) p) never
+    where
+      by : (a b : Bool) → b ≡ false → (a && b) ≡ false
+      by true true e = absurd cc
+      by true false e = refl
+      by false b e = refl
+
+  module _ (places : List ℕ) (has : HasPlaces blocks k places) (in_range : k < count blocks) (frag : 2 ≤ parts blocks k) (low_k : 4 ≤ group blocks k) (high_k : group blocks k < count blocks + 4) (few_k : part blocks k < 4) where
+    abbrev G : ℕ
+    G = group blocks k
+
+    abbrev P : ℕ
+    P = part blocks k
+
+    found : is_part blocks G P k ≡ true
+    found =
+        let a : is_fragment blocks k ≡ true = grind arith in
+        let b : eqb G G ≡ true = eq-eqb G G refl in
+        let c : eqb P P ≡ true = eq-eqb P P refl in
+        rw (a, b, c) refl
+
+    other_place : (g p : ℕ) → 4 ≤ g → p < 4 → ((group blocks k ≡ g) × (part blocks k ≡ p)) ⊎ ((4 * (g - 4) + p ≢ 4 * (G - 4) + P) × (is_part blocks g p k ≡ false))
+    other_place g p low few =
+        elim (cases_eq G g) [
+          | inr ne ↦ inr ((λ e. ne (omega (arith, e, few, few_k, low, low_k))), not_of g p (inr (inl ne)))
+          | inl same ↦ elim (cases_eq P p) [
+            | inl one ↦ inl (same, one)
+            | inr ne ↦ inr ((λ e. ne (omega (arith, e, same))), not_of g p (inr (inr ne)))
+          ]
+        ]
+
+    -- it is the first
+    pub places_more : (next : List ℕ) → table_place places G P ≡ count blocks + 4 → next ≡ set places (4 * (G - 4) + P) (k + 4) → HasPlaces blocks (k + 1) next
+    places_more next free is = record {
+      size = ap (λ (l : List ℕ). length l) is ∙ length-set places (4 * (G - 4) + P) (k + 4) ∙ has.size;
+      at = λ g p low high few. elim (other_place g p low few) [
+        | inr (apart, other) ↦
+            ap (λ (l : List ℕ). table_place l g p) is ∙ get_or-set_other places (4 * (G - 4) + P) (4 * (g - 4) + p) (k + 4) 0 apart ∙ has.at g p low high few
+            ∙ ap (λ (o : Option ℕ). first_number o (count blocks + 4)) (sym (passing_skip k (is_part blocks g p) other))
+        | inl (same, one) ↦
+            (let here : table_place next G P ≡ k + 4 = ap (λ (l : List ℕ). table_place l G P) is ∙ get_or-set_same places (4 * (G - 4) + P) (k + 4) 0 (let size = has.size in omega (arith, size, low_k, high_k, few_k)) in
+            let first : first_passing (k + 1) (is_part blocks G P) ≡ Some k = passing_here k (is_part blocks G P) found (none (first_passing k (is_part blocks G P)) refl) in
+            let all : table_place next G P ≡ first_number (first_passing (k + 1) (is_part blocks G P)) (count blocks + 4) = here ∙ sym (ap (λ (o : Option ℕ). first_number o (count blocks + 4)) first) in
+            ap (λ (x : ℕ). table_place next x p) (sym same) ∙ ap (table_place next G) (sym one) ∙ all ∙ ap (λ (x : ℕ). first_number (first_passing (k + 1) (is_part blocks x P)) (count blocks + 4)) same ∙ ap (λ (x : ℕ). first_number (first_passing (k + 1) (is_part blocks g x)) (count blocks + 4)) one)
+      ];
+    }
+      where
+        none : (o : Option ℕ) → first_passing k (is_part blocks G P) ≡ o → some_below k (is_part blocks G P) ≡ false
+        none None e = passing_none k (is_part blocks G P) e
+        none (Some j) e =
+            let lt = passing_some_below k j (is_part blocks G P) e in
+            let is_j : table_place places G P ≡ j + 4 = has.at G P low_k high_k few_k ∙ ap (λ (o : Option ℕ). first_number o (count blocks + 4)) e in
+            absurd (omega (arith, is_j, free, lt, in_range))
+
+    -- there was one before
+    pub places_kept : table_place places G P ≢ count blocks + 4 → HasPlaces blocks (k + 1) places
+    places_kept used = record {
+      size = has.size;
+      at = λ g p low high few. elim (other_place g p low few) [
+        | inr (apart, other) ↦
+            has.at g p low high few ∙ ap (λ (o : Option ℕ). first_number o (count blocks + 4)) (sym (passing_skip k (is_part blocks g p) other))
+        | inl (same, one) ↦
+            (let all : table_place places G P ≡ first_number (first_passing (k + 1) (is_part blocks G P)) (count blocks + 4) = kept (first_passing k (is_part blocks G P)) refl in
+            ap (λ (x : ℕ). table_place places x p) (sym same) ∙ ap (table_place places G) (sym one) ∙ all ∙ ap (λ (x : ℕ). first_number (first_passing (k + 1) (is_part blocks x P)) (count blocks + 4)) same ∙ ap (λ (x : ℕ). first_number (first_passing (k + 1) (is_part blocks g x)) (count blocks + 4)) one)
+      ];
+    }
+      where
+        kept : (o : Option ℕ) → first_passing k (is_part blocks G P) ≡ o → table_place places G P ≡ first_number (first_passing (k + 1) (is_part blocks G P)) (count blocks + 4)
+        kept None e = absurd (used (has.at G P low_k high_k few_k ∙ ap (λ (o : Option ℕ). first_number o (count blocks + 4)) e))
+        kept (Some j) e =
+            has.at G P low_k high_k few_k ∙ ap (λ (o : Option ℕ). first_number o (count blocks + 4)) (e ∙ sym (passing_kept k j (is_part blocks G P) e))
+
+-- the same by what was read of the head
+module _ (blocks places : List ℕ) (k n g p : ℕ) (has : HasPlaces blocks k places) (in_range : k < count blocks) (is_n : n ≡ parts blocks k) (is_g : g ≡ group blocks k) (is_p : p ≡ part blocks k)
+    (frag : 2 ≤ n) (low : 4 ≤ g) (high : g < count blocks + 4) (few : p < 4) where
+  place_there : table_place places g p ≡ table_place places (group blocks k) (part blocks k)
+  place_there = ap (λ (x : ℕ). table_place places x p) is_g ∙ ap (table_place places (group blocks k)) is_p
+
+  pub places_set : table_place places g p ≡ count blocks + 4 → HasPlaces blocks (k + 1) (set places (4 * (g - 4) + p) (k + 4))
+  places_set free =
+      places_more blocks k places has in_range (omega (arith, is_n, frag)) (omega (arith, is_g, low)) (omega (arith, is_g, high)) (omega (arith, is_p, few)) (set places (4 * (g - 4) + p) (k + 4))
+      (sym place_there ∙ free) (ap (λ (i : ℕ). set places i (k + 4)) (omega (arith, is_g, is_p)))
+
+  pub places_used : table_place places g p ≢ count blocks + 4 → HasPlaces blocks (k + 1) places
+  places_used used =
+      places_kept blocks k places has in_range (omega (arith, is_n, frag)) (omega (arith, is_g, low)) (omega (arith, is_g, high)) (omega (arith, is_p, few))
+      (λ e. used (place_there ∙ e))
+
+-- all blocks were looked at
+module _ (blocks places : List ℕ) (has : HasPlaces blocks (count blocks) places) where
+  pub place_is : (g p : ℕ) → 4 ≤ g → g < count blocks + 4 → p < 4 → table_place places g p ≡ part_at blocks g p
+  unfolding part_at
+  place_is g p low high few = has.at g p low high few ∙ by (first_passing (count blocks) (is_part blocks g p)) refl
+    where
+      by : (o : Option ℕ) → first_passing (count blocks) (is_part blocks g p) ≡ o → first_number (first_passing (count blocks) (is_part blocks g p)) (count blocks + 4) ≡ least_below (count blocks) (is_part blocks g p) + 4
+      by None e = ap (λ (o : Option ℕ). first_number o (count blocks + 4)) e ∙ ap (λ (n : ℕ). n + 4) (sym (passing_past (count blocks) (is_part blocks g p) e))
+      by (Some j) e = ap (λ (o : Option ℕ). first_number o (count blocks + 4)) e ∙ ap (λ (n : ℕ). n + 4) (sym (passing_least (count blocks) j (is_part blocks g p) e))
+
+  mapped : (f h : ℕ → ℕ) (a n : ℕ) → ((p : ℕ) → a ≤ p → p < a + n → f p ≡ h p) → map f (numbers_from a n) ≡ map h (numbers_from a n)
+  mapped f h a zero same = refl
+  mapped f h a (suc n) same =
+      ap (λ (x : ℕ). x ∷ map f (numbers_from (a + 1) n)) (same a (omega arith) (omega arith))
+      ∙ ap (λ (l : List ℕ). h a ∷ l) (mapped f h (a + 1) n (λ p low high. same p (omega (arith, low)) (omega (arith, high))))
+
+  -- so the slots are those by the heads
+  pub slots_are_by : (number n : ℕ) → 4 ≤ number → number < count blocks + 4 → 1 ≤ n → n ≤ 4 → slots_in places number n ≡ slots_by blocks number n
+  unfolding slots_by
+  slots_are_by number n low high some few =
+      ap (λ (l : List ℕ). number ∷ l) (mapped (table_place places number) (part_at blocks number) 1 (n - 1) (λ p from to. place_is number p low high (omega (arith, to, few, some))))
+
+-- ---- All records that blocks hold are found, once each.
+
+abbrev pub key : Stored → ℕ
+key s = slot (placed_of s) 0
+
+-- those whose first block stands below number n + 4, in rising number
+abbrev pub below : List Stored → ℕ → List Stored
+below xs zero = []
+below xs (suc n) = below xs n ++ filter (λ s. key s == n + 4) xs
+
+-- two tests that never both pass
+split_one : (x : Stored) (p q : Bool) (rs ps qs : List Stored) → (p ≡ true → q ≡ false) → IsPermutation rs (ps ++ qs)
+    → IsPermutation (if p || q then x ∷ rs else rs) ((if p then x ∷ ps else ps) ++ (if q then x ∷ qs else qs))
+split_one x true true rs ps qs apart same = absurd (let no = apart refl in cc)
+split_one x true false rs ps qs apart same = IsPermutation-cons x rs (ps ++ qs) same
+split_one x false true rs ps qs apart same =
+    IsPermutation-trans (x ∷ rs) (x ∷ (ps ++ qs)) (ps ++ x ∷ qs) (IsPermutation-cons x rs (ps ++ qs) same) (IsPermutation-sym (ps ++ x ∷ qs) (x ∷ (ps ++ qs)) (IsPermutation-middle ps x qs))
+split_one x false false rs ps qs apart same = same
+
+split : (n : ℕ) (xs : List Stored) → IsPermutation (filter (λ s. nat_lt (key s) (n + 4) || (key s == n + 4)) xs) (filter (λ s. nat_lt (key s) (n + 4)) xs ++ filter (λ s. key s == n + 4) xs)
+split n [] = IsPermutation-refl []
+split n (x ∷ xs) = split_one x (nat_lt (key x) (n + 4)) (key x == n + 4) _ _ _ (λ lt. grind (arith, nat_tests)) (split n xs)
+
+same_filter : (p q : Stored → Bool) (xs : List Stored) → ((s : Stored) → p s ≡ q s) → filter p xs ≡ filter q xs
+same_filter p q [] same = refl
+same_filter p q (x ∷ xs) same = ap (λ (b : Bool). if b then x ∷ filter p xs else filter p xs) (same x) ∙ ap (λ (l : List Stored). if q x then x ∷ l else l) (same_filter p q xs same)
+
+none_low : (xs : List Stored) → ((k : ℕ) (d : Stored) → k < length xs → 4 ≤ key (get_or xs k d)) → filter (λ s. nat_lt (key s) 4) xs ≡ []
+none_low [] high = refl
+none_low (x ∷ xs) high =
+    let no : nat_lt (key x) 4 ≡ false = (let le = high 0 x (omega arith) in grind (arith, nat_tests)) in
+    rw no (none_low xs (λ k d lt. high (suc k) d (omega arith)))
+
+pub all_low : (n : ℕ) (xs : List Stored) → ((k : ℕ) (d : Stored) → k < length xs → key (get_or xs k d) < n) → filter (λ s. nat_lt (key s) n) xs ≡ xs
+all_low n [] low = refl
+all_low n (x ∷ xs) low =
+    let yes : nat_lt (key x) n ≡ true = (let lt = low 0 x (omega arith) in grind (arith, nat_tests)) in
+    rw yes (ap (λ (l : List Stored). x ∷ l) (all_low n xs (λ k d lt. low (suc k) d (omega arith))))
+
+pub low_below : (n : ℕ) (xs : List Stored) → ((k : ℕ) (d : Stored) → k < length xs → 4 ≤ key (get_or xs k d)) → IsPermutation (filter (λ s. nat_lt (key s) (n + 4)) xs) (below xs n)
+low_below zero xs high = subst (λ (l : List Stored). IsPermutation l []) (sym (none_low xs high)) (IsPermutation-refl [])
+low_below (suc n) xs high =
+    let tests : filter (λ s. nat_lt (key s) (suc n + 4)) xs ≡ filter (λ s. nat_lt (key s) (n + 4) || (key s == n + 4)) xs =
+    same_filter _ _ xs (λ s. grind (arith, nat_tests)) in
+    subst (λ (l : List Stored). IsPermutation l (below xs (suc n))) (sym tests)
+    (IsPermutation-trans _ _ _ (split n xs) (IsPermutation-append_left (filter (λ s. key s == n + 4) xs) _ _ (low_below n xs high)))
+
+-- ---- one record
+
+-- the key of a record that was found
+pub key_is : (blocks : List ℕ) (b : ℕ) (s : Stored) → IsFoundAt blocks b s → key s ≡ b
+unfolding slots_by
+key_is blocks b s found = ap (λ (l : List ℕ). slice_index l 0) found.slots_are
+
+-- a record that is placed at slots is one
+pub one_placed : (blocks : List ℕ) (a b : Stored) → length blocks ≤ 1048576 → IsPlaced blocks (placed_of a) → IsPlaced blocks (placed_of b) → IsRecord (plain_of a.record_is) → IsRecord (plain_of b.record_is)
+    → a.slots ≡ b.slots → a ≡ b
+one_placed blocks a b small is_a is_b sound_a sound_b e =
+    let same : filled (own_spelling (plain_of a.record_is)) ≡ filled (own_spelling (plain_of b.record_is)) =
+    sym (payload_whole blocks (placed_of a) small is_a) ∙ ap (payloads blocks) e ∙ payload_whole blocks (placed_of b) small is_b in
+    let one : a.record_is ≡ b.record_is =
+    is_one (filled (own_spelling (plain_of a.record_is))) a.record_is b.record_is
+    (own_spells (plain_of a.record_is) (replicate (112 * parts_of (length (own_spelling (plain_of a.record_is))) - length (own_spelling (plain_of a.record_is))) 0) sound_a)
+    (subst (λ (l : List ℕ). Spells (plain_of b.record_is) l) (sym same) (own_spells (plain_of b.record_is) (replicate (112 * parts_of (length (own_spelling (plain_of b.record_is))) - length (own_spelling (plain_of b.record_is))) 0) sound_b)) in
+    λ i. record { record_is = one i; slots = e i }
+
+-- ---- the records that begin in a block
+
+pub map_get : {X Y : Type 0} (f : X → Y) (xs : List X) (i : ℕ) (d : X) → get_or (map f xs) i (f d) ≡ f (get_or xs i d)
+map_get f [] i d = refl
+map_get f (x ∷ xs) zero d = refl
+map_get f (x ∷ xs) (suc i) d = map_get f xs i d
+
+length_mapped : {X Y : Type 0} (f : X → Y) (xs : List X) → length (map f xs) ≡ length xs
+length_mapped f [] = refl
+length_mapped f (x ∷ xs) = let rest : length (map f xs) ≡ length xs = length_mapped f xs in omega (arith, rest)
+
+pub keys_apart : (ss : List Stored) → AllPairs (λ r s. slot r 0 ≢ slot s 0) (map placed_of ss) → AllPairs (λ a b. key a ≢ key b) ss
+keys_apart ss apart i j d below_it lt e =
+    apart i j (placed_of d) below_it (omega (arith, lt, length_mapped placed_of ss))
+    (ap (λ (r : Placed). slot r 0) (map_get placed_of ss i d) ∙ e ∙ sym (ap (λ (r : Placed). slot r 0) (map_get placed_of ss j d)))
+
+none_key : (ss : List Stored) (b : ℕ) → All (λ s. key s ≢ b) ss → filter (λ s. key s == b) ss ≡ []
+none_key [] b apart = refl
+none_key (s ∷ ss) b apart =
+    let here : eqb (key s) b ≡ false = ne_eqb (key s) b (apart 0 s (omega arith)) in
+    rw here (none_key ss b (All-tail (λ (t : Stored). key t ≢ b) s ss apart))
+
+pub one_key : (ss : List Stored) (s : Stored) (b : ℕ) → AllPairs (λ a c. key a ≢ key c) ss → Contains ss s → key s ≡ b → filter (λ t. key t == b) ss ≡ s ∷ []
+one_key [] s b apart (k, lt, is) e = absurd (omega (arith, lt))
+one_key (x ∷ xs) s b apart (zero, lt, is) e =
+    let here : eqb (key x) b ≡ true = eq-eqb (key x) b (ap key is ∙ e) in
+    let none : filter (λ t. key t == b) xs ≡ [] = none_key xs b (λ k d lk same. apart 0 (suc k) d (omega arith) (omega (arith, lk)) (ap key is ∙ e ∙ sym same)) in
+    rw (here, none) (ap (λ (t : Stored). t ∷ []) is)
+one_key (x ∷ xs) s b apart (suc k, lt, is) e =
+    let there : Contains xs s = (k, omega (arith, lt), is) in
+    let other : eqb (key x) b ≡ false = ne_eqb (key x) b (λ same. apart 0 (suc k) s (omega arith) lt (same ∙ sym e ∙ ap key (sym is))) in
+    rw other (one_key xs s b (λ i j d l within. apart (suc i) (suc j) d (omega (arith, l)) (omega (arith, within))) there e)
+
+-- ---- all blocks, one after the other
+
+pub record IsFoundUpTo (blocks : List ℕ) (k : ℕ) (S : List Stored) : Type 0 where
+  pub each : All (λ s. IsFoundAt blocks (key s) s) S
+  pub rising : AllPairs (λ a b. key a < key b) S
+  pub low : All (λ s. key s < k + 4) S
+  pub seen : (j : ℕ) → j < k → (block_at blocks (j + 4) ≡ unused_block (j + 4)) ⊎ IsLater blocks (j + 4) ⊎ ((s : Stored) × Contains S s × (key s ≡ j + 4))
+  pub complete : (ss : List Stored) → All (λ s. IsRecord (plain_of s.record_is)) ss → Holds blocks (map placed_of ss) → S ≡ below ss k
+
+pub found_none : (blocks : List ℕ) → IsFoundUpTo blocks 0 []
+found_none blocks = record {
+  each = All-nil (λ s. IsFoundAt blocks (key s) s);
+  rising = λ i j d l lt. absurd (omega (arith, lt));
+  low = All-nil (λ s. key s < 0 + 4);
+  seen = λ j lt. absurd (omega (arith, lt));
+  complete = λ ss sound holds. refl;
+}
+
+unused_parts : (blocks : List ℕ) (k : ℕ) → block_at blocks (k + 4) ≡ unused_block (k + 4) → parts blocks k ≡ 0
+unused_parts blocks k is =
+    let f : HasFields blocks k 0 0 0 (replicate 112 0) = fields_of blocks k (k + 4) (k + 4) 0 0 0 (replicate 112 0) refl is (omega arith) (omega arith) (omega arith) in f.parts
+
+module _ (blocks : List ℕ) (k : ℕ) (small : length blocks ≤ 1048576) (lt : k < count blocks) (S : List Stored) (w : IsFoundUpTo blocks k S) where
+  -- a block in which no record begins
+  pub found_nothing : (block_at blocks (k + 4) ≡ unused_block (k + 4)) ⊎ IsLater blocks (k + 4) → IsFoundUpTo blocks (k + 1) S
+  found_nothing here = record {
+    each = w.each;
+    rising = w.rising;
+    low = All-weaker (λ s. key s < k + 4) (λ s. key s < k + 1 + 4) (λ s l. omega (arith, l)) S w.low;
+    seen = λ j l. elim (cases_eq j k) [
+      | inl is ↦ subst (λ (n : ℕ). (block_at blocks (n + 4) ≡ unused_block (n + 4)) ⊎ IsLater blocks (n + 4) ⊎ ((s : Stored) × Contains S s × (key s ≡ n + 4))) (sym is) (⊎_elim (λ a. inl a) (λ b. inr (inl b)) here)
+      | inr ne ↦ w.seen j (omega (arith, l, ne))
+    ];
+    complete = λ ss sound holds.
+        let none : filter (λ s. key s == k + 4) ss ≡ [] = none_key ss (k + 4) (λ i d li e. begins_none ss holds i d li e) in
+        let one : suc k ≡ k + 1 = omega arith in
+        w.complete ss sound holds ∙ sym (append-nil (below ss k)) ∙ ap (λ (l : List Stored). below ss k ++ l) (sym none) ∙ ap (below ss) one;
+  }
+    where
+      at_k : k + 4 - 4 ≡ k
+      at_k = omega arith
+
+      begins_none : (ss : List Stored) → Holds blocks (map placed_of ss) → (i : ℕ) (d : Stored) → i < length ss → key (get_or ss i d) ≢ k + 4
+      begins_none ss holds i d li e =
+          let is : IsPlaced blocks (placed_of (get_or ss i d)) = subst (IsPlaced blocks) (map_get placed_of ss i d) (holds.placed i (placed_of d) (omega (arith, li, length_mapped placed_of ss))) in
+          let some = (few_slots blocks (placed_of (get_or ss i d)) is).0 in
+          let has = part_fields blocks (placed_of (get_or ss i d)) 0 k small is (omega (arith, some)) e in
+          ⊎_elim
+          (λ unused. let none = unused_parts blocks k unused in let n = has.parts in absurd (omega (arith, none, n, some)))
+          (λ later. let p = has.part in let q : part blocks (k + 4 - 4) ≡ part blocks k = ap (part blocks) at_k in let l = later.some in absurd (omega (arith, p, q, l)))
+          here
+
+  -- a block in which a record begins
+  pub found_more : (s : Stored) → IsFoundAt blocks (k + 4) s → IsFoundUpTo blocks (k + 1) (S ++ s ∷ [])
+  found_more s found =
+      let at : key s ≡ k + 4 = key_is blocks (k + 4) s found in
+      let here : IsFoundAt blocks (key s) s = subst (λ (b : ℕ). IsFoundAt blocks b s) (sym at) found in
+      record {
+        each = All-push (λ t. IsFoundAt blocks (key t) t) S s w.each here;
+        rising = all_pairs_push (λ a b. key a < key b) S s w.rising (λ i d li. let l = w.low i d li in omega (arith, l, at));
+        low = All-push (λ t. key t < k + 1 + 4) S s (All-weaker (λ t. key t < k + 4) (λ t. key t < k + 1 + 4) (λ t l. omega (arith, l)) S w.low) (omega (arith, at));
+        seen = λ j l. elim (cases_eq j k) [
+          | inl is ↦ inr (inr (s, Contains-push S s, at ∙ ap (λ (n : ℕ). n + 4) (sym is)))
+          | inr ne ↦ ⊎_elim (λ a. inl a) (λ b. inr (⊎_elim (λ c. inl c) (λ d. inr (d.0, Contains-append_left S (s ∷ []) d.0 d.1, d.2)) b)) (w.seen j (omega (arith, l, ne)))
+        ];
+        complete = λ ss sound holds.
+            let first : IsFirstPart blocks (k + 4) = found.first in
+            let some : 1 ≤ parts blocks k = (let e : parts blocks (k + 4 - 4) ≡ parts blocks k = ap (parts blocks) at_k in let l = found.some in omega (arith, e, l)) in
+            let h = held_first blocks ss k small lt sound holds first some in
+            let slots : s.slots ≡ h.s.slots = found.slots_are ∙ ap (slots_by blocks (k + 4)) (ap (parts blocks) at_k) ∙ h.slots_are in
+            let same : s ≡ h.s = one_placed blocks s h.s small found.placed h.placed found.sound h.sound slots in
+            let one : filter (λ t. key t == k + 4) ss ≡ s ∷ [] = one_key ss h.s (k + 4) (keys_apart ss holds.apart) h.there h.key ∙ ap (λ (t : Stored). t ∷ []) (sym same) in
+            let next : suc k ≡ k + 1 = omega arith in
+            ap (λ (l : List Stored). l ++ s ∷ []) (w.complete ss sound holds) ∙ ap (λ (l : List Stored). below ss k ++ l) (sym one) ∙ ap (below ss) next;
+      }
+    where
+      at_k : k + 4 - 4 ≡ k
+      at_k = omega arith
+
+-- ---- at the end
+
+-- slot p of a record that was found
+later_slot : (blocks : List ℕ) (s : Stored) (p : ℕ) → IsFoundAt blocks (key s) s → 1 ≤ p → p < parts blocks (key s - 4) → (p < length s.slots) × (slice_index s.slots p ≡ part_at blocks (key s) p)
+unfolding slots_by
+later_slot blocks s p found some lt =
+    let n : ℕ = parts blocks (key s - 4) in
+    let f : ℕ → ℕ = part_at blocks (key s) in
+    let size : length s.slots ≡ 1 + length (map f (numbers_from 1 (n - 1))) = ap (λ (l : List ℕ). length l) found.slots_are ∙ (let e : suc (length (map f (numbers_from 1 (n - 1)))) ≡ 1 + length (map f (numbers_from 1 (n - 1))) = omega arith in e) in
+    let many = length_mapped f (numbers_from 1 (n - 1)) in
+    let count_of = numbers_length 1 (n - 1) in
+    let q : ℕ = p - 1 in
+    let next : p ≡ suc q = omega (arith, some) in (
+      omega (arith, size, many, count_of, lt, some),
+      ap (λ (l : List ℕ). slice_index l p) found.slots_are ∙ ap (λ (m : ℕ). slice_index (key s ∷ map f (numbers_from 1 (n - 1))) m) next
+          ∙ map_at f 1 (n - 1) q (omega (arith, lt, some)) ∙ ap f (let e : 1 + q ≡ p = omega (arith, some) in e),
+    )
+
+pub found_holds : (blocks : List ℕ) (n : ℕ) (S : List Stored) → count blocks ≤ n → IsFoundUpTo blocks n S → Holds blocks (map placed_of S)
+found_holds blocks n S le w = record {
+  placed = placed_all S w.each;
+  apart = λ i j d l within e. placed_apart i j d l within e;
+  unused = λ number in_use avoid.
+      let low = in_use.0 in
+      let high = in_use.1 in
+      let j : ℕ = number - 4 in
+      let at : j + 4 ≡ number = omega (arith, low) in
+      let avoid_key : (s : Stored) → Contains S s → All (λ m. m ≢ number) s.slots = λ s there. avoided S number avoid s there in
+      elim (w.seen j (omega (arith, low, high, le))) [
+        | inl unused ↦ subst (λ (b : ℕ). block_at blocks b ≡ unused_block b) at unused
+        | inr (inr (s, there, e)) ↦ absurd (not_first s number (avoid_key s there) (All-contains (λ t. IsFoundAt blocks (key t) t) S s w.each there) (e ∙ at))
+        | inr (inl later) ↦ absurd (not_later number (subst (IsLater blocks) at later) low high avoid_key)
+      ];
+}
+  where
+    placed_all : (T : List Stored) → All (λ s. IsFoundAt blocks (key s) s) T → All (IsPlaced blocks) (map placed_of T)
+    placed_all [] each = All-nil (IsPlaced blocks)
+    placed_all (s ∷ T) each = All-cons (IsPlaced blocks) (placed_of s) (map placed_of T) (each 0 s (omega arith)).placed (placed_all T (All-tail (λ t. IsFoundAt blocks (key t) t) s T each))
+
+    placed_apart : (i j : ℕ) (d : Placed) → i < j → j < length (map placed_of S) → slot (get_or (map placed_of S) i d) 0 ≢ slot (get_or (map placed_of S) j d) 0
+    placed_apart i j d l within e = apart_by S w.rising i j d l within e
+      where
+        apart_by : (T : List Stored) → AllPairs (λ a b. key a < key b) T → AllPairs (λ r s. slot r 0 ≢ slot s 0) (map placed_of T)
+        apart_by T rising i j d l within e =
+            let size = length_mapped placed_of T in
+            let at_i = read T i d (omega (arith, l, within, size)) in
+            let at_j = read T j d (omega (arith, within, size)) in
+            let less = rising i j at_j.0 l (omega (arith, within, size)) in
+            let is_i : slot (get_or (map placed_of T) i d) 0 ≡ key (get_or T i at_j.0) = ap (λ (r : Placed). slot r 0) at_i.1 ∙ ap key (get_or_default T i at_i.0 at_j.0 (omega (arith, l, within, size))) in
+            let is_j : slot (get_or (map placed_of T) j d) 0 ≡ key (get_or T j at_j.0) = ap (λ (r : Placed). slot r 0) at_j.1 in
+            absurd (omega (arith, less, is_i, is_j, e))
+          where
+            read : (T : List Stored) (i : ℕ) (d : Placed) → i < length T → (x : Stored) × (get_or (map placed_of T) i d ≡ placed_of (get_or T i x))
+            read [] i d lt = absurd (omega (arith, lt))
+            read (s ∷ T) zero d lt = (s, refl)
+            read (s ∷ T) (suc i) d lt = read T i d (omega (arith, lt))
+
+    avoided : (T : List Stored) (number : ℕ) → All (λ r. All (λ m. m ≢ number) r.slots) (map placed_of T) → (s : Stored) → Contains T s → All (λ m. m ≢ number) s.slots
+    avoided T number avoid s there = subst (λ (t : Stored). All (λ m. m ≢ number) t.slots) there.2
+        (subst (λ (r : Placed). All (λ m. m ≢ number) r.slots) (map_get placed_of T there.0 s) (avoid there.0 (placed_of s) (let lt = there.1 in omega (arith, lt, length_mapped placed_of T))))
+
+    not_first : (s : Stored) (number : ℕ) → All (λ m. m ≢ number) s.slots → IsFoundAt blocks (key s) s → key s ≡ number → ⊥
+    not_first s number avoid found e =
+        let some = found.placed.some in
+        let whole = found.placed.whole in
+        avoid 0 0 (omega (arith, some, whole)) e
+
+    not_later : (number : ℕ) → IsLater blocks number → 4 ≤ number → number < count blocks + 4 → ((s : Stored) → Contains S s → All (λ m. m ≢ number) s.slots) → ⊥
+    not_later number later low high avoid =
+        let g : ℕ = group blocks (number - 4) in
+        let p : ℕ = part blocks (number - 4) in
+        let low_g = later.low in
+        let high_g = later.high in
+        let at_g : g - 4 + 4 ≡ g = omega (arith, low_g) in
+        let at_h : g - 4 + 4 - 4 ≡ g - 4 = omega (arith, low_g) in
+        elim (w.seen (g - 4) (omega (arith, low_g, high_g, le))) [
+          | inl unused ↦ (let none = unused_parts blocks (g - 4) unused in let many = later.below in absurd (omega (arith, none, many)))
+          | inr (inl other) ↦ (let first = later.first.part_is in let some = other.some in let same : part blocks (g - 4 + 4 - 4) ≡ part blocks (g - 4) = ap (part blocks) at_h in absurd (omega (arith, first, some, same)))
+          | inr (inr (s, there, e)) ↦
+              (let found = All-contains (λ t. IsFoundAt blocks (key t) t) S s w.each there in
+              let key_g : key s ≡ g = e ∙ at_g in
+              let spot = later_slot blocks s p found later.some (subst (λ (b : ℕ). p < parts blocks (b - 4)) (sym key_g) later.below) in
+              avoid s there p 0 spot.0 (spot.1 ∙ ap (λ (b : ℕ). part_at blocks b p) key_g ∙ later.at))
+        ]
+
+-- those that were found are those that are held
+pub found_all : (blocks : List ℕ) (n : ℕ) (S ss : List Stored) → count blocks ≤ n → IsFoundUpTo blocks n S → All (λ s. IsRecord (plain_of s.record_is)) ss → Holds blocks (map placed_of ss) → IsPermutation ss S
+found_all blocks n S ss le w sound holds =
+    let high : (k : ℕ) (d : Stored) → k < length ss → 4 ≤ key (get_or ss k d) = λ k d lt. (in_use k d lt).0 in
+    let top : (k : ℕ) (d : Stored) → k < length ss → key (get_or ss k d) < n + 4 = λ k d lt. let h = (in_use k d lt).1 in omega (arith, h, le) in
+    subst (IsPermutation ss) (sym (w.complete ss sound holds)) (subst (λ (l : List Stored). IsPermutation l (below ss n)) (all_low (n + 4) ss top) (low_below n ss high))
+  where
+    in_use : (k : ℕ) (d : Stored) → k < length ss → IsInUse blocks (key (get_or ss k d))
+    in_use k d lt =
+        let is : IsPlaced blocks (placed_of (get_or ss k d)) = subst (IsPlaced blocks) (map_get placed_of ss k d) (holds.placed k (placed_of d) (omega (arith, lt, length_mapped placed_of ss))) in
+        let some = (few_slots blocks (placed_of (get_or ss k d)) is).0 in
+        is.within 0 (omega (arith, some))
+
+-- ---- What was found, sorted, is the records of the database.
+
+read : {X Y : Type 0} (f : X → Y) (xs : List X) (i : ℕ) (d : Y) → i < length xs → (x : X) × (get_or (map f xs) i d ≡ f (get_or xs i x))
+read f [] i d lt = absurd (omega (arith, lt))
+read f (x ∷ xs) zero d lt = (x, refl)
+read f (x ∷ xs) (suc i) d lt = read f xs i d (omega (arith, lt))
+
+long : {X Y : Type 0} (f : X → Y) (xs : List X) → length (map f xs) ≡ length xs
+long f [] = refl
+long f (x ∷ xs) = let rest : length (map f xs) ≡ length xs = long f xs in omega (arith, rest)
+
+-- of numbers of what is mapped
+pairs_below : {X Y : Type 0} (f : X → Y) (n : Y → ℕ) (xs : List X) → AllPairs (λ a b. n (f a) < n (f b)) xs → AllPairs (λ a b. n a < n b) (map f xs)
+pairs_below f n xs all i j d lt within =
+    let size = long f xs in
+    let at_i = read f xs i d (omega (arith, lt, within, size)) in
+    let at_j = read f xs j d (omega (arith, within, size)) in
+    let less = all i j at_j.0 lt (omega (arith, within, size)) in
+    let e : n (get_or (map f xs) i d) ≡ n (f (get_or xs i at_j.0)) = ap n at_i.1 ∙ ap (λ x. n (f x)) (get_or_default xs i at_i.0 at_j.0 (omega (arith, lt, within, size))) in
+    let g : n (get_or (map f xs) j d) ≡ n (f (get_or xs j at_j.0)) = ap n at_j.1 in
+    omega (arith, less, e, g)
+
+pairs_apart : {X Y : Type 0} (f : X → Y) (n : Y → ℕ) (xs : List X) → AllPairs (λ a b. n a ≢ n b) (map f xs) → AllPairs (λ a b. n (f a) ≢ n (f b)) xs
+pairs_apart f n xs all i j d lt within e =
+    let size = long f xs in
+    all i j (f d) lt (omega (arith, within, size)) (ap n (mapped f xs i d) ∙ e ∙ sym (ap n (mapped f xs j d)))
+  where
+    mapped : {X Y : Type 0} (f : X → Y) (xs : List X) (i : ℕ) (d : X) → get_or (map f xs) i (f d) ≡ f (get_or xs i d)
+    mapped f [] i d = refl
+    mapped f (x ∷ xs) zero d = refl
+    mapped f (x ∷ xs) (suc i) d = mapped f xs i d
+
+abbrev content : Found → Record
+content f = f.content
+
+twice : (found : List Found) → map record_of (map stored_of found) ≡ map content found
+twice [] = refl
+twice (f ∷ found) = ap (λ (l : List Record). f.content ∷ l) (twice found)
+
+slots_twice : (found : List Found) → map (λ (s : Stored). s.slots) (map stored_of found) ≡ map (λ (f : Found). f.slots) found
+slots_twice [] = refl
+slots_twice (f ∷ found) = ap (λ (l : List (List ℕ)). f.slots ∷ l) (slots_twice found)
+
+-- where the records are those of the database, in their order, the slots are its table
+pub table_held : (blocks : List ℕ) (records : List Record) (found sorted : List Found) (table : List (List ℕ)) → AreFound blocks (map stored_of found) → IsPermutation found sorted
+    → map (λ (f : Found). f.content) sorted ≡ records → table ≡ map (λ (f : Found). f.slots) sorted → HoldsTable blocks records table
+table_held blocks records found sorted table are same is slots =
+    let G : List Stored = map stored_of sorted in
+    let moved : IsPermutation (map stored_of found) G = IsPermutation-map stored_of found sorted same in
+    let records_are : map record_of G ≡ records = twice sorted ∙ is in
+    let table_is : table ≡ map (λ (s : Stored). s.slots) G = slots ∙ sym (slots_twice sorted) in
+    let stored : stored_at records table ≡ G =
+    ap (λ (l : List Record). stored_at l table) (sym records_are) ∙ ap (stored_at (map record_of G)) table_is ∙ stored_again G in
+    record {
+      one_each = ap (λ (l : List (List ℕ)). length l) slots ∙ long (λ (f : Found). f.slots) sorted ∙ sym (long content sorted) ∙ ap (λ (l : List Record). length l) is;
+      sound = subst (λ (l : List Record). All (λ r. IsRecord (plain_of r)) l) records_are
+          (mapped_all record_of (λ r. IsRecord (plain_of r)) G (All-permutation (λ s. IsRecord (plain_of s.record_is)) (map stored_of found) G moved are.sound));
+      holds = subst (λ (l : List Stored). Holds blocks (map placed_of l)) (sym stored)
+          (hold_permuted blocks (map placed_of (map stored_of found)) (map placed_of G) (IsPermutation-map placed_of (map stored_of found) G moved) are.holds);
+    }
+
+-- where the blocks store the database's records, these are what was found
+pub found_records : (blocks : List ℕ) (records : List Record) (found sorted : List Found) → AreFound blocks (map stored_of found) → IsPermutation found sorted
+    → IsNonDecreasingBy (λ (f : Found). place_of f.content) sorted → Rising records → Store blocks records → map (λ (f : Found). f.content) sorted ≡ records
+found_records blocks records found sorted are same up rising store =
+    let F : List Stored = map stored_of found in
+    let held : IsPermutation store.stored F = are.only store.stored store.sound store.holds in
+    let first : IsPermutation (map record_of store.stored) (map record_of F) = IsPermutation-map record_of store.stored F held in
+    let second : IsPermutation (map record_of F) (map content sorted) = subst (λ (l : List Record). IsPermutation l (map content sorted)) (sym (twice found)) (IsPermutation-map content found sorted same) in
+    let whole : IsPermutation records (map content sorted) =
+    IsPermutation-trans records (map record_of store.stored) (map content sorted) (IsPermutation-sym (map record_of store.stored) records store.once)
+    (IsPermutation-trans (map record_of store.stored) (map record_of F) (map content sorted) first second) in
+    let apart : AllPairs (λ a b. place_of a ≢ place_of b) records = λ i j d lt within e. let less = rising i j d lt within in absurd (omega (arith, less, e)) in
+    let moved : AllPairs (λ a b. place_of a ≢ place_of b) (map content sorted) = apart_permuted place_of records (map content sorted) whole apart in
+    let each = pairs_apart content place_of sorted moved in
+    let strict : AllPairs (λ a b. place_of (content a) < place_of (content b)) sorted =
+    strictly (λ (f : Found). place_of f.content) sorted up (λ k d lt. each k (k + 1) d (omega arith) (omega (arith, lt))) in
+    one_rising records (map content sorted) records whole (IsPermutation-refl records) (pairs_below content place_of sorted strict) rising

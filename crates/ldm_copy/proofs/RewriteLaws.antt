@@ -1,18 +1,96 @@
--- The moments of the three calls on one disk, and of their sequences.
-use Rattle.std.proofs.Common.{◌≡◌, ◌≢◌, ◌⊎◌, inl, inr, ⊎_elim, ℕ, ◌+◌, ◌-◌, ◌*◌, ◌<◌, ◌≤◌, List, length, slice_index, Result, Ok, Err, OnOk, IsErr, sym, ◌∙◌, ap, subst, arith}
+-- What writes and syncs leave of a copy: its gate, its body, and both in a row.
+use Rattle.std.proofs.Common.{◌≡◌, ℕ, ◌+◌, ◌*◌, ◌/◌, ◌<◌, ◌≤◌, List, [], length, set, slice_index, ◌∙◌, ap, arith, Result, Ok, Err, OnOk, ◌≢◌, ◌⊎◌, inl, inr, ⊎_elim, sym, ◌-◌, IsErr, subst}
+use Rattle.std.proofs.lemmas.List.{get_or-set_same}
+use Rattle.ldm_bytes.specs.Places.{put}
+use Rattle.ldm_bytes.proofs.PlaceLaws.{get_or-put_inside}
 use Rattle.ldm_host.specs.Seen.{Seen, image}
-use Rattle.ldm_host.specs.Moves.{Torn, DiskFailed, Settled, Writes, Changes, AtEachMoment}
+use Rattle.ldm_host.specs.Moves.{Settled, Torn, DiskFailed, Writes, Changes, AtEachMoment}
+use Rattle.ldm_label.specs.declared.Label.{Label}
+use Rattle.ldm_label.specs.LabelOf.{Fits}
+use Rattle.ldm_copy.specs.Copy.{gate_at, config_area, IsOpen}
+use Rattle.ldm_copy.specs.Body.{IsSomeBody, HasBody, IsBodyOn, IsShut, IsWritten, IsBetween}
+use Rattle.std.proofs.lemmas.Bool.{cases_eq}
+use Rattle.ldm_group.specs.Database.{Database}
+use Rattle.ldm_copy.proofs.AreaLaws.{area_same, gate_of}
+use Rattle.ldm_copy.proofs.BodyLaws.{written_is}
 use Rattle.ldm_host.specs.declared.host.Failed.{Failed}
 use Rattle.ldm_host.proofs.Relations.{moments_trans, rose_sooner}
-use Rattle.ldm_label.specs.declared.Label.{Label}
-use Rattle.ldm_group.specs.Database.{Database}
-use Rattle.ldm_copy.specs.Copy.{config_area, gate_at, IsOpen}
-use Rattle.ldm_copy.specs.Body.{HasBody, IsBodyOn, IsShut, IsWritten, IsBetween}
 use Rattle.ldm_copy.specs.Rewriting.{PutsGate, Fills, Rewrites}
-use Rattle.ldm_copy.proofs.LeftLaws.{on_ok_map}
-use Rattle.ldm_copy.proofs.WrittenLaws.{written_is}
-use Rattle.ldm_copy.proofs.GateLaws.{gate_shut, shut_gate, while_closing, while_filling, while_opening, body_stays}
 use Rattle.ldm_host.proofs.ChangeLaws.{writes_change, changes_wider, changes_trans}
+
+-- ---- What a write and a sync leave of a disk.
+
+pub on_ok_map : {T E : Type 0} (r : Result T E) (P Q : Type 0) → (P → Q) → OnOk r P → OnOk r Q
+on_ok_map (Ok x) P Q f p = f p
+on_ok_map (Err e) P Q f p = tt
+
+-- an area lies on its disk
+pub area_on : (label : Label) (sectors : ℕ) (content : List ℕ) → Fits label sectors → length content / 512 ≡ sectors → gate_at label + 512 * label.area_sectors ≤ length content
+area_on label sectors content fits size = omega (arith, fits.inside, fits.area, size)
+
+pub some_sectors : (label : Label) (sectors : ℕ) → Fits label sectors → 1 ≤ label.area_sectors
+some_sectors label sectors fits = omega (arith, fits.some_area)
+
+-- each image that may be left has the bytes that were written
+pub left_byte : (disk at k : ℕ) (bytes : List ℕ) (a b c : Seen) → disk < length a.content → at + length bytes ≤ length (image a.content disk)
+    → b.content ≡ set a.content disk (put (image a.content disk) at bytes) → c.content ≡ b.content → k < length bytes → Settled c disk
+    → (x : List ℕ) → c.may_leave disk x → slice_index x (at + k) ≡ slice_index bytes k
+left_byte disk at k bytes a b c lt fits written same near settled x left =
+    ap (λ (l : List ℕ). slice_index l (at + k))
+    (settled x left ∙ ap (λ (l : List (List ℕ)). image l disk) (same ∙ written) ∙ get_or-set_same a.content disk (put (image a.content disk) at bytes) [] lt)
+    ∙ get_or-put_inside (image a.content disk) at bytes k fits near
+
+-- the area lies on what a disk holds
+pub room_on : (label : Label) (disk : ℕ) (a b : Seen) → Fits label (slice_index a.sizes disk) → b.sizes ≡ a.sizes → length (image b.content disk) / 512 ≡ slice_index b.sizes disk
+    → gate_at label + 512 * label.area_sectors ≤ length (image b.content disk)
+room_on label disk a b fits sizes size = area_on label (slice_index a.sizes disk) (image b.content disk) fits (size ∙ ap (λ (l : List ℕ). slice_index l disk) sizes)
+
+-- a body has a header sector
+pub some_bytes : (body : List ℕ) → IsSomeBody body → 512 ≤ length body
+some_bytes body is = omega (arith, is.1.is.size, is.1.low)
+
+-- ---- What the copy is while its gate is closed, its body is written and its gate is opened.
+
+module _ (label : Label) (some : 1 ≤ label.area_sectors) where
+  -- closed exactly where the gate isn't open
+  pub gate_shut : (x : List ℕ) → slice_index x (gate_at label) ≢ 0x56 → IsShut label x
+  gate_shut x shut is = shut (sym (gate_of label x some) ∙ is)
+
+  pub shut_gate : (x : List ℕ) → IsShut label x → slice_index x (gate_at label) ≢ 0x56
+  shut_gate x shut is = shut (gate_of label x some ∙ is)
+
+  pub open_gate : (x : List ℕ) → IsOpen (config_area label x) → slice_index x (gate_at label) ≡ 0x56
+  open_gate x is = sym (gate_of label x some) ∙ is
+
+  -- while the gate of an open copy is written
+  pub while_closing : (old x : List ℕ) → IsOpen (config_area label old) → Torn (gate_at label) 1 old x → (config_area label x ≡ config_area label old) ⊎ IsShut label x
+  while_closing old x was torn = ⊎_elim
+      (λ is. inl (area_same label x old torn.size (λ k from to. ⊎_elim
+      (λ here. ap (λ (j : ℕ). slice_index x j) here ∙ is ∙ sym (open_gate old was) ∙ ap (λ (j : ℕ). slice_index old j) (sym here))
+      (λ ne. torn.outside k (inr (omega (arith, ne, from))))
+      (cases_eq k (gate_at label)))))
+      (λ shut. inr (gate_shut x shut))
+      (cases_eq (slice_index x (gate_at label)) 0x56)
+
+  -- while the bytes behind a shut gate are written
+  pub while_filling : (n : ℕ) (old x : List ℕ) → slice_index old (gate_at label) ≢ 0x56 → Torn (gate_at label + 1) n old x → IsShut label x
+  while_filling n old x shut torn =
+      let same : slice_index x (gate_at label) ≡ slice_index old (gate_at label) = torn.outside (gate_at label) (inl (omega arith)) in
+      gate_shut x (λ is. shut (sym same ∙ is))
+
+  -- the body stays while the gate is written
+  pub body_stays : (body old x : List ℕ) → HasBody label body old → Torn (gate_at label) 1 old x → HasBody label body x
+  body_stays body old x has torn k low high = torn.outside (gate_at label + k) (inr (omega (arith, low))) ∙ has k low high
+
+  -- while the gate before a body is written
+  pub while_opening : (db : Database) (body old x : List ℕ) → IsBodyOn db label body → gate_at label + 512 * label.area_sectors ≤ length x
+      → HasBody label body old → Torn (gate_at label) 1 old x → IsShut label x ⊎ IsWritten label db x
+  while_opening db body old x on room has torn = ⊎_elim
+      (λ is. inr (written_is db label body x on room is (body_stays body old x has torn)))
+      (λ shut. inl (gate_shut x shut))
+      (cases_eq (slice_index x (gate_at label)) 0x56)
+
+-- ---- The moments of the three calls on one disk, and of their sequences.
 
 -- a body is no longer than the area
 pub body_size : (db : Database) (label : Label) (body : List ℕ) → IsBodyOn db label body → (1 ≤ length body) × (length body ≤ 512 * label.area_sectors)

@@ -1,10 +1,4 @@
 pub mod RangeLaws
 pub mod RunLaws
 pub mod ByteLaws
-pub mod LostLaws
-pub mod SayLaws
-pub mod LieLaws
 pub mod ReadLaws
-pub mod FewerLaws
-pub mod FindLaws
-pub mod RedundantLaws

@@ -11,7 +11,7 @@ use Rattle.ldm_records.specs.declared.types.Disk.{Disk}
 use Rattle.ldm_records.specs.declared.types.Record.{Record}
 use Rattle.ldm_group.specs.Looks.{disk_named, is_disk_named, disk_in, max_id}
 use Rattle.ldm_space.specs.Wanted.{in_front, placing, placed}
-use Rattle.ldm_space.proofs.PlacedWalk.{ahead, ahead_none, ahead_front}
+use Rattle.ldm_space.proofs.FreeLaws.{ahead, ahead_none, ahead_front, placed_fit, as_many, fits_apart, fits_within}
 use Rattle.ldm_edits.specs.declared.reply.Refusal.TheVariants as refusals
 use Rattle.ldm_edits.specs.Spots.{by_place, refused_or, and_then, wanted_by, open_wanted, spots_for, ArePlaced}
 use Rattle.ldm_records.specs.declared.types.Record.TheVariants as kinds
@@ -34,7 +34,6 @@ use Rattle.ldm_rules.specs.Ends.{data_size}
 use Rattle.ldm_space.specs.Free.{taken_in}
 use Rattle.ldm_edits.specs.declared.reply.Refusal.{Refusal}
 use Rattle.ldm_group.proofs.InOrder.{max_above}
-use Rattle.ldm_space.proofs.PlacedLaws.{placed_fit, as_many, fits_apart, fits_within}
 use Rattle.ldm_edits.proofs.Shares.{all_from_map}
 use Rattle.ldm_rules.proofs.CarryLaws.{HasDisk}
 

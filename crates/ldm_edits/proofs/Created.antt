@@ -26,10 +26,10 @@ use Rattle.ldm_layout.specs.declared.parts.Plex.{Plex}
 use Rattle.ldm_layout.specs.Layouts.{Layout}
 use Rattle.ldm_layout.specs.Parts.{extent_of, extent_in, extents_of, plex_of, plexes_of}
 use Rattle.ldm_layout.specs.Volumes.{layout_of, is_basic}
-use Rattle.ldm_layout.proofs.ChildLaws.{extents_by}
+use Rattle.ldm_layout.proofs.VolumeLaws.{extents_by}
 use Rattle.ldm_rules.specs.Ends.{data_size}
 use Rattle.ldm_rules.proofs.CarryLaws.{KeepsVolume, Carries, component_kept, partition_kept}
-use Rattle.ldm_rules.proofs.HeadLaws.{names_next}
+use Rattle.ldm_rules.proofs.GroupLaws.{names_next}
 use Rattle.ldm_rules.proofs.SoundLaws.{EachRule}
 use Rattle.ldm_space.specs.declared.taken.Taken.{Taken}
 use Rattle.ldm_space.specs.Free.{taken_of, taken_in}

@@ -18,8 +18,7 @@ use Rattle.ldm_group.specs.Looks.{is_child}
 use Rattle.ldm_group.proofs.KindLaws.{child_component, child_partition}
 use Rattle.ldm_layout.specs.declared.parts.Extent.{Extent}
 use Rattle.ldm_layout.specs.Parts.{extent_of, extent_in, extents_of, by_offset, tile_key}
-use Rattle.ldm_layout.proofs.ChildLaws.{extents_by}
-use Rattle.ldm_layout.proofs.LongerSpan.{rising_sum}
+use Rattle.ldm_layout.proofs.VolumeLaws.{extents_by, rising_sum}
 use Rattle.ldm_space.specs.declared.taken.Taken.{Taken}
 use Rattle.ldm_volumes.specs.Volumes.{there}
 use Rattle.ldm_edits.proofs.CommandLaws.{walk_more}

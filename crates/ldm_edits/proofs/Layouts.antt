@@ -28,8 +28,8 @@ use Rattle.ldm_layout.specs.declared.shape.Shape.{Shape}
 use Rattle.ldm_layout.specs.declared.shape.Shape.TheVariants.{Span, Stripe, Mirror, Raid5}
 use Rattle.ldm_layout.specs.Layouts.{Layout, has_gap, lacks_chunk, lacks_columns, has_columns, is_short, is_tiled, plex_capacity, capacity_of, fewest}
 use Rattle.ldm_layout.specs.Volumes.{layout_of, shape_of, striping_of, laid_out, draft_of, checked, is_basic}
-use Rattle.ldm_layout.proofs.PlanLaws.{has_none}
-use Rattle.ldm_layout.proofs.DraftLaws.{laid_out_volume}
+use Rattle.ldm_layout.proofs.SpotLaws.{has_none}
+use Rattle.ldm_layout.proofs.VolumeLaws.{laid_out_volume}
 use Rattle.ldm_edits.specs.Mirroring.{held_in}
 use Rattle.std.proofs.Math.Nat.{mul_assoc}
 use Rattle.ldm_layout.specs.Places.{stripe_capacity, raid5_capacity}

@@ -28,9 +28,9 @@ use Rattle.ldm_group.proofs.InOrder.{in_order_same, member_next, one_next}
 use Rattle.ldm_group.proofs.LastLaws.{last_grows}
 use Rattle.ldm_rules.specs.Facts.{IsSoundOn}
 use Rattle.ldm_rules.specs.Table.{IsSound}
-use Rattle.ldm_rules.proofs.DisksAlone.{same_stranger}
+use Rattle.ldm_rules.proofs.PresentLaws.{same_stranger}
 use Rattle.ldm_rules.proofs.CarryLaws.{Carries, heads}
-use Rattle.ldm_rules.proofs.HeadLaws.{same_disks}
+use Rattle.ldm_rules.proofs.GroupLaws.{same_disks}
 use Rattle.ldm_rules.proofs.SoundLaws.{EachRule, sound_from, layout_there, ends_in_range}
 use Rattle.ldm_edits.specs.Steps.{FitsAsBefore, Keeps}
 use Rattle.ldm_edits.proofs.AreaLaws.{least_of}

@@ -29,12 +29,10 @@ use Rattle.ldm_layout.specs.declared.shape.Shape.{Shape}
 use Rattle.ldm_layout.specs.Layouts.{Layout, is_tiled}
 use Rattle.ldm_layout.specs.Parts.{plex_of, plex_in, plexes_of, extent_of, extents_of, by_offset, tiles, tiles_from, least, tile_key}
 use Rattle.ldm_layout.specs.Volumes.{layout_of, shape_of, is_basic}
-use Rattle.ldm_layout.proofs.ChildLaws.{plexes_by, plex_there}
-use Rattle.ldm_layout.proofs.LongerSpan.{tiles_append, by_offset_more, some_tiles, rising_sum, few_by, many_extents}
-use Rattle.ldm_layout.proofs.TileLaws.{tiles_zero}
-use Rattle.ldm_layout.proofs.VolumeLaws.{one_component, IsExtentOf, extents_are}
+use Rattle.ldm_layout.proofs.VolumeLaws.{plexes_by, plex_there, tiles_append, by_offset_more, some_tiles, rising_sum, few_by, many_extents, one_component, IsExtentOf, extents_are}
+use Rattle.ldm_layout.proofs.SpotLaws.{tiles_zero}
 use Rattle.ldm_rules.proofs.CarryLaws.{KeepsVolume, volume_kept, component_kept, partition_kept}
-use Rattle.ldm_rules.proofs.HeadLaws.{names_kept}
+use Rattle.ldm_rules.proofs.GroupLaws.{names_kept}
 use Rattle.ldm_rules.proofs.SoundLaws.{EachRule, sound_parts}
 use Rattle.ldm_rules.specs.Ends.{data_size}
 use Rattle.ldm_space.specs.Free.{taken_of, taken_in}

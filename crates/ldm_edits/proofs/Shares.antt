@@ -25,18 +25,16 @@ use Rattle.ldm_layout.specs.declared.parts.Extent.{Extent}
 use Rattle.ldm_layout.specs.Layouts.{Layout}
 use Rattle.ldm_layout.specs.Parts.{plex_of, plex_in, plexes_of, extent_of, extent_in, extents_of}
 use Rattle.ldm_layout.specs.Volumes.{layout_of}
-use Rattle.ldm_layout.proofs.ChildLaws.{plexes_by, extents_by}
+use Rattle.ldm_layout.proofs.VolumeLaws.{plexes_by, extents_by}
 use Rattle.ldm_rules.specs.Ends.{data_size}
 use Rattle.ldm_rules.specs.Rules.{first_broken, has_namesake, passes_end}
 use Rattle.ldm_rules.proofs.CarryLaws.{HasVolume, HasComponent, HasDisk, KeepsVolume, KeepsComponent, KeepsPartition, KeepsRules, SamePartitions, HasSameKin, Carries, carried}
-use Rattle.ldm_rules.proofs.GroupLaws.{not_broken}
-use Rattle.ldm_rules.proofs.HeadLaws.{none_by}
-use Rattle.ldm_rules.proofs.MeetLaws.{NoneMeet, none_meet}
+use Rattle.ldm_rules.proofs.GroupLaws.{not_broken, none_by, NoneMeet, none_meet}
 use Rattle.ldm_rules.proofs.SoundLaws.{EachRule}
 use Rattle.ldm_space.specs.declared.taken.Taken.{Taken}
 use Rattle.ldm_space.specs.Free.{taken_of, taken_by, taken_in, clash}
 use Rattle.ldm_space.specs.Placed.{AreApart, AllEndWithin}
-use Rattle.ldm_space.proofs.PlacedLaws.{apart_old, apart_new, clash_back}
+use Rattle.ldm_space.proofs.FreeLaws.{apart_old, apart_new, clash_back}
 
 -- ---- lists
 

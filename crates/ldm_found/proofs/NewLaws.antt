@@ -9,7 +9,7 @@ use Rattle.ldm_rules.specs.New.{IsNewOn}
 use Rattle.ldm_rules.specs.Present.{is_absent}
 use Rattle.ldm_rules.specs.Facts.{stranger}
 use Rattle.ldm_rules.specs.Table.{first_broken_rule}
-use Rattle.ldm_rules.proofs.NewLaws.{new_sound, new_own, none_absent, no_position}
+use Rattle.ldm_rules.proofs.CarryLaws.{new_sound, new_own, none_absent, no_position}
 use Rattle.ldm_copy.specs.declared.answer.CopyState.{CopyState}
 use Rattle.ldm_copy.specs.declared.answer.CopyState.TheVariants.{Valid}
 use Rattle.ldm_copy.specs.Body.{IsWritten}

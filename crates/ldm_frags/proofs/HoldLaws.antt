@@ -1,16 +1,21 @@
--- Blocks that hold records join to these records, wherever the parts stand.
+-- Blocks that hold records join to these records, wherever the parts stand; in order they rise.
 use Rattle.std.proofs.Common.{◌≡◌, ◌≢◌, ◌⊎◌, ◌==◌, ℕ, zero, suc, ◌+◌, ◌-◌, ◌*◌, ◌<◌, ◌≤◌, Bool, true, false, eqb, List, [], ◌∷◌, ◌++◌, length, take, drop, map, filter, replicate, get_or, slice_index, All, AllPairs, refl, sym, ap, subst, ◌∙◌, arith, inl, inr, add-one}
 use Rattle.std.proofs.Math.Seq.{take-add}
-use Rattle.std.proofs.lemmas.Bool.{cases_lt, eqb-true, eq-eqb, leb-true, le-leb, ne_eqb, cases_eq}
-use Rattle.std.proofs.lemmas.List.{length-append, length-replicate, length-drop, length-take-le, take_all}
+use Rattle.std.proofs.lemmas.Bool.{cases_lt, eqb-true, eq-eqb, leb-true, le-leb, ne_eqb, cases_eq, cases_Bool, and_parts}
+use Rattle.std.proofs.lemmas.List.{length-append, length-replicate, length-drop, length-take-le, take_all, take_more}
 use Rattle.std.specs.Prelude.{◌&&◌}
 use Rattle.ldm_frags.specs.declared.faults.Joined.{Joined}
-use Rattle.ldm_frags.specs.Blocks.{count, has_magic, group, part, parts, payload, is_fragment, is_of, is_part, least_below}
+use Rattle.ldm_frags.specs.Blocks.{count, has_magic, group, part, parts, payload, is_fragment, is_of, is_part, least_below, numbers_from}
 use Rattle.ldm_frags.specs.Joins.{gathered, entry, entries, Joins}
-use Rattle.ldm_frags.specs.Written.{parts_of, filled, part_bytes, Placed, slot, IsPlaced, Holds, joined_of, joined_below}
-use Rattle.ldm_frags.proofs.Below.{flat_map_below, none_from, least_is}
-use Rattle.ldm_frags.proofs.JoinLaws.{gathered_none, gathered_more, entries_none, entries_more, frag_is}
-use Rattle.ldm_frags.proofs.Fields.{HasFields, fields_of}
+use Rattle.ldm_frags.specs.Written.{parts_of, filled, part_bytes, Placed, slot, IsPlaced, Holds, joined_of, joined_below, blocks_needed, IsSized, block_at, unused_block, written_block, laid_in_order}
+use Rattle.ldm_frags.proofs.Below.{flat_map_below, none_from, least_is, flat_map_same}
+use Rattle.ldm_frags.proofs.JoinLaws.{gathered_none, gathered_more, entries_none, entries_more, frag_is, entry_none, entry_later, entry_whole, entry_first, one_entry}
+use Rattle.ldm_frags.proofs.WriteLaws.{HasFields, fields_of}
+use Rattle.std.proofs.lemmas.List.Sums.{sum_by-cons, sum_by_push, sum_by-take-le}
+use Rattle.std.proofs.lemmas.List.Elements.{All-append, All-cons, All-tail}
+use Rattle.std.proofs.lemmas.List.Kept.{AllPairs-cons}
+
+-- ---- Blocks that hold records join to these records, wherever the parts stand.
 
 -- ---- lists of records
 
@@ -19,13 +24,6 @@ nowhere = record { payload = []; slots = [] }
 
 abbrev pub record_at : List Placed → ℕ → Placed
 record_at records m = get_or records m nowhere
-
-pub All-cons : {X : Type 0} (P : X → Type 0) (x : X) (xs : List X) → P x → All P xs → All P (x ∷ xs)
-All-cons P x xs here rest zero d lt = here
-All-cons P x xs here rest (suc k) d lt = rest k d (omega arith)
-
-All-rest : {X : Type 0} (P : X → Type 0) (x : X) (xs : List X) → All P (x ∷ xs) → All P xs
-All-rest P x xs all k d lt = all (suc k) d (omega arith)
 
 AllPairs-rest : {X : Type 0} (R : X → X → Type 0) (x : X) (xs : List X) → AllPairs R (x ∷ xs) → AllPairs R xs
 AllPairs-rest R x xs all i j d below lt = all (suc i) (suc j) d (omega arith) (omega arith)
@@ -74,7 +72,7 @@ begin_none : (records : List Placed) (b : ℕ) → All (λ r. slot r 0 ≢ b) re
 begin_none [] b apart = refl
 begin_none (r ∷ rs) b apart =
     let here : eqb (slot r 0) b ≡ false = ne_eqb _ _ (apart 0 r (omega arith)) in
-    rw here (begin_none rs b (All-rest (λ (s : Placed). slot s 0 ≢ b) r rs apart))
+    rw here (begin_none rs b (All-tail (λ (s : Placed). slot s 0 ≢ b) r rs apart))
 
 begin_one : (records : List Placed) (m : ℕ) → AreApart records → m < length records → begin_at records (slot (record_at records m) 0) ≡ record_at records m ∷ []
 begin_one [] m apart lt = absurd (omega arith)
@@ -173,27 +171,23 @@ below_held : (blocks : List ℕ) (records : List Placed) (k : ℕ) → is_fragme
 below_held blocks records k frag (in_record m i lm li e has) = let n = has.parts in let p = has.part in omega arith
 below_held blocks records k frag (free none has) = absurd (not_free blocks k 0 0 (replicate 112 0) has frag)
 
-both_true : (a b : Bool) → (a && b) ≡ true → (a ≡ true) × (b ≡ true)
-both_true true b e = (refl, e)
-both_true false b e = absurd cc
-
 one_count_held : (blocks : List ℕ) (records : List Placed) (j k : ℕ) → Holds blocks records → is_fragment blocks k ≡ true → is_of blocks (group blocks k) j ≡ true → Stands blocks records j → Stands blocks records k → parts blocks j ≡ parts blocks k
 one_count_held blocks records j k holds frag of (free none has) other =
-    absurd (not_free blocks j 0 0 (replicate 112 0) has (both_true (is_fragment blocks j) (eqb (group blocks j) (group blocks k)) of).0)
+    absurd (not_free blocks j 0 0 (replicate 112 0) has (and_parts (is_fragment blocks j) (eqb (group blocks j) (group blocks k)) of).0)
 one_count_held blocks records j k holds frag of (in_record m i lm li e has) (free none has_k) = absurd (not_free blocks k 0 0 (replicate 112 0) has_k frag)
 one_count_held blocks records j k holds frag of (in_record m i lm li e has) (in_record n l ln ll e_k has_k) =
-    let groups : group blocks j ≡ group blocks k = eqb-true _ _ (both_true (is_fragment blocks j) (eqb (group blocks j) (group blocks k)) of).1 in
+    let groups : group blocks j ≡ group blocks k = eqb-true _ _ (and_parts (is_fragment blocks j) (eqb (group blocks j) (group blocks k)) of).1 in
     let same : m ≡ n = same_record records m n holds.apart lm ln (sym has.group ∙ groups ∙ has_k.group) in
     has.parts ∙ ap (λ (x : ℕ). length (record_at records x).slots) same ∙ sym has_k.parts
 
 pub once_held : (blocks : List ℕ) (records : List Placed) (j k : ℕ) → Holds blocks records → is_fragment blocks k ≡ true → is_part blocks (group blocks k) (part blocks k) j ≡ true → Stands blocks records j → Stands blocks records k → j ≡ k
 once_held blocks records j k holds frag is (free none has) other =
-    let of = (both_true (is_of blocks (group blocks k) j) (eqb (part blocks j) (part blocks k)) is).0 in
-    absurd (not_free blocks j 0 0 (replicate 112 0) has (both_true (is_fragment blocks j) (eqb (group blocks j) (group blocks k)) of).0)
+    let of = (and_parts (is_of blocks (group blocks k) j) (eqb (part blocks j) (part blocks k)) is).0 in
+    absurd (not_free blocks j 0 0 (replicate 112 0) has (and_parts (is_fragment blocks j) (eqb (group blocks j) (group blocks k)) of).0)
 once_held blocks records j k holds frag is (in_record m i lm li e has) (free none has_k) = absurd (not_free blocks k 0 0 (replicate 112 0) has_k frag)
 once_held blocks records j k holds frag is (in_record m i lm li e has) (in_record n l ln ll e_k has_k) =
-    let both = both_true (is_of blocks (group blocks k) j) (eqb (part blocks j) (part blocks k)) is in
-    let groups : group blocks j ≡ group blocks k = eqb-true _ _ (both_true (is_fragment blocks j) (eqb (group blocks j) (group blocks k)) both.0).1 in
+    let both = and_parts (is_of blocks (group blocks k) j) (eqb (part blocks j) (part blocks k)) is in
+    let groups : group blocks j ≡ group blocks k = eqb-true _ _ (and_parts (is_fragment blocks j) (eqb (group blocks j) (group blocks k)) both.0).1 in
     let same : m ≡ n = same_record records m n holds.apart lm ln (sym has.group ∙ groups ∙ has_k.group) in
     let part_is : i ≡ l = sym has.part ∙ eqb-true _ _ both.1 ∙ has_k.part in
     let slots : j + 4 ≡ k + 4 = sym e ∙ ap (λ (x : ℕ). slot (record_at records x) i) same ∙ ap (slot (record_at records n)) part_is ∙ e_k in
@@ -227,10 +221,6 @@ complete_held blocks records k p small holds frag lp (in_record m i lm li e has)
 
 -- ---- the entries
 
-false_or_true : (b : Bool) → (b ≡ false) ⊎ (b ≡ true)
-false_or_true true = inr refl
-false_or_true false = inl refl
-
 -- the least block of a part is its slot
 pub least_of : (blocks : List ℕ) (records : List Placed) (m p j : ℕ) → length blocks ≤ 1048576 → Holds blocks records → m < length records → p < length (record_at records m).slots → 2 ≤ length (record_at records m).slots → j < count blocks → slot (record_at records m) p ≡ j + 4
     → least_below (count blocks) (is_part blocks (slot (record_at records m) 0) p) ≡ j
@@ -240,9 +230,9 @@ least_of blocks records m p j small holds lm lp two lj e =
     let frag : is_fragment blocks j ≡ true = frag_is blocks j (length (record_at records m).slots) (sym has.parts) two in
     least_is (count blocks) j (is_part blocks (slot (record_at records m) 0) p) lj
     (none_from j (is_part blocks (slot (record_at records m) 0) p) (λ l below.
-    elim (false_or_true (is_part blocks (slot (record_at records m) 0) p l)) [
-      | inl not ↦ not
-      | inr is ↦
+    elim (cases_Bool (is_part blocks (slot (record_at records m) 0) p l)) [
+      | inr not ↦ not
+      | inl is ↦
           let is_j : is_part blocks (group blocks j) (part blocks j) l ≡ true = subst (λ (g : ℕ). is_part blocks g (part blocks j) l ≡ true) (sym has.group) (subst (λ (q : ℕ). is_part blocks (slot (record_at records m) 0) q l ≡ true) (sym has.part) is) in
           let same = once_held blocks records l j holds frag is_j (stands blocks records small holds l (omega arith)) (stands blocks records small holds j lj) in
           absurd (omega arith)
@@ -270,37 +260,6 @@ all_parts blocks r n is e =
     let whole = is.whole in
     let len = filled_length r.payload in
     take_all (112 * n) (filled r.payload) (omega arith)
-
--- what a block adds, by its fields
-pub entry_none : (blocks : List ℕ) (k : ℕ) → parts blocks k ≡ 0 → entry blocks k ≡ []
-unfolding entry
-entry_none blocks k e = rw e refl
-
-pub entry_later : (blocks : List ℕ) (k : ℕ) → 2 ≤ parts blocks k → 1 ≤ part blocks k → entry blocks k ≡ []
-unfolding entry
-entry_later blocks k two later =
-    let one : eqb (parts blocks k) 1 ≡ false = ne_eqb _ _ (λ e. absurd (omega arith)) in
-    let frag : is_fragment blocks k ≡ true = le-leb _ _ two in
-    let first : eqb (part blocks k) 0 ≡ false = ne_eqb _ _ (λ e. absurd (omega arith)) in
-    rw (one, frag, first) refl
-
-pub entry_whole : (blocks : List ℕ) (k : ℕ) → parts blocks k ≡ 1 → entry blocks k ≡ record { block = k + 4; payload = payload blocks k } ∷ []
-unfolding entry
-entry_whole blocks k e = rw e refl
-
-pub entry_first : (blocks : List ℕ) (k : ℕ) → 2 ≤ parts blocks k → part blocks k ≡ 0 → entry blocks k ≡ record { block = k + 4; payload = gathered blocks (group blocks k) (parts blocks k) } ∷ []
-unfolding entry
-entry_first blocks k two e =
-    let one : eqb (parts blocks k) 1 ≡ false = ne_eqb _ _ (λ e. absurd (omega arith)) in
-    let frag : is_fragment blocks k ≡ true = le-leb _ _ two in
-    let first : eqb (part blocks k) 0 ≡ true = eq-eqb _ _ e in
-    rw (one, frag, first) refl
-
-abbrev pub joined : ℕ → List ℕ → Joined
-joined block bytes = record { block = block; payload = bytes }
-
-pub one_entry : (a b : ℕ) (x y : List ℕ) → a ≡ b → x ≡ y → joined a x ∷ [] ≡ joined b y ∷ []
-one_entry a b x y e f = λ i. joined (e i) (f i) ∷ []
 
 -- a block of part 0 adds its record
 entry_begun : (blocks : List ℕ) (records : List Placed) (k m : ℕ) → length blocks ≤ 1048576 → Holds blocks records → m < length records → 0 < length (record_at records m).slots → slot (record_at records m) 0 ≡ k + 4
@@ -350,15 +309,9 @@ joined_more : (records : List Placed) (k : ℕ) → joined_below records (suc k)
 unfolding joined_below
 joined_more records k = sym (ap (joined_below records) (add-one k)) ∙ flat_map_below (λ (j : ℕ). map joined_of (begin_at records (j + 4))) k
 
-entries_held : (blocks : List ℕ) (records : List Placed) (n : ℕ) → length blocks ≤ 1048576 → Holds blocks records → n ≤ count blocks → joined_below records n ≡ entries blocks n
-entries_held blocks records zero small holds le = joined_none records ∙ sym (entries_none blocks)
-entries_held blocks records (suc n) small holds le =
-    let before = entries_held blocks records n small holds (omega arith) in
-    let here = entry_held blocks records n small holds (omega arith) (stands blocks records small holds n (omega arith)) in
-    joined_more records n
-    ∙ ap (λ (x : List Joined). x ++ map joined_of (begin_at records (n + 4))) before
-    ∙ ap (λ (x : List Joined). entries blocks n ++ x) (sym here)
-    ∙ sym (ap (entries blocks) (sym (add-one n)) ∙ entries_more blocks n)
+entries_held : (blocks : List ℕ) (records : List Placed) → length blocks ≤ 1048576 → Holds blocks records → joined_below records (count blocks) ≡ entries blocks (count blocks)
+unfolding joined_below entries
+entries_held blocks records small holds = flat_map_same _ (entry blocks) (count blocks) (λ k lt. sym (entry_held blocks records k small holds lt (stands blocks records small holds k lt)))
 
 -- Blocks that hold records, wherever their parts stand, join to these records in rising number of part 0.
 pub holds_joins : (blocks : List ℕ) (records : List Placed) → length blocks ≤ 1048576 → Holds blocks records → Joins blocks (joined_below records (count blocks))
@@ -371,7 +324,7 @@ holds_joins blocks records small holds =
       one_count = λ j k lj lk frag of. one_count_held blocks records j k holds frag of (s j lj) (s k lk);
       once = λ j k lj lk frag is. once_held blocks records j k holds frag is (s j lj) (s k lk);
       complete = λ k p lt frag lp. complete_held blocks records k p small holds frag lp (s k lt);
-      entries_are = entries_held blocks records (count blocks) small holds (omega arith);
+      entries_are = entries_held blocks records small holds;
     }
 
 -- ---- records in rising order of their first blocks
@@ -415,4 +368,156 @@ joined_rising [] n rising within = joined_before [] n (λ k d lt. absurd (omega 
 joined_rising (r ∷ rs) n rising within =
     let here = within 0 r (omega arith) in
     joined_first r rs n (λ k d lt. rising 0 (suc k) d (omega arith) (omega arith)) here.0 here.1
-    ∙ ap (λ (x : List Joined). joined_of r ∷ x) (joined_rising rs n (AllPairs-rest (λ (a b : Placed). slot a 0 < slot b 0) r rs rising) (All-rest (λ (s : Placed). (4 ≤ slot s 0) × (slot s 0 < n + 4)) r rs within))
+    ∙ ap (λ (x : List Joined). joined_of r ∷ x) (joined_rising rs n (AllPairs-rest (λ (a b : Placed). slot a 0 < slot b 0) r rs rising) (All-tail (λ (s : Placed). (4 ≤ slot s 0) × (slot s 0 < n + 4)) r rs within))
+
+-- ---- Records that stand one after the other without gaps.
+
+pub numbers_length : (a n : ℕ) → length (numbers_from a n) ≡ n
+numbers_length a zero = refl
+numbers_length a (suc n) = let rest = numbers_length (a + 1) n in omega arith
+
+pub numbers_at : (a n i : ℕ) → i < n → slice_index (numbers_from a n) i ≡ a + i
+numbers_at a zero i lt = absurd (omega arith)
+numbers_at a (suc n) zero lt = omega arith
+numbers_at a (suc n) (suc i) lt = numbers_at (a + 1) n i (omega arith) ∙ omega arith
+
+-- the record of one payload, from a block on
+abbrev pub placed_from : ℕ → List ℕ → Placed
+placed_from a bytes = record { payload = bytes; slots = numbers_from a (parts_of (length bytes)) }
+
+pub need_cons : (bytes : List ℕ) (more : List (List ℕ)) → blocks_needed (bytes ∷ more) ≡ parts_of (length bytes) + blocks_needed more
+need_cons bytes more = sum_by-cons (λ (b : List ℕ). parts_of (length b)) bytes more
+
+pub need_push : (more : List (List ℕ)) (bytes : List ℕ) → blocks_needed (more ++ bytes ∷ []) ≡ blocks_needed more + parts_of (length bytes)
+need_push more bytes = sum_by_push (λ (b : List ℕ). parts_of (length b)) more bytes
+
+pub in_order_push : (a : ℕ) (more : List (List ℕ)) (bytes : List ℕ) → laid_in_order a (more ++ bytes ∷ []) ≡ laid_in_order a more ++ placed_from (a + blocks_needed more) bytes ∷ []
+in_order_push a [] bytes = ap (λ (n : ℕ). placed_from n bytes ∷ []) (omega arith)
+in_order_push a (first ∷ more) bytes =
+    let next : a + parts_of (length first) + blocks_needed more ≡ a + blocks_needed (first ∷ more) = omega (arith, need_cons first more) in
+    ap (λ (r : List Placed). placed_from a first ∷ r) (in_order_push (a + parts_of (length first)) more bytes)
+    ∙ ap (λ (n : ℕ). placed_from a first ∷ laid_in_order (a + parts_of (length first)) more ++ placed_from n bytes ∷ []) next
+
+-- every slot is one of the blocks from a on that the payloads need
+pub in_order_within : (a : ℕ) (payloads : List (List ℕ)) → All (λ r. (i : ℕ) → i < length r.slots → (a ≤ slot r i) × (slot r i < a + blocks_needed payloads)) (laid_in_order a payloads)
+in_order_within a [] k d lt i li = absurd (omega arith)
+in_order_within a (bytes ∷ more) zero d lt i li =
+    let n = numbers_length a (parts_of (length bytes)) in
+    let at = numbers_at a (parts_of (length bytes)) i (omega arith) in
+    let need = need_cons bytes more in
+    (omega arith, omega arith)
+in_order_within a (bytes ∷ more) (suc k) d lt i li =
+    let rest = in_order_within (a + parts_of (length bytes)) more k d (omega arith) i li in
+    let low = rest.0 in
+    let high = rest.1 in
+    let need = need_cons bytes more in
+    (omega arith, omega arith)
+
+-- each of these blocks is a slot
+pub in_order_free : (a b : ℕ) (payloads : List (List ℕ)) → IsFree (laid_in_order a payloads) b → a ≤ b → a + blocks_needed payloads ≤ b
+in_order_free a b [] apart from = omega arith
+in_order_free a b (bytes ∷ more) apart from =
+    let need = need_cons bytes more in
+    elim (cases_lt b (a + parts_of (length bytes))) [
+      | inl here ↦
+          let n = numbers_length a (parts_of (length bytes)) in
+          let at = numbers_at a (parts_of (length bytes)) (b - a) (omega arith) in
+          absurd (apart 0 (placed_from a bytes) (omega arith) (b - a) 0 (omega arith) (at ∙ omega arith))
+      | inr later ↦
+          let rest = in_order_free (a + parts_of (length bytes)) b more (λ k d lt. apart (suc k) d (omega arith)) later in
+          omega arith
+    ]
+
+-- the records begin in rising order
+pub in_order_rising : (a : ℕ) (payloads : List (List ℕ)) → All IsSized payloads → AllPairs (λ r s. slot r 0 < slot s 0) (laid_in_order a payloads)
+in_order_rising a [] sized = λ i j d below lt. absurd (omega arith)
+in_order_rising a (bytes ∷ more) sized =
+    let here = sized 0 [] (omega arith) in
+    let some = here.0 in
+    let at = numbers_at a (parts_of (length bytes)) 0 (omega arith) in
+    AllPairs-cons (λ (r s : Placed). slot r 0 < slot s 0) (placed_from a bytes) (laid_in_order (a + parts_of (length bytes)) more)
+    (λ k d lt. let later = begins (a + parts_of (length bytes)) more (λ i e li. sized (suc i) e (omega arith)) k d lt in omega arith)
+    (in_order_rising (a + parts_of (length bytes)) more (λ i e li. sized (suc i) e (omega arith)))
+  where
+    begins : (a : ℕ) (payloads : List (List ℕ)) → All IsSized payloads → All (λ r. a ≤ slot r 0) (laid_in_order a payloads)
+    begins a [] sized k d lt = absurd (omega arith)
+    begins a (bytes ∷ more) sized zero d lt =
+        let here = sized 0 [] (omega arith) in
+        let some = here.0 in
+        let at = numbers_at a (parts_of (length bytes)) 0 (omega arith) in
+        omega arith
+    begins a (bytes ∷ more) sized (suc k) d lt =
+        let rest = begins (a + parts_of (length bytes)) more (λ i e li. sized (suc i) e (omega arith)) k d (omega arith) in
+        omega arith
+
+-- ---- what a step of writing keeps
+
+-- the blocks of a record did not change
+pub placed_kept : (old new : List ℕ) (r : Placed) → length new ≡ length old → ((i : ℕ) → i < length r.slots → block_at new (slot r i) ≡ block_at old (slot r i)) → IsPlaced old r → IsPlaced new r
+placed_kept old new r len same is = record {
+  some = is.some;
+  few = is.few;
+  whole = is.whole;
+  within = λ i lt. let in_use = is.within i lt in let low = in_use.0 in let high = in_use.1 in (omega arith, omega arith);
+  written = λ i lt. same i lt ∙ is.written i lt;
+}
+
+-- one more record is written behind the others
+pub placed_more : (old new : List ℕ) (before : List (List ℕ)) (bytes : List ℕ) (number : ℕ) → length new ≡ length old → IsSized bytes → number ≡ 4 + blocks_needed before → number + parts_of (length bytes) ≤ count new + 4
+    → All (IsPlaced old) (laid_in_order 4 before)
+    → ((b : ℕ) → 4 ≤ b → b < number → block_at new b ≡ block_at old b)
+    → ((i : ℕ) → i < parts_of (length bytes) → block_at new (number + i) ≡ written_block (number + i) number i (parts_of (length bytes)) (part_bytes bytes i))
+    → All (IsPlaced new) (laid_in_order 4 (before ++ bytes ∷ []))
+placed_more old new before bytes number len sized at room placed below written =
+    let some = sized.0 in
+    let n = parts_of (length bytes) in
+    let slots = numbers_length number n in
+    let at_slot = λ (i : ℕ) (lt : i < n). numbers_at number n i lt in
+    let here : IsPlaced new (placed_from number bytes) = record {
+      some = sized.0;
+      few = sized.1;
+      whole = slots;
+      within = λ i lt. let s = numbers_at number n i (omega arith) in (omega arith, omega arith);
+      written = λ i lt.
+          let lt' : i < n = omega arith in
+          ap (block_at new) (at_slot i lt') ∙ written i lt' ∙ sym (same_block bytes i (at_slot i lt') (at_slot 0 (omega arith) ∙ omega arith) slots);
+    } in
+    let kept : All (IsPlaced new) (laid_in_order 4 before) = λ k d lt.
+    placed_kept old new (get_or (laid_in_order 4 before) k d) len (λ i li.
+    let in_need = in_order_within 4 before k d lt i li in
+    let low = in_need.0 in
+    let high = in_need.1 in
+    below (slot (get_or (laid_in_order 4 before) k d) i) (omega arith) (omega arith)) (placed k d lt) in
+    subst (All (IsPlaced new)) (sym (in_order_push 4 before bytes ∙ ap (λ (m : ℕ). laid_in_order 4 before ++ placed_from m bytes ∷ []) (sym at)))
+    (All-append (IsPlaced new) (laid_in_order 4 before) (placed_from number bytes ∷ []) kept (All-cons (IsPlaced new) (placed_from number bytes) [] here (λ k d lt. absurd (omega arith))))
+  where
+    same_block : {s first m number n : ℕ} (bytes : List ℕ) (i : ℕ) → s ≡ number + i → first ≡ number → m ≡ n → written_block s first i m (part_bytes bytes i) ≡ written_block (number + i) number i n (part_bytes bytes i)
+    same_block bytes i e f g = λ t. written_block (e t) (f t) i (g t) (part_bytes bytes i)
+
+-- the payload at an index, which is written next
+pub need_next : (payloads : List (List ℕ)) (i : ℕ) (bytes : List ℕ) → i < length payloads → bytes ≡ get_or payloads i bytes → take (i + 1) payloads ≡ take i payloads ++ bytes ∷ []
+need_next payloads i bytes lt is = take_more payloads i bytes lt ∙ ap (λ (b : List ℕ). take i payloads ++ b ∷ []) (sym is)
+
+pub need_within : (payloads : List (List ℕ)) (i : ℕ) (bytes : List ℕ) → i < length payloads → bytes ≡ get_or payloads i bytes → blocks_needed (take i payloads) + parts_of (length bytes) ≤ blocks_needed payloads
+need_within payloads i bytes lt is =
+    let whole = sum_by-take-le (λ (b : List ℕ). parts_of (length b)) payloads (i + 1) in
+    let next = ap blocks_needed (need_next payloads i bytes lt is) ∙ need_push (take i payloads) bytes in
+    omega arith
+
+-- ---- what is written holds the records, and joins to them
+
+pub order_holds : (out : List ℕ) (payloads : List (List ℕ)) → All IsSized payloads → All (IsPlaced out) (laid_in_order 4 payloads) → ((b : ℕ) → 4 + blocks_needed payloads ≤ b → b < count out + 4 → block_at out b ≡ unused_block b) → Holds out (laid_in_order 4 payloads)
+order_holds out payloads sized placed unused = record {
+  placed = placed;
+  apart = λ i j d below lt e. let rise = in_order_rising 4 payloads sized i j d below lt in absurd (omega arith);
+  unused = λ number in_use apart. let low = in_use.0 in unused number (in_order_free 4 number payloads apart low) in_use.1;
+}
+
+pub order_joins : (out : List ℕ) (payloads : List (List ℕ)) → length out ≤ 1048576 → All IsSized payloads → Holds out (laid_in_order 4 payloads) → Joins out (map joined_of (laid_in_order 4 payloads))
+order_joins out payloads small sized holds =
+    let within = λ (k : ℕ) (d : Placed) (lt : k < length (laid_in_order 4 payloads)).
+    let is = holds.placed k d lt in
+    let some = is.some in
+    let whole = is.whole in
+    is.within 0 (omega arith) in
+    subst (Joins out) (joined_rising (laid_in_order 4 payloads) (count out) (in_order_rising 4 payloads sized) within) (holds_joins out (laid_in_order 4 payloads) small holds)

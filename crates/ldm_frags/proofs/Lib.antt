@@ -1,13 +1,6 @@
 pub mod Below
 pub mod JoinLaws
-pub mod Fields
+pub mod WriteLaws
 pub mod HoldLaws
-pub mod PutLaws
-pub mod OrderLaws
-pub mod TableLaws
-pub mod SameLaws
 pub mod KeptLaws
 pub mod HoldEdits
-pub mod ApartLaws
-pub mod FewLaws
-pub mod WrittenReads

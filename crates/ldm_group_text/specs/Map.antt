@@ -41,19 +41,19 @@ text_on said (Some d) y = said ++ text_of_sector_on d y
 
 -- What is said of a place, where `disks` tells the disk of each id. Nothing where there is no place, or no such disk: in a
 -- group that is found each partition has its disk.
-abbrev pub text_of_place : (ℕ → Option MappedDisk) → List ℕ → Option Place → List ℕ
-text_of_place disks said None = []
-text_of_place disks said (Some place) = text_on said (disks place.disk) place.sector
+abbrev pub text_of_mapped : (ℕ → Option MappedDisk) → List ℕ → Option Place → List ℕ
+text_of_mapped disks said None = []
+text_of_mapped disks said (Some place) = text_on said (disks place.disk) place.sector
 
 -- ---- sectors
 
 -- X copy C DISKNAME Y at Z
 unfoldable pub text_of_copy_number : (ℕ → Option MappedDisk) → Layout → ℕ → ℕ → List ℕ
-text_of_copy_number disks l x copy = text_of_place disks (decimal x ++ (codes " copy " ++ decimal copy)) (place_in l x copy)
+text_of_copy_number disks l x copy = text_of_mapped disks (decimal x ++ (codes " copy " ++ decimal copy)) (place_in l x copy)
 
 -- X parity DISKNAME Y at Z, where the sector has parity
 unfoldable pub text_of_parity : (ℕ → Option MappedDisk) → Layout → ℕ → List ℕ
-text_of_parity disks l x = text_of_place disks (decimal x ++ codes " parity") (parity_in l x)
+text_of_parity disks l x = text_of_mapped disks (decimal x ++ codes " parity") (parity_in l x)
 
 -- a line for each copy in rising number, and one for the parity
 unfoldable pub text_of_sector : (ℕ → Option MappedDisk) → Layout → ℕ → List ℕ

@@ -1,9 +1,8 @@
 -- How changes of one disk follow one another.
 use Rattle.std.proofs.Common.{◌≡◌, inl, inr, ⊎_elim, ℕ, ◌+◌, ◌<◌, ◌≤◌, List, length, slice_index, sym, ◌∙◌, ap, subst, arith}
-use Rattle.ldm_host.specs.StoryLaws.{begins_both}
 use Rattle.ldm_host.specs.Seen.{Seen, Leaves, image}
-use Rattle.ldm_host.specs.Moves.{DiskFailed, Begins, Torn, TornAt, Quiet, Still, Works, Writes, Changes, Syncs}
-use Rattle.ldm_host.proofs.Relations.{later_trans, quiet_trans, moments_trans, iff_trans, torn_itself, torn_at_itself, torn_trans, torn_at_trans, torn_from}
+use Rattle.ldm_host.specs.Moves.{DiskFailed, Torn, TornAt, Works, Writes, Changes, Syncs}
+use Rattle.ldm_host.proofs.Relations.{later_trans, quiet_trans, moments_trans, iff_trans, torn_trans, torn_at_trans, torn_from}
 
 pub torn_wider : (at m begin n : ℕ) (old new : List ℕ) → begin ≤ at → at + m ≤ begin + n → Torn at m old new → Torn begin n old new
 torn_wider at m begin n old new low high torn = record {
@@ -34,18 +33,6 @@ writes_change disk at m begin n a b low high writes = record {
 -- a change of a disk is work on the disks
 pub changes_works : {disk at n : ℕ} {a b : Seen} {P : Type 0} → Changes disk at n a b → (P → DiskFailed a b) → Works a b P
 changes_works changes cause = record { later = changes.later; quiet = changes.quiet; cause = cause }
-
--- calls that change no disk and nothing of the talk
-pub still_changes : (disk at n : ℕ) (a b : Seen) → Still a b → Quiet a b → Changes disk at n a b
-still_changes disk at n a b still quiet = record {
-  later = still.later;
-  quiet = quiet;
-  content = subst (λ (l : List (List ℕ)). TornAt disk at n a.content l) (sym still.content) (torn_at_itself disk at n a.content);
-  wrote_others = λ other ne. ap (λ (l : List ℕ). slice_index l other) still.wrote;
-  left = λ c left. (c, (still.left disk c).0 left, torn_itself at n c);
-  left_others = λ other c ne. still.left other c;
-  moments = λ images said left. let m = still.moments images said left in (images, m.0, torn_at_itself disk at n images, begins_both a.said said m.1 (subst (λ (l : List ℕ). Begins said l) quiet.said m.2));
-}
 
 pub changes_trans : (disk at n : ℕ) (a b c : Seen) → disk < length a.sizes → Changes disk at n a b → Changes disk at n b c → Changes disk at n a c
 changes_trans disk at n a b c in_range first second = record {

@@ -1,7 +1,10 @@
 -- What a stop leaves where the ranges that are pending hold what a filling says, from call to call.
-use Rattle.std.proofs.Common.{◌≡◌, ◌≢◌, inl, inr, ⊎_elim, ℕ, zero, suc, ◌+◌, ◌-◌, ◌/◌, ◌<◌, ◌≤◌, ◌==◌, min, Bool, true, false, if◌then◌else◌, List, [], ◌∷◌, ◌++◌, length, get_or, set, map, take, drop, replicate, slice_index, refl, sym, ◌∙◌, ap, subst, arith, Vec}
-use Rattle.std.proofs.Math.Nat.{suc-ne-zero}
+use Rattle.std.proofs.Common.{[], ◌≡◌, ◌≢◌, ◌⊎◌, inl, inr, ℕ, ◌+◌, ◌-◌, ◌<◌, ◌≤◌, List, length, get_or, refl, sym, ◌∙◌, ap, subst, arith, ⊎_elim, zero, suc, ◌/◌, ◌==◌, min, Bool, true, false, if◌then◌else◌, ◌∷◌, ◌++◌, set, map, take, drop, replicate, slice_index, Vec}
 use Rattle.std.proofs.lemmas.Bool.{cases_eq, eq-eqb, ne_eqb}
+use Rattle.ldm_host.specs.declared.call.Call.{Call}
+use Rattle.ldm_host.specs.declared.call.Call.TheVariants.{Sync, Nothing, Write}
+use Rattle.ldm_host.specs.Left.{IsLastSync, overlaid, left_on, left_of, written_on, filled_on}
+use Rattle.std.proofs.Math.Nat.{suc-ne-zero}
 use Rattle.std.proofs.Math.Seq.{take-suc}
 use Rattle.std.proofs.lemmas.List.{length-map, length-set, length-append, length-drop, length-take, length-replicate, get_or-set_same, get_or-set_other, get_or_default, get_or-take, map-append}
 use Rattle.std.specs.declared.alloc.Global.{Global}
@@ -12,8 +15,6 @@ use Rattle.ldm_bytes.proofs.ByteLaws.{put_before, put_behind, bytes_put}
 use Rattle.ldm_host.specs.Seen.{Leaves, image}
 use Rattle.ldm_host.specs.Images.{items_of}
 use Rattle.ldm_host.specs.declared.memory.MemoryHost.{MemoryHost}
-use Rattle.ldm_host.specs.declared.call.Call.{Call}
-use Rattle.ldm_host.specs.declared.call.Call.TheVariants.{Write, Sync, Hear, Say, Nothing}
 use Rattle.ldm_host.specs.declared.left.Filling.{Filling}
 use Rattle.ldm_host.specs.declared.left.Filling.TheVariants.{Old, New, Fill}
 use Rattle.ldm_host.specs.Story.{Disk, StoryState, Agrees, Outside, disk_at, no_disk, written_disk, synced_disk, after, run, state_at, fresh_state, contents, sizes_of}
@@ -21,8 +22,17 @@ use Rattle.ldm_host.specs.StoryLaws.{image_at, stays, all_calls}
 use Rattle.ldm_host.specs.Laws.{held_now}
 use Rattle.ldm_host.specs.Memory.{memory_seen, story_of}
 use Rattle.ldm_host.specs.Kept.{IsHeld, reach}
-use Rattle.ldm_host.specs.Left.{overlaid, left_on, left_of, IsLastSync, written_on, filled_on}
-use Rattle.ldm_host.proofs.Grows.{run_push}
+use Rattle.ldm_host.proofs.CallLaws.{run_push}
+
+-- ---- The last sync of a disk among the calls, as they are walked.
+
+-- among the first so many calls
+pub record IsLastBy (calls : List Call) (disk place count : ℕ) : Type 0 where
+  pub within : count ≤ place
+  pub is_sync : (count ≡ 0) ⊎ (get_or calls (count - 1) Nothing ≡ Sync disk)
+  pub none_since : (k : ℕ) → count ≤ k → k < place → get_or calls k Nothing ≢ Sync disk
+
+-- ---- What a stop leaves where the ranges that are pending hold what a filling says, from call to call.
 
 -- ---- ranges overlaid with one byte
 
@@ -90,9 +100,7 @@ fresh_count images = length-map images (λ bytes. record { content = bytes; sync
 count_after : (s : StoryState) (call : Call) → length (after s call).disks ≡ length s.disks
 count_after s (Write written at bytes asked) = length-set s.disks written (written_disk (disk_at s.disks written) at bytes.items asked)
 count_after s (Sync synced) = length-set s.disks synced (synced_disk (disk_at s.disks synced))
-count_after s (Hear count) = refl
-count_after s (Say bytes) = refl
-count_after s Nothing = refl
+count_after s call = refl
 
 pub count_run : (s : StoryState) (calls : List Call) → length (run s calls).disks ≡ length s.disks
 count_run s [] = refl
@@ -114,9 +122,7 @@ module _ (disk : ℕ) where
   abbrev after_on : Disk → Call → Disk
   after_on d (Write written at bytes asked) = if written == disk then written_disk d at bytes.items asked else d
   after_on d (Sync synced) = if synced == disk then synced_disk d else d
-  after_on d (Hear count) = d
-  after_on d (Say bytes) = d
-  after_on d Nothing = d
+  after_on d _ = d
 
   set_on : (disks : List Disk) (other : ℕ) (f : Disk → Disk) → disk < length disks → disk_at (set disks other (f (disk_at disks other))) disk ≡ (if other == disk then f (disk_at disks disk) else disk_at disks disk)
   set_on disks other f lt =
@@ -129,9 +135,7 @@ module _ (disk : ℕ) where
   disk_after : (s : StoryState) (call : Call) → disk < length s.disks → disk_at (after s call).disks disk ≡ after_on (disk_at s.disks disk) call
   disk_after s (Write written at bytes asked) lt = set_on s.disks written (λ d. written_disk d at bytes.items asked) lt
   disk_after s (Sync synced) lt = set_on s.disks synced synced_disk lt
-  disk_after s (Hear count) lt = refl
-  disk_after s (Say bytes) lt = refl
-  disk_after s Nothing lt = refl
+  disk_after s call lt = refl
 
   either : {X : Type 0} (f : Disk → X) (b : Bool) (x y : Disk) → f (if b then x else y) ≡ (if b then f x else f y)
   either f true x y = refl
@@ -144,16 +148,12 @@ module _ (disk : ℕ) where
       same : (b : Bool) → (if b then synced_disk d else d).content ≡ d.content
       same true = refl
       same false = refl
-  content_on d (Hear count) = refl
-  content_on d (Say bytes) = refl
-  content_on d Nothing = refl
+  content_on d call = refl
 
   pending_on : (byte : ℕ) (c : List ℕ) (d : Disk) (call : Call) → call ≢ Sync disk → overlaid byte (after_on d call).pending c ≡ filled_on disk byte call (overlaid byte d.pending c)
   pending_on byte c d (Write written at bytes asked) ne = either (λ x. overlaid byte x.pending c) (written == disk) (written_disk d at bytes.items asked) d
   pending_on byte c d (Sync synced) ne = ap (λ (b : Bool). overlaid byte (if b then synced_disk d else d).pending c) (ne_eqb synced disk (λ is. ne (ap Sync is)))
-  pending_on byte c d (Hear count) ne = refl
-  pending_on byte c d (Say bytes) ne = refl
-  pending_on byte c d Nothing ne = refl
+  pending_on byte c d call ne = refl
 
   synced_on : (d : Disk) (call : Call) → call ≢ Sync disk → (after_on d call).synced ≡ d.synced
   synced_on d (Write written at bytes asked) ne = same (written == disk)
@@ -162,9 +162,7 @@ module _ (disk : ℕ) where
       same true = refl
       same false = refl
   synced_on d (Sync synced) ne = ap (λ (b : Bool). (if b then synced_disk d else d).synced) (ne_eqb synced disk (λ is. ne (ap Sync is)))
-  synced_on d (Hear count) ne = refl
-  synced_on d (Say bytes) ne = refl
-  synced_on d Nothing ne = refl
+  synced_on d call ne = refl
 
   length_on : (d : Disk) (call : Call) → IsHeld d → IsHeld (after_on d call) → length (after_on d call).content ≡ length d.content
   length_on d (Write written at bytes asked) held later = same (written == disk) later
@@ -173,9 +171,7 @@ module _ (disk : ℕ) where
       same true h = sym h.old.size ∙ held.old.size
       same false h = refl
   length_on d (Sync synced) held later = ap length (content_on d (Sync synced))
-  length_on d (Hear count) held later = refl
-  length_on d (Say bytes) held later = refl
-  length_on d Nothing held later = refl
+  length_on d call held later = refl
 
   module _ (first : List (List ℕ)) (calls : List Call) (held : (k other : ℕ) → IsHeld (disk_at (state_at (fresh_state first) calls k).disks other)) (lt : disk < length first) where
     -- the disk after the first k calls

@@ -1,14 +1,10 @@
 -- How relations between states of a host follow one another.
-use Rattle.std.proofs.Common.{◌≡◌, ◌≢◌, inl, inr, ⊎_elim, ◌↔◌, ℕ, ◌+◌, ◌<◌, ◌≤◌, List, [], ◌++◌, length, set, slice_index, refl, sym, ◌∙◌, ap, subst, arith, append_assoc}
+use Rattle.std.proofs.Common.{[], ◌≡◌, ◌≢◌, inl, inr, ⊎_elim, ◌↔◌, ℕ, ◌+◌, ◌<◌, ◌≤◌, List, ◌++◌, length, set, slice_index, refl, sym, ◌∙◌, ap, subst, arith, append_assoc}
 use Rattle.std.proofs.lemmas.List.{get_or-set_same, get_or-set_other, length-set}
 use Rattle.std.proofs.lemmas.Bool.{cases_eq}
 use Rattle.ldm_host.specs.Seen.{Seen, Leaves, image}
 use Rattle.ldm_host.specs.StoryLaws.{begins_itself, begins_both}
-use Rattle.ldm_host.specs.Moves.{Rose, DiskFailed, Begins, Torn, TornAt, Later, Quiet, Still, Looks, Works, AtEachMoment, Writes, Syncs, Settled, Settles}
-
-pub rose_later : (a b c : ℕ) → Rose a b → b ≤ c → Rose a c
-rose_later a b c (inl less) le = inl (omega arith)
-rose_later a b c (inr last) le = inr (omega (arith, last, le))
+use Rattle.ldm_host.specs.Moves.{Rose, DiskFailed, Begins, Torn, TornAt, Later, Quiet, Still, Looks, Works, AtEachMoment, Writes, Syncs, Settles}
 
 pub rose_sooner : (a b c : ℕ) → a ≤ b → Rose b c → Rose a c
 rose_sooner a b c le (inl less) = inl (omega arith)
@@ -149,56 +145,52 @@ still_syncs disk a b still quiet = record {
   moments = λ images said left. let m = still.moments images said left in (m.0, begins_both a.said said m.1 (subst (λ (l : List ℕ). Begins said l) quiet.said m.2));
 }
 
-pub leaves_syncs : (disk : ℕ) (a b : Seen) (images : List (List ℕ)) → Syncs disk a b → Leaves b images → Leaves a images
-leaves_syncs disk a b images sync left = record {
-  one_each = left.one_each ∙ ap length sync.later.sizes;
-  each = λ other lt.
-      let at = left.each other (subst (λ (l : List ℕ). other < length l) (sym sync.later.sizes) lt) in
-      ⊎_elim (λ is. subst (λ (d : ℕ). a.may_leave d (image images d)) (sym is) (sync.left (image images disk) (subst (λ (d : ℕ). b.may_leave d (image images d)) is at)))
-      (λ ne. (sync.left_others other (image images other) ne).0 at)
-      (cases_eq other disk);
-}
-
--- images that could be left before a write, from images that could be left after it
-pub torn_from : (disk at n : ℕ) (a b : Seen) → disk < length a.sizes → b.sizes ≡ a.sizes
-    → ((c : List ℕ) → b.may_leave disk c → (x : List ℕ) × a.may_leave disk x × Torn at n x c)
+-- images that could be left before one disk was changed, from images that could be left after it
+pub before_from : (Alike : List ℕ → List ℕ → Type 0) (disk : ℕ) (a b : Seen) → disk < length a.sizes → b.sizes ≡ a.sizes
+    → ((c : List ℕ) → b.may_leave disk c → (x : List ℕ) × a.may_leave disk x × Alike x c)
     → ((other : ℕ) (c : List ℕ) → other ≢ disk → b.may_leave other c → a.may_leave other c)
-    → (images : List (List ℕ)) → Leaves b images → (before : List (List ℕ)) × Leaves a before × TornAt disk at n before images
-torn_from disk at n a b in_range sizes here others images left = (set images disk old.0, was, torn)
+    → (images : List (List ℕ)) → Leaves b images → (before : List (List ℕ)) × Leaves a before × (length images ≡ length before)
+    × Alike (image before disk) (image images disk) × ((other : ℕ) → other ≢ disk → image images other ≡ image before other)
+before_from Alike disk a b in_range sizes here others images left = (
+  before,
+  record { one_each = length-set images disk old.0 ∙ count; each = each },
+  sym (length-set images disk old.0),
+  subst (λ (c : List ℕ). Alike c (image images disk)) (sym same) old.2,
+  λ other ne. sym (other_same other ne),
+)
   where
     count : length images ≡ length a.sizes
     count = left.one_each ∙ ap length sizes
 
-    there : disk < length images
-    there = omega (arith, count, in_range)
-
     at_b : (other : ℕ) → other < length a.sizes → other < length b.sizes
     at_b other lt = subst (λ (l : List ℕ). other < length l) (sym sizes) lt
 
-    old : (x : List ℕ) × a.may_leave disk x × Torn at n x (image images disk)
+    old : (x : List ℕ) × a.may_leave disk x × Alike x (image images disk)
     old = here (image images disk) (left.each disk (at_b disk in_range))
 
-    same : image (set images disk old.0) disk ≡ old.0
-    same = get_or-set_same images disk old.0 [] there
+    before : List (List ℕ)
+    before = set images disk old.0
 
-    other_same : (other : ℕ) → other ≢ disk → image (set images disk old.0) other ≡ image images other
+    same : image before disk ≡ old.0
+    same = get_or-set_same images disk old.0 [] (omega (arith, count, in_range))
+
+    other_same : (other : ℕ) → other ≢ disk → image before other ≡ image images other
     other_same other ne = get_or-set_other images disk other old.0 [] ne
 
-    each : (other : ℕ) → other < length a.sizes → a.may_leave other (image (set images disk old.0) other)
+    each : (other : ℕ) → other < length a.sizes → a.may_leave other (image before other)
     each other lt = elim (cases_eq other disk) [
-      | inl is ↦ subst (λ (d : ℕ). a.may_leave d (image (set images disk old.0) d)) (sym is) (subst (λ (c : List ℕ). a.may_leave disk c) (sym same) old.1)
+      | inl is ↦ subst (λ (d : ℕ). a.may_leave d (image before d)) (sym is) (subst (λ (c : List ℕ). a.may_leave disk c) (sym same) old.1)
       | inr ne ↦ subst (λ (c : List ℕ). a.may_leave other c) (sym (other_same other ne)) (others other (image images other) ne (left.each other (at_b other lt)))
     ]
 
-    was : Leaves a (set images disk old.0)
-    was = record { one_each = length-set images disk old.0 ∙ count; each = each }
-
-    torn : TornAt disk at n (set images disk old.0) images
-    torn = record {
-      count = sym (length-set images disk old.0);
-      here = subst (λ (c : List ℕ). Torn at n c (image images disk)) (sym same) old.2;
-      others = λ other ne. sym (other_same other ne);
-    }
+-- where the disk was written
+pub torn_from : (disk at n : ℕ) (a b : Seen) → disk < length a.sizes → b.sizes ≡ a.sizes
+    → ((c : List ℕ) → b.may_leave disk c → (x : List ℕ) × a.may_leave disk x × Torn at n x c)
+    → ((other : ℕ) (c : List ℕ) → other ≢ disk → b.may_leave other c → a.may_leave other c)
+    → (images : List (List ℕ)) → Leaves b images → (before : List (List ℕ)) × Leaves a before × TornAt disk at n before images
+torn_from disk at n a b in_range sizes here others images left =
+    let from = before_from (Torn at n) disk a b in_range sizes here others images left in
+    (from.0, from.1, record { count = from.2; here = from.3; others = from.4 })
 
 -- a write, and then a sync of that disk
 pub writes_syncs : (disk at n : ℕ) (a b c : Seen) → disk < length a.sizes → Writes disk at n a b → Syncs disk b c → Writes disk at n a c
@@ -242,10 +234,6 @@ settles_trans a b c first second = record {
       first.moments
       (λ images said left. let m = second.moments images said left in (leaves_settles a b images first m.0, m.1 ∙ first.quiet.said));
 }
-
--- a disk that was settled stays so while another is synced
-pub still_settled : (other disk : ℕ) (a b : Seen) → Settled a other → Syncs disk a b → other ≢ disk → Settled b other
-still_settled other disk a b settled sync ne c left = settled c ((sync.left_others other c ne).0 left) ∙ ap (λ (l : List (List ℕ)). image l other) (sym sync.content)
 
 -- a call that looks syncs nothing
 pub looks_settles : {a b : Seen} {P : Type 0} → Looks a b P → Settles a b

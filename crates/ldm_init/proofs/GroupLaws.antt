@@ -1,9 +1,9 @@
--- The records of a new group: they rise, each takes one block, and there is one for each disk.
-use Rattle.std.proofs.Common.{◌≡◌, ℕ, zero, suc, ◌+◌, ◌*◌, ◌^◌, ◌<◌, ◌≤◌, List, [], ◌∷◌, ◌++◌, length, slice_index, Contains, Option, Some, None, refl, sym, ap, subst, ◌∙◌, arith, decimal}
-use Rattle.std.specs.Prelude.{map, codes, All, IsPermutation}
+-- The records and the labels of a new group.
+use Rattle.std.proofs.Common.{[], ◌≡◌, ℕ, zero, suc, ◌+◌, ◌*◌, ◌^◌, ◌<◌, ◌≤◌, List, ◌∷◌, ◌++◌, length, slice_index, Contains, Option, Some, None, refl, sym, ap, subst, ◌∙◌, arith, decimal, map, slice_get, All}
+use Rattle.std.specs.Prelude.{codes, IsPermutation}
 use Rattle.std.specs.List.{filter_map, range_with_len}
 use Rattle.std.proofs.lemmas.Fmt.{length-decimal-le}
-use Rattle.std.proofs.lemmas.List.{length-append, map-append, same_lists, get_or_default}
+use Rattle.std.proofs.lemmas.List.{length-append, map-append, same_lists, get_or_default, length-map, get_or-map}
 use Rattle.std.proofs.lemmas.List.Elements.{All-append, All-from_recursion}
 use Rattle.std.proofs.lemmas.List.FromFn.{get_or-map-range_with_len, length-map-range_with_len, map-range_with_len_more}
 use Rattle.std.proofs.lemmas.List.Sorted.{IsPermutation-refl}
@@ -24,7 +24,14 @@ use Rattle.ldm_group.specs.Room.{own_len, need_of, room_of, FitsHeader}
 use Rattle.ldm_group.proofs.InOrder.{pairs_append}
 use Rattle.ldm_group.proofs.OneOrder.{one_rising}
 use Rattle.ldm_rules.specs.New.{IsNewOn}
-use Rattle.ldm_init.specs.NewGroup.{new_disk_at, first_records, IsNewGroup}
+use Rattle.ldm_init.specs.NewGroup.{new_disk_at, first_records, IsNewGroup, new_label, new_labels}
+use Rattle.std.proofs.lemmas.Bool.Decides.{nat_tests}
+use Rattle.std.proofs.lemmas.Option.{slice_get_within, slice_get-get_or, get_or_from_slice_get}
+use Rattle.ldm_label.specs.Written.{IsWritable}
+use Rattle.ldm_found.specs.New.{HasOwnArea}
+use Rattle.ldm_init.specs.Moments.{CanTake}
+
+-- ---- The records of a new group: they rise, each takes one block, and there is one for each disk.
 
 there_more : (xs : List (Option Record)) (r : Record) → filter_map (λ r. r) (xs ++ Some r ∷ []) ≡ filter_map (λ r. r) xs ++ r ∷ []
 there_more [] r = refl
@@ -163,3 +170,69 @@ module _ (name : List ℕ) (guid : ℕ) (guids : List ℕ) where
           let count : length db.records ≡ length guids + 1 = ap length is.records_are ∙ all.count in
           let enough : length guids + 1 ≤ room_of db.header.last = subst (λ (n : ℕ). length guids + 1 ≤ room_of n) (sym is.header_is.last_is) room in
           record { need = omega (arith, need, count, enough); each = λ k d lt. omega (arith, small k d lt) }
+
+-- ---- The labels of a new group: each fits its disk, and has room for the body.
+
+module _ (sizes guids : List ℕ) where
+  pub labels_more : (disk : ℕ) (before : List Label) (label : Label) (after : List Label) → after ≡ before ++ label ∷ []
+      → before ≡ map (λ disk. new_label (slice_index sizes disk) (slice_index guids disk)) (range_with_len 0 disk) → label ≡ new_label (slice_index sizes disk) (slice_index guids disk)
+      → after ≡ map (λ disk. new_label (slice_index sizes disk) (slice_index guids disk)) (range_with_len 0 (disk + 1))
+  labels_more disk before label after is were one =
+      is ∙ ap (λ (l : List Label). l ++ label ∷ []) were
+      ∙ ap (λ (l : Label). map (λ disk. new_label (slice_index sizes disk) (slice_index guids disk)) (range_with_len 0 disk) ++ l ∷ []) one
+      ∙ sym (map-range_with_len_more (λ disk. new_label (slice_index sizes disk) (slice_index guids disk)) 0 disk disk (omega arith))
+
+  pub labels_count : length (new_labels sizes guids) ≡ length guids
+  labels_count = length-map-range_with_len (λ disk. new_label (slice_index sizes disk) (slice_index guids disk)) 0 (length guids)
+
+  pub label_at : (k : ℕ) (label : Label) → slice_get (new_labels sizes guids) k ≡ Some label → (k < length guids) × (new_label (slice_index sizes k) (slice_index guids k) ≡ label)
+  label_at k label is =
+      let lt : k < length guids = omega (arith, slice_get_within (new_labels sizes guids) k label is, labels_count) in (
+        lt,
+        sym (get_or-map-range_with_len (λ disk. new_label (slice_index sizes disk) (slice_index guids disk)) 0 (length guids) k k label lt (omega arith)) ∙ get_or_from_slice_get (new_labels sizes guids) k label label is,
+      )
+
+  pub label_there : (k : ℕ) → k < length guids → slice_get (new_labels sizes guids) k ≡ Some (new_label (slice_index sizes k) (slice_index guids k))
+  label_there k lt =
+      let none = new_label 0 0 in
+      slice_get-get_or (new_labels sizes guids) k none (omega (arith, lt, labels_count))
+      ∙ ap Some (get_or-map-range_with_len (λ disk. new_label (slice_index sizes disk) (slice_index guids disk)) 0 (length guids) k k none lt (omega arith))
+
+  -- their GUIDs are those of the disks
+  pub labels_guids : map (λ label. label.disk_guid) (new_labels sizes guids) ≡ guids
+  labels_guids =
+      let guid : Label → ℕ = λ label. label.disk_guid in
+      let count : length (map guid (new_labels sizes guids)) ≡ length guids = length-map (new_labels sizes guids) guid ∙ labels_count in
+      same_lists (map guid (new_labels sizes guids)) guids count
+      (λ k d lt.
+      let within : k < length (new_labels sizes guids) = omega (arith, lt, length-map (new_labels sizes guids) guid) in
+      let near : k < length guids = omega (arith, lt, count) in
+      get_or-map guid (new_labels sizes guids) k (new_label 0 0) d within
+      ∙ ap guid (get_or-map-range_with_len (λ disk. new_label (slice_index sizes disk) (slice_index guids disk)) 0 (length guids) k k (new_label 0 0) near (omega arith))
+      ∙ get_or_default guids k 0 d near)
+
+  pub own_areas : All (HasOwnArea 5924) (new_labels sizes guids)
+  own_areas k d lt =
+      let near : k < length guids = omega (arith, lt, labels_count) in
+      subst (HasOwnArea 5924) (sym (get_or-map-range_with_len (λ disk. new_label (slice_index sizes disk) (slice_index guids disk)) 0 (length guids) k k d near (omega arith))) (grind (arith, nat_tests), refl)
+
+pub all_more : (before : List Label) (label : Label) (after : List Label) → after ≡ before ++ label ∷ [] → All (λ l. IsWritable l) before → IsWritable label → All (λ l. IsWritable l) after
+all_more before label after is all one =
+    subst (All (λ l. IsWritable l)) (sym is) (All-append (λ l. IsWritable l) before (label ∷ []) all (All-from_recursion (λ l. IsWritable l) (label ∷ []) (one, tt)))
+
+pub new_takes : (sectors guid : ℕ) (body : List ℕ) → 2112 ≤ sectors → IsWritable (new_label sectors guid) → length body ≡ 512 * 1481 → CanTake (new_label sectors guid) body sectors
+new_takes sectors guid body large writable size = record {
+  fits = record {
+    some_data = λ none. absurd (omega (arith, large, none));
+    before = omega (arith, large);
+    room = omega (arith, large);
+    inside = omega (arith, large);
+    some_area = λ none. absurd cc;
+    area = omega arith;
+    log = omega arith;
+  };
+  at_end = omega (arith, large);
+  clear = record { behind = omega arith; before = omega arith };
+  writable = writable;
+  room = omega (arith, size);
+}

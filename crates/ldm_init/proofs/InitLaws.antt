@@ -1,47 +1,244 @@
--- A new group, from disks that are empty to disks that hold it.
-use Rattle.std.proofs.Common.{◌≡◌, ◌∙◌, ◌*◌, ◌/◌, ◌<◌, ◌≤◌, inl, inr, ⊎_elim, List, ℕ, map, length, set, slice_get, slice_index, slice_range, true, All, Some, None, Result, Ok, Err, nat_lt, if◌then◌else◌, refl, ap, sym, subst, arith}
-use Rattle.std.specs.Prelude.{IfOk, IsErr}
-use Rattle.std.proofs.lemmas.Bool.{le-ltb}
-use Rattle.std.proofs.lemmas.Option.{slice_get_within, get_or_from_slice_get}
-use Rattle.ldm_host.specs.Seen.{Seen, Leaves, image}
-use Rattle.ldm_host.specs.Moves.{Still, Quiet, Works, AtEachMoment}
-use Rattle.ldm_host.specs.StoryLaws.{begins_both}
-use Rattle.ldm_host.specs.Moves.{Begins}
+-- A new group, from disks that are empty, on which nothing is pending, to disks that hold it.
+use Rattle.std.proofs.Common.{[], ◌≡◌, ℕ, suc, ◌+◌, ◌<◌, ◌≤◌, ◌-◌, ◌*◌, ◌&&◌, Bool, true, false, inl, inr, zero, Option, slice_index, List, ◌∷◌, ◌++◌, length, get_or, drop, take, slice_range, Some, None, sym, ap, subst, ◌∙◌, arith, length-take, ◌/◌, map, Result, Ok, Err, refl, ⊎_elim, set, slice_get, All, nat_lt, if◌then◌else◌}
+use Rattle.std.proofs.lemmas.List.{take_all, take_more, take-append-drop, length-take-le, take-take, length-map, get_or-map, get_or-take, get_or-drop}
+use Rattle.ldm_found.specs.Gathers.{IsFirst}
+use Rattle.std.proofs.lemmas.Bool.Decides.{nat_tests}
+use Rattle.std.proofs.lemmas.Bool.{cases_lt, true_from_ne_false, and_parts, le-ltb}
 use Rattle.ldm_label.specs.declared.Label.{Label}
 use Rattle.ldm_label.specs.Fields.{sectors_of}
-use Rattle.ldm_label.specs.Written.{IsWritable, written_mbr, written_header}
+use Rattle.ldm_found.specs.Labels.{AreTwins, AreApart}
+use Rattle.ldm_found.proofs.FirstLaws.{none_more, first_here, first_stays, first_one}
+use Rattle.ldm_init.specs.Faults.{IsSmall, IsFull, are_zero, is_empty, IsFaultOf, IsInitFault, ChecksDisks, InitAnswers}
+use Rattle.ldm_init.specs.NewGroup.{new_labels, new_label}
+use Rattle.std.proofs.lemmas.Grind.{same_number_lists}
+use Rattle.ldm_host.specs.Seen.{Seen, Leaves, image}
+use Rattle.ldm_label.specs.declared.LabelFault.TheVariants.{NoSignature}
 use Rattle.ldm_group.specs.Database.{Database}
+use Rattle.ldm_found.proofs.DiskLaws.{one_twins}
+use Rattle.ldm_init.specs.declared.faults.InitFault.{InitFault}
+use Rattle.ldm_init.specs.declared.faults.InitFault.TheVariants.{SameGuid, TooSmall, NotEmpty}
+use Rattle.ldm_init.specs.declared.faults.InitError.{InitError}
+use Rattle.ldm_init.specs.declared.faults.InitError.TheVariants as errors
+use Rattle.ldm_init.specs.Beside.{SameAt, IsUntouched}
+use Rattle.ldm_init.specs.Images.{IsInitMoment, LackSignature, NothingPending, IsNewBody, IsNewImage, AreNewImages, HoldNewGroup}
+use Rattle.ldm_init.specs.Moments.{IsUnsigned, MayHaveWritten, IsWriting, before_of, Before, AllOn, AllTake, CanTake, IsWhole, IsMaking, IsSigning, WritesGroup, new_found}
+use Rattle.ldm_init.proofs.MomentLaws.{same_at_itself, unsigned_fault, made_opens}
+use Rattle.std.specs.Prelude.{IfOk, IsErr}
+use Rattle.std.proofs.lemmas.Option.{slice_get_within, get_or_from_slice_get}
+use Rattle.ldm_host.specs.Moves.{Works, AtEachMoment}
+use Rattle.ldm_label.specs.Written.{IsWritable, written_mbr, written_header}
 use Rattle.ldm_rules.specs.New.{IsNewOn}
 use Rattle.ldm_copy.specs.Body.{IsBodyOn}
 use Rattle.ldm_found.specs.declared.notes.Note.{Note}
 use Rattle.ldm_found.specs.declared.notes.Note.TheVariants as notes
 use Rattle.ldm_found.specs.declared.fault.OpenFault.TheVariants as faults
-use Rattle.ldm_found.specs.Labels.{AreApart}
 use Rattle.ldm_found.specs.New.{HasOwnArea, NewIsEditable}
 use Rattle.ldm_found.specs.Opening.{IsGroupIn}
 use Rattle.ldm_found.proofs.NewLaws.{new_opens}
 use Rattle.ldm_words.specs.NewGroup as words
 use Rattle.ldm_host.proofs.Relations.{works_as}
-use Rattle.ldm_init.specs.Faults.{is_empty}
 use Rattle.ldm_init.specs.Bytes.{IsUnsignedImage}
-use Rattle.ldm_init.specs.Images.{IsNewBody, IsNewImage, AreNewImages, HoldNewGroup, IsInitMoment}
-use Rattle.ldm_init.specs.Moments.{Before, AllOn, AllTake, CanTake, IsWhole, IsMaking, IsSigning, IsWriting, WritesGroup, before_of, new_found}
-use Rattle.ldm_init.specs.NewGroup.{new_label, new_labels}
-use Rattle.ldm_init.proofs.GroupLaws.{is_new}
-use Rattle.ldm_init.proofs.LabelLaws.{labels_count, labels_guids, label_at, label_there, own_areas, new_takes}
-use Rattle.ldm_init.proofs.MomentLaws.{made_opens}
+use Rattle.ldm_init.proofs.GroupLaws.{is_new, labels_count, labels_guids, label_at, label_there, own_areas, new_takes}
 use Rattle.ldm_init.proofs.ReadyLaws.{has, z_size, at_body, rest_is, mbr_front}
-use Rattle.ldm_init.proofs.StartLaws.{last_zero}
+
+-- ---- What is known of empty disks, on which nothing is pending, and the first fault of those that aren't.
+
+-- ---- The first of a list, found by a walk.
+
+module _ {A : Type 0} (Has : A → Type 0) (xs : List A) (k : ℕ) (d : A) (lt : k < length xs) (before : IsFirst Has (take k xs) None) where
+  pub none_further : (Has (get_or xs k d) → ⊥) → IsFirst Has (take (k + 1) xs) None
+  none_further not_it = subst (λ (l : List A). IsFirst Has l None) (sym (take_more xs k d lt)) (none_more Has (take k xs) (get_or xs k d) before not_it)
+
+  pub found_here : Has (get_or xs k d) → IsFirst Has xs (Some k)
+  found_here has =
+      let count : length (take k xs) ≡ k = length-take-le k xs (omega arith) in
+      let whole : take (k + 1) xs ++ drop (k + 1) xs ≡ xs = take-append-drop (k + 1) xs in
+      let first = subst (λ (n : ℕ). IsFirst Has (take k xs ++ get_or xs k d ∷ []) (Some n)) count (first_here Has (take k xs) (get_or xs k d) before has) in
+      subst (λ (l : List A). IsFirst Has l (Some k)) (ap (λ (l : List A). l ++ drop (k + 1) xs) (sym (take_more xs k d lt)) ∙ whole)
+      (first_stays Has (take k xs ++ get_or xs k d ∷ []) (drop (k + 1) xs) k first)
+
+pub none_at_all : {A : Type 0} (Has : A → Type 0) (xs : List A) (k : ℕ) → length xs ≤ k → IsFirst Has (take k xs) None → IsFirst Has xs None
+none_at_all {A = A} Has xs k le none = subst (λ (l : List A). IsFirst Has l None) (take_all k xs le) none
+
+-- both ends of an image, as they are read
+module _ (image : List ℕ) (sectors n m : ℕ) (first last : Bool) (size : sectors_of image ≡ sectors) (n_is : n ≡ 512 * 2048) (m_is : m ≡ 512 * 2048)
+    (first_is : first ≡ are_zero (take (512 * 63) (slice_range image 0 (0 + n))))
+    (last_is : last ≡ are_zero (take (512 * 2048) (slice_range image (512 * (sectors - 2048)) (512 * (sectors - 2048) + m)))) where
+  front : first ≡ are_zero (slice_range image 0 (512 * 63))
+  front = first_is ∙ ap (λ (k : ℕ). are_zero (take (512 * 63) (slice_range image 0 (0 + k)))) n_is ∙ ap are_zero (take-take (512 * 63) (512 * 2048) image (omega arith))
+
+  back : last ≡ are_zero (slice_range image (512 * (sectors_of image - 2048)) (512 * (sectors_of image - 2048) + 512 * 2048))
+  back =
+      let at : ℕ = 512 * (sectors - 2048) in
+      let whole : at + 512 * 2048 - at ≡ 512 * 2048 = omega arith in
+      let few : length (slice_range image at (at + 512 * 2048)) ≤ 512 * 2048 = omega (arith, whole, length-take (at + 512 * 2048 - at) (drop at image)) in
+      last_is ∙ ap (λ (k : ℕ). are_zero (take (512 * 2048) (slice_range image at (at + k)))) m_is
+      ∙ ap are_zero (take_all (512 * 2048) (slice_range image at (at + 512 * 2048)) few)
+      ∙ ap (λ (k : ℕ). are_zero (slice_range image (512 * (k - 2048)) (512 * (k - 2048) + 512 * 2048))) (sym size)
+
+  both_ends : (first && last) ≡ is_empty image
+  unfolding is_empty
+  both_ends = ap (λ (b : Bool). b && last) front ∙ ap (λ (b : Bool). are_zero (slice_range image 0 (512 * 63)) && b) back
+
+  pub last_decides : first ≡ true → last ≡ is_empty image
+  last_decides is = sym (ap (λ (b : Bool). b && last) is) ∙ both_ends
+
+  pub first_decides : first ≡ false → first ≡ is_empty image
+  first_decides is = is ∙ sym (ap (λ (b : Bool). b && last) is) ∙ both_ends
+
+-- ---- all disks
+
+-- what was found of labels is true of those of the new group
+pub twins_of : (labels : List Label) (sizes guids : List ℕ) (found answer : Option (ℕ × ℕ)) → AreTwins labels found → found ≡ answer → labels ≡ new_labels sizes guids → AreTwins (new_labels sizes guids) answer
+twins_of labels sizes guids found answer twins is same = subst (λ (o : Option (ℕ × ℕ)). AreTwins (new_labels sizes guids) o) is (subst (λ (l : List Label). AreTwins l found) same twins)
+
+-- where none is too small, each is large enough
+pub all_large : (sizes : List ℕ) → IsFirst IsSmall sizes None → (disk : ℕ) → disk < length sizes → 2112 ≤ slice_index sizes disk
+all_large (size ∷ sizes) none zero lt = elim (cases_lt size 2112) [ inl less ↦ absurd (none.0 less) | inr ge ↦ ge ]
+all_large (size ∷ sizes) none (suc disk) lt = all_large sizes none.1 disk (omega (arith, lt))
+all_large [] none disk lt = absurd (omega (arith, lt))
+
+-- where none is full, each is empty
+pub all_clear : (images : List (List ℕ)) → IsFirst IsFull images None → (disk : ℕ) → disk < length images → is_empty (get_or images disk []) ≡ true
+all_clear (x ∷ images) none zero lt = true_from_ne_false (is_empty x) none.0
+all_clear (x ∷ images) none (suc disk) lt = all_clear images none.1 disk (omega (arith, lt))
+all_clear [] none disk lt = absurd (omega (arith, lt))
+
+-- ---- What is known of empty disks, on which nothing is pending.
+
+-- ---- there is one fault
+
+fault_of_twins : Option (ℕ × ℕ) → Option InitFault
+fault_of_twins None = None
+fault_of_twins (Some pair) = Some (SameGuid pair.0 pair.1)
+
+module _ (guids sizes : List ℕ) (images : List (List ℕ)) where
+  twins : (a b : Option (ℕ × ℕ)) → AreTwins (new_labels sizes guids) a → AreTwins (new_labels sizes guids) b → a ≡ b
+  twins a b x y = one_twins (new_labels sizes guids) a b x y
+
+  pub one_fault : (a b : Option InitFault) → IsFaultOf guids sizes images a → IsFaultOf guids sizes images b → a ≡ b
+  unfolding fault_of_twins
+  one_fault (Some (SameGuid i j)) (Some (SameGuid k l)) x y = ap fault_of_twins (twins (Some (i, j)) (Some (k, l)) x y)
+  one_fault (Some (SameGuid i j)) (Some (TooSmall k)) x y = absurd (let e = twins (Some (i, j)) None x y.0 in cc)
+  one_fault (Some (SameGuid i j)) (Some (NotEmpty k)) x y = absurd (let e = twins (Some (i, j)) None x y.0 in cc)
+  one_fault (Some (SameGuid i j)) None x y = absurd (let e = twins (Some (i, j)) None x y.0 in cc)
+  one_fault (Some (TooSmall i)) (Some (SameGuid k l)) x y = absurd (let e = twins None (Some (k, l)) x.0 y in cc)
+  one_fault (Some (TooSmall i)) (Some (TooSmall k)) x y = (let e = first_one IsSmall sizes (Some i) (Some k) x.1 y.1 in cc)
+  one_fault (Some (TooSmall i)) (Some (NotEmpty k)) x y = absurd (let e = first_one IsSmall sizes (Some i) None x.1 y.1 in cc)
+  one_fault (Some (TooSmall i)) None x y = absurd (let e = first_one IsSmall sizes (Some i) None x.1 y.1 in cc)
+  one_fault (Some (NotEmpty i)) (Some (SameGuid k l)) x y = absurd (let e = twins None (Some (k, l)) x.0 y in cc)
+  one_fault (Some (NotEmpty i)) (Some (TooSmall k)) x y = absurd (let e = first_one IsSmall sizes None (Some k) x.1 y.1 in cc)
+  one_fault (Some (NotEmpty i)) (Some (NotEmpty k)) x y = (let e = first_one IsFull images (Some i) (Some k) x.2 y.2 in cc)
+  one_fault (Some (NotEmpty i)) None x y = absurd (let e = first_one IsFull images (Some i) None x.2 y.2 in cc)
+  one_fault None (Some (SameGuid k l)) x y = absurd (let e = twins None (Some (k, l)) x.0 y in cc)
+  one_fault None (Some (TooSmall k)) x y = absurd (let e = first_one IsSmall sizes None (Some k) x.1 y.1 in cc)
+  one_fault None (Some (NotEmpty k)) x y = absurd (let e = first_one IsFull images None (Some k) x.2 y.2 in cc)
+  one_fault None None x y = refl
+
+-- what a check of sizes and contents answers is said of the contents
+pub init_answers : (guids sizes : List ℕ) (images : List (List ℕ)) (result : Result (Unit {0}) InitError) → sizes ≡ map sectors_of images → ChecksDisks guids sizes images result
+    → InitAnswers guids images result
+init_answers guids sizes images (Ok checked) same is = subst (λ (l : List ℕ). IsFaultOf guids l images None) same is
+init_answers guids sizes images (Err (errors.Fault fault)) same is = subst (λ (l : List ℕ). IsFaultOf guids l images (Some fault)) same is
+init_answers guids sizes images (Err errors.Disk) same is = tt
+init_answers guids sizes images (Err errors.NoMemory) same is = tt
+
+-- where disks without a fault were written
+pub written_answers : (guids : List ℕ) (images : List (List ℕ)) (result : Result (Unit {0}) InitError) → IsInitFault guids images None → MayHaveWritten result → InitAnswers guids images result
+written_answers guids images (Ok made) none is = none
+written_answers guids images (Err (errors.Fault fault)) none is = absurd is
+written_answers guids images (Err errors.Disk) none is = tt
+written_answers guids images (Err errors.NoMemory) none is = tt
+
+-- ---- an empty image
+
+zero_at : (xs : List ℕ) (k : ℕ) → are_zero xs ≡ true → get_or xs k 0 ≡ 0
+zero_at [] k is = refl
+zero_at (x ∷ xs) zero is = grind (arith, nat_tests)
+zero_at (x ∷ xs) (suc k) is = grind (arith, nat_tests, zero_at xs k)
+
+range_zero : (image : List ℕ) (a b k : ℕ) → are_zero (slice_range image a b) ≡ true → a + k < b → slice_index image (a + k) ≡ 0
+range_zero image a b k is lt = sym (get_or-take (b - a) (drop a image) k 0 (omega (arith, lt)) ∙ get_or-drop a image k 0) ∙ zero_at (take (b - a) (drop a image)) k is
+
+pub front_zero : (image : List ℕ) → is_empty image ≡ true → (k : ℕ) → k < 512 * 63 → slice_index image k ≡ 0
+unfolding is_empty
+front_zero image is k lt =
+    let last = 512 * (sectors_of image - 2048) in
+    let e : k ≡ 0 + k = omega arith in
+    ap (λ (n : ℕ). slice_index image n) e
+    ∙ range_zero image 0 (512 * 63) k (and_parts (are_zero (slice_range image 0 (512 * 63))) (are_zero (slice_range image last (last + 512 * 2048))) is).0 (omega (arith, lt))
+
+pub last_zero : (image : List ℕ) → is_empty image ≡ true → (k : ℕ) → 512 * (sectors_of image - 2048) ≤ k → k < 512 * (sectors_of image - 2048) + 512 * 2048 → slice_index image k ≡ 0
+unfolding is_empty
+last_zero image is k low high =
+    let last : ℕ = 512 * (sectors_of image - 2048) in
+    let e : k ≡ last + (k - last) = omega (arith, low) in
+    ap (λ (n : ℕ). slice_index image n) e
+    ∙ range_zero image last (last + 512 * 2048) (k - last) (and_parts (are_zero (slice_range image 0 (512 * 63))) (are_zero (slice_range image last (last + 512 * 2048))) is).1 (omega (arith, low, high))
+
+-- ---- images without signature
+
+pub lack_first : (images : List (List ℕ)) → 0 < length images → IsUnsigned (image images 0) → LackSignature images
+lack_first [] lt un = absurd (omega (arith, lt))
+lack_first (x ∷ images) lt un = (0, (Err (0, NoSignature), unsigned_fault x un, refl))
+
+pub sizes_are : (host : Seen) → length host.content ≡ length host.sizes → ((disk : ℕ) → disk < length host.sizes → length (image host.content disk) / 512 ≡ slice_index host.sizes disk)
+    → host.sizes ≡ map sectors_of host.content
+sizes_are host counts lengths =
+    same_number_lists host.sizes (map sectors_of host.content) (sym (length-map host.content sectors_of ∙ counts))
+    (λ k lt. sym (get_or-map sectors_of host.content k [] 0 (omega (arith, lt, counts)) ∙ lengths k lt))
+
+module _ (host : Seen) (guids : List ℕ) (counts : length host.content ≡ length host.sizes) (lengths : (disk : ℕ) → disk < length host.sizes → length (image host.content disk) / 512 ≡ slice_index host.sizes disk)
+    (empty : IsInitFault guids host.content None) where
+  sizes : host.sizes ≡ map sectors_of host.content
+  sizes = sizes_are host counts lengths
+
+  pub apart : AreApart (new_labels host.sizes guids)
+  apart = subst (λ (l : List ℕ). AreApart (new_labels l guids)) (sym sizes) empty.0
+
+  pub large : (disk : ℕ) → disk < length host.sizes → 2112 ≤ slice_index host.sizes disk
+  large disk lt = all_large host.sizes (subst (λ (l : List ℕ). IsFirst IsSmall l None) (sym sizes) empty.1) disk lt
+
+  pub clear : (disk : ℕ) → disk < length host.sizes → is_empty (image host.content disk) ≡ true
+  clear disk lt = all_clear host.content empty.2 disk (omega (arith, lt, counts))
+
+  pub unsigned : (disk : ℕ) → disk < length host.sizes → IsUnsigned (image host.content disk)
+  unsigned disk lt = record {
+    enough = omega (arith, large disk lt, lengths disk lt);
+    unsigned = λ signed. absurd (let zero = front_zero (image host.content disk) (clear disk lt) 0x1FF (omega arith) in omega (arith, zero, signed));
+  }
+
+  module _ (nothing : NothingPending host) where
+    same_still : (disk : ℕ) (c : List ℕ) → disk < length host.sizes → host.may_leave disk c → SameAt (IsUntouched (slice_index host.sizes disk)) (image host.content disk) c
+    same_still disk c lt left =
+        subst (λ (x : List ℕ). SameAt (IsUntouched (slice_index host.sizes disk)) (image host.content disk) x) (sym (nothing disk lt c left)) (same_at_itself (IsUntouched (slice_index host.sizes disk)) (image host.content disk))
+
+    pub begins_writing : (db : Database) (labels : List Label) → length labels ≤ length host.sizes → IsWriting db labels (before_of host) 0 host
+    begins_writing db labels few = record {
+      sizes = refl;
+      said = refl;
+      few = few;
+      left = λ disk c lt left. record {
+        untouched = same_still disk c lt left;
+        unsigned = subst IsUnsigned (sym (nothing disk lt c left)) (unsigned disk lt);
+        ready = λ label at none. absurd (omega (arith, none));
+      };
+    }
+
+    -- the images at a moment before the writing
+    pub still_moment : (name : List ℕ) (guid : ℕ) → 0 < length host.sizes → (images : List (List ℕ)) (text : List ℕ) → Leaves host images × (text ≡ host.said)
+        → IsInitMoment name guid guids host images text
+    still_moment name guid some images text left = record {
+      opens = inl (lack_first images (omega (arith, some, left.0.one_each)) (subst IsUnsigned (sym (nothing 0 some (image images 0) (left.0.each 0 some))) (unsigned 0 some)));
+      untouched = record { count = left.0.one_each; each = λ disk lt. same_still disk (image images disk) lt (left.0.each disk lt) };
+      said = left.1;
+    }
+
+-- ---- A new group, from disks that are empty to disks that hold it.
 
 pub if_ok_both : {T E : Type 0} (r : Result T E) (P Q R : T → Type 0) → ((x : T) → P x → Q x → R x) → IfOk r P → IfOk r Q → IfOk r R
 if_ok_both (Ok x) P Q R f p q = f x p q
 if_ok_both (Err e) P Q R f p q = tt
-
--- a moment of what changes nothing and says nothing
-pub quiet_moment : (old new : Seen) → Still old new → Quiet old new → (images : List (List ℕ)) (text : List ℕ) → new.left_since old.clock images text → Leaves old images × (text ≡ old.said)
-quiet_moment old new still quiet images text left =
-    let m = still.moments images text left in
-    (m.0, begins_both old.said text m.1 (subst (λ (l : List ℕ). Begins text l) quiet.said m.2))
 
 module _ (name : List ℕ) (guid : ℕ) (guids sizes body : List ℕ) (keeps : words.AreInitWords name guids) (one_each : length guids ≡ length sizes) (is : IsNewBody name guid guids body) where
   abbrev labels : List Label

@@ -7,4 +7,3 @@ pub mod LabelLaws
 pub mod GivesLaws
 pub mod OkLaws
 pub mod WrittenLaws
-pub mod PlacedLaws

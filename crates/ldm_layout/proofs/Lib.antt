@@ -1,14 +1,4 @@
 pub mod PlaceLaws
 pub mod SortLaws
-pub mod RangeLaws
-pub mod TileLaws
-pub mod LeastLaws
-pub mod ColumnLaws
-pub mod ListLaws
-pub mod PlanLaws
-pub mod DraftLaws
 pub mod SpotLaws
 pub mod VolumeLaws
-pub mod ChildLaws
-pub mod LongerSpan
-pub mod StretchLaws

@@ -1,14 +1,40 @@
--- A stable sort by a number gives one list: it doesn't fall, and keeps the order of those of one number.
-use Rattle.std.proofs.Common.{◌≡◌, ℕ, zero, suc, ◌<◌, ◌≤◌, ◌==◌, ◌&&◌, not, inl, inr, Bool, true, false, cond, List, [], ◌∷◌, length, get_or, refl, ap, sym, subst, ◌∙◌, arith, leb}
-use Rattle.std.proofs.lemmas.Bool.{cases_lt, cases_order, and_from, and_left, and_right, cases_Bool, eq-eqb, ne_eqb, eqb-true, cond-true, cond-false, leb-true, leb-false}
-use Rattle.std.specs.List.{filter}
-use Rattle.std.specs.List.Sorted.{IsNonDecreasingBy, IsStableByKey}
+-- Lists of parts in their order: sorts by a number, the part of a list with one number, and the least of some numbers.
+use Rattle.std.proofs.Common.{◌≡◌, ℕ, ◌≤◌, min, List, [], ◌∷◌, length, get_or, take, drop, ◌-◌, refl, ap, ◌∙◌, arith, map, fold, zero, suc, ◌<◌, ◌==◌, ◌&&◌, not, inl, inr, Bool, true, false, cond, sym, subst, leb, ltb}
+use Rattle.std.proofs.lemmas.List.{take_rest}
+use Rattle.ldm_layout.specs.Parts.{least, insert_by, in_rising}
+use Rattle.std.proofs.lemmas.Bool.{cases_lt, cases_order, and_from, and_left, and_right, cases_Bool, eq-eqb, ne_eqb, eqb-true, cond-true, cond-false, leb-true, leb-false, ltb-true, ltb-false}
+use Rattle.std.specs.List.{filter, slice_range}
+use Rattle.std.specs.List.Sorted.{IsNonDecreasingBy, IsStableByKey, IsPartitionPoint}
 use Rattle.std.specs.Ordering.{is_lt, nat_cmp}
 use Rattle.std.specs.Cmp.{nat_cmp_is}
 use Rattle.std.specs.declared.cmp.Ordering.TheVariants.{Less, Equal}
 use Rattle.std.proofs.lemmas.List.Elements.{filter_agree}
-use Rattle.ldm_layout.specs.Parts.{insert_by, in_rising}
 use Rattle.ldm_layout.specs.declared.parts.Extent.{Extent}
+
+-- ---- The least of some numbers, as a fold, and that none is less.
+
+least_head : (a b : ℕ) (ns : List ℕ) → least (min a b ∷ ns) ≡ min a (least (b ∷ ns))
+least_head a b [] = refl
+least_head a b (n ∷ ns) = omega arith
+
+pub least_fold : {X : Type 0} (f : X → ℕ) (a : ℕ) (xs : List X) → fold (λ m x. min m (f x)) a xs ≡ least (a ∷ map f xs)
+least_fold f a [] = refl
+least_fold f a (x ∷ xs) = least_fold f (min a (f x)) xs ∙ least_head a (f x) (map f xs)
+
+-- of a list that isn't empty
+pub least_list : {X : Type 0} (f : X → ℕ) (xs : List X) (d : X) → 1 ≤ length xs → least (f (get_or xs 0 d) ∷ map f (drop 1 xs)) ≡ least (map f xs)
+least_list f [] d h = absurd (omega arith)
+least_list f (x ∷ xs) d h = refl
+
+-- what a walk from the first to the last finds
+pub least_whole : {X : Type 0} (f : X → ℕ) (xs ys : List X) (first d : X) (a r : ℕ) → 1 ≤ length xs → first ≡ get_or xs 0 d → a ≡ f first
+    → r ≡ fold (λ m x. min m (f x)) a (take (length xs - 1) (drop 1 xs)) → xs ≡ ys → r ≡ least (map f ys)
+least_whole {X} f xs ys first d a r some at start walked same =
+    walked ∙ (ap (λ (rest : List X). fold (λ m x. min m (f x)) a rest) (take_rest xs 1)
+    ∙ (ap (λ n. fold (λ m x. min m (f x)) n (drop 1 xs)) (start ∙ ap f at)
+    ∙ (least_fold f (f (get_or xs 0 d)) (drop 1 xs) ∙ (least_list f xs d some ∙ ap (λ (zs : List X). least (map f zs)) same))))
+
+-- ---- A stable sort by a number gives one list: it doesn't fall, and keeps the order of those of one number.
 
 -- the elements of one number
 abbrev pub of_number : {X : Type 0} → (X → ℕ) → ℕ → List X → List X
@@ -151,3 +177,65 @@ stable_numbers {X} n s has xs ys stable k =
     let agree : (z : X) → (n z == k) ≡ (not (is_lt (nat_cmp (n (s k)) (n z))) && not (is_lt (nat_cmp (n z) (n (s k))))) = λ z. ties_number (n (s k)) (n z) k (has k) in
     filter_agree (λ z. n z == k) (λ z. not (is_lt (nat_cmp (n (s k)) (n z))) && not (is_lt (nat_cmp (n z) (n (s k))))) agree ys
     ∙ (stable (s k) ∙ sym (filter_agree (λ z. n z == k) (λ z. not (is_lt (nat_cmp (n (s k)) (n z))) && not (is_lt (nat_cmp (n z) (n (s k))))) agree xs))
+
+-- ---- In a list that doesn't fall, those of one number stand side by side, between two places.
+
+-- below the first place the numbers are lower than q, from the second on they are higher, and between them they are q
+pub record IsRange {X : Type 0} (n : X → ℕ) (q : ℕ) (xs : List X) (i j : ℕ) : Type 0 where
+  pub ends : j ≤ length xs
+  pub starts : i ≤ length xs
+  pub low : (k : ℕ) (d : X) → k < i → n (get_or xs k d) < q
+  pub not_low : (k : ℕ) (d : X) → i ≤ k → k < length xs → q ≤ n (get_or xs k d)
+  pub not_high : (k : ℕ) (d : X) → k < j → n (get_or xs k d) ≤ q
+  pub high : (k : ℕ) (d : X) → j ≤ k → k < length xs → q < n (get_or xs k d)
+
+pub range_of_points : {X : Type 0} (n : X → ℕ) (q : ℕ) (xs : List X) (i j : ℕ) → i ≤ length xs → j ≤ length xs
+    → IsPartitionPoint (λ y. ltb (n y) q ≡ true) (λ y. ltb (n y) q ≡ false) xs i
+    → IsPartitionPoint (λ y. leb (n y) q ≡ true) (λ y. leb (n y) q ≡ false) xs j → IsRange n q xs i j
+range_of_points n q xs i j hi hj p r = record {
+  ends = hj;
+  starts = hi;
+  low = λ k d h. ltb-true _ _ (p.0 k d (omega arith) h);
+  not_low = λ k d le h. ltb-false _ _ (p.1 k d le h);
+  not_high = λ k d h. leb-true _ _ (r.0 k d (omega arith) h);
+  high = λ k d le h. leb-false _ _ (r.1 k d le h);
+}
+
+pub range_order : {X : Type 0} (n : X → ℕ) (q : ℕ) (xs : List X) (d : X) (i j : ℕ) → IsRange n q xs i j → i ≤ j
+range_order n q xs d i j r = elim (cases_lt j i) [
+  | inl lt ↦ absurd (let below : n (get_or xs j d) < q = r.low j d lt in
+      let within : j < length xs = (let s : i ≤ length xs = r.starts in omega arith) in
+      let above : q < n (get_or xs j d) = r.high j d (omega arith) within in omega arith)
+  | inr le ↦ le
+]
+
+tail_range : {X : Type 0} (n : X → ℕ) (q : ℕ) (x : X) (xs : List X) (i j a b : ℕ) → a ≡ i - 1 → b ≡ j - 1 → IsRange n q (x ∷ xs) i j → IsRange n q xs a b
+tail_range n q x xs i j a b e f r = let starts = r.starts in let ends = r.ends in record {
+  ends = omega arith;
+  starts = omega arith;
+  low = λ k d h. r.low (suc k) d (omega arith);
+  not_low = λ k d le h. r.not_low (suc k) d (omega arith) (omega arith);
+  not_high = λ k d h. r.not_high (suc k) d (omega arith);
+  high = λ k d le h. r.high (suc k) d (omega arith) (omega arith);
+}
+
+take_by : {X : Type 0} (a b : ℕ) (xs : List X) → a ≡ b → take a xs ≡ take b xs
+take_by a b xs e = ap (λ m. take m xs) e
+
+pub range_is : {X : Type 0} (n : X → ℕ) (q : ℕ) (xs : List X) (i j : ℕ) → IsRange n q xs i j → slice_range xs i j ≡ of_number n q xs
+range_is n q [] i j r = (let hi : i ≤ 0 = r.starts in let hj : j ≤ 0 = r.ends in
+    let zi : i ≡ 0 = omega arith in let zj : j ≡ 0 = omega arith in
+    ap (λ a. take (j - a) (drop a [])) zi ∙ ap (λ b. take (b - 0) []) zj)
+range_is n q (x ∷ xs) zero zero r =
+    let above : q < n x = r.high 0 x (omega arith) (omega arith) in
+    range_is n q xs 0 0 (tail_range n q x xs 0 0 0 0 (omega arith) (omega arith) r) ∙ sym (number_no n q x xs (λ e. omega arith))
+range_is n q (x ∷ xs) (suc i) zero r =
+    absurd (let below : n x < q = r.low 0 x (omega arith) in let above : q < n x = r.high 0 x (omega arith) (omega arith) in omega arith)
+range_is n q (x ∷ xs) zero (suc j) r =
+    let here : n x ≡ q = (let ge : q ≤ n x = r.not_low 0 x (omega arith) (omega arith) in let le : n x ≤ q = r.not_high 0 x (omega arith) in omega arith) in
+    let more : suc j - 0 ≡ suc (j - 0) = omega arith in
+    take_by (suc j - 0) (suc (j - 0)) (x ∷ xs) more ∙ (ap (λ ys. x ∷ ys) (range_is n q xs 0 j (tail_range n q x xs 0 (suc j) 0 j (omega arith) (omega arith) r)) ∙ sym (number_yes n q x xs here))
+range_is n q (x ∷ xs) (suc i) (suc j) r =
+    let below : n x < q = r.low 0 x (omega arith) in
+    let gap : suc j - suc i ≡ j - i = omega arith in
+    take_by (suc j - suc i) (j - i) (drop i xs) gap ∙ (range_is n q xs i j (tail_range n q x xs (suc i) (suc j) i j (omega arith) (omega arith) r) ∙ sym (number_no n q x xs (λ e. omega arith)))

@@ -1,20 +1,235 @@
--- Each sector of a volume has a spot of its own in each copy: a partition, and an offset inside it. No parity has one of these.
-use Rattle.std.proofs.Common.{◌≡◌, ℕ, zero, suc, ◌+◌, ◌-◌, ◌*◌, ◌/◌, ◌%◌, ◌<◌, ◌≤◌, inl, inr, true, false, List, [], ◌∷◌, length, get_or, refl, ap, sym, subst, ◌∙◌, arith, nat_le, nat_lt, Option, Some, None, find, slice_get, sum_by}
-use Rattle.std.specs.List.{All}
+-- Where the sectors of a layout without faults lie: each at a spot of its own in each copy, inside a partition, and side by side with the next.
+use Rattle.std.proofs.Common.{◌≡◌, ℕ, zero, suc, ◌+◌, ◌^◌, ◌<◌, ◌≤◌, List, [], ◌∷◌, length, get_or, map, refl, ap, arith, Option, Some, slice_get, ◌==◌, ◌&&◌, not, Bool, true, false, sym, subst, nat_le, None, inl, inr, drop, ◌∙◌, nat_lt, find, sum_by, ◌-◌, ◌*◌, ◌/◌, ◌%◌, min, cond, add_assoc}
 use Rattle.std.specs.Option.{option_map}
-use Rattle.std.proofs.lemmas.Bool.{cases_lt, and_parts, and_from, and_right, leb-true, ltb-true, le-leb, lt-ltb, le-ltb, cond-true, cond-false}
-use Rattle.std.proofs.lemmas.List.Sums.{sum_by-cons}
-use Rattle.ldm_group.proofs.LookLaws.{find_there}
-use Rattle.ldm_layout.proofs.ColumnLaws.{sizes, least_at, get_at, some_columns}
-use Rattle.ldm_layout.proofs.PlaceLaws.{stripe_inside, stripe_apart, raid5_inside, raid5_apart, no_parity, one_parity}
-use Rattle.ldm_layout.proofs.PlanLaws.{PlexFacts}
-use Rattle.ldm_layout.proofs.TileLaws.{tiles_zero, first_tile}
-use Rattle.ldm_layout.specs.Layouts.{Layout, is_tiled, fewest, plex_capacity, covers, tile_spot, stripe_spot, raid5_spot, parity_spot, plex_spot, parity_at}
-use Rattle.ldm_layout.specs.Parts.{tiles, tiles_from, rises_from, least}
+use Rattle.ldm_layout.specs.Answers.{AllEnd, IsPlan, IsPlexOf}
+use Rattle.ldm_layout.specs.Layouts.{place_at, Layout, is_tiled, has_gap, lacks_chunk, lacks_columns, has_columns, is_short, fewest, plex_capacity, capacity_of, layout_fault, covers, tile_spot, stripe_spot, raid5_spot, parity_spot, plex_spot, parity_at, place_in}
+use Rattle.ldm_layout.specs.Parts.{least, tiles, rises_from, tiles_from}
 use Rattle.ldm_layout.specs.Places.{stripe_capacity, stripe_column, stripe_offset, raid5_capacity, raid5_row, parity_column, raid5_column, raid5_offset}
 use Rattle.ldm_layout.specs.declared.parts.Extent.{Extent}
+use Rattle.ldm_layout.specs.declared.shape.Place.{Place}
+use Rattle.std.specs.List.{list_all, All}
+use Rattle.std.proofs.lemmas.Bool.{and_parts, leb-true, ltb-false, eqb-false, cases_lt, and_from, and_right, eqb-true, lt-ltb, le-ltb, le-leb, cond-true, cond-false, leb-false, ltb-true, not-false, not_from_false}
+use Rattle.ldm_bytes.specs.Tables as tables
+use Rattle.ldm_layout.specs.declared.shape.LayoutFault.{LayoutFault}
+use Rattle.ldm_layout.specs.declared.shape.LayoutFault.TheVariants.{Gap, Chunk, Columns, Short}
+use Rattle.std.specs.List.Sorted.{IsNonDecreasingBy, IsPartitionPoint}
+use Rattle.std.proofs.lemmas.List.Sums.{sum_by-cons, AllPass-from_list_all}
+use Rattle.ldm_group.proofs.LookLaws.{find_there}
+use Rattle.ldm_layout.proofs.PlaceLaws.{stripe_inside, stripe_apart, raid5_inside, raid5_apart, no_parity, one_parity}
 use Rattle.ldm_layout.specs.declared.shape.Shape.{Shape}
 use Rattle.ldm_layout.specs.declared.shape.Shape.TheVariants.{Span, Stripe, Mirror, Raid5}
+use Rattle.std.specs.Prelude.{option_and_then}
+use Rattle.std.proofs.lemmas.Nat.{div-add-mod', div-mul-add, mod-mul-add}
+use Rattle.ldm_layout.specs.Columns.{columns_of, own_column, column_spot, column_in, moved, IsStretch}
+use Rattle.std.proofs.lemmas.Option.{slice_get-get_or}
+
+-- ---- Columns: none is smaller than the least, and the sectors of a volume lie inside them.
+
+abbrev pub sizes : List Extent → List ℕ
+sizes es = map (λ e. e.size) es
+
+-- the least is at most each
+pub least_at : {X : Type 0} (f : X → ℕ) (xs : List X) (i : ℕ) (d : X) → i < length xs → least (map f xs) ≤ f (get_or xs i d)
+least_at f [] i d h = absurd (omega arith)
+least_at f (x ∷ []) zero d h = omega arith
+least_at f (x ∷ []) (suc i) d h = absurd (omega arith)
+least_at f (x ∷ (y ∷ xs)) zero d h = omega arith
+least_at f (x ∷ (y ∷ xs)) (suc i) d h = (let rest : least (map f (y ∷ xs)) ≤ f (get_or (y ∷ xs) i d) = least_at f (y ∷ xs) i d (omega arith) in omega arith)
+
+-- the sector at an offset of the partition at an index
+abbrev pub at_index : List Extent → ℕ → ℕ → Extent → Place
+at_index es i o d = record { disk = (get_or es i d).disk; sector = (get_or es i d).start + o }
+
+pub place_there : (es : List Extent) (i o : ℕ) (d : Extent) → i < length es → option_map place_at (option_map {U = Extent × ℕ} (λ e. (e, o)) (slice_get es i)) ≡ Some (at_index es i o d)
+place_there es i o d h = ap (λ (g : Option Extent). option_map place_at (option_map {U = Extent × ℕ} (λ e. (e, o)) g)) (slice_get-get_or es i d h)
+
+-- an offset below the least size stays within the numbers of the format
+pub ends_there : (es : List Extent) (i o : ℕ) (d : Extent) → AllEnd es → i < length es → o < least (sizes es) → (get_or es i d).start + o < 2 ^ 64
+ends_there es i o d ends h lt =
+    let low : least (sizes es) ≤ (get_or es i d).size = least_at (λ e. e.size) es i d h in
+    let end : (get_or es i d).start + (get_or es i d).size < 2 ^ 64 = ends i d h in
+    omega arith
+
+-- only a volume with columns has sectors
+pub some_columns : (k u m x : ℕ) → x < stripe_capacity k u m → 0 < k
+some_columns zero u m x h = absurd (grind arith)
+some_columns (suc k) u m x h = omega arith
+
+abbrev pub none : Extent
+none = record { component = 0; disk = 0; start = 0; size = 0; offset = 0; index = 0 }
+
+-- ---- What a layout without faults has.
+
+not_first : (f : LayoutFault) (b : Bool) (rest : List (LayoutFault × Bool)) → tables.first_fault ((f, b) ∷ rest) ≡ None → (b ≡ false) × (tables.first_fault rest ≡ None)
+not_first f true rest h = absurd cc
+not_first f false rest h = (refl, h)
+
+-- without faults no test holds
+pub record HasNone (l : Layout) : Type 0 where
+  pub gap : has_gap l ≡ false
+  pub chunk : lacks_chunk l ≡ false
+  pub columns : lacks_columns l ≡ false
+  pub short : is_short l ≡ false
+
+pub has_none : (l : Layout) → layout_fault l ≡ None → HasNone l
+has_none l h =
+    let one = not_first Gap (has_gap l) ((Chunk, lacks_chunk l) ∷ (Columns, lacks_columns l) ∷ (Short, is_short l) ∷ []) h in
+    let two = not_first Chunk (lacks_chunk l) ((Columns, lacks_columns l) ∷ (Short, is_short l) ∷ []) one.1 in
+    let three = not_first Columns (lacks_columns l) ((Short, is_short l) ∷ []) two.1 in
+    let four = not_first Short (is_short l) [] three.1 in
+    record { gap = one.0; chunk = two.0; columns = three.0; short = four.0 }
+
+columns_parts : (l : Layout) (es : List Extent) → has_columns l es ≡ true → (fewest l.shape ≤ length es) × (rises_from 0 es ≡ true)
+columns_parts l es h =
+    let rest = and_parts (nat_le (fewest l.shape) (length es)) (rises_from 0 es) (and_parts (l.columns == length es) (nat_le (fewest l.shape) (length es) && rises_from 0 es) h).1 in
+    (leb-true (fewest l.shape) (length es) rest.0, rest.1)
+
+-- what a component of a layout without faults has
+pub record PlexFacts (l : Layout) (es : List Extent) : Type 0 where
+  pub tiled : is_tiled l.shape ≡ true → tiles es ≡ true
+  pub chunked : is_tiled l.shape ≡ false → 0 < l.chunk
+  pub columned : is_tiled l.shape ≡ false → fewest l.shape ≤ length es
+  pub rises : is_tiled l.shape ≡ false → rises_from 0 es ≡ true
+  pub holds : l.size ≤ plex_capacity l.shape l.chunk es
+
+pub plex_facts : (l : Layout) (k : ℕ) (d : List Extent) → layout_fault l ≡ None → k < length l.plexes → PlexFacts l (get_or l.plexes k d)
+plex_facts l k d sound h =
+    let none = has_none l sound in
+    let es = get_or l.plexes k d in
+    let columned : is_tiled l.shape ≡ false → ((fewest l.shape ≤ length es) × (rises_from 0 es ≡ true)) = λ e. columns_parts l es
+    (AllPass-from_list_all (has_columns l) l.plexes (not-false (list_all (has_columns l) l.plexes) (rw (not_from_false (is_tiled l.shape) e) at none.columns)) k d h) in
+    record {
+      tiled = λ e. AllPass-from_list_all tiles l.plexes (not-false (list_all tiles l.plexes) (rw e at none.gap)) k d h;
+      chunked = λ e. (let some = eqb-false l.chunk 0 (rw e at none.chunk) in omega arith);
+      columned = λ e. (columned e).0;
+      rises = λ e. (columned e).1;
+      holds = (let whole : l.size ≤ capacity_of l = ltb-false (capacity_of l) l.size none.short in
+          let part : capacity_of l ≤ plex_capacity l.shape l.chunk es = least_at (plex_capacity l.shape l.chunk) l.plexes k d h in
+          omega arith);
+    }
+
+-- each component of a plan holds the volume
+pub plex_of_plan : (l : Layout) (k : ℕ) (d : List Extent) → IsPlan l → k < length l.plexes → IsPlexOf l (get_or l.plexes k d)
+plex_of_plan l k d plan h =
+    let facts = plex_facts l k d plan.sound h in
+    record { tiled = facts.tiled; chunked = facts.chunked; columned = facts.columned; holds = facts.holds; ends = plan.ends k d h }
+
+-- a volume with sectors has a component
+pub some_plex : (l : Layout) → IsPlan l → 0 < l.size → 0 < length l.plexes
+some_plex l plan some = go l.plexes refl
+  where
+    go : (ps : List (List Extent)) → l.plexes ≡ ps → 0 < length l.plexes
+    go [] e =
+        let whole : l.size ≤ capacity_of l = ltb-false (capacity_of l) l.size (has_none l plan.sound).short in
+        let nothing : capacity_of l ≡ 0 = ap (λ (ps : List (List Extent)). least (map (plex_capacity l.shape l.chunk) ps)) e in
+        absurd (omega (arith, whole, nothing, some))
+    go (p ∷ ps) e = subst (λ (qs : List (List Extent)). 0 < length qs) (sym e) (omega arith)
+
+-- ---- Partitions that tile: each sector below their total lies in one, the last that begins at it or before.
+
+-- the tiles from an index on begin at a place
+abbrev pub Walked : List Extent → ℕ → ℕ → Type 0
+Walked es i at = tiles_from 0 es ≡ tiles_from at (drop i es)
+
+pub tiles_zero : (es : List Extent) → tiles es ≡ true → tiles_from 0 es ≡ true
+tiles_zero [] h = absurd cc
+tiles_zero (e ∷ es) h = h
+
+-- the first tile begins at the place, and the others where it ends
+pub first_tile : (at : ℕ) (e : Extent) (es : List Extent) → tiles_from at (e ∷ es) ≡ true → (e.offset ≡ at) × (tiles_from (at + e.size) es ≡ true)
+first_tile at e es tiled =
+    let parts : ((e.offset == at) ≡ true) × (tiles_from (at + e.size) es ≡ true) = and_parts (e.offset == at) (tiles_from (at + e.size) es) tiled in
+    (eqb-true e.offset at parts.0, parts.1)
+
+-- no tile begins before them
+pub begins_behind : (at : ℕ) (es : List Extent) (k : ℕ) (d : Extent) → tiles_from at es ≡ true → k < length es → at ≤ (get_or es k d).offset
+begins_behind at [] k d tiled h = absurd (omega arith)
+begins_behind at (e ∷ es) zero d tiled h = (let first : (e.offset ≡ at) × (tiles_from (at + e.size) es ≡ true) = first_tile at e es tiled in omega arith)
+begins_behind at (e ∷ es) (suc k) d tiled h =
+    let later : at + e.size ≤ (get_or es k d).offset = begins_behind (at + e.size) es k d (first_tile at e es tiled).1 (omega arith) in
+    omega arith
+
+-- so they rise by what doesn't fall from a tile to one behind it
+pub tiles_rise : (n : Extent → ℕ) (at : ℕ) (es : List Extent) → ((e f : Extent) → e.offset + e.size ≤ f.offset → n e ≤ n f) → tiles_from at es ≡ true → IsNonDecreasingBy n es
+tiles_rise n at [] next tiled i j d le h = absurd (omega arith)
+tiles_rise n at (e ∷ es) next tiled zero zero d le h = omega arith
+tiles_rise n at (e ∷ es) next tiled (suc i) zero d le h = absurd (omega arith)
+tiles_rise n at (e ∷ es) next tiled zero (suc j) d le h =
+    let first = first_tile at e es tiled in
+    let later = begins_behind (at + e.size) es j d first.1 (omega arith) in
+    next e (get_or es j d) (omega (arith, first.0, later))
+tiles_rise n at (e ∷ es) next tiled (suc i) (suc j) d le h = tiles_rise n (at + e.size) es next (first_tile at e es tiled).1 i j d (omega arith) (omega arith)
+
+-- where those before an index begin at a sector or before it, and the others behind it
+pub record IsPoint (x : ℕ) (es : List Extent) (i : ℕ) : Type 0 where
+  pub within : i ≤ length es
+  pub before : (k : ℕ) (d : Extent) → k < i → (get_or es k d).offset ≤ x
+  pub behind : (k : ℕ) (d : Extent) → i ≤ k → k < length es → x < (get_or es k d).offset
+
+-- the sector lies in the last of those before it
+pub record IsFound (x : ℕ) (es : List Extent) (i : ℕ) (d : Extent) : Type 0 where
+  pub place : ℕ
+  pub next : i ≡ suc place
+  pub there : place < length es
+  pub found : find (covers x) es ≡ Some (get_or es place d)
+  pub low : (get_or es place d).offset ≤ x
+  pub high : x < (get_or es place d).offset + (get_or es place d).size
+
+tail_point : (x : ℕ) (e : Extent) (es : List Extent) (i : ℕ) → IsPoint x (e ∷ es) (suc i) → IsPoint x es i
+tail_point x e es i p = record {
+  within = (let h : suc i ≤ length (e ∷ es) = p.within in omega arith);
+  before = λ k d h. p.before (suc k) d (omega arith);
+  behind = λ k d le h. p.behind (suc k) d (omega arith) (omega arith);
+}
+
+pub tile_found : (at x : ℕ) (es : List Extent) (i : ℕ) (d : Extent) → tiles_from at es ≡ true → at ≤ x → x < at + sum_by (λ e. e.size) es → IsPoint x es i → IsFound x es i d
+tile_found at x [] i d tiled low high p = absurd (omega arith)
+tile_found at x (e ∷ es) zero d tiled low high p =
+    absurd (let first : (e.offset ≡ at) × (tiles_from (at + e.size) es ≡ true) = first_tile at e es tiled in
+    let behind : x < e.offset = p.behind 0 d (omega arith) (omega arith) in omega arith)
+tile_found at x (e ∷ es) (suc i) d tiled low high p =
+    let first : (e.offset ≡ at) × (tiles_from (at + e.size) es ≡ true) = first_tile at e es tiled in
+    let total : sum_by (λ (f : Extent). f.size) (e ∷ es) ≡ e.size + sum_by (λ (f : Extent). f.size) es = sum_by-cons (λ (f : Extent). f.size) e es in
+    elim (cases_lt x (at + e.size)) [
+      | inl lt ↦ here first lt i p
+      | inr ge ↦ (let rest : IsFound x es i d = tile_found (at + e.size) x es i d first.1 ge (omega (arith, total, high)) (tail_point x e es i p) in
+          let misses : covers x e ≡ false = and_right (nat_le e.offset x) (nat_lt x (e.offset + e.size)) (le-ltb x (e.offset + e.size) (omega arith)) in
+          record {
+            place = suc rest.place;
+            next = ap suc rest.next;
+            there = (let h : rest.place < length es = rest.there in omega arith);
+            found = cond-false (covers x e) (Some e) (find (covers x) es) misses ∙ rest.found;
+            low = rest.low;
+            high = rest.high;
+          })
+    ]
+  where
+    here : (e.offset ≡ at) × (tiles_from (at + e.size) es ≡ true) → x < at + e.size → (j : ℕ) → IsPoint x (e ∷ es) (suc j) → IsFound x (e ∷ es) (suc j) d
+    here first lt zero q =
+        let hits : covers x e ≡ true = and_from (nat_le e.offset x) (nat_lt x (e.offset + e.size)) (le-leb e.offset x (omega arith)) (lt-ltb x (e.offset + e.size) (omega arith)) in
+        record {
+          place = 0;
+          next = refl;
+          there = omega arith;
+          found = cond-true (covers x e) (Some e) (find (covers x) es) hits;
+          low = omega arith;
+          high = omega arith;
+        }
+    here first lt (suc j) q =
+        absurd (let within : suc (suc j) ≤ length (e ∷ es) = q.within in
+        let later : at + e.size ≤ (get_or es 0 d).offset = begins_behind (at + e.size) es 0 d first.1 (omega arith) in
+        let before : (get_or es 0 d).offset ≤ x = q.before 1 d (omega arith) in omega arith)
+
+-- what a binary search for the last of them finds
+pub tile_of_points : (es : List Extent) (x i : ℕ) (d : Extent) → tiles es ≡ true → x < sum_by (λ e. e.size) es → i ≤ length es
+    → IsPartitionPoint (λ (e : Extent). nat_le e.offset x ≡ true) (λ (e : Extent). nat_le e.offset x ≡ false) es i → IsFound x es i d
+tile_of_points es x i d tiled high within points = tile_found 0 x es i d (tiles_zero es tiled) (omega arith) (omega (arith, high)) (record {
+  within = within;
+  before = λ k f h. leb-true _ _ (points.0 k f (omega arith) h);
+  behind = λ k f le h. leb-false _ _ (points.1 k f le h);
+})
+
+-- ---- Each sector of a volume has a spot of its own in each copy: a partition, and an offset inside it. No parity has one of these.
 
 pub some_same : {A : Type 0} {a b : A} → Some a ≡ Some b → a ≡ b
 some_same h = cc
@@ -116,8 +331,8 @@ rise_apart n (f ∷ fs) (suc i) (suc j) e up g h =
     ap suc (rise_apart (f.index + 1) fs i j e (and_parts (nat_le n f.index) (rises_from (f.index + 1) fs) up).1 g h)
 
 -- a spot in a column, by its index
-pub column_spot : (es : List Extent) (i o : ℕ) (e : Extent) (q : ℕ) → option_map {U = Extent × ℕ} (λ (f : Extent). (f, o)) (slice_get es i) ≡ Some (e, q) → (slice_get es i ≡ Some e) × (o ≡ q)
-column_spot es i o e q h = go (slice_get es i) refl h
+pub in_column : (es : List Extent) (i o : ℕ) (e : Extent) (q : ℕ) → option_map {U = Extent × ℕ} (λ (f : Extent). (f, o)) (slice_get es i) ≡ Some (e, q) → (slice_get es i ≡ Some e) × (o ≡ q)
+in_column es i o e q h = go (slice_get es i) refl h
   where
     go : (g : Option Extent) → slice_get es i ≡ g → option_map {U = Extent × ℕ} (λ (f : Extent). (f, o)) g ≡ Some (e, q) → (slice_get es i ≡ Some e) × (o ≡ q)
     go None is g = absurd cc
@@ -133,7 +348,7 @@ column_inside P es i o d all h lt =
     record {
       part = get_or es i d;
       offset = o;
-      is = ap (λ (g : Option Extent). option_map {U = Extent × ℕ} (λ f. (f, o)) g) (get_at es i d h);
+      is = ap (λ (g : Option Extent). option_map {U = Extent × ℕ} (λ f. (f, o)) g) (slice_get-get_or es i d h);
       has = all i d h;
       within = omega arith;
     }
@@ -145,8 +360,8 @@ stripe_spot_inside P es u x d hu all h =
 
 pub stripe_spot_apart : (es : List Extent) (u x y : ℕ) (e : Extent) (o : ℕ) → 0 < u → rises_from 0 es ≡ true → stripe_spot es u x ≡ Some (e, o) → stripe_spot es u y ≡ Some (e, o) → x ≡ y
 stripe_spot_apart es u x y e o hu up f g =
-    let a = column_spot es (stripe_column (length es) u x) (stripe_offset (length es) u x) e o f in
-    let b = column_spot es (stripe_column (length es) u y) (stripe_offset (length es) u y) e o g in
+    let a = in_column es (stripe_column (length es) u x) (stripe_offset (length es) u x) e o f in
+    let b = in_column es (stripe_column (length es) u y) (stripe_offset (length es) u y) e o g in
     stripe_apart (length es) u x y hu (rise_apart 0 es _ _ e up a.0 b.0) (a.1 ∙ sym b.1)
 
 pub raid5_spot_inside : (P : Extent → Type 0) (es : List Extent) (u x : ℕ) (d : Extent) → 0 < u → 2 ≤ length es → All P es → x < raid5_capacity (length es) u (least (sizes es)) → IsInside P (raid5_spot es u x)
@@ -162,23 +377,23 @@ parity_spot_inside P es u x d hu hk all h =
 
 pub raid5_spot_apart : (es : List Extent) (u x y : ℕ) (e : Extent) (o : ℕ) → 0 < u → 2 ≤ length es → rises_from 0 es ≡ true → raid5_spot es u x ≡ Some (e, o) → raid5_spot es u y ≡ Some (e, o) → x ≡ y
 raid5_spot_apart es u x y e o hu hk up f g =
-    let a = column_spot es (raid5_column (length es) u x) (raid5_offset (length es) u x) e o f in
-    let b = column_spot es (raid5_column (length es) u y) (raid5_offset (length es) u y) e o g in
+    let a = in_column es (raid5_column (length es) u x) (raid5_offset (length es) u x) e o f in
+    let b = in_column es (raid5_column (length es) u y) (raid5_offset (length es) u y) e o g in
     raid5_apart (length es) u x y hu hk (rise_apart 0 es _ _ e up a.0 b.0) (a.1 ∙ sym b.1)
 
 -- no sector lies at a parity's spot
 pub parity_spot_apart : (es : List Extent) (u x y : ℕ) (e : Extent) (o : ℕ) → 0 < u → 2 ≤ length es → rises_from 0 es ≡ true → raid5_spot es u x ≡ Some (e, o) → parity_spot es u y ≡ Some (e, o) → ⊥
 parity_spot_apart es u x y e o hu hk up f g =
-    let a = column_spot es (raid5_column (length es) u x) (raid5_offset (length es) u x) e o f in
-    let b = column_spot es (parity_column (length es) (raid5_row (length es) u y)) (raid5_offset (length es) u y) e o g in
+    let a = in_column es (raid5_column (length es) u x) (raid5_offset (length es) u x) e o f in
+    let b = in_column es (parity_column (length es) (raid5_row (length es) u y)) (raid5_offset (length es) u y) e o g in
     no_parity (length es) u x y hu hk (rise_apart 0 es _ _ e up a.0 b.0) (a.1 ∙ sym b.1)
 
 -- two sectors with one parity are in one row of chunks, at one offset in their chunks
 pub parity_spot_shared : (es : List Extent) (u x y : ℕ) (e : Extent) (o : ℕ) → 0 < u → rises_from 0 es ≡ true → parity_spot es u x ≡ Some (e, o) → parity_spot es u y ≡ Some (e, o)
     → (x / (u * (length es - 1)) ≡ y / (u * (length es - 1))) × (x % u ≡ y % u)
 parity_spot_shared es u x y e o hu up f g =
-    let a = column_spot es (parity_column (length es) (raid5_row (length es) u x)) (raid5_offset (length es) u x) e o f in
-    let b = column_spot es (parity_column (length es) (raid5_row (length es) u y)) (raid5_offset (length es) u y) e o g in
+    let a = in_column es (parity_column (length es) (raid5_row (length es) u x)) (raid5_offset (length es) u x) e o f in
+    let b = in_column es (parity_column (length es) (raid5_row (length es) u y)) (raid5_offset (length es) u y) e o g in
     (one_parity (length es) u x y hu).0 (rise_apart 0 es _ _ e up a.0 b.0, a.1 ∙ sym b.1)
 
 -- and the other way round
@@ -238,3 +453,126 @@ plex_beside Raid5 u es x y e o chunked columned rises f g =
 -- no sector of the component lies at a parity's spot
 pub parity_beside : (l : Layout) (es : List Extent) (x y : ℕ) (e : Extent) (o : ℕ) → PlexFacts l es → plex_spot l.shape l.chunk es x ≡ Some (e, o) → parity_at l.shape l.chunk es y ≡ Some (e, o) → ⊥
 parity_beside l es x y e o facts f g = plex_beside l.shape l.chunk es x y e o facts.chunked facts.columned facts.rises f g
+
+-- ---- Sectors that lie side by side: in one tile, and in one chunk.
+
+-- a spot, and the one so many sectors behind it
+abbrev pub spot_at : Extent → ℕ → Option (Extent × ℕ)
+spot_at e o = Some (e, o)
+
+abbrev pub along : ℕ → Option (Extent × ℕ) → Option (Extent × ℕ)
+along i spot = option_map (λ s. (s.0, s.1 + i)) spot
+
+spot_along : (g : Option Extent) (o p i : ℕ) → o ≡ p + i → option_map {U = Extent × ℕ} (λ (f : Extent). (f, o)) g ≡ along i (option_map {U = Extent × ℕ} (λ (f : Extent). (f, p)) g)
+spot_along None o p i e = refl
+spot_along (Some f) o p i e = ap (λ (n : ℕ). spot_at f n) e
+
+pub place_along : (spot : Option (Extent × ℕ)) (i : ℕ) → option_map place_at (along i spot) ≡ option_map (moved i) (option_map place_at spot)
+place_along None i = refl
+place_along (Some s) i =
+    let make : ℕ → Option Place = λ n. Some (record { disk = s.0.disk; sector = n }) in
+    ap make (sym (add_assoc s.0.start s.1 i))
+
+-- ---- tiles
+
+covering : (x : ℕ) (e : Extent) → e.offset ≤ x → x < e.offset + e.size → covers x e ≡ true
+covering x e low high = and_from (nat_le e.offset x) (nat_lt x (e.offset + e.size)) (le-leb e.offset x low) (lt-ltb x (e.offset + e.size) high)
+
+-- what a tile covers doesn't lie in an earlier one
+behind_first : (at : ℕ) (f : Extent) (fs : List Extent) (x y : ℕ) (e : Extent) → tiles_from at (f ∷ fs) ≡ true → find (covers x) fs ≡ Some e → covers y e ≡ true → covers y f ≡ false
+behind_first at f fs x y e tiled hit cover =
+    let first : (f.offset ≡ at) × (tiles_from (at + f.size) fs ≡ true) = first_tile at f fs tiled in
+    let there = (find_there (covers x) fs e hit).0 in
+    let later : at + f.size ≤ (get_or fs there.0 e).offset = begins_behind (at + f.size) fs there.0 e first.1 there.1 in
+    let same : (get_or fs there.0 e).offset ≡ e.offset = ap (λ (g : Extent). g.offset) there.2 in
+    let low : e.offset ≤ y = (covers_parts y e cover).0 in
+    and_right (nat_le f.offset y) (nat_lt y (f.offset + f.size)) (le-ltb y (f.offset + f.size) (omega arith))
+
+pub same_tile : (at : ℕ) (es : List Extent) (x y : ℕ) (e : Extent) → tiles_from at es ≡ true → find (covers x) es ≡ Some e → covers y e ≡ true → find (covers y) es ≡ Some e
+same_tile at [] x y e tiled hit cover = absurd cc
+same_tile at (f ∷ fs) x y e tiled hit cover = go (covers x f) refl hit (λ h. same_tile (at + f.size) fs x y e (first_tile at f fs tiled).1 h cover)
+  where
+    go : (b : Bool) → covers x f ≡ b → cond b (Some f) (find (covers x) fs) ≡ Some e → (find (covers x) fs ≡ Some e → find (covers y) fs ≡ Some e) → find (covers y) (f ∷ fs) ≡ Some e
+    go true is h rest = cond-true (covers y f) (Some f) (find (covers y) fs) (subst (λ (g : Extent). covers y g ≡ true) (sym (some_same h)) cover) ∙ h
+    go false is h rest = cond-false (covers y f) (Some f) (find (covers y) fs) (behind_first at f fs x y e tiled h cover) ∙ rest h
+
+pub tile_along : (es : List Extent) (x i : ℕ) (e : Extent) → tiles es ≡ true → find (covers x) es ≡ Some e → x + i < e.offset + e.size → tile_spot es (x + i) ≡ along i (tile_spot es x)
+tile_along es x i e tiled hit lt =
+    let low : e.offset ≤ x = (covers_parts x e (find_there (covers x) es e hit).1).0 in
+    let far : find (covers (x + i)) es ≡ Some e = same_tile 0 es x (x + i) e (tiles_zero es tiled) hit (covering (x + i) e (omega arith) lt) in
+    let off : x + i - e.offset ≡ x - e.offset + i = omega arith in
+    ap (λ (g : Option Extent). option_map {U = Extent × ℕ} (λ f. (f, x + i - f.offset)) g) far
+    ∙ ap (λ (o : ℕ). spot_at e o) off
+    ∙ sym (ap (λ (g : Option Extent). along i (option_map {U = Extent × ℕ} (λ f. (f, x - f.offset)) g)) hit)
+
+-- ---- chunks
+
+pub in_chunk : (u x i : ℕ) → x % u + i < u → ((x + i) / u ≡ x / u) × ((x + i) % u ≡ x % u + i)
+in_chunk u x i lt =
+    let e : x + i ≡ x / u * u + (x % u + i) = sym (ap (λ n. n + i) (div-add-mod' x u)) ∙ add_assoc (x / u * u) (x % u) i in
+    (ap (λ n. n / u) e ∙ div-mul-add (x / u) u (x % u + i) lt, ap (λ n. n % u) e ∙ mod-mul-add (x / u) u (x % u + i) lt)
+
+pub stripe_along : (es : List Extent) (u x i : ℕ) → x % u + i < u → stripe_spot es u (x + i) ≡ along i (stripe_spot es u x)
+stripe_along es u x i lt =
+    let both = in_chunk u x i lt in
+    let k = length es in
+    let off : stripe_offset k u (x + i) ≡ stripe_offset k u x + i =
+    ap (λ q. q / k * u + (x + i) % u) both.0 ∙ (ap (λ r. x / u / k * u + r) both.1 ∙ sym (add_assoc (x / u / k * u) (x % u) i)) in
+    ap (λ c. option_map {U = Extent × ℕ} (λ e. (e, stripe_offset k u (x + i))) (slice_get es c)) (ap (λ q. q % k) both.0)
+    ∙ spot_along (slice_get es (stripe_column k u x)) (stripe_offset k u (x + i)) (stripe_offset k u x) i off
+
+pub raid5_offset_along : (k u x i : ℕ) → x % u + i < u → raid5_offset k u (x + i) ≡ raid5_offset k u x + i
+raid5_offset_along k u x i lt =
+    let both = in_chunk u x i lt in
+    ap (λ q. q / (k - 1) * u + (x + i) % u) both.0 ∙ (ap (λ r. x / u / (k - 1) * u + r) both.1 ∙ sym (add_assoc (x / u / (k - 1) * u) (x % u) i))
+
+pub raid5_column_along : (k u x i : ℕ) → x % u + i < u → raid5_column k u (x + i) ≡ raid5_column k u x
+raid5_column_along k u x i lt = ap (λ q. (k - 1 - q / (k - 1) % k + 1 + q % (k - 1)) % k) (in_chunk u x i lt).0
+
+pub raid5_along : (es : List Extent) (u x i : ℕ) → x % u + i < u → raid5_spot es u (x + i) ≡ along i (raid5_spot es u x)
+raid5_along es u x i lt =
+    let k = length es in
+    ap (λ c. option_map {U = Extent × ℕ} (λ e. (e, raid5_offset k u (x + i))) (slice_get es c)) (raid5_column_along k u x i lt)
+    ∙ spot_along (slice_get es (raid5_column k u x)) (raid5_offset k u (x + i)) (raid5_offset k u x) i (raid5_offset_along k u x i lt)
+
+pub column_along : (es : List Extent) (u x i column : ℕ) → x % u + i < u → column_spot es u (x + i) column ≡ along i (column_spot es u x column)
+column_along es u x i column lt =
+    let k = length es in
+    spot_along (slice_get es column) (raid5_offset k u (x + i)) (raid5_offset k u x) i (raid5_offset_along k u x i lt)
+
+-- ---- a component
+
+pub chunked_along : (s : Shape) (u : ℕ) (es : List Extent) (x i : ℕ) → is_tiled s ≡ false → x % u + i < u → plex_spot s u es (x + i) ≡ along i (plex_spot s u es x)
+chunked_along Span u es x i tiled lt = absurd cc
+chunked_along Mirror u es x i tiled lt = absurd cc
+chunked_along Stripe u es x i tiled lt = stripe_along es u x i lt
+chunked_along Raid5 u es x i tiled lt = raid5_along es u x i lt
+
+-- the places of a copy are those of its component
+pub place_by : (l : Layout) (copy x : ℕ) (es : List Extent) → slice_get l.plexes copy ≡ Some es → place_in l x copy ≡ option_map place_at (plex_spot l.shape l.chunk es x)
+place_by l copy x es there = ap (λ (g : Option (List Extent)). option_map place_at (option_and_then (λ fs. plex_spot l.shape l.chunk fs x) g)) there
+
+in_rest : (u x i n : ℕ) → n ≡ u - x % u → i < n → x % u + i < u
+in_rest u x i n is lt = omega (arith, is, lt)
+
+-- a stretch in the component of a copy, whose layout is seen in two ways
+pub stretch_there : {l k : Layout} (x copy n m : ℕ) (es : List Extent) → l ≡ k → slice_get l.plexes copy ≡ Some es → x < l.size → 0 < n
+    → ((i : ℕ) → i < n → plex_spot k.shape k.chunk es (x + i) ≡ along i (plex_spot k.shape k.chunk es x)) → (is_tiled k.shape ≡ false → n ≡ k.chunk - x % k.chunk)
+    → m ≡ min n (k.size - x) → IsStretch l x copy m
+stretch_there {l} {k} x copy n m es same there within some spots chunk is =
+    subst (λ (j : Layout). IsStretch j x copy m) (sym same) (record {
+      some = omega (arith, is, some, low);
+      within = omega (arith, is, low);
+      places = λ i lt. place_by k copy (x + i) es at ∙ (ap (λ (s : Option (Extent × ℕ)). option_map place_at s) (spots i (omega (arith, is, lt)))
+          ∙ (place_along (plex_spot k.shape k.chunk es x) i ∙ sym (ap (λ (p : Option Place). option_map (moved i) p) (place_by k copy x es at))));
+      own = λ i lt raid5. raid5_column_along (length (columns_of k)) k.chunk x i (in_rest k.chunk x i n (chunk (ap is_tiled raid5)) (omega (arith, is, lt)));
+      columns = λ i column lt raid5.
+          ap (λ (s : Option (Extent × ℕ)). option_map place_at s) (column_along (columns_of k) k.chunk x i column (in_rest k.chunk x i n (chunk (ap is_tiled raid5)) (omega (arith, is, lt))))
+          ∙ place_along (column_spot (columns_of k) k.chunk x column) i;
+    })
+  where
+    low : x < k.size
+    low = subst (λ (j : Layout). x < j.size) same within
+
+    at : slice_get k.plexes copy ≡ Some es
+    at = subst (λ (j : Layout). slice_get j.plexes copy ≡ Some es) same there

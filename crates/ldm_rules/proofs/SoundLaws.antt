@@ -1,28 +1,342 @@
--- What a sound group has: no rule is broken, so its volumes have layouts, no two sectors have one place, and its partitions
--- end within the numbers of the format.
-use Rattle.std.proofs.Common.{◌≡◌, ℕ, ◌^◌, ◌<◌, not, Bool, true, false, List, [], ◌∷◌, refl, Option, Some, None, Result, Ok, Err, OnOk, Contains}
-use Rattle.std.specs.List.{All, filter_map}
-use Rattle.std.specs.Prelude.{count_by}
-use Rattle.ldm_bytes.specs.Tables.{first_of}
+-- What a sound group has: each rule is kept, its volumes have layouts, no two sectors have one place, and its partitions end in range.
+use Rattle.std.proofs.Common.{◌≡◌, ℕ, zero, suc, ◌<◌, ◌≤◌, ◌==◌, ◌&&◌, not, Bool, true, false, List, [], ◌∷◌, length, get_or, refl, ap, sym, subst, ◌∙◌, arith, Option, Some, None, Result, nat_le, Contains, ◌+◌, ◌-◌, ◌*◌, ◌/◌, Ok, ◌^◌, Err, OnOk, IfOk, IfSome}
+use Rattle.std.specs.List.{All, list_all, filter_map}
+use Rattle.std.specs.Option.{option_map, option_and_then, IsSomeAnd}
+use Rattle.std.specs.Result.{result_ok}
+use Rattle.std.proofs.lemmas.Bool.{and_parts, eqb-true}
+use Rattle.std.proofs.lemmas.List.{length-map, get_or-map}
+use Rattle.std.proofs.lemmas.Option.{slice_get-get_or}
 use Rattle.ldm_records.specs.declared.types.Record.{Record}
 use Rattle.ldm_records.specs.declared.types.Record.TheVariants as kinds
 use Rattle.ldm_records.specs.declared.types.Volume.{Volume}
+use Rattle.ldm_layout.proofs.SpotLaws.{none, HasNone, PlexFacts, plex_facts, has_none, IsInside, plex_spot_inside, parity_inside, plex_spot_apart, parity_beside, parity_spot_shared, parity_spot_same}
+use Rattle.ldm_layout.proofs.VolumeLaws.{IsLaidOut, laid_out_volume, laid_all, IsExtentOf, extents_are, plexes_are, one_plex, plex_once, one_volume}
+use Rattle.ldm_layout.specs.Layouts.{Layout, is_tiled, fewest, has_columns, plex_spot, parity_at, spot_in, parity_spot_in, place_in, parity_in, place_at, copies_by, copies_of, parity_spot}
+use Rattle.ldm_layout.specs.Parts.{plexes_of, extents_of, rises_from, extent_of}
+use Rattle.ldm_layout.specs.Volumes.{shape_of, laid_out, volume_place, parity_of, layout_of, volume_with}
+use Rattle.ldm_layout.specs.declared.parts.Extent.{Extent}
+use Rattle.ldm_layout.specs.declared.parts.Plex.{Plex}
+use Rattle.ldm_layout.specs.declared.shape.LayoutFault.{LayoutFault}
+use Rattle.ldm_layout.specs.declared.shape.Shape.{Shape}
+use Rattle.ldm_layout.specs.declared.shape.Shape.TheVariants.{Span, Stripe, Mirror, Raid5}
+use Rattle.ldm_rules.specs.Disjoint.{HasLayout, IsSector, IsRaid5Sector, LiesInOwn, IsSameRow, AllLaidOut, HasDisjointPlaces}
+use Rattle.ldm_records.specs.declared.types.Partition.{Partition}
 use Rattle.ldm_group.specs.Order.{Rising}
+use Rattle.ldm_layout.specs.declared.shape.Place.{Place}
+use Rattle.ldm_rules.proofs.GroupLaws.{one_spot, all_end, data_low, not_broken}
+use Rattle.ldm_rules.specs.Rules.{first_broken, meets_another, group_id, group_fault, has_twin_guid, has_namesake, lacks_volume, lacks_component, lacks_disk, miscounts_components, miscounts_partitions, fails, is_short_fault, has_no_sectors, passes_end, has_layout_fault, passes_layout}
+use Rattle.std.specs.Prelude.{count_by}
+use Rattle.ldm_bytes.specs.Tables.{first_of}
 use Rattle.ldm_group.specs.Looks.{is_at, is_disk_with, is_volume_named, children_of}
 use Rattle.ldm_label.specs.declared.Label.{Label}
-use Rattle.ldm_layout.specs.Layouts.{Layout}
 use Rattle.ldm_group.specs.Partitions.{EndsInRange}
-use Rattle.ldm_layout.specs.Volumes.{layout_of}
-use Rattle.ldm_layout.specs.declared.shape.LayoutFault.{LayoutFault}
-use Rattle.ldm_rules.proofs.EndLaws.{all_end, data_low}
-use Rattle.ldm_rules.proofs.GroupLaws.{not_broken}
-use Rattle.ldm_rules.proofs.DisjointLaws.{places_apart, places_beside, parities_shared, rows_share, place_inside, parity_place_inside}
-use Rattle.ldm_rules.specs.Disjoint.{HasLayout, AllLaidOut, HasDisjointPlaces}
 use Rattle.ldm_rules.specs.Ends.{data_size}
-use Rattle.ldm_rules.specs.Rules.{first_broken, group_id, group_fault, has_twin_guid, has_namesake, lacks_volume, lacks_component, lacks_disk, miscounts_components, miscounts_partitions, fails, is_short_fault, has_no_sectors, passes_end, meets_another, has_layout_fault, passes_layout}
 use Rattle.ldm_rules.specs.Table.{broken_at, first_broken_rule, name_rules, tree_rules, sector_rules, ChecksAs, IsSound}
 use Rattle.ldm_rules.specs.declared.fault.RuleError.{RuleError}
 use Rattle.ldm_rules.specs.declared.fault.RuleError.TheVariants.{Fault, NoMemory}
+use Rattle.ldm_layout.specs.Answers.{PlansAs}
+use Rattle.ldm_layout.specs.declared.shape.LayoutError.{LayoutError}
+use Rattle.ldm_layout.specs.declared.shape.LayoutError.TheVariants as layout_errors
+
+-- ---- What the spots of a volume's sectors stand on: a component of the volume, and a partition of it.
+
+abbrev pub no_plex : Plex
+no_plex = record { volume = 0; id = 0; layout = 0; striping = None }
+
+-- the component of a copy, and its partitions in their order
+abbrev pub plex_at : List Record → Volume → ℕ → Plex
+plex_at records v copy = get_or (plexes_of v.head.id records) copy no_plex
+
+abbrev pub parts_at : Layout → ℕ → List Extent
+parts_at l copy = get_or l.plexes copy []
+
+-- what is known of a copy
+pub record IsCopy (records : List Record) (v : Volume) (l : Layout) (copy : ℕ) : Type 0 where
+  pub listed : copy < length l.plexes
+  pub copied : copy < length (plexes_of v.head.id records)
+  pub facts : PlexFacts l (parts_at l copy)
+  pub own : All (IsExtentOf records (plex_at records v copy).id) (parts_at l copy)
+  pub size : l.size ≡ v.size
+
+some_plex : (ps : List Plex) (s : Shape) → shape_of ps ≡ Some s → 1 ≤ length ps
+some_plex [] s h = absurd cc
+some_plex (p ∷ ps) s h = omega arith
+
+copies_low : (s : Shape) (n : ℕ) → 1 ≤ n → copies_by s n ≤ n
+copies_low Span n h = h
+copies_low Stripe n h = h
+copies_low Mirror n h = omega arith
+copies_low Raid5 n h = h
+
+pub copy_facts : (records : List Record) (v : Volume) (l : Layout) (copy : ℕ) → HasLayout records v l → copy < copies_of l → IsCopy records v l copy
+copy_facts records v l copy has h =
+    let laid : IsLaidOut records v l = laid_out_volume records v l has.layout in
+    let plexes : List Plex = plexes_of v.head.id records in
+    let many : length l.plexes ≡ length (plexes_of v.head.id records) =
+    ap (λ (xs : List (List Extent)). length xs) laid.parts.plexes ∙ length-map (plexes_of v.head.id records) (λ (p : Plex). laid_out l.shape (extents_of p.id records)) in
+    let some : 1 ≤ length (plexes_of v.head.id records) = some_plex (plexes_of v.head.id records) l.shape laid.parts.shape in
+    let low : copies_of l ≤ length l.plexes = copies_low l.shape (length l.plexes) (omega arith) in
+    let listed : copy < length l.plexes = omega arith in
+    let copied : copy < length (plexes_of v.head.id records) = omega arith in
+    let parts : parts_at l copy ≡ laid_out l.shape (extents_of (plex_at records v copy).id records) =
+    ap (λ (xs : List (List Extent)). get_or xs copy []) laid.parts.plexes
+    ∙ get_or-map (λ (p : Plex). laid_out l.shape (extents_of p.id records)) (plexes_of v.head.id records) copy no_plex [] copied in
+    record {
+      listed = listed;
+      copied = copied;
+      facts = plex_facts l copy [] laid.sound listed;
+      own = subst (λ (es : List Extent). All (IsExtentOf records (plex_at records v copy).id) es) (sym parts) (laid_all (IsExtentOf records (plex_at records v copy).id) l.shape (extents_of (plex_at records v copy).id records) (extents_are records (plex_at records v copy).id));
+      size = laid.size;
+    }
+
+one_copy : (s : Shape) (n : ℕ) → s ≡ Raid5 → 0 < copies_by s n
+one_copy Span n h = absurd cc
+one_copy Stripe n h = absurd cc
+one_copy Mirror n h = absurd cc
+one_copy Raid5 n h = omega arith
+
+pub raid5_copy : (records : List Record) (v : Volume) (l : Layout) (x : ℕ) → IsRaid5Sector records v l x → IsCopy records v l 0
+raid5_copy records v l x s = copy_facts records v l 0 s.volume (one_copy l.shape (length l.plexes) s.raid5)
+
+-- ---- spots
+
+-- a spot in a partition of a copy of the volume
+pub record IsSpotOf (records : List Record) (v : Volume) (copy : ℕ) (spot : Option (Extent × ℕ)) : Type 0 where
+  pub there : Contains records (kinds.Volume v)
+  pub copied : copy < length (plexes_of v.head.id records)
+  pub inside : IsInside (IsExtentOf records (plex_at records v copy).id) spot
+
+pub spot_is : (l : Layout) (x copy : ℕ) → copy < length l.plexes → spot_in l x copy ≡ plex_spot l.shape l.chunk (parts_at l copy) x
+spot_is l x copy h = ap (λ (o : Option (List Extent)). option_and_then (λ es. plex_spot l.shape l.chunk es x) o) (slice_get-get_or l.plexes copy [] h)
+
+pub parity_spot_is : (l : Layout) (x : ℕ) → 0 < length l.plexes → parity_spot_in l x ≡ parity_at l.shape l.chunk (parts_at l 0) x
+parity_spot_is l x h = ap (λ (o : Option (List Extent)). option_and_then (λ es. parity_at l.shape l.chunk es x) o) (slice_get-get_or l.plexes 0 [] h)
+
+pub sector_spot : (records : List Record) (v : Volume) (l : Layout) (x copy : ℕ) → IsSector records v l x copy → IsSpotOf records v copy (spot_in l x copy)
+sector_spot records v l x copy s =
+    let here = copy_facts records v l copy s.volume s.copied in
+    let within : x < l.size = (let lt : x < v.size = s.within in let size : l.size ≡ v.size = here.size in omega arith) in
+    record {
+      there = s.volume.there;
+      copied = here.copied;
+      inside = subst (λ (o : Option (Extent × ℕ)). IsInside (IsExtentOf records (plex_at records v copy).id) o) (sym (spot_is l x copy here.listed))
+          (plex_spot_inside (IsExtentOf records (plex_at records v copy).id) l (parts_at l copy) x none here.facts here.own within);
+    }
+
+pub parity_spot_of : (records : List Record) (v : Volume) (l : Layout) (x : ℕ) → IsRaid5Sector records v l x → IsSpotOf records v 0 (parity_spot_in l x)
+parity_spot_of records v l x s =
+    let here = raid5_copy records v l x s in
+    let within : x < l.size = (let lt : x < v.size = s.within in let size : l.size ≡ v.size = here.size in omega arith) in
+    record {
+      there = s.volume.there;
+      copied = here.copied;
+      inside = subst (λ (o : Option (Extent × ℕ)). IsInside (IsExtentOf records (plex_at records v 0).id) o) (sym (parity_spot_is l x here.listed))
+          (parity_inside (IsExtentOf records (plex_at records v 0).id) l (parts_at l 0) x none s.raid5 here.facts here.own within);
+    }
+
+-- ---- places
+
+pub place_is : (records : List Record) (v : Volume) (l : Layout) (x copy : ℕ) → HasLayout records v l → volume_place records v x copy ≡ place_in l x copy
+place_is records v l x copy has = ap (λ (r : Result Layout LayoutFault). option_and_then (λ (m : Layout). place_in m x copy) (result_ok r)) has.layout
+
+pub parity_is : (records : List Record) (v : Volume) (l : Layout) (x : ℕ) → HasLayout records v l → parity_of records v x ≡ parity_in l x
+parity_is records v l x has = ap (λ (r : Result Layout LayoutFault). option_and_then (λ (m : Layout). parity_in m x) (result_ok r)) has.layout
+
+-- a spot of the volume is a place in its own partitions
+pub spot_in_own : (records : List Record) (v : Volume) (copy : ℕ) (spot : Option (Extent × ℕ)) → IsSpotOf records v copy spot → IsSomeAnd (option_map place_at spot) (LiesInOwn records v)
+spot_in_own records v copy spot s =
+    let own = plexes_are records v.head.id copy no_plex s.copied in
+    let e : Extent = s.inside.part in
+    let o : ℕ = s.inside.offset in
+    let part : IsExtentOf records (plex_at records v copy).id s.inside.part = s.inside.has in
+    let start : part.partition.start ≡ s.inside.part.start = ap (λ (f : Extent). f.start) part.is in
+    let size : part.partition.size ≡ s.inside.part.size = ap (λ (f : Extent). f.size) part.is in
+    let within : s.inside.offset < s.inside.part.size = s.inside.within in
+    let lies : LiesInOwn records v (place_at (s.inside.part, s.inside.offset)) = record {
+      component = own.component;
+      partition = part.partition;
+      component_there = own.there;
+      component_of = own.parent;
+      partition_there = part.there;
+      partition_of = part.parent ∙ ap (λ (p : Plex). p.id) (sym own.is);
+      disk = ap (λ (f : Extent). f.disk) (sym part.is);
+      start = omega arith;
+      end = omega arith;
+    } in
+    subst (λ (z : Option (Extent × ℕ)). IsSomeAnd (option_map place_at z) (LiesInOwn records v)) (sym s.inside.is) lies
+
+-- ---- columns
+
+all_at : {X : Type 0} (p : X → Bool) (xs : List X) (k : ℕ) (d : X) → list_all p xs ≡ true → k < length xs → p (get_or xs k d) ≡ true
+all_at p [] k d h lt = absurd (omega arith)
+all_at p (x ∷ xs) zero d h lt = (and_parts (p x) (list_all p xs) h).0
+all_at p (x ∷ xs) (suc k) d h lt = all_at p xs k d (and_parts (p x) (list_all p xs) h).1 (omega arith)
+
+untiled_holds : (s : Shape) (b : Bool) → s ≡ Raid5 → (not (is_tiled s) && not b) ≡ false → b ≡ true
+untiled_holds Span b h e = absurd cc
+untiled_holds Mirror b h e = absurd cc
+untiled_holds Stripe b h e = absurd cc
+untiled_holds Raid5 true h e = refl
+untiled_holds Raid5 false h e = absurd cc
+
+-- the columns that the component says are as many as its partitions
+pub columns_are : (l : Layout) → l.shape ≡ Raid5 → HasNone l → 0 < length l.plexes → l.columns ≡ length (parts_at l 0)
+columns_are l raid5 has h =
+    let all : list_all (has_columns l) l.plexes ≡ true = untiled_holds l.shape (list_all (has_columns l) l.plexes) raid5 has.columns in
+    let one : has_columns l (parts_at l 0) ≡ true = all_at (has_columns l) l.plexes 0 [] all h in
+    eqb-true l.columns (length (parts_at l 0))
+    (and_parts (l.columns == length (parts_at l 0)) (nat_le (fewest l.shape) (length (parts_at l 0)) && rises_from 0 (parts_at l 0)) one).0
+
+-- ---- In a sound group no two sectors have one place.
+
+some_same : {A : Type 0} {a b : A} → Some a ≡ Some b → a ≡ b
+some_same h = cc
+
+ok_same : {a b : Layout} {r : Result Layout LayoutFault} → r ≡ Ok a → r ≡ Ok b → a ≡ b
+ok_same h e = cc
+
+-- two spots at one place are of one copy of one volume, and one spot
+pub one_place : (records : List Record) (v w : Volume) (c d : ℕ) (s t : Option (Extent × ℕ)) → Rising records → first_broken (meets_another records) records ≡ None
+    → IsSpotOf records v c s → IsSpotOf records w d t → option_map place_at s ≡ option_map place_at t → (v ≡ w) × (c ≡ d) × (s ≡ t)
+one_place records v w c d s t up apart at_v at_w e =
+    let a = at_v.inside in
+    let b = at_w.inside in
+    let p : Partition = a.has.partition in
+    let q : Partition = b.has.partition in
+    let place : place_at (a.part, a.offset) ≡ place_at (b.part, b.offset) =
+    some_same (sym (ap (λ (z : Option (Extent × ℕ)). option_map place_at z) a.is) ∙ (e ∙ ap (λ (z : Option (Extent × ℕ)). option_map place_at z) b.is)) in
+    let disk : p.disk ≡ q.disk = ap (λ (f : Extent). f.disk) a.has.is ∙ (ap (λ (z : Place). z.disk) place ∙ ap (λ (f : Extent). f.disk) (sym b.has.is)) in
+    let sector : a.part.start + a.offset ≡ b.part.start + b.offset = ap (λ (z : Place). z.sector) place in
+    let start_p : p.start ≡ a.part.start = ap (λ (f : Extent). f.start) a.has.is in
+    let start_q : q.start ≡ b.part.start = ap (λ (f : Extent). f.start) b.has.is in
+    let size_p : p.size ≡ a.part.size = ap (λ (f : Extent). f.size) a.has.is in
+    let size_q : q.size ≡ b.part.size = ap (λ (f : Extent). f.size) b.has.is in
+    let in_p : a.offset < a.part.size = a.within in
+    let in_q : b.offset < b.part.size = b.within in
+    let low_p : a.offset < p.size = omega (arith, size_p, in_p) in
+    let low_q : b.offset < q.size = omega (arith, size_q, in_q) in
+    let sectors : p.start + a.offset ≡ q.start + b.offset = omega (arith, sector, start_p, start_q) in
+    let one : (p ≡ q) × (a.offset ≡ b.offset) = one_spot records p q a.offset b.offset up apart a.has.there b.has.there low_p low_q disk sectors in
+    let parts : a.part ≡ b.part = sym a.has.is ∙ (ap (λ (z : Partition). extent_of z) one.0 ∙ b.has.is) in
+    let one_a : Extent × ℕ = (a.part, a.offset) in
+    let one_b : Extent × ℕ = (b.part, b.offset) in
+    let pairs : one_a ≡ one_b = λ i. (parts i, one.1 i) in
+    let ids : (plex_at records v c).id ≡ (plex_at records w d).id = sym a.has.parent ∙ (ap (λ (z : Partition). z.parent) one.0 ∙ b.has.parent) in
+    let plexes : (plex_at records v c ≡ plex_at records w d) × (v.head.id ≡ w.head.id) = one_plex records v.head.id w.head.id (plex_at records v c) (plex_at records w d) up
+    (plexes_are records v.head.id c no_plex at_v.copied) (plexes_are records w.head.id d no_plex at_w.copied) ids in
+    let volumes : v ≡ w = one_volume records v w up at_v.there at_w.there plexes.1 in
+    let copied : d < length (plexes_of v.head.id records) = subst (λ (u : Volume). d < length (plexes_of u.head.id records)) (sym volumes) at_w.copied in
+    let there : plex_at records v d ≡ plex_at records v c = ap (λ (u : Volume). plex_at records u d) volumes ∙ sym plexes.0 in (
+      volumes,
+      plex_once records v.head.id c d (plex_at records v c) up (slice_get-get_or (plexes_of v.head.id records) c no_plex at_v.copied)
+          (slice_get-get_or (plexes_of v.head.id records) d no_plex copied ∙ ap (λ (z : Plex). Some z) there),
+      a.is ∙ (ap (λ (z : Extent × ℕ). Some z) pairs ∙ sym b.is),
+    )
+
+-- one volume has one layout
+one_layout : (records : List Record) (v w : Volume) (l m : Layout) → HasLayout records v l → HasLayout records w m → v ≡ w → m ≡ l
+one_layout records v w l m at_v at_w same = ok_same (ap (λ (u : Volume). layout_of records u) same ∙ at_w.layout) at_v.layout
+
+pub places_apart : (records : List Record) (v w : Volume) (l m : Layout) (x y c d : ℕ) → Rising records → first_broken (meets_another records) records ≡ None
+    → IsSector records v l x c → IsSector records w m y d → volume_place records v x c ≡ volume_place records w y d → (v ≡ w) × (x ≡ y) × (c ≡ d)
+places_apart records v w l m x y c d up apart at_x at_y e =
+    let spot_x = sector_spot records v l x c at_x in
+    let spot_y = sector_spot records w m y d at_y in
+    let one = one_place records v w c d (spot_in l x c) (spot_in m y d) up apart spot_x spot_y
+    (sym (place_is records v l x c at_x.volume) ∙ (e ∙ place_is records w m y d at_y.volume)) in
+    let layouts : m ≡ l = one_layout records v w l m at_x.volume at_y.volume one.0 in
+    let here = copy_facts records v l c at_x.volume at_x.copied in
+    let moved : spot_in l y c ≡ spot_in m y d = ap (λ (k : Layout). spot_in k y c) (sym layouts) ∙ ap (λ (k : ℕ). spot_in m y k) one.1 in
+    let first : plex_spot l.shape l.chunk (parts_at l c) x ≡ Some (spot_x.inside.part, spot_x.inside.offset) = sym (spot_is l x c here.listed) ∙ spot_x.inside.is in
+    let second : plex_spot l.shape l.chunk (parts_at l c) y ≡ Some (spot_x.inside.part, spot_x.inside.offset) =
+    sym (spot_is l y c here.listed) ∙ (moved ∙ (sym one.2 ∙ spot_x.inside.is)) in
+    (one.0, plex_spot_apart l (parts_at l c) x y spot_x.inside.part spot_x.inside.offset here.facts first second, one.1)
+
+pub places_beside : (records : List Record) (v w : Volume) (l m : Layout) (x y d : ℕ) → Rising records → first_broken (meets_another records) records ≡ None
+    → IsRaid5Sector records v l x → IsSector records w m y d → parity_of records v x ≡ volume_place records w y d → ⊥
+places_beside records v w l m x y d up apart at_x at_y e =
+    let spot_x = parity_spot_of records v l x at_x in
+    let spot_y = sector_spot records w m y d at_y in
+    let one = one_place records v w 0 d (parity_spot_in l x) (spot_in m y d) up apart spot_x spot_y
+    (sym (parity_is records v l x at_x.volume) ∙ (e ∙ place_is records w m y d at_y.volume)) in
+    let layouts : m ≡ l = one_layout records v w l m at_x.volume at_y.volume one.0 in
+    let here = raid5_copy records v l x at_x in
+    let moved : spot_in l y 0 ≡ spot_in m y d = ap (λ (k : Layout). spot_in k y 0) (sym layouts) ∙ ap (λ (k : ℕ). spot_in m y k) one.1 in
+    let parity : parity_at l.shape l.chunk (parts_at l 0) x ≡ Some (spot_x.inside.part, spot_x.inside.offset) = sym (parity_spot_is l x here.listed) ∙ spot_x.inside.is in
+    let sector : plex_spot l.shape l.chunk (parts_at l 0) y ≡ Some (spot_x.inside.part, spot_x.inside.offset) =
+    sym (spot_is l y 0 here.listed) ∙ (moved ∙ (sym one.2 ∙ spot_x.inside.is)) in
+    parity_beside l (parts_at l 0) y x spot_x.inside.part spot_x.inside.offset here.facts sector parity
+
+-- ---- parity
+
+raid5_untiled : (s : Shape) → s ≡ Raid5 → is_tiled s ≡ false
+raid5_untiled Span h = absurd cc
+raid5_untiled Mirror h = absurd cc
+raid5_untiled Stripe h = refl
+raid5_untiled Raid5 h = refl
+
+raid5_parity : (s : Shape) (u : ℕ) (es : List Extent) (x : ℕ) → s ≡ Raid5 → parity_at s u es x ≡ parity_spot es u x
+raid5_parity Span u es x h = absurd cc
+raid5_parity Mirror u es x h = absurd cc
+raid5_parity Stripe u es x h = absurd cc
+raid5_parity Raid5 u es x h = refl
+
+-- the parity of a sector, by the columns of its volume
+parity_by : (records : List Record) (v : Volume) (l : Layout) (x y : ℕ) → IsRaid5Sector records v l x → parity_spot_in l y ≡ parity_spot (parts_at l 0) l.chunk y
+parity_by records v l x y s =
+    let here = raid5_copy records v l x s in
+    parity_spot_is l y here.listed ∙ raid5_parity l.shape l.chunk (parts_at l 0) y s.raid5
+
+columns_of : (records : List Record) (v : Volume) (l : Layout) (x : ℕ) → IsRaid5Sector records v l x → l.columns ≡ length (parts_at l 0)
+columns_of records v l x s = columns_are l s.raid5 (has_none l (laid_out_volume records v l s.volume.layout).sound) (raid5_copy records v l x s).listed
+
+pub parities_shared : (records : List Record) (v w : Volume) (l m : Layout) (x y : ℕ) → Rising records → first_broken (meets_another records) records ≡ None
+    → IsRaid5Sector records v l x → IsRaid5Sector records w m y → parity_of records v x ≡ parity_of records w y → (v ≡ w) × IsSameRow l x y
+parities_shared records v w l m x y up apart at_x at_y e =
+    let spot_x = parity_spot_of records v l x at_x in
+    let spot_y = parity_spot_of records w m y at_y in
+    let one = one_place records v w 0 0 (parity_spot_in l x) (parity_spot_in m y) up apart spot_x spot_y
+    (sym (parity_is records v l x at_x.volume) ∙ (e ∙ parity_is records w m y at_y.volume)) in
+    let layouts : m ≡ l = one_layout records v w l m at_x.volume at_y.volume one.0 in
+    let here = raid5_copy records v l x at_x in
+    let untiled : is_tiled l.shape ≡ false = raid5_untiled l.shape at_x.raid5 in
+    let first : parity_spot (parts_at l 0) l.chunk x ≡ Some (spot_x.inside.part, spot_x.inside.offset) = sym (parity_by records v l x x at_x) ∙ spot_x.inside.is in
+    let second : parity_spot (parts_at l 0) l.chunk y ≡ Some (spot_x.inside.part, spot_x.inside.offset) =
+    sym (parity_by records v l x y at_x) ∙ (ap (λ (k : Layout). parity_spot_in k y) (sym layouts) ∙ (sym one.2 ∙ spot_x.inside.is)) in
+    let rows = parity_spot_shared (parts_at l 0) l.chunk x y spot_x.inside.part spot_x.inside.offset (here.facts.chunked untiled) (here.facts.rises untiled) first second in
+    let columns : l.columns ≡ length (parts_at l 0) = columns_of records v l x at_x in (
+      one.0,
+      record {
+        row = subst (λ (k : ℕ). x / (l.chunk * (k - 1)) ≡ y / (l.chunk * (k - 1))) (sym columns) rows.0;
+        offset = rows.1;
+      },
+    )
+
+pub rows_share : (records : List Record) (v w : Volume) (l m : Layout) (x y : ℕ) → IsRaid5Sector records v l x → IsRaid5Sector records w m y
+    → v ≡ w → IsSameRow l x y → parity_of records v x ≡ parity_of records w y
+rows_share records v w l m x y at_x at_y same row =
+    let here = raid5_copy records v l x at_x in
+    let untiled : is_tiled l.shape ≡ false = raid5_untiled l.shape at_x.raid5 in
+    let columns : l.columns ≡ length (parts_at l 0) = columns_of records v l x at_x in
+    let rows = subst (λ (k : ℕ). x / (l.chunk * (k - 1)) ≡ y / (l.chunk * (k - 1))) columns row.row in
+    let spots : parity_spot_in l x ≡ parity_spot_in l y = parity_by records v l x x at_x
+    ∙ (parity_spot_same (parts_at l 0) l.chunk x y (here.facts.chunked untiled) rows row.offset ∙ sym (parity_by records v l x y at_x)) in
+    parity_is records v l x at_x.volume
+    ∙ (ap (λ (z : Option (Extent × ℕ)). option_map place_at z) spots
+    ∙ (sym (parity_is records v l y at_x.volume) ∙ ap (λ (u : Volume). parity_of records u y) same))
+
+-- ---- inside
+
+pub place_inside : (records : List Record) (v : Volume) (l : Layout) (x copy : ℕ) → IsSector records v l x copy → IsSomeAnd (volume_place records v x copy) (LiesInOwn records v)
+place_inside records v l x copy s = subst (λ (z : Option Place). IsSomeAnd z (LiesInOwn records v)) (sym (place_is records v l x copy s.volume))
+    (spot_in_own records v copy (spot_in l x copy) (sector_spot records v l x copy s))
+
+pub parity_place_inside : (records : List Record) (v : Volume) (l : Layout) (x : ℕ) → IsRaid5Sector records v l x → IsSomeAnd (parity_of records v x) (LiesInOwn records v)
+parity_place_inside records v l x s = subst (λ (z : Option Place). IsSomeAnd z (LiesInOwn records v)) (sym (parity_is records v l x s.volume))
+    (spot_in_own records v 0 (parity_spot_in l x) (parity_spot_of records v l x s))
+
+-- ---- What a sound group has: no rule is broken, so its volumes have layouts, no two sectors have one place, and its partitions
+-- end within the numbers of the format.
 
 -- ---- the rules, each for itself
 
@@ -137,3 +451,26 @@ disjoint records labels up sound =
 
 pub ends_in_range : (records : List Record) (labels : List Label) → All (λ l. l.data_size < 2 ^ 64) labels → IsSound records labels → All EndsInRange records
 ends_in_range records labels low sound = all_end (data_size labels records) records (data_low labels records low) (sound_parts records labels sound).ends
+
+-- ---- The plan of a volume of a sound group.
+
+-- what is answered of the volume with its id is answered of the volume
+pub of_volume : (P : Volume → Type 0) (records : List Record) (v : Volume) → volume_with v.head.id records ≡ Some v → IfSome (volume_with v.head.id records) P → P v
+of_volume P records v again answers = subst (λ (o : Option Volume). IfSome o P) again answers
+
+pub planned : (records : List Record) (v : Volume) (result : Result Layout LayoutError) (plan : Layout) → PlansAs result (layout_of records v) → result ≡ Ok plan → layout_of records v ≡ Ok plan
+planned records v result plan plans is = subst (λ (r : Result Layout LayoutError). PlansAs r (layout_of records v)) is plans
+
+-- where all volumes have layouts, no plan is a fault
+pub no_fault : (records : List Record) (v : Volume) (result : Result Layout LayoutError) (error : LayoutError) (fault : LayoutFault) → AllLaidOut records → Contains records (kinds.Volume v)
+    → PlansAs result (layout_of records v) → result ≡ Err error → error ≡ layout_errors.Fault fault → ⊥
+no_fault records v result error fault laid_out there plans is fault_is =
+    let faulty : layout_of records v ≡ Err fault = subst (λ (r : Result Layout LayoutError). PlansAs r (layout_of records v)) (is ∙ ap (λ (e : LayoutError). Err e) fault_is) plans in
+    let good = laid_out v there in
+    let bad : Err fault ≡ Ok good.0 = sym faulty ∙ good.1.layout in
+    absurd cc
+
+pub planned_size : (records : List Record) (v : Volume) (result : Result Layout LayoutError) (plan : Layout) → volume_with v.head.id records ≡ Some v
+    → IfOk result (λ l. IfSome (volume_with v.head.id records) (λ w. l.size ≡ w.size)) → result ≡ Ok plan → plan.size ≡ v.size
+planned_size records v result plan again sizes is =
+    of_volume (λ w. plan.size ≡ w.size) records v again (subst (λ (r : Result Layout LayoutError). IfOk r (λ l. IfSome (volume_with v.head.id records) (λ w. l.size ≡ w.size))) is sizes)

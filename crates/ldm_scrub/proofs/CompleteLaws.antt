@@ -1,30 +1,32 @@
--- Where no disk of a volume is missing, all of them are there.
-use Rattle.std.proofs.Common.{◌≡◌, ℕ, ◌<◌, ◌==◌, ◌&&◌, Bool, true, false, List, [], length, get_or, refl, ap, sym, subst, ◌∙◌, arith, Option, Some, None, find, is_some, is_none, count_by, option_and_then, if◌then◌else◌, Contains}
-use Rattle.std.specs.Option.{option_map}
-use Rattle.std.proofs.lemmas.Bool.{eqb-true, eq-eqb}
-use Rattle.std.proofs.lemmas.List.Folds.{list_any_at}
+-- Which disks of a volume are missing, and that all are there where none is.
+use Rattle.std.proofs.Common.{◌≡◌, ℕ, ◌==◌, Bool, true, false, List, refl, ap, sym, subst, ◌∙◌, Option, Some, None, get_or, ◌<◌, ◌&&◌, [], length, arith, find, is_some, is_none, count_by, option_and_then, if◌then◌else◌}
+use Rattle.std.specs.List.{list_any, Contains}
+use Rattle.std.proofs.lemmas.Bool.{and_parts, eqb-true, eq-eqb, ne_eqb}
+use Rattle.std.proofs.lemmas.List.Folds.{list_any_none, list_any_at}
 use Rattle.ldm_records.specs.declared.types.Record.{Record}
 use Rattle.ldm_records.specs.declared.types.Record.TheVariants as kinds
+use Rattle.ldm_records.specs.declared.types.Component.{Component}
+use Rattle.ldm_group.specs.Looks.{by_id, is_at, disk_in}
+use Rattle.ldm_group.specs.Order.{Rising, kind_of, id_of}
+use Rattle.ldm_group.proofs.LookLaws.{find_there, found_again, none_found}
+use Rattle.ldm_layout.specs.Parts.{plex_of, plexes_of, is_partition_of}
+use Rattle.ldm_layout.specs.declared.parts.Plex.{Plex}
+use Rattle.ldm_layout.proofs.VolumeLaws.{plex_there, plexes_are, one_component, IsExtentOf}
+use Rattle.ldm_scrub.specs.Missing.{parent_in, owner_of, lies_on, has_part, is_missing, missing_of}
+use Rattle.std.specs.Option.{option_map}
 use Rattle.ldm_records.specs.declared.types.Volume.{Volume}
 use Rattle.ldm_records.specs.declared.types.Disk.{Disk}
 use Rattle.ldm_records.specs.declared.types.Partition.{Partition}
-use Rattle.ldm_group.specs.Order.{id_of}
-use Rattle.ldm_group.specs.Looks.{is_at, by_id, disk_in}
 use Rattle.ldm_group.proofs.KinLaws.{counted_there}
-use Rattle.ldm_group.proofs.LookLaws.{find_there, none_found}
-use Rattle.ldm_layout.proofs.ColumnLaws.{none, get_at}
-use Rattle.ldm_layout.proofs.VolumeLaws.{IsExtentOf}
+use Rattle.ldm_layout.proofs.SpotLaws.{none}
 use Rattle.ldm_layout.specs.Layouts.{Layout, is_tiled, place_at, copies_of, copies_by, place_in}
 use Rattle.ldm_layout.specs.Columns.{columns_of, column_spot, column_in}
-use Rattle.ldm_layout.specs.Parts.{plexes_of, is_partition_of}
 use Rattle.ldm_layout.specs.Places.{raid5_offset}
 use Rattle.ldm_layout.specs.declared.parts.Extent.{Extent}
-use Rattle.ldm_layout.specs.declared.parts.Plex.{Plex}
 use Rattle.ldm_layout.specs.declared.shape.Shape.{Shape}
 use Rattle.ldm_layout.specs.declared.shape.Shape.TheVariants.{Raid5}
 use Rattle.ldm_rules.proofs.GroupLaws.{not_broken}
-use Rattle.ldm_rules.proofs.SectorLaws.{copy_facts, sector_spot, plex_at, parts_at, no_plex}
-use Rattle.ldm_rules.proofs.SoundLaws.{sound_parts}
+use Rattle.ldm_rules.proofs.SoundLaws.{copy_facts, sector_spot, plex_at, parts_at, no_plex, sound_parts}
 use Rattle.ldm_rules.specs.Disjoint.{HasLayout}
 use Rattle.ldm_rules.specs.Present.{image_with, is_absent}
 use Rattle.ldm_rules.specs.Rules.{lacks_disk}
@@ -33,7 +35,57 @@ use Rattle.ldm_found.specs.Facts.{IsSoundGroup}
 use Rattle.ldm_found.specs.Labels.{image_of}
 use Rattle.ldm_dump.specs.Sources.{is_here}
 use Rattle.ldm_dump.specs.Redundant.{IsComplete}
-use Rattle.ldm_scrub.specs.Missing.{lies_on, has_part, is_missing, missing_of}
+use Rattle.std.proofs.lemmas.Option.{slice_get-get_or}
+
+-- ---- Which partitions are of a volume.
+
+-- the partition's component is one of the volume
+abbrev is_own : List Record → ℕ → ℕ → Bool
+is_own records volume parent = list_any (λ (plex : Plex). plex.id == parent) (plexes_of volume records)
+
+not_own : (records : List Record) (volume parent : ℕ) → ((c : Component) → Contains records (kinds.Component c) → c.head.id ≡ parent → c.parent ≡ volume → ⊥) → is_own records volume parent ≡ false
+not_own records volume parent none = list_any_none (λ (plex : Plex). plex.id == parent) (plexes_of volume records) (λ k d lt.
+    let plex = plexes_are records volume k d lt in
+    ne_eqb (get_or (plexes_of volume records) k d).id parent (λ e. none plex.component plex.there (ap (λ (q : Plex). q.id) plex.is ∙ e) plex.parent))
+
+own : (records : List Record) (volume parent : ℕ) (c : Component) → Contains records (kinds.Component c) → c.head.id ≡ parent → c.parent ≡ volume → is_own records volume parent ≡ true
+own records volume parent c there id is =
+    let at = plex_there records c there in
+    subst (λ (v : ℕ). is_own records v parent ≡ true) is
+    (list_any_at (λ (plex : Plex). plex.id == parent) (plexes_of c.parent records) at.0 (plex_of c) at.1
+    (ap (λ (q : Plex). q.id == parent) at.2 ∙ eq-eqb c.head.id parent id))
+
+abbrev pub is_some_of : ℕ → Option ℕ → Bool
+is_some_of volume (Some parent) = parent == volume
+is_some_of volume None = false
+
+pub owner_test : (records : List Record) (volume parent : ℕ) → Rising records → is_own records volume parent ≡ is_some_of volume (owner_of records parent)
+owner_test records volume parent up = go (by_id 4 parent records) refl
+  where
+    none_has : (o : Option Record) → by_id 4 parent records ≡ o → ((c : Component) → o ≡ Some (kinds.Component c) → ⊥) → is_own records volume parent ≡ false
+    none_has o e apart = not_own records volume parent (λ c there id is.
+        apart c (sym e ∙ (ap (λ (n : ℕ). by_id 4 n records) (sym id) ∙ found_again records (kinds.Component c) up there)))
+
+    of_component : (c : Component) → by_id 4 parent records ≡ Some (kinds.Component c) → is_own records volume parent ≡ (c.parent == volume)
+    of_component c e =
+        let at = find_there (is_at 4 parent) records (kinds.Component c) e in
+        let id : c.head.id ≡ parent = eqb-true c.head.id parent (and_parts (kind_of (kinds.Component c) == 4) (id_of (kinds.Component c) == parent) at.1).1 in
+        split (c.parent == volume) refl at.0 id
+      where
+        split : (b : Bool) → (c.parent == volume) ≡ b → Contains records (kinds.Component c) → c.head.id ≡ parent → is_own records volume parent ≡ (c.parent == volume)
+        split true is there id = own records volume parent c there id (eqb-true c.parent volume is) ∙ sym is
+        split false is there id =
+            not_own records volume parent (λ d d_there d_id d_is.
+            let same : c ≡ d = one_component records c d up there d_there (id ∙ sym d_id) in
+            let yes : (c.parent == volume) ≡ true = eq-eqb c.parent volume (ap (λ (x : Component). x.parent) same ∙ d_is) in
+            let no_yes : true ≡ false = sym yes ∙ is in absurd cc)
+            ∙ sym is
+
+    go : (o : Option Record) → by_id 4 parent records ≡ o → is_own records volume parent ≡ is_some_of volume (parent_in (by_id 4 parent records))
+    go (Some (kinds.Component c)) e = of_component c e ∙ sym (ap (λ (p : Option Record). is_some_of volume (parent_in p)) e)
+    go o e = none_has o e (λ c h. absurd cc) ∙ sym (ap (λ (p : Option Record). is_some_of volume (parent_in p)) e)
+
+-- ---- Where no disk of a volume is missing, all of them are there.
 
 at_disk : (id : ℕ) (r : Record) → is_at 2 id r ≡ true → (d : Disk) × (r ≡ kinds.Disk d) × (d.head.id ≡ id)
 at_disk id (kinds.Disk d) h = (d, refl, eqb-true d.head.id id h)
@@ -105,7 +157,7 @@ module _ (found : Found) (v : Volume) (l : Layout) (sound : IsSoundGroup found) 
       let are : columns_of l ≡ es = ap (λ (b : Bool). if b then [] else get_or l.plexes 0 []) (ap is_tiled raid5) in
       let inside : column < length es = subst (λ (fs : List Extent). column < length fs) are within in
       ap (λ (fs : List Extent). is_here found (option_map place_at (column_spot fs l.chunk x column))) are
-      ∙ (ap (λ (g : Option Extent). is_here found (option_map place_at (option_map {U = Extent × ℕ} (λ f. (f, raid5_offset (length es) l.chunk x)) g))) (get_at es column none inside)
+      ∙ (ap (λ (g : Option Extent). is_here found (option_map place_at (option_map {U = Extent × ℕ} (λ f. (f, raid5_offset (length es) l.chunk x)) g))) (slice_get-get_or es column none inside)
       ∙ part_here (get_or es column none) 0 (raid5_offset (length es) l.chunk x) facts.copied (facts.own column none inside))
 
   pub none_missing_complete : IsComplete found l

@@ -1,19 +1,24 @@
--- The first fit is exactly the least free start.
-use Rattle.std.proofs.Common.{◌≡◌, inl, inr, ℕ, zero, suc, ◌+◌, ◌-◌, ◌<◌, ◌≤◌, ◌==◌, max, min, not, List, [], ◌∷◌, length, get_or, refl, sym, ap, ◌∙◌, arith, Bool, true, false, cond, ltb, Option, Some, None}
-use Rattle.std.specs.List.{Contains, list_any}
-use Rattle.std.proofs.lemmas.Bool.{cases_order, not-true, not-false, ltb-true, ltb-false, lt-ltb, le-ltb, cond-false, false_from_ne_true, false≢true}
-use Rattle.std.proofs.lemmas.List.Folds.{list_any_at}
+-- Free sectors: the first fit is exactly the least free start, and what is placed one after the other lies apart.
+use Rattle.std.proofs.Common.{◌≡◌, inl, inr, ℕ, zero, suc, ◌+◌, ◌-◌, ◌<◌, ◌≤◌, ◌==◌, max, min, not, List, [], ◌∷◌, length, get_or, refl, sym, ap, ◌∙◌, arith, Bool, true, false, cond, ltb, Option, Some, None, ◌||◌, ◌++◌, drop, append_assoc, Result, Ok, Err, drop-cons, ◌&&◌, subst, nat_lt}
+use Rattle.std.specs.List.{Contains, list_any, cons_option}
+use Rattle.std.proofs.lemmas.Bool.{cases_order, not-true, not-false, ltb-true, ltb-false, lt-ltb, le-ltb, cond-false, false_from_ne_true, false≢true, and_parts, and_from, ne_eqb, eq-eqb, cases_eq}
+use Rattle.std.proofs.lemmas.List.Folds.{list_any_at, list_any-append}
 use Rattle.ldm_bytes.proofs.NumberLaws.{some_is}
-use Rattle.std.proofs.lemmas.List.Elements.{filter_map-append}
-use Rattle.std.proofs.lemmas.List.Folds.{list_any-append}
-use Rattle.std.proofs.lemmas.Bool.{and_parts, and_from}
-use Rattle.std.proofs.lemmas.List.{take_more}
-use Rattle.std.specs.List.{cons_option}
-use Rattle.std.specs.Prelude.{take, ◌++◌, ◌||◌}
+use Rattle.std.proofs.lemmas.List.Elements.{filter_map-append, All-cons, All-tail, All-nil, Contains-get_or}
+use Rattle.std.proofs.lemmas.List.{take_more, drop_all, append-nil}
+use Rattle.std.specs.Prelude.{take}
 use Rattle.ldm_records.specs.declared.types.Record.{Record}
 use Rattle.ldm_group.proofs.KinLaws.{named_there}
 use Rattle.ldm_space.specs.declared.taken.Taken.{Taken}
-use Rattle.ldm_space.specs.Free.{taken_by, taken_in, takes_one, is_taken, first_from, first_free_start, past, IsFirstFree, HasNoFree}
+use Rattle.ldm_space.specs.Free.{taken_by, taken_in, takes_one, is_taken, first_from, first_free_start, past, IsFirstFree, HasNoFree, taken_of, clash}
+use Rattle.std.specs.Option.{option_map}
+use Rattle.ldm_space.specs.declared.placed.Wanted.{Wanted}
+use Rattle.ldm_space.specs.Wanted.{placing, first_fit, in_front, place_rest, placed}
+use Rattle.ldm_records.specs.declared.types.Partition.{Partition}
+use Rattle.ldm_group.specs.Partitions.{meets}
+use Rattle.ldm_space.specs.Placed.{AreFirstFits, AreDisjoint, AllEndWithin, AllLimited}
+
+-- ---- The first fit is exactly the least free start.
 
 -- the first number from a place on that passes
 record IsFirst (n p : ℕ) (test : ℕ → Bool) (q : ℕ) : Type 0 where
@@ -161,3 +166,156 @@ taken_both a b disk len p = list_any-append (takes_one disk len p) a b
 pub first_same : (a b : List Taken) (disk size len : ℕ) → ((p : ℕ) → is_taken a disk len p ≡ is_taken b disk len p) → first_free_start a disk size len ≡ first_free_start b disk size len
 unfolding first_free_start
 first_same a b disk size len same = λ i. cond (ltb size len) None (first_from (suc (size - len)) 0 (λ p. not (same p i)))
+
+-- ---- A walk over what is asked for, one after the other, places it.
+
+-- ---- some in front of the rest
+
+abbrev pub ahead : {T : Type 0} → List T → Result (List T) ℕ → Result (List T) ℕ
+ahead done (Ok more) = Ok (done ++ more)
+ahead done (Err place) = Err place
+
+pub ahead_none : {T : Type 0} (rest : Result (List T) ℕ) → rest ≡ ahead [] rest
+ahead_none (Ok more) = refl
+ahead_none (Err place) = refl
+
+pub ahead_front : {T : Type 0} (done : List T) (x : T) (rest : Result (List T) ℕ) → ahead done (in_front x rest) ≡ ahead (done ++ x ∷ []) rest
+ahead_front {T} done x (Ok more) = ap (λ (l : List T). Ok l) (sym (append_assoc done (x ∷ []) more))
+ahead_front done x (Err place) = refl
+
+-- ---- what is taken, in another order
+
+or_swap : (s t u : Bool) → (s || (t || u)) ≡ (t || (s || u))
+or_swap true true u = refl
+or_swap true false u = refl
+or_swap false true u = refl
+or_swap false false u = refl
+
+taken_moves : (x : Taken) (a b : List Taken) (disk len p : ℕ) → is_taken (x ∷ (a ++ b)) disk len p ≡ is_taken (a ++ (x ∷ b)) disk len p
+unfolding is_taken
+taken_moves x [] b disk len p = refl
+taken_moves x (y ∷ a) b disk len p = or_swap (takes_one disk len p x) (takes_one disk len p y) (is_taken (a ++ b) disk len p) ∙ ap (λ (t : Bool). takes_one disk len p y || t) (taken_moves x a b disk len p)
+
+-- what is placed last, before or behind what is placed so far
+pub put_last : (t : Taken) (spots taken : List Taken) (disk len p : ℕ) → is_taken (t ∷ (spots ++ taken)) disk len p ≡ is_taken ((spots ++ t ∷ []) ++ taken) disk len p
+put_last t spots taken disk len p = taken_moves t spots taken disk len p ∙ ap (λ (l : List Taken). is_taken l disk len p) (sym (append_assoc spots (t ∷ []) taken))
+
+taken_behind : (t : Taken) (a b : List Taken) (disk len p : ℕ) → is_taken a disk len p ≡ is_taken b disk len p → is_taken (t ∷ a) disk len p ≡ is_taken (t ∷ b) disk len p
+unfolding is_taken
+taken_behind t a b disk len p same = ap (λ (x : Bool). takes_one disk len p t || x) same
+
+placed_same : (wanted : List Wanted) (a b : List Taken) (at : ℕ) → ((disk len p : ℕ) → is_taken a disk len p ≡ is_taken b disk len p) → placed a at wanted ≡ placed b at wanted
+placed_same [] a b at same = refl
+placed_same (w ∷ more) a b at same =
+    let first : first_fit a w ≡ first_fit b w = ap (λ (o : Option ℕ). option_map (placing w) o) (first_same a b w.disk w.limit w.size (λ p. same w.disk w.size p)) in
+    λ i. place_rest at (λ spot. placed_same more (spot ∷ a) (spot ∷ b) (at + 1) (λ disk len p. taken_behind spot a b disk len p (same disk len p)) i) (first i)
+
+-- ---- the walk
+
+-- so many are placed, and the rest is placed beside them
+abbrev pub IsPlacedTo : List Taken → List Wanted → ℕ → List Taken → Type 0
+IsPlacedTo taken wanted at spots = placed taken 0 wanted ≡ ahead spots (placed (spots ++ taken) at (drop at wanted))
+
+next_wanted : (taken : List Taken) (wanted : List Wanted) (at : ℕ) (spots : List Taken) (w d : Wanted) (o : Option ℕ) → at < length wanted → w ≡ get_or wanted at d → o ≡ first_free_start (spots ++ taken) w.disk w.limit w.size
+    → IsPlacedTo taken wanted at spots → placed taken 0 wanted ≡ ahead spots (place_rest at (λ spot. placed (spot ∷ (spots ++ taken)) (at + 1) (drop (at + 1) wanted)) (option_map (placing w) o))
+next_wanted taken wanted at spots w d o lt is found so_far =
+    let one : suc at ≡ at + 1 = omega arith in
+    so_far ∙ ap (λ (l : List Wanted). ahead spots (placed (spots ++ taken) at l)) (drop-cons wanted at d lt ∙ (λ i. sym is i ∷ drop (one i) wanted))
+    ∙ ap (λ (x : Option ℕ). ahead spots (place_rest at (λ spot. placed (spot ∷ (spots ++ taken)) (at + 1) (drop (at + 1) wanted)) (option_map (placing w) x))) (sym found)
+
+-- one more
+pub placed_more : (taken : List Taken) (wanted : List Wanted) (at : ℕ) (spots items : List Taken) (w d : Wanted) (start : ℕ) → at < length wanted → w ≡ get_or wanted at d
+    → Some start ≡ first_free_start (spots ++ taken) w.disk w.limit w.size → items ≡ spots ++ placing w start ∷ [] → IsPlacedTo taken wanted at spots → IsPlacedTo taken wanted (at + 1) items
+placed_more taken wanted at spots items w d start lt is found pushed so_far =
+    let t : Taken = placing w start in
+    let rest : List Wanted = drop (at + 1) wanted in
+    next_wanted taken wanted at spots w d (Some start) lt is found so_far ∙ ahead_front spots t (placed (t ∷ (spots ++ taken)) (at + 1) rest)
+    ∙ ap (ahead (spots ++ t ∷ [])) (placed_same rest (t ∷ (spots ++ taken)) ((spots ++ t ∷ []) ++ taken) (at + 1) (put_last t spots taken))
+    ∙ ap (λ (l : List Taken). ahead l (placed (l ++ taken) (at + 1) rest)) (sym pushed)
+
+-- one that finds no fit
+pub placed_none : (taken : List Taken) (wanted : List Wanted) (at : ℕ) (spots : List Taken) (w d : Wanted) → at < length wanted → w ≡ get_or wanted at d
+    → None ≡ first_free_start (spots ++ taken) w.disk w.limit w.size → IsPlacedTo taken wanted at spots → placed taken 0 wanted ≡ Err at
+placed_none taken wanted at spots w d lt is found so_far = next_wanted taken wanted at spots w d None lt is found so_far
+
+-- all of them
+pub placed_all : (taken : List Taken) (wanted : List Wanted) (at : ℕ) (spots : List Taken) → length wanted ≤ at → IsPlacedTo taken wanted at spots → placed taken 0 wanted ≡ Ok spots
+placed_all taken wanted at spots past so_far =
+    so_far ∙ ap (λ (l : List Wanted). ahead spots (placed (spots ++ taken) at l)) (drop_all at wanted past) ∙ ap (λ (l : List Taken). Ok l) (append-nil spots)
+
+-- ---- What is placed is free of what was taken, ends within the disk, and lies apart from what is placed beside it.
+
+-- ---- what is placed is first fits
+
+pub placed_fit : (wanted : List Wanted) (taken : List Taken) (at : ℕ) (spots : List Taken) → placed taken at wanted ≡ Ok spots → AreFirstFits taken wanted spots
+placed_fit [] taken at spots e = subst (λ (s : List Taken). AreFirstFits taken [] s) (let same : [] ≡ spots = cc in same) tt
+placed_fit (w ∷ more) taken at spots e = go (first_free_start taken w.disk w.limit w.size) refl e (λ spot others is. placed_fit more (spot ∷ taken) (at + 1) others is)
+  where
+    onto : (start : ℕ) (rest : Result (List Taken) ℕ) → first_free_start taken w.disk w.limit w.size ≡ Some start → in_front (placing w start) rest ≡ Ok spots
+        → ((others : List Taken) → rest ≡ Ok others → AreFirstFits (placing w start ∷ taken) more others) → AreFirstFits taken (w ∷ more) spots
+    onto start (Err place) found e later = absurd cc
+    onto start (Ok others) found e later =
+        let same : placing w start ∷ others ≡ spots = cc in
+        subst (λ (s : List Taken). AreFirstFits taken (w ∷ more) s) same (record { disk = refl; size = refl; first = first_is taken w.disk w.limit w.size start found }, later others refl)
+
+    go : (o : Option ℕ) → first_free_start taken w.disk w.limit w.size ≡ o → place_rest at (λ spot. placed (spot ∷ taken) (at + 1) more) (option_map (placing w) o) ≡ Ok spots
+        → ((spot : Taken) (others : List Taken) → placed (spot ∷ taken) (at + 1) more ≡ Ok others → AreFirstFits (spot ∷ taken) more others) → AreFirstFits taken (w ∷ more) spots
+    go None found e later = absurd cc
+    go (Some start) found e later = onto start (placed (placing w start ∷ taken) (at + 1) more) found e (later (placing w start))
+
+-- as many as are asked for
+pub as_many : (wanted : List Wanted) (taken spots : List Taken) → AreFirstFits taken wanted spots → length spots ≡ length wanted
+as_many [] taken [] h = refl
+as_many [] taken (s ∷ ss) h = absurd h
+as_many (w ∷ more) taken [] h = absurd h
+as_many (w ∷ more) taken (s ∷ spots) h = ap suc (as_many more (s ∷ taken) spots h.1)
+
+-- each lies apart from all before it
+pub fits_apart : (wanted : List Wanted) (taken spots : List Taken) → AreFirstFits taken wanted spots → AreDisjoint taken spots
+fits_apart [] taken [] h = tt
+fits_apart [] taken (s ∷ ss) h = absurd h
+fits_apart (w ∷ more) taken [] h = absurd h
+fits_apart (w ∷ more) taken (s ∷ spots) h = ((λ i. is_taken taken (sym h.0.disk i) (sym h.0.size i) s.start) ∙ h.0.first.free, fits_apart more (s ∷ taken) spots h.1)
+
+-- each ends within its disk
+pub fits_within : (sectors : ℕ → ℕ) (wanted : List Wanted) (taken spots : List Taken) → AllLimited sectors wanted → AreFirstFits taken wanted spots → AllEndWithin sectors spots
+fits_within sectors [] taken [] limits h = All-nil (λ (t : Taken). t.start + t.size ≤ sectors t.disk)
+fits_within sectors [] taken (s ∷ ss) limits h = absurd h
+fits_within sectors (w ∷ more) taken [] limits h = absurd h
+fits_within sectors (w ∷ more) taken (s ∷ spots) limits h =
+    let ends : s.start + w.size ≤ w.limit = h.0.first.ends in
+    let limit : w.limit ≡ sectors s.disk = limits 0 w (omega arith) ∙ ap sectors h.0.disk in
+    let size = h.0.size in
+    All-cons (λ (t : Taken). t.start + t.size ≤ sectors t.disk) s spots (omega arith) (fits_within sectors more (s ∷ taken) spots (All-tail (λ (v : Wanted). v.limit ≡ sectors v.disk) w more limits) h.1)
+
+-- ---- what lies apart
+
+-- partitions meet where what they take does
+pub meets_clash : (p q : Partition) → meets p q ≡ clash (taken_of p) (taken_of q)
+meets_clash p q = refl
+
+-- from what was taken before all of them,
+pub apart_old : (taken new : List Taken) (a b : Taken) → AreDisjoint taken new → Contains new a → Contains taken b → clash a b ≡ false
+apart_old taken [] a b h (k, lt, is) there = absurd (omega arith)
+apart_old taken (t ∷ more) a b h (zero, lt, is) there = ap (λ (x : Taken). clash x b) (sym is) ∙ not_met taken t.disk t.size t.start b h.0 there
+apart_old taken (t ∷ more) a b h (suc k, lt, is) there = apart_old (t ∷ taken) more a b h.1 (k, omega arith, is) (suc there.0, (let n = there.1 in omega arith), there.2)
+
+-- and from each other
+pub apart_new : (taken new : List Taken) (i j : ℕ) (d : Taken) → AreDisjoint taken new → i < j → j < length new → clash (get_or new j d) (get_or new i d) ≡ false
+apart_new taken [] i j d h lt within = absurd (omega arith)
+apart_new taken (t ∷ more) i zero d h lt within = absurd (omega arith)
+apart_new taken (t ∷ more) zero (suc j) d h lt within = apart_old (t ∷ taken) more (get_or more j d) t h.1 (Contains-get_or more j d (omega arith)) (0, omega arith, refl)
+apart_new taken (t ∷ more) (suc i) (suc j) d h lt within = apart_new (t ∷ taken) more i j d h.1 (omega arith) (omega arith)
+
+eqb_back : (a b : ℕ) → (a == b) ≡ (b == a)
+eqb_back a b = elim (cases_eq a b) [
+  | inl same ↦ eq-eqb a b same ∙ sym (eq-eqb b a (sym same))
+  | inr other ↦ ne_eqb a b other ∙ sym (ne_eqb b a (λ e. other (sym e)))
+]
+
+pub clash_back : (a b : Taken) → clash a b ≡ clash b a
+clash_back a b =
+    let disks : (a.disk == b.disk) ≡ (b.disk == a.disk) = eqb_back a.disk b.disk in
+    let from : max a.start b.start ≡ max b.start a.start = omega arith in
+    let to : min (a.start + a.size) (b.start + b.size) ≡ min (b.start + b.size) (a.start + a.size) = omega arith in
+    λ i. disks i && nat_lt (from i) (to i)

@@ -6,7 +6,7 @@ use Rattle.ldm_frags.specs.Written.{Holds, block_at}
 use Rattle.ldm_copy.specs.Body.{Stored, placed_of}
 use Rattle.ldm_changed.specs.Plan.{has_record, record_stays, changed_numbers}
 use Rattle.ldm_copy.specs.Body.{stored_at}
-use Rattle.ldm_copy.proofs.StoredLaws.{record_of}
+use Rattle.ldm_copy.proofs.BodyLaws.{record_of}
 use Rattle.ldm_frags.proofs.HoldEdits.{hold_grown}
 use Rattle.ldm_changed.proofs.StoreLaws.{kept_records_of, changed_grown}
 use Rattle.ldm_changed.proofs.TableLaws.{next_holds}

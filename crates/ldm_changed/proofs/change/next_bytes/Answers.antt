@@ -10,7 +10,7 @@ use Rattle.ldm_group.specs.Room.{room_of}
 use Rattle.ldm_copy.specs.Copy.{header_sector}
 use Rattle.ldm_copy.specs.Body.{placed_of, stored_at, Store}
 use Rattle.ldm_copy.specs.Table.{IsTabled}
-use Rattle.ldm_copy.proofs.MadeLaws.{few_records}
+use Rattle.ldm_copy.proofs.BodyLaws.{few_records}
 use Rattle.ldm_changed.specs.Plan.{changed_numbers}
 use Rattle.ldm_changed.proofs.TableLaws.{same_records, next_is}
 use Rattle.ldm_changed.proofs.change.next_bytes.Goals as goal

@@ -1,7 +1,7 @@
 use Rattle.std.proofs.Common.{sym, arith}
 use Rattle.ldm_copy.specs.Body.{Stored}
 use Rattle.ldm_copy.specs.Body.{stored_at}
-use Rattle.ldm_copy.proofs.StoredLaws.{stored_length, stored_get}
+use Rattle.ldm_copy.proofs.BodyLaws.{stored_length, stored_get}
 use Rattle.ldm_changed.proofs.GoneLaws.{freed_step, freed_all, slots_used}
 use Rattle.ldm_changed.proofs.planning.free_gone.Goals as goal
 

@@ -12,7 +12,7 @@ use Rattle.ldm_copy.specs.Body.{Stored, placed_of}
 use Rattle.ldm_changed.specs.Plan.{has_record, lacks, record_stays, record_goes, Avoids}
 use Rattle.ldm_copy.specs.Body.{stored_at}
 use Rattle.ldm_frags.specs.Free.{is_free, free_numbers}
-use Rattle.ldm_frags.proofs.FewLaws.{enough_free, free_within, numbers_apart}
+use Rattle.ldm_frags.proofs.HoldEdits.{enough_free, free_within, numbers_apart}
 use Rattle.ldm_changed.proofs.StoreLaws.{same_kept, kept_there_of, room_left, next_store, touched_numbers, touched_few, touched_others}
 use Rattle.ldm_changed.proofs.planning.rewrite_blocks.Goals as goal
 

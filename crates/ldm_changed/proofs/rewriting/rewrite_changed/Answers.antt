@@ -1,8 +1,6 @@
 use Rattle.std.proofs.Common.{rules, ◌+◌, ◌*◌, ◌<◌, ℕ, List, length, refl, sym, subst, arith}
 use Rattle.ldm_host.specs.Seen.{image}
-use Rattle.ldm_copy.proofs.GateLaws.{body_stays}
-use Rattle.ldm_copy.proofs.LeftLaws.{some_sectors}
-use Rattle.ldm_copy.proofs.RewriteLaws.{after_close, rewrites_most, rewrite_fails, rewrites}
+use Rattle.ldm_copy.proofs.RewriteLaws.{body_stays, some_sectors, after_close, rewrites_most, rewrite_fails, rewrites}
 use Rattle.ldm_changed.proofs.rewriting.rewrite_changed.Goals as goal
 
 pub returns-in_err-close : goal.returns-in_err-close

@@ -1,6 +1,6 @@
 use Rattle.std.proofs.Common.{ℕ, length-take, arith}
 use Rattle.ldm_host.specs.Seen.{image}
-use Rattle.ldm_copy.proofs.AlikeLaws.{few_same}
+use Rattle.ldm_copy.proofs.AreaLaws.{few_same}
 use Rattle.ldm_copy.proofs.alike.are_few_same.Goals as goal
 
 pub returns-clause-is : goal.returns-clause-is

@@ -1,6 +1,6 @@
 use Rattle.std.proofs.Common.{◌≡◌, ◌/◌, max, arith}
 use Rattle.ldm_host.specs.Seen.{image}
-use Rattle.ldm_copy.proofs.AlikeLaws.{alike_is, alike_copy}
+use Rattle.ldm_copy.proofs.AreaLaws.{alike_is, alike_copy}
 use Rattle.ldm_copy.proofs.alike.is_alike.Goals as goal
 
 pub returns-clause-is : goal.returns-clause-is

@@ -1,7 +1,7 @@
 use Rattle.std.proofs.Common.{◌≡◌, ◌-◌, ◌*◌, ◌<◌, min, refl, sym, ◌∙◌, arith}
 use Rattle.ldm_host.specs.Seen.{image}
 use Rattle.ldm_host.proofs.Relations.{looks_then}
-use Rattle.ldm_copy.proofs.AlikeLaws.{next_same, same_part}
+use Rattle.ldm_copy.proofs.AreaLaws.{next_same, same_part}
 use Rattle.ldm_copy.proofs.alike.is_same.Goals as goal
 
 pub loop-chunk-preserved : goal.loop-chunk-preserved

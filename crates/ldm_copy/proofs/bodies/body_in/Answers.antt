@@ -10,7 +10,7 @@ use Rattle.ldm_frags.specs.declared.slots.Slots.{Slots}
 use Rattle.ldm_copy.specs.Finding.{HoldsTable}
 use Rattle.ldm_copy.specs.Table.{IsTabled}
 use Rattle.ldm_group.specs.Database.{IsSameHeader}
-use Rattle.ldm_copy.proofs.CoreLaws.{read_as, same_core_as, read_body_is, read_tabled}
+use Rattle.ldm_copy.proofs.BodyLaws.{read_as, same_core_as, read_body_is, read_tabled}
 use Rattle.ldm_copy.proofs.bodies.body_in.Goals as goal
 
 -- what was read of the header, of the bytes and of the database

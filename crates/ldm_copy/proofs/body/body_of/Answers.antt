@@ -3,7 +3,7 @@ use Rattle.std.specs.List.{All}
 use Rattle.ldm_records.specs.declared.types.Record.{Record}
 use Rattle.ldm_group.specs.Room.{IsFitting, need_of}
 use Rattle.ldm_copy.specs.Body.{IsBodyOf, IsMadeOf, spellings}
-use Rattle.ldm_copy.proofs.MadeLaws.{few_records, made_of}
+use Rattle.ldm_copy.proofs.BodyLaws.{few_records, made_of}
 use Rattle.ldm_copy.proofs.body.body_of.Goals as goal
 
 -- a body of these bytes, of which a fact holds

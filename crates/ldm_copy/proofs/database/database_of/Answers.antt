@@ -1,5 +1,5 @@
-use Rattle.ldm_copy.proofs.AnswerLaws.{records_passed, holds, twice_made}
-use Rattle.ldm_copy.proofs.SoundLaws.{records_within}
+use Rattle.ldm_copy.proofs.ReadLaws.{records_passed, holds, twice_made}
+use Rattle.ldm_copy.proofs.RoomLaws.{records_within}
 use Rattle.ldm_copy.proofs.database.database_of.Goals as goal
 
 pub returns-in_err-records-clause-makes : goal.returns-in_err-records-clause-makes

@@ -1,5 +1,5 @@
 use Rattle.std.proofs.Common.{◌*◌, ◌≤◌, ℕ, sym, subst}
-use Rattle.ldm_copy.proofs.SoundLaws.{last_fits}
+use Rattle.ldm_copy.proofs.RoomLaws.{last_fits}
 use Rattle.ldm_copy.proofs.database.open_header.Goals as goal
 
 pub returns-clause-last : goal.returns-clause-last

@@ -3,8 +3,8 @@ use Rattle.std.proofs.lemmas.List.{take_all}
 use Rattle.ldm_frags.specs.declared.faults.Joined.{Joined}
 use Rattle.ldm_records.specs.declared.types.Record.{Record}
 use Rattle.ldm_copy.specs.Records.{SpellRecords}
-use Rattle.ldm_copy.proofs.RecordLaws.{spell_next}
-use Rattle.ldm_copy.proofs.AnswerLaws.{record_passed}
+use Rattle.ldm_copy.proofs.OneCopy.{spell_next}
+use Rattle.ldm_copy.proofs.ReadLaws.{record_passed}
 use Rattle.ldm_copy.proofs.database.records_of.Goals as goal
 
 pub returns-in_err-record_of : goal.returns-in_err-record_of

@@ -7,7 +7,7 @@ use Rattle.ldm_copy.specs.Body.{Stored}
 use Rattle.ldm_copy.specs.declared.finding.Found.{Found}
 use Rattle.ldm_copy.specs.declared.finding.Look.{Look}
 use Rattle.ldm_copy.specs.Finding.{StandsAt, IsFoundAt, stored_of}
-use Rattle.ldm_copy.proofs.AllLaws.{key, IsFoundUpTo, found_nothing, found_more, found_holds, found_all}
+use Rattle.ldm_copy.proofs.FindLaws.{key, IsFoundUpTo, found_nothing, found_more, found_holds, found_all}
 use Rattle.ldm_copy.proofs.finding.find_all.Goals as goal
 use Rattle.ldm_copy.proofs.finding.find_all.Goals.{in-Nothing, in-Record+in_ok-push-in-Record}
 

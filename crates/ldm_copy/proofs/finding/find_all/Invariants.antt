@@ -1,6 +1,6 @@
 use Rattle.std.proofs.Common.{map}
 use Rattle.ldm_copy.specs.Finding.{stored_of}
-use Rattle.ldm_copy.proofs.AllLaws.{IsFoundUpTo}
+use Rattle.ldm_copy.proofs.FindLaws.{IsFoundUpTo}
 use Rattle.ldm_copy.proofs.finding.find_all.Given as goal
 
 abbrev pub invariant-loop-k : goal.invariant-loop-k

@@ -1,6 +1,6 @@
 use Rattle.std.proofs.Common.{◌≡◌, ◌∙◌, rules, arith}
 use Rattle.ldm_copy.specs.Finding.{part_at}
-use Rattle.ldm_copy.proofs.PlaceLaws.{place_is}
+use Rattle.ldm_copy.proofs.FindLaws.{place_is}
 use Rattle.ldm_copy.proofs.finding.is_later.Goals as goal
 
 pub returns-then-part-get_u16 : goal.returns-then-part-get_u16

@@ -1,5 +1,5 @@
 use Rattle.std.proofs.Common.{◌∙◌, sym, arith}
-use Rattle.ldm_copy.proofs.PlaceLaws.{places_set, places_used}
+use Rattle.ldm_copy.proofs.FindLaws.{places_set, places_used}
 use Rattle.ldm_copy.proofs.finding.note_place.Goals as goal
 
 pub returns-then-place_in-end : goal.returns-then-place_in-end

@@ -11,8 +11,7 @@ use Rattle.ldm_payloads.specs.Answers.{AnswersRecord}
 use Rattle.ldm_payloads.specs.declared.fault.RecordError.{RecordError}
 use Rattle.ldm_copy.specs.Body.{Stored, placed_of}
 use Rattle.ldm_copy.specs.Finding.{slots_by, payloads, HasPlaces, slots_in}
-use Rattle.ldm_copy.proofs.FindLaws.{HeldFirst, held_first, held_few, payload_whole}
-use Rattle.ldm_copy.proofs.PlaceLaws.{slots_are_by}
+use Rattle.ldm_copy.proofs.FindLaws.{HeldFirst, held_first, held_few, payload_whole, slots_are_by}
 use Rattle.ldm_copy.proofs.finding.record_at.Goals as goal
 
 -- the blocks by the heads are those of the record that is held there

@@ -5,7 +5,7 @@ use Rattle.std.proofs.lemmas.List.Sorted.{IsNonDecreasingBy-from_sort_by_key}
 use Rattle.ldm_group.specs.Order.{place_of}
 use Rattle.ldm_copy.specs.declared.finding.Found.{Found}
 use Rattle.ldm_copy.specs.Finding.{AreFound, stored_of}
-use Rattle.ldm_copy.proofs.SortLaws.{table_held, found_records}
+use Rattle.ldm_copy.proofs.FindLaws.{table_held, found_records}
 use Rattle.ldm_copy.proofs.finding.table_of.Goals as goal
 
 pub returns-then-not-are_of-clause-none : goal.returns-then-not-are_of-clause-none

@@ -4,7 +4,7 @@ use Rattle.ldm_host.specs.Seen.{image}
 use Rattle.ldm_host.specs.Moves.{Writes}
 use Rattle.ldm_host.proofs.Relations.{writes_syncs}
 use Rattle.ldm_copy.specs.Copy.{gate_at}
-use Rattle.ldm_copy.proofs.LeftLaws.{on_ok_map, area_on, left_byte, some_bytes}
+use Rattle.ldm_copy.proofs.RewriteLaws.{on_ok_map, area_on, left_byte, some_bytes}
 use Rattle.ldm_copy.proofs.gate.fill.Goals as goal
 
 pub slice_bounds-write_at-count : goal.slice_bounds-write_at-count

@@ -3,7 +3,7 @@ use Rattle.ldm_host.specs.Seen.{image}
 use Rattle.ldm_host.specs.Moves.{Writes}
 use Rattle.ldm_host.proofs.Relations.{writes_syncs, rose_sooner}
 use Rattle.ldm_copy.specs.Copy.{gate_at}
-use Rattle.ldm_copy.proofs.LeftLaws.{on_ok_map, area_on, some_sectors, left_byte}
+use Rattle.ldm_copy.proofs.RewriteLaws.{on_ok_map, area_on, some_sectors, left_byte}
 use Rattle.ldm_copy.proofs.gate.put_gate.Goals as goal
 
 pub returns-in_err-write_at : goal.returns-in_err-write_at

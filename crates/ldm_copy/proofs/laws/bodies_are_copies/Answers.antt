@@ -1,4 +1,4 @@
-use Rattle.ldm_copy.proofs.WrittenLaws.{begun_is, written_is}
+use Rattle.ldm_copy.proofs.BodyLaws.{begun_is, written_is}
 use Rattle.ldm_copy.proofs.laws.bodies_are_copies.Goals as goal
 
 pub returns : goal.returns

@@ -1,7 +1,7 @@
 use Rattle.ldm_host.specs.Seen.{image}
 use Rattle.ldm_copy.specs.Copy.{config_area}
 use Rattle.ldm_copy.proofs.OneCopy.{one_copy}
-use Rattle.ldm_copy.proofs.AnswerLaws.{answers_only}
+use Rattle.ldm_copy.proofs.ReadLaws.{answers_only}
 use Rattle.ldm_copy.proofs.reading.read_copy.Goals as goal
 
 pub returns-clause-only : goal.returns-clause-only

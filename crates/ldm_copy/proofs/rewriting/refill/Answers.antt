@@ -2,8 +2,7 @@ use Rattle.std.proofs.Common.{rules, ◌+◌, ◌-◌, ◌<◌, ℕ, List, lengt
 use Rattle.ldm_host.specs.Seen.{image}
 use Rattle.ldm_host.proofs.ChangeLaws.{writes_change}
 use Rattle.ldm_copy.specs.Copy.{gate_at}
-use Rattle.ldm_copy.proofs.LeftLaws.{some_sectors, room_on}
-use Rattle.ldm_copy.proofs.RewriteLaws.{body_size, rewrites_most, refill_fails, filled_shut, refills}
+use Rattle.ldm_copy.proofs.RewriteLaws.{some_sectors, room_on, body_size, rewrites_most, refill_fails, filled_shut, refills}
 use Rattle.ldm_copy.proofs.rewriting.refill.Goals as goal
 
 pub returns-in_err-fill : goal.returns-in_err-fill

@@ -1,6 +1,5 @@
 use Rattle.std.proofs.Common.{rules, ◌<◌, ℕ, List, length, refl, sym, subst, arith}
-use Rattle.ldm_copy.proofs.LeftLaws.{some_sectors}
-use Rattle.ldm_copy.proofs.RewriteLaws.{after_close, rewrites_most, rewrite_fails, rewrites}
+use Rattle.ldm_copy.proofs.RewriteLaws.{some_sectors, after_close, rewrites_most, rewrite_fails, rewrites}
 use Rattle.ldm_copy.proofs.rewriting.rewrite.Goals as goal
 
 pub returns-in_err-close : goal.returns-in_err-close

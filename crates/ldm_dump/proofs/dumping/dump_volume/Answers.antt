@@ -2,8 +2,7 @@ use Rattle.std.proofs.Common.{◌++◌, List, ℕ, arith, refl, ap, sym, ◌∙�
 use Rattle.std.proofs.lemmas.List.{append-nil}
 use Rattle.ldm_host.proofs.Relations.{still_itself, still_trans}
 use Rattle.ldm_dump.specs.Bytes.{bytes_of_sectors}
-use Rattle.ldm_dump.proofs.ByteLaws.{no_text}
-use Rattle.ldm_dump.proofs.SayLaws.{text_next, said_on, part_said}
+use Rattle.ldm_dump.proofs.ByteLaws.{no_text, text_next, said_on, part_said}
 use Rattle.ldm_dump.proofs.dumping.dump_volume.Goals as goal
 
 pub pieces-init : goal.pieces-init

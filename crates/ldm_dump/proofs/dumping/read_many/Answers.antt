@@ -1,7 +1,6 @@
 use Rattle.std.proofs.Common.{◌*◌, ◌≤◌, length, sym, arith}
 use Rattle.ldm_host.proofs.Relations.{looks_itself, looks_then, looks_as}
-use Rattle.ldm_dump.proofs.ByteLaws.{no_text}
-use Rattle.ldm_dump.proofs.SayLaws.{text_step}
+use Rattle.ldm_dump.proofs.ByteLaws.{no_text, text_step}
 use Rattle.ldm_dump.proofs.dumping.read_many.Goals as goal
 
 pub runs-init : goal.runs-init

@@ -2,7 +2,7 @@ use Rattle.std.proofs.Common.{◌++◌, ℕ, List, subst}
 use Rattle.ldm_host.specs.Moves.{Begins}
 use Rattle.ldm_host.proofs.Relations.{still_trans}
 use Rattle.ldm_dump.specs.Bytes.{bytes_of_sectors}
-use Rattle.ldm_dump.proofs.SayLaws.{begins_of}
+use Rattle.ldm_dump.proofs.ByteLaws.{begins_of}
 use Rattle.ldm_dump.proofs.dumping.say_many.Goals as goal
 
 pub returns-in-Ok-say-clause-still : goal.returns-in-Ok-say-clause-still

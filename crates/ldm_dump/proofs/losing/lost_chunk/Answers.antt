@@ -1,5 +1,5 @@
 use Rattle.std.proofs.Common.{◌≡◌, ℕ, ◌*◌, ◌<◌, ◌≤◌, sym, subst, ◌∙◌, arith}
-use Rattle.ldm_dump.proofs.LostLaws.{none_before, none_there, chunk_is}
+use Rattle.ldm_dump.proofs.RunLaws.{none_before, none_there, chunk_is}
 use Rattle.ldm_dump.proofs.losing.lost_chunk.Goals as goal
 
 pub returns-then-from-at : goal.returns-then-from-at

@@ -1,4 +1,4 @@
-use Rattle.ldm_rules.proofs.DisksAlone.{same_stranger}
+use Rattle.ldm_rules.proofs.PresentLaws.{same_stranger}
 use Rattle.ldm_found.proofs.SameDisks.{same_reasons, still_editable}
 use Rattle.ldm_found.proofs.laws.disks_alone.Goals as goal
 

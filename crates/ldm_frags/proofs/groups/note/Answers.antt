@@ -6,7 +6,7 @@ use Rattle.ldm_frags.specs.declared.blocks.Head.{Head}
 use Rattle.ldm_frags.specs.declared.groups.Group.{Group}
 use Rattle.ldm_frags.specs.Blocks.{parts, is_fragment}
 use Rattle.ldm_frags.proofs.JoinLaws.{sound_of, frag_is}
-use Rattle.ldm_frags.proofs.TableLaws.{table_add, table_skip}
+use Rattle.ldm_frags.proofs.KeptLaws.{table_add, table_skip}
 use Rattle.ldm_frags.proofs.groups.note.Goals as goal
 
 pub bounds-found-head : goal.bounds-found-head

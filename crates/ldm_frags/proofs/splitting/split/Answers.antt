@@ -2,7 +2,7 @@ use Rattle.std.proofs.Common.{◌≡◌, ◌*◌, ◌∙◌, List, ℕ, ap, sym,
 use Rattle.std.proofs.lemmas.List.{with_items_is}
 use Rattle.ldm_frags.specs.Joins.{Joins}
 use Rattle.ldm_frags.specs.Written.{Holds, laid_in_order, joined_of}
-use Rattle.ldm_frags.proofs.OrderLaws.{order_joins}
+use Rattle.ldm_frags.proofs.HoldLaws.{order_joins}
 use Rattle.ldm_frags.proofs.splitting.split.Goals as goal
 
 -- the bytes are those that were written

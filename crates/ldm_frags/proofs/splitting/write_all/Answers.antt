@@ -1,6 +1,6 @@
 use Rattle.std.proofs.Common.{All, get_or, arith}
 use Rattle.ldm_frags.specs.Written.{slot, IsPlaced, laid_in_order}
-use Rattle.ldm_frags.proofs.OrderLaws.{in_order_within, placed_kept, order_holds}
+use Rattle.ldm_frags.proofs.HoldLaws.{in_order_within, placed_kept, order_holds}
 use Rattle.ldm_frags.proofs.splitting.write_all.Goals as goal
 
 pub returns : goal.returns

@@ -2,7 +2,7 @@ use Rattle.std.proofs.Common.{◌≡◌, ◌+◌, ◌≤◌, ◌∙◌, List, �
 use Rattle.std.proofs.lemmas.List.{get_or_read}
 use Rattle.ldm_frags.specs.Blocks.{count}
 use Rattle.ldm_frags.specs.Written.{parts_of, blocks_needed, IsSized, IsPlaced, laid_in_order}
-use Rattle.ldm_frags.proofs.OrderLaws.{need_next, need_within, need_push, placed_more}
+use Rattle.ldm_frags.proofs.HoldLaws.{need_next, need_within, need_push, placed_more}
 use Rattle.ldm_frags.proofs.splitting.write_records.Goals as goal
 
 pub write_next-requires-clause-within : goal.write_next-requires-clause-within

@@ -1,4 +1,4 @@
-use Rattle.ldm_frags.proofs.WrittenReads.{block_then, block_else}
+use Rattle.ldm_frags.proofs.WriteLaws.{block_then, block_else}
 use Rattle.ldm_frags.proofs.writing.is_block.Goals as goal
 
 pub returns-then-eq : goal.returns-then-eq

@@ -1,5 +1,5 @@
 use Rattle.std.proofs.Common.{refl}
-use Rattle.ldm_frags.proofs.PutLaws.{part_filled}
+use Rattle.ldm_frags.proofs.WriteLaws.{part_filled}
 use Rattle.ldm_frags.proofs.writing.part_of.Goals as goal
 
 pub returns-clause-bytes : goal.returns-clause-bytes

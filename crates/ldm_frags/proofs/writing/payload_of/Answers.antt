@@ -1,5 +1,5 @@
 use Rattle.std.proofs.Common.{◌∙◌}
-use Rattle.ldm_frags.proofs.PutLaws.{zeros_behind}
+use Rattle.ldm_frags.proofs.WriteLaws.{zeros_behind}
 use Rattle.ldm_frags.proofs.writing.payload_of.Goals as goal
 
 pub returns : goal.returns

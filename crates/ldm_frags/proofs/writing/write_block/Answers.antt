@@ -1,7 +1,7 @@
 use Rattle.std.proofs.Common.{◌+◌, ◌-◌, ◌*◌, ◌++◌, ◌∙◌, List, ℕ, ap, length, replicate, refl, arith}
 use Rattle.ldm_bytes.specs.Places.{put}
 use Rattle.ldm_frags.specs.Written.{head, written_block}
-use Rattle.ldm_frags.proofs.PutLaws.{put-put}
+use Rattle.ldm_frags.proofs.WriteLaws.{put-put}
 use Rattle.ldm_frags.proofs.writing.write_block.Goals as goal
 
 pub returns : goal.returns

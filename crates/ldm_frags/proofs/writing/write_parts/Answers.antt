@@ -3,7 +3,7 @@ use Rattle.ldm_bytes.specs.Places.{put}
 use Rattle.ldm_frags.specs.Blocks.{count}
 use Rattle.ldm_frags.specs.Written.{parts_of, part_bytes, written_block}
 use Rattle.ldm_frags.proofs.HoldLaws.{part_length}
-use Rattle.ldm_frags.proofs.PutLaws.{Writes, written_here, written_other, written_length}
+use Rattle.ldm_frags.proofs.WriteLaws.{Writes, written_here, written_other, written_length}
 use Rattle.ldm_frags.proofs.writing.write_parts.Goals as goal
 
 pub loop-part-preserved : goal.loop-part-preserved

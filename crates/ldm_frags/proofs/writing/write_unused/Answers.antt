@@ -1,6 +1,6 @@
 use Rattle.std.proofs.Common.{replicate, refl}
 use Rattle.ldm_frags.specs.Written.{unused_block}
-use Rattle.ldm_frags.proofs.PutLaws.{written_here, written_other, written_length}
+use Rattle.ldm_frags.proofs.WriteLaws.{written_here, written_other, written_length}
 use Rattle.ldm_frags.proofs.writing.write_unused.Goals as goal
 
 pub returns-clause-here : goal.returns-clause-here

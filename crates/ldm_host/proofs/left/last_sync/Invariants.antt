@@ -1,4 +1,4 @@
-use Rattle.ldm_host.proofs.LastSync.{IsLastBy}
+use Rattle.ldm_host.proofs.LeftLaws.{IsLastBy}
 use Rattle.ldm_host.proofs.left.last_sync.Given as goal
 
 abbrev pub invariant-loop-place : goal.invariant-loop-place

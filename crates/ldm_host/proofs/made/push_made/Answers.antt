@@ -1,6 +1,6 @@
-use Rattle.std.proofs.Common.{◌≡◌, ℕ, [], ◌∷◌, ◌++◌, Ok, Bool, is_ok, true, if◌then◌else◌, sym, ◌∙◌, ap, Vec}
+use Rattle.std.proofs.Common.{[], ◌≡◌, ℕ, ◌∷◌, ◌++◌, Ok, Bool, is_ok, true, if◌then◌else◌, sym, ◌∙◌, ap, Vec}
 use Rattle.std.specs.declared.alloc.Global.{Global}
-use Rattle.ldm_host.proofs.HowEnds.{on_ok}
+use Rattle.ldm_host.proofs.DoneLaws.{on_ok}
 use Rattle.ldm_host.proofs.made.push_made.Goals as goal
 
 pub returns : goal.returns

@@ -1,7 +1,7 @@
 use Rattle.std.proofs.Common.{set, List, ℕ, ◌∙◌, sym, ap}
 use Rattle.ldm_host.specs.Images.{items_of}
 use Rattle.ldm_bytes.specs.Places.{put}
-use Rattle.ldm_host.proofs.Vectors.{items_set, image_read}
+use Rattle.ldm_host.proofs.HeldLaws.{items_set, image_read}
 use Rattle.ldm_host.proofs.outcome.put_in.Goals as goal
 
 pub returns : goal.returns

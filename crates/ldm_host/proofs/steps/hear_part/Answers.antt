@@ -1,6 +1,6 @@
 use Rattle.std.proofs.Common.{rules, arith, ◌≡◌, ◌≤◌, ◌+◌, length, slice_range}
 use Rattle.std.proofs.lemmas.List.{length-drop}
-use Rattle.ldm_host.proofs.Heard.{left_is, heard_is}
+use Rattle.ldm_host.proofs.HeldLaws.{left_is, heard_is}
 use Rattle.ldm_host.proofs.steps.hear_part.Goals as goal
 
 pub returns-clause-taken : goal.returns-clause-taken

@@ -1,5 +1,5 @@
 use Rattle.std.proofs.Common.{[], ◌∷◌, ◌++◌, Bool, if◌then◌else◌, sym, ◌∙◌, ap}
-use Rattle.ldm_host.proofs.Added.{pushed}
+use Rattle.ldm_host.proofs.DoneLaws.{pushed}
 use Rattle.ldm_host.proofs.steps.keep.Goals as goal
 
 pub returns : goal.returns

@@ -1,7 +1,7 @@
 use Rattle.std.proofs.Common.{rules, ◌≡◌}
 use Rattle.ldm_host.specs.declared.call.Call.TheVariants.{Say}
 use Rattle.ldm_host.specs.Steps.{IsSayOf}
-use Rattle.ldm_host.proofs.Added.{adds_as}
+use Rattle.ldm_host.proofs.DoneLaws.{adds_as}
 use Rattle.ldm_host.proofs.steps.keep_said.Goals as goal
 
 pub returns-in-Ok : goal.returns-in-Ok

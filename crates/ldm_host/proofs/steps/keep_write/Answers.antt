@@ -1,7 +1,7 @@
 use Rattle.std.proofs.Common.{rules, ◌≡◌}
 use Rattle.ldm_host.specs.declared.call.Call.TheVariants.{Write}
 use Rattle.ldm_host.specs.Steps.{IsWriteOf}
-use Rattle.ldm_host.proofs.Added.{adds_as}
+use Rattle.ldm_host.proofs.DoneLaws.{adds_as}
 use Rattle.ldm_host.proofs.steps.keep_write.Goals as goal
 
 pub returns-in-Ok : goal.returns-in-Ok

@@ -1,4 +1,4 @@
-use Rattle.std.proofs.Common.{◌∙◌, ◌++◌, ◌∷◌, [], List, ap, sym}
+use Rattle.std.proofs.Common.{[], ◌∙◌, ◌++◌, ◌∷◌, List, ap, sym}
 use Rattle.ldm_records.specs.declared.types.Record.{Record}
 use Rattle.ldm_init.proofs.GroupLaws.{records_more}
 use Rattle.ldm_init.proofs.database.records_of.Goals as goal

@@ -1,7 +1,7 @@
 use Rattle.std.proofs.Common.{ℕ, Option, Some, None, subst}
 use Rattle.ldm_found.specs.Gathers.{IsFirst}
 use Rattle.ldm_init.specs.Faults.{IsSmall, IsFull}
-use Rattle.ldm_init.proofs.FaultLaws.{twins_of, all_large}
+use Rattle.ldm_init.proofs.InitLaws.{twins_of, all_large}
 use Rattle.ldm_init.proofs.faults.check_disks.Goals as goal
 
 pub returns-in-Some-clause-fault : goal.returns-in-Some-clause-fault

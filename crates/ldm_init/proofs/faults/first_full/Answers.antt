@@ -1,8 +1,8 @@
-use Rattle.std.proofs.Common.{◌<◌, [], length, sym, ◌∙◌, arith}
+use Rattle.std.proofs.Common.{[], ◌<◌, length, sym, ◌∙◌, arith}
 use Rattle.std.proofs.lemmas.Bool.{true≢false}
 use Rattle.ldm_host.proofs.Relations.{looks_then}
 use Rattle.ldm_init.specs.Faults.{IsFull}
-use Rattle.ldm_init.proofs.FaultLaws.{none_further, found_here, none_at_all}
+use Rattle.ldm_init.proofs.InitLaws.{none_further, found_here, none_at_all}
 use Rattle.ldm_init.proofs.faults.first_full.Goals as goal
 
 pub returns-then-not-branch-clause-is : goal.returns-then-not-branch-clause-is

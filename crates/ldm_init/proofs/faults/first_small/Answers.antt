@@ -1,6 +1,6 @@
 use Rattle.std.proofs.Common.{arith}
 use Rattle.ldm_init.specs.Faults.{IsSmall}
-use Rattle.ldm_init.proofs.FaultLaws.{none_further, found_here, none_at_all}
+use Rattle.ldm_init.proofs.InitLaws.{none_further, found_here, none_at_all}
 use Rattle.ldm_init.proofs.faults.first_small.Goals as goal
 
 pub returns-then-sectors-lt2112 : goal.returns-then-sectors-lt2112

@@ -1,7 +1,7 @@
 use Rattle.std.proofs.Common.{rules, ◌≡◌, ◌*◌, length, sym, ◌∙◌}
 use Rattle.ldm_host.specs.Seen.{image}
 use Rattle.ldm_host.proofs.Relations.{looks_then}
-use Rattle.ldm_init.proofs.FaultLaws.{last_decides, first_decides}
+use Rattle.ldm_init.proofs.InitLaws.{last_decides, first_decides}
 use Rattle.ldm_init.proofs.faults.is_empty.Goals as goal
 
 pub returns-in_err-last_is_zero-clause-looks : goal.returns-in_err-last_is_zero-clause-looks

@@ -1,16 +1,15 @@
 use Rattle.std.proofs.Common.{◌∙◌, ◌<◌, ◌≤◌, ℕ, List, map, refl, length, inl, Some, None, Result, is_err, sym, ap, subst, arith}
-use Rattle.ldm_host.proofs.Relations.{looks_works, works_then, moments_trans}
-use Rattle.ldm_copy.proofs.LeftLaws.{on_ok_map}
+use Rattle.ldm_host.proofs.Relations.{looks_settles, looks_works, works_then, moments_trans}
+use Rattle.ldm_copy.proofs.RewriteLaws.{on_ok_map}
 use Rattle.ldm_label.specs.Fields.{sectors_of}
 use Rattle.ldm_init.specs.Images.{IsInitMoment, NothingPending}
 use Rattle.ldm_init.specs.declared.faults.InitError.{InitError}
 use Rattle.ldm_init.specs.Faults.{IsInitFault}
 use Rattle.ldm_init.specs.Moments.{MayBeReady, before_of}
 use Rattle.ldm_init.specs.NewGroup.{new_labels}
-use Rattle.ldm_init.proofs.LabelLaws.{labels_count}
-use Rattle.ldm_init.proofs.InitLaws.{all_take, all_on, body_as, each_writable, making_moment, quiet_moment, takes_then, writes_as, written_before, signed_holds, new_images}
-use Rattle.ldm_init.proofs.StartLaws.{apart, begins_writing, clear, one_fault, still_moment, written_answers}
-use Rattle.ldm_init.proofs.UnderwayLaws.{underway_still}
+use Rattle.ldm_init.proofs.GroupLaws.{labels_count}
+use Rattle.ldm_init.proofs.InitLaws.{all_take, all_on, body_as, each_writable, making_moment, takes_then, writes_as, written_before, signed_holds, new_images, apart, begins_writing, clear, one_fault, still_moment, written_answers}
+use Rattle.ldm_init.proofs.MomentLaws.{underway_still}
 use Rattle.ldm_init.proofs.group.init.Goals as goal
 
 pub returns-in_err-plan-clause-any_moment : goal.returns-in_err-plan-clause-any_moment
@@ -19,7 +18,7 @@ returns-in_err-plan-clause-any_moment g c tells nothing empty images text left =
     let new = g.H.Host.seen c.prepare.new.host in
     let some : 0 < length old.sizes = (let some = c.requires.words.some in omega (arith, some, c.requires.count)) in
     still_moment old c.args.disks.now (g.met.H.Host.one_each tells c.args.host.now) (g.met.H.Host.lengths tells c.args.host.now) empty nothing c.args.name.now c.args.guid some images text
-    (quiet_moment old new c.prepare.ensures.looks.still c.prepare.ensures.looks.quiet images text left)
+    ((looks_settles c.prepare.ensures.looks).moments images text left)
 
 pub write_plan-requires-clause-count : goal.write_plan-requires-clause-count
 write_plan-requires-clause-count g c =
@@ -63,7 +62,7 @@ returns g c =
       unwritten = inl c.write_plan.ensures.not_refused;
       faulty = λ tells fault is. absurd (let e = one_fault guids (map sectors_of old.content) old.content (Some fault) None is (none tells) in cc);
       any_moment = λ tells nothing empty. moments_trans old mid new (λ images text. IsInitMoment name guid guids old images text) looks.still.later writes.works.later
-          (λ images text left. still_moment old guids (counts tells) (lengths tells) empty nothing name guid some images text (quiet_moment old mid looks.still looks.quiet images text left))
+          (λ images text left. still_moment old guids (counts tells) (lengths tells) empty nothing name guid some images text ((looks_settles looks).moments images text left))
           (λ images text left.
           making_moment name guid guids old.sizes bytes c.requires.words c.requires.count body c.new_groups_open.ensures.editable old refl (apart old guids (counts tells) (lengths tells) empty) images text
           (writes.any_moment tells body.db (before_of old) on (begun tells nothing empty) images text left));

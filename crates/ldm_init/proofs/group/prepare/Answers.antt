@@ -1,6 +1,6 @@
 use Rattle.std.proofs.Common.{rules, ◌∙◌, Ok, Err}
 use Rattle.ldm_host.proofs.Relations.{looks_as, looks_itself}
-use Rattle.ldm_init.proofs.StartLaws.{sizes_are, init_answers}
+use Rattle.ldm_init.proofs.InitLaws.{sizes_are, init_answers}
 use Rattle.ldm_init.proofs.group.prepare.Goals as goal
 
 pub returns-in-Err-clause-fault : goal.returns-in-Err-clause-fault

@@ -1,6 +1,6 @@
 use Rattle.std.proofs.Common.{◌∙◌, ℕ, slice_index, ap}
 use Rattle.ldm_init.specs.NewGroup.{new_label}
-use Rattle.ldm_init.proofs.LabelLaws.{labels_more, all_more}
+use Rattle.ldm_init.proofs.GroupLaws.{labels_more, all_more}
 use Rattle.ldm_init.proofs.labels.new_labels.Goals as goal
 
 pub loop-disk-preserved : goal.loop-disk-preserved

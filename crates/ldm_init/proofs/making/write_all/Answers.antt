@@ -5,7 +5,7 @@ use Rattle.ldm_host.proofs.Relations.{works_itself, works_then, moments_trans}
 use Rattle.ldm_host.specs.Seen.{image}
 use Rattle.ldm_init.specs.Bytes.{IsUnsignedImage}
 use Rattle.ldm_init.specs.Moments.{IsMaking, IsReadyToSign, IsWriting}
-use Rattle.ldm_init.proofs.WritingLaws.{writing_moments, writing_next, writing_now, kept_signature, kept_beside, takes_as, written_as}
+use Rattle.ldm_init.proofs.MomentLaws.{writing_moments, writing_next, writing_now, kept_signature, kept_beside, takes_as, written_as}
 use Rattle.ldm_init.proofs.making.write_all.Goals as goal
 
 pub disks-init : goal.disks-init

@@ -1,5 +1,4 @@
-use Rattle.ldm_label.proofs.PlacedLaws.{label_sectors_stay}
-use Rattle.ldm_label.proofs.WrittenLaws.{label_reads}
+use Rattle.ldm_label.proofs.WrittenLaws.{label_sectors_stay, label_reads}
 use Rattle.ldm_label.proofs.laws.written_label_reads_back.Goals as goal
 
 pub returns-clause-reads_back : goal.returns-clause-reads_back

@@ -3,8 +3,7 @@ use Rattle.ldm_label.specs.declared.writing.LabelSectors.{LabelSectors}
 use Rattle.ldm_bytes.specs.Places.{put_each}
 use Rattle.ldm_label.specs.Written.{written_sectors}
 use Rattle.ldm_bytes.proofs.PutLaws.{put_then, put_none}
-use Rattle.ldm_label.proofs.PlacedLaws.{parts, has_label, same_outside, fits_new}
-use Rattle.ldm_label.proofs.WrittenLaws.{label_reads}
+use Rattle.ldm_label.proofs.WrittenLaws.{parts, has_label, same_outside, fits_new, label_reads}
 use Rattle.ldm_label.proofs.writing.write_label.Goals as goal
 
 pub returns : goal.returns

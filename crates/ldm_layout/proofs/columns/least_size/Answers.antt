@@ -1,6 +1,6 @@
 use Rattle.std.proofs.Common.{get_or, refl}
-use Rattle.ldm_layout.proofs.ColumnLaws.{none}
-use Rattle.ldm_layout.proofs.LeastLaws.{least_whole}
+use Rattle.ldm_layout.proofs.SpotLaws.{none}
+use Rattle.ldm_layout.proofs.SortLaws.{least_whole}
 use Rattle.ldm_layout.proofs.columns.least_size.Goals as goal
 
 pub returns-in-len1-up : goal.returns-in-len1-up

@@ -1,6 +1,6 @@
 use Rattle.std.proofs.Common.{length, arith}
 use Rattle.ldm_layout.proofs.PlaceLaws.{raid5_inside}
-use Rattle.ldm_layout.proofs.ColumnLaws.{place_there, ends_there, sizes, none}
+use Rattle.ldm_layout.proofs.SpotLaws.{place_there, ends_there, sizes, none}
 use Rattle.ldm_layout.specs.Parts.{least}
 use Rattle.ldm_layout.specs.Places.{raid5_column, raid5_offset}
 use Rattle.ldm_layout.proofs.columns.raid5_place.Goals as goal

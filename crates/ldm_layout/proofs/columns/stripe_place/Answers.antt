@@ -1,6 +1,6 @@
 use Rattle.std.proofs.Common.{length, arith}
 use Rattle.ldm_layout.proofs.PlaceLaws.{stripe_inside}
-use Rattle.ldm_layout.proofs.ColumnLaws.{place_there, ends_there, some_columns, sizes, none}
+use Rattle.ldm_layout.proofs.SpotLaws.{place_there, ends_there, some_columns, sizes, none}
 use Rattle.ldm_layout.specs.Parts.{least}
 use Rattle.ldm_layout.specs.Places.{stripe_column, stripe_offset}
 use Rattle.ldm_layout.proofs.columns.stripe_place.Goals as goal

@@ -1,5 +1,5 @@
 use Rattle.std.proofs.Common.{sym, ◌∙◌, Some, None}
-use Rattle.ldm_layout.proofs.ListLaws.{fault_is}
+use Rattle.ldm_layout.proofs.VolumeLaws.{fault_is}
 use Rattle.ldm_layout.proofs.faulty.fault_at.Goals as goal
 
 pub returns-in-Some : goal.returns-in-Some

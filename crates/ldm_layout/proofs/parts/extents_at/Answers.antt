@@ -1,6 +1,6 @@
 use Rattle.std.proofs.Common.{◌≤◌, rules, leb, ltb}
 use Rattle.std.proofs.lemmas.List.Sorted.{IsPartitionPoint-from_clause, IsPartitionedBy-leb, IsPartitionedBy-ltb}
-use Rattle.ldm_layout.proofs.RangeLaws.{range_of_points, range_order, range_is}
+use Rattle.ldm_layout.proofs.SortLaws.{range_of_points, range_order, range_is}
 use Rattle.ldm_layout.specs.declared.parts.Extent.{Extent}
 use Rattle.ldm_layout.proofs.parts.extents_at.Goals as goal
 

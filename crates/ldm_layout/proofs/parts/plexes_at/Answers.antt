@@ -1,6 +1,6 @@
 use Rattle.std.proofs.Common.{◌≤◌, rules, leb, ltb, None}
 use Rattle.std.proofs.lemmas.List.Sorted.{IsPartitionPoint-from_clause, IsPartitionedBy-leb, IsPartitionedBy-ltb}
-use Rattle.ldm_layout.proofs.RangeLaws.{range_of_points, range_order, range_is}
+use Rattle.ldm_layout.proofs.SortLaws.{range_of_points, range_order, range_is}
 use Rattle.ldm_layout.specs.declared.parts.Plex.{Plex}
 use Rattle.ldm_layout.proofs.parts.plexes_at.Goals as goal
 

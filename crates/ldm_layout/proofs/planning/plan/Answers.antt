@@ -1,8 +1,7 @@
 use Rattle.std.proofs.Common.{◌≡◌, ℕ, true, Option, Some, IfSome, Result, rules, sym, subst}
 use Rattle.std.specs.List.{All}
 use Rattle.ldm_records.specs.declared.types.Volume.{Volume}
-use Rattle.ldm_layout.proofs.DraftLaws.{extents_end, plan_size}
-use Rattle.ldm_layout.proofs.ListLaws.{layout_is, lists_end}
+use Rattle.ldm_layout.proofs.VolumeLaws.{extents_end, plan_size, layout_is, lists_end}
 use Rattle.ldm_layout.specs.Answers.{PlansAs}
 use Rattle.ldm_layout.specs.Grouped.{IsListsOf}
 use Rattle.ldm_layout.specs.Layouts.{Layout}

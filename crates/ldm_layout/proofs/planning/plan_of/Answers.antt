@@ -1,5 +1,5 @@
 use Rattle.std.proofs.Common.{◌≡◌, None, sym, ◌∙◌, rules}
-use Rattle.ldm_layout.proofs.DraftLaws.{plan_of_draft}
+use Rattle.ldm_layout.proofs.VolumeLaws.{plan_of_draft}
 use Rattle.ldm_layout.specs.Layouts.{layout_fault}
 use Rattle.ldm_layout.specs.Parts.{plexes_at, extents_at}
 use Rattle.ldm_layout.proofs.planning.plan_of.Goals as goal

@@ -1,5 +1,5 @@
 use Rattle.std.proofs.Common.{arith, sym, ◌∙◌}
-use Rattle.ldm_layout.proofs.StretchLaws.{chunked_along}
+use Rattle.ldm_layout.proofs.SpotLaws.{chunked_along}
 use Rattle.ldm_layout.proofs.stretches.plex_stretch.Goals as goal
 
 pub returns-else-is_tiled-clause-spots : goal.returns-else-is_tiled-clause-spots

@@ -1,5 +1,5 @@
 use Rattle.std.proofs.Common.{arith}
-use Rattle.ldm_layout.proofs.StretchLaws.{tile_along}
+use Rattle.ldm_layout.proofs.SpotLaws.{tile_along}
 use Rattle.ldm_layout.proofs.stretches.tile_stretch.Goals as goal
 
 pub returns : goal.returns

@@ -1,4 +1,4 @@
-use Rattle.ldm_layout.proofs.TileLaws.{Walked}
+use Rattle.ldm_layout.proofs.SpotLaws.{Walked}
 use Rattle.ldm_layout.proofs.tiles.tiles.Given as goal
 
 abbrev pub invariant-loop-e : goal.invariant-loop-e

@@ -2,7 +2,7 @@ use Rattle.std.proofs.Common.{not, ◌∙◌, ap, ℕ, List, Option}
 use Rattle.std.specs.Option.{option_map}
 use Rattle.ldm_layout.specs.declared.faulty.VolumeFault.{VolumeFault}
 use Rattle.ldm_rules.specs.Rules.{is_short_fault}
-use Rattle.ldm_rules.proofs.LayoutLaws.{first_passing, first_faulty}
+use Rattle.ldm_rules.proofs.FirstLaws.{first_passing, first_faulty}
 use Rattle.ldm_rules.proofs.layouts.faulty.Goals as goal
 
 pub returns : goal.returns

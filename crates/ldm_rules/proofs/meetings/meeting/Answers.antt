@@ -3,7 +3,7 @@ use Rattle.std.specs.List.{filter_map, AllAdjacentBelow}
 use Rattle.ldm_records.specs.declared.types.Record.{Record}
 use Rattle.ldm_rules.specs.Spans.{span_of}
 use Rattle.ldm_rules.specs.declared.meetings.Span.{Span}
-use Rattle.ldm_rules.proofs.SpanLaws.{meets_none, apart_from}
+use Rattle.ldm_rules.proofs.FirstLaws.{meets_none, apart_from}
 use Rattle.ldm_rules.proofs.meetings.meeting.Goals as goal
 
 pub returns-then-are_apart : goal.returns-then-are_apart

@@ -2,7 +2,7 @@ use Rattle.std.proofs.Common.{Option, IsSome, refl, sym, subst}
 use Rattle.ldm_records.specs.declared.types.Volume.{Volume}
 use Rattle.ldm_layout.specs.Answers.{PlansAs}
 use Rattle.ldm_layout.specs.Volumes.{layout_of}
-use Rattle.ldm_rules.proofs.PlanLaws.{of_volume, planned, planned_size, no_fault}
+use Rattle.ldm_rules.proofs.SoundLaws.{of_volume, planned, planned_size, no_fault}
 use Rattle.ldm_rules.proofs.plans.sound_plan.Goals as goal
 
 pub plan-requires-clause-there : goal.plan-requires-clause-there

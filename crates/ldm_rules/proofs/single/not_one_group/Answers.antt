@@ -2,7 +2,7 @@ use Rattle.std.proofs.Common.{List, take, subst, ap, ◌∙◌}
 use Rattle.std.specs.List.{filter_map}
 use Rattle.ldm_records.specs.declared.types.Record.{Record}
 use Rattle.ldm_rules.specs.Rules.{group_id, group_fault}
-use Rattle.ldm_rules.proofs.OneLaws.{Seen, other_seen, first_seen, second_seen}
+use Rattle.ldm_rules.proofs.FirstLaws.{Seen, other_seen, first_seen, second_seen}
 use Rattle.ldm_rules.proofs.single.not_one_group.Goals as goal
 use Rattle.ldm_rules.proofs.single.not_one_group.Goals.{in-Group+else-found, in_default}
 

@@ -2,7 +2,7 @@ use Rattle.std.proofs.Common.{rules, ◌≡◌, ◌∙◌, ◌++◌, Err, sym, s
 use Rattle.ldm_bytes.specs.Tables.{first_of}
 use Rattle.ldm_rules.specs.Table.{ChecksAs, first_broken_rule, name_rules, tree_rules, sector_rules}
 use Rattle.ldm_rules.proofs.SoundLaws.{checked_layouts}
-use Rattle.ldm_rules.proofs.TableLaws.{failed, in_rest}
+use Rattle.ldm_rules.proofs.FirstLaws.{failed, in_rest}
 use Rattle.ldm_rules.proofs.table.check.Goals as goal
 
 pub returns-in_err-check_names-clause-is : goal.returns-in_err-check_names-clause-is

@@ -5,8 +5,7 @@ use Rattle.ldm_dump.specs.Sources.{spot_at}
 use Rattle.ldm_dump.specs.Bytes.{joined_byte, joined_sector}
 use Rattle.ldm_dump.specs.Redundant.{row_spots}
 use Rattle.ldm_scrub.specs.Compare.{sector_in, mark, place_sector}
-use Rattle.ldm_scrub.proofs.CompareLaws.{row_part, marked_once, bad_row}
-use Rattle.ldm_scrub.proofs.RowLaws.{column_bytes}
+use Rattle.ldm_scrub.proofs.CompareLaws.{row_part, marked_once, bad_row, column_bytes}
 use Rattle.ldm_scrub.proofs.comparing.mark_rows.Goals as goal
 
 pub join_row-requires-clause-has : goal.join_row-requires-clause-has

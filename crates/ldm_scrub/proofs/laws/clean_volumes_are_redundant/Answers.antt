@@ -1,4 +1,4 @@
-use Rattle.ldm_scrub.proofs.CleanLaws.{clean_redundant}
+use Rattle.ldm_scrub.proofs.CompareLaws.{clean_redundant}
 use Rattle.ldm_scrub.proofs.laws.clean_volumes_are_redundant.Goals as goal
 
 pub returns : goal.returns

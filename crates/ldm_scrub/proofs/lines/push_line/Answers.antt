@@ -1,8 +1,7 @@
 use Rattle.std.proofs.Common.{◌≡◌, ◌++◌, ◌/◌, ◌%◌, ℕ, List, take, ap, sym, ◌∙◌}
-use Rattle.ldm_dump.proofs.LostLaws.{chunk_is}
+use Rattle.ldm_dump.proofs.RunLaws.{chunk_is}
 use Rattle.ldm_scrub.specs.Lines.{text_of_failing}
-use Rattle.ldm_scrub.proofs.CountLaws.{untiled}
-use Rattle.ldm_scrub.proofs.LineLaws.{line_row, line_other, other_shape}
+use Rattle.ldm_scrub.proofs.CompareLaws.{untiled, line_row, line_other, other_shape}
 use Rattle.ldm_scrub.proofs.lines.push_line.Goals as goal
 
 pub returns-in-Raid5-clause-is : goal.returns-in-Raid5-clause-is

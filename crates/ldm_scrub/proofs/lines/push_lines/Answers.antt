@@ -1,7 +1,7 @@
 use Rattle.std.proofs.Common.{◌≡◌, ◌++◌, ◌+◌, if◌then◌else◌, [], List, ℕ, length, ap, sym, ◌∙◌, arith}
 use Rattle.std.specs.List.{range_with_len, flat_map}
 use Rattle.ldm_scrub.specs.Lines.{bad_line}
-use Rattle.ldm_scrub.proofs.LineLaws.{line_one}
+use Rattle.ldm_scrub.proofs.CompareLaws.{line_one}
 use Rattle.ldm_scrub.proofs.lines.push_lines.Goals as goal
 
 pub marks-preserved : goal.marks-preserved

@@ -1,5 +1,5 @@
 use Rattle.std.proofs.Common.{ℕ, Option, ap, sym, ◌∙◌}
-use Rattle.ldm_scrub.proofs.MissingLaws.{is_some_of, owner_test}
+use Rattle.ldm_scrub.proofs.CompleteLaws.{is_some_of, owner_test}
 use Rattle.ldm_scrub.proofs.missing.is_of.Goals as goal
 
 pub returns-in-Some : goal.returns-in-Some

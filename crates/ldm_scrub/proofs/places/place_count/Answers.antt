@@ -1,7 +1,6 @@
 use Rattle.std.proofs.Common.{ℕ, subst, sym, ◌∙◌}
 use Rattle.ldm_scrub.specs.Compare.{IsCount}
-use Rattle.ldm_scrub.proofs.CountLaws.{count_others}
-use Rattle.ldm_scrub.proofs.LineLaws.{other_shape}
+use Rattle.ldm_scrub.proofs.CompareLaws.{count_others, other_shape}
 use Rattle.ldm_scrub.proofs.places.place_count.Goals as goal
 
 pub returns-in_default : goal.returns-in_default

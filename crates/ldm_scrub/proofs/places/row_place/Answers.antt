@@ -1,9 +1,8 @@
 use Rattle.std.proofs.Common.{◌≡◌, ◌+◌, ◌-◌, ◌*◌, ◌/◌, ◌%◌, ℕ, length, ap, ◌∙◌}
-use Rattle.ldm_dump.proofs.LostLaws.{chunk_is}
+use Rattle.ldm_dump.proofs.RunLaws.{chunk_is}
 use Rattle.ldm_layout.specs.Columns.{columns_of}
 use Rattle.ldm_scrub.specs.Compare.{place_sector}
-use Rattle.ldm_scrub.proofs.CountLaws.{untiled}
-use Rattle.ldm_scrub.proofs.RowLaws.{sector_raid5, place_of_row}
+use Rattle.ldm_scrub.proofs.CompareLaws.{untiled, sector_raid5, place_of_row}
 use Rattle.ldm_scrub.proofs.places.row_place.Goals as goal
 
 pub returns : goal.returns

@@ -1,9 +1,8 @@
 use Rattle.std.proofs.Common.{◌≡◌, ◌-◌, ◌*◌, ◌/◌, ℕ, length, ap, sym, ◌∙◌, arith}
-use Rattle.ldm_dump.proofs.LostLaws.{chunk_is}
+use Rattle.ldm_dump.proofs.RunLaws.{chunk_is}
 use Rattle.std.proofs.lemmas.Nat.{mul-le}
 use Rattle.ldm_layout.specs.Columns.{columns_of}
-use Rattle.ldm_scrub.proofs.CountLaws.{untiled}
-use Rattle.ldm_scrub.proofs.RowLaws.{row_sector, sector_raid5}
+use Rattle.ldm_scrub.proofs.CompareLaws.{untiled, row_sector, sector_raid5}
 use Rattle.ldm_scrub.proofs.places.row_sector.Goals as goal
 
 pub returns-clause-is : goal.returns-clause-is

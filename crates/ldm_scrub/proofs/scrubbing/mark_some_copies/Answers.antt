@@ -1,7 +1,7 @@
 use Rattle.std.proofs.Common.{◌≡◌, ◌+◌, ℕ, length, drop, arith, ap, sym, ◌∙◌}
 use Rattle.std.proofs.lemmas.List.{length-take, get_or_append_left}
 use Rattle.ldm_scrub.specs.Compare.{is_bad, mark}
-use Rattle.ldm_scrub.proofs.RowLaws.{sector_other}
+use Rattle.ldm_scrub.proofs.CompareLaws.{sector_other}
 use Rattle.ldm_scrub.proofs.scrubbing.mark_some_copies.Goals as goal
 
 pub returns-clause-marks : goal.returns-clause-marks

@@ -1,9 +1,9 @@
 use Rattle.std.proofs.Common.{◌++◌, ℕ, List, length, ap, sym, ◌∙◌}
 use Rattle.std.specs.List.{range_with_len}
 use Rattle.std.proofs.lemmas.List.{append-nil}
-use Rattle.ldm_dump.proofs.SayLaws.{begins_of}
+use Rattle.ldm_dump.proofs.ByteLaws.{begins_of}
 use Rattle.ldm_scrub.specs.Compare.{is_bad_at}
-use Rattle.ldm_scrub.proofs.LineLaws.{silent, lines_are, bad_are}
+use Rattle.ldm_scrub.proofs.CompareLaws.{silent, lines_are, bad_are}
 use Rattle.ldm_scrub.proofs.scrubbing.say_marked.Goals as goal
 
 pub returns-then-bad-eq0-clause-count : goal.returns-then-bad-eq0-clause-count

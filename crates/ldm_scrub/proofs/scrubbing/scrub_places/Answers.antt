@@ -4,8 +4,8 @@ use Rattle.std.specs.List.{range_with_len}
 use Rattle.ldm_host.specs.Moves.{Begins}
 use Rattle.ldm_host.proofs.Relations.{still_itself, still_trans}
 use Rattle.ldm_scrub.specs.Lines.{bad_lines, bad_of}
-use Rattle.ldm_dump.proofs.SayLaws.{begins_all, said_on, part_said}
-use Rattle.ldm_scrub.proofs.LineLaws.{no_lines, none_bad, lines_more, bad_more}
+use Rattle.ldm_dump.proofs.ByteLaws.{begins_all, said_on, part_said}
+use Rattle.ldm_scrub.proofs.CompareLaws.{no_lines, none_bad, lines_more, bad_more}
 use Rattle.ldm_scrub.proofs.scrubbing.scrub_places.Goals as goal
 
 pub pieces-init : goal.pieces-init

@@ -1,6 +1,6 @@
 use Rattle.std.proofs.Common.{arith}
 use Rattle.ldm_host.proofs.Relations.{still_trans}
-use Rattle.ldm_scrub.proofs.LineLaws.{marked_front}
+use Rattle.ldm_scrub.proofs.CompareLaws.{marked_front}
 use Rattle.ldm_scrub.proofs.scrubbing.scrub_some.Goals as goal
 
 pub returns-in-Ok-say_marked-clause-still : goal.returns-in-Ok-say_marked-clause-still

@@ -1,10 +1,10 @@
 use Rattle.std.proofs.Common.{◌++◌, ℕ, List, length, ap, sym, ◌∙◌, append_assoc}
 use Rattle.ldm_host.specs.Moves.{Begins}
 use Rattle.ldm_host.proofs.Relations.{still_trans}
-use Rattle.ldm_dump.proofs.SayLaws.{begins_of, begins_all}
+use Rattle.ldm_dump.proofs.ByteLaws.{begins_of, begins_all}
 use Rattle.ldm_scrub.specs.Compare.{places_of}
 use Rattle.ldm_scrub.specs.Lines.{bad_lines, bad_of, text_of_end}
-use Rattle.ldm_scrub.proofs.LineLaws.{begins_more, end_text}
+use Rattle.ldm_scrub.proofs.CompareLaws.{begins_more, end_text}
 use Rattle.ldm_scrub.proofs.scrubbing.scrub_volume.Goals as goal
 
 pub returns-in_err-bad-clause-front : goal.returns-in_err-bad-clause-front

@@ -1,6 +1,6 @@
 use Rattle.std.proofs.Common.{◌-◌, ◌^◌, sym, ◌∙◌, arith}
 use Rattle.ldm_space.proofs.FreeLaws.{is_none}
-use Rattle.ldm_space.proofs.PlacedMaps.{limited, limited_none, none_limited}
+use Rattle.ldm_space.proofs.GapLaws.{limited, limited_none, none_limited}
 use Rattle.ldm_space.proofs.placed.fit.Goals as goal
 
 pub returns-in_err-last-clause-first : goal.returns-in_err-last-clause-first

@@ -4,8 +4,8 @@ use Rattle.ldm_space.specs.declared.placed.Wanted.{Wanted}
 use Rattle.ldm_space.specs.Free.{taken_in}
 use Rattle.ldm_space.specs.Gaps.{AreGaps}
 use Rattle.ldm_space.specs.Wanted.{placing, placed}
-use Rattle.ldm_space.proofs.PlacedWalk.{IsPlacedTo, ahead_none, placed_more, placed_none, placed_all}
-use Rattle.ldm_space.proofs.PlacedMaps.{AreMaps, no_maps, map_there, maps_more}
+use Rattle.ldm_space.proofs.FreeLaws.{IsPlacedTo, ahead_none, placed_more, placed_none, placed_all}
+use Rattle.ldm_space.proofs.GapLaws.{AreMaps, no_maps, map_there, maps_more}
 use Rattle.ldm_space.proofs.placed.place_all.Goals as goal
 
 pub loop-at-init : goal.loop-at-init

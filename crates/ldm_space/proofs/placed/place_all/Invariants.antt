@@ -1,6 +1,6 @@
 use Rattle.ldm_space.specs.Free.{taken_in}
-use Rattle.ldm_space.proofs.PlacedWalk.{IsPlacedTo}
-use Rattle.ldm_space.proofs.PlacedMaps.{AreMaps}
+use Rattle.ldm_space.proofs.FreeLaws.{IsPlacedTo}
+use Rattle.ldm_space.proofs.GapLaws.{AreMaps}
 use Rattle.ldm_space.proofs.placed.place_all.Given as goal
 
 abbrev pub invariant-loop-at : goal.invariant-loop-at

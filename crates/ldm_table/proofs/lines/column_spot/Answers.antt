@@ -2,7 +2,7 @@ use Rattle.std.proofs.Common.{◌≡◌, ◌*◌, sym, ap, ◌∙◌, Option, fa
 use Rattle.ldm_layout.specs.Layouts.{is_tiled, place_in}
 use Rattle.ldm_layout.specs.declared.shape.Place.{Place}
 use Rattle.ldm_dump.specs.Sources.{spot_at}
-use Rattle.ldm_table.proofs.RowLaws.{chunk_is, stripe_first, one_copy}
+use Rattle.ldm_table.proofs.VolumeLaws.{chunk_is, stripe_first, one_copy}
 use Rattle.ldm_table.proofs.lines.column_spot.Goals as goal
 
 pub spot_of-requires : goal.spot_of-requires

@@ -8,10 +8,9 @@ use Rattle.ldm_host.specs.Plan.{next}
 use Rattle.ldm_host.specs.Seen.{Seen}
 use Rattle.ldm_host.specs.Steps.{IsHear, Moved, is_whole}
 use Rattle.ldm_host.specs.Story.{Counts, fresh_state, run, seen_of}
-use Rattle.ldm_host.proofs.Done.{adds_ticks, hear_still, hear_silent, hear_took, nothing_failed, ok_whole}
-use Rattle.ldm_host.proofs.Grows.{CountsRise}
-use Rattle.ldm_host.proofs.HowEnds.{outcome_is, plan_is, ends, rose, failed_count, kept_count, on_err, from_err, is_failed, and_ok, if_both}
-use Rattle.ldm_host.proofs.StillKept.{kept_hear_part}
+use Rattle.ldm_host.proofs.DoneLaws.{adds_ticks, hear_still, hear_silent, hear_took, nothing_failed, ok_whole, outcome_is, plan_is, ends, rose, failed_count, kept_count, on_err, from_err, is_failed, and_ok, if_both}
+use Rattle.ldm_host.proofs.CallLaws.{CountsRise}
+use Rattle.ldm_host.proofs.HeldLaws.{kept_hear_part}
 use Rattle.ldm_host.proofs.in_memory.MemoryHostHost.hear.Goals as goal
 
 pub invariant_of-self : goal.invariant_of-self

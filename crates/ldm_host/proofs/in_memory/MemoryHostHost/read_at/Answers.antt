@@ -4,10 +4,9 @@ use Rattle.ldm_host.specs.Images.{items_of}
 use Rattle.ldm_host.specs.Memory.{memory_seen, story_of, host_counts}
 use Rattle.ldm_host.specs.Seen.{image}
 use Rattle.ldm_host.specs.Story.{Counts, fresh_state, run}
-use Rattle.ldm_host.proofs.Done.{read_still, read_took, ok_whole}
-use Rattle.ldm_host.proofs.Grows.{CountsRise}
-use Rattle.ldm_host.proofs.HowEnds.{outcome_is, plan_is, ends, rose, failed_count, kept_count, on_ok, is_failed}
-use Rattle.ldm_host.proofs.InRange.{there, fits, image_is}
+use Rattle.ldm_host.proofs.DoneLaws.{read_still, read_took, ok_whole, outcome_is, plan_is, ends, rose, failed_count, kept_count, on_ok, is_failed}
+use Rattle.ldm_host.proofs.CallLaws.{CountsRise}
+use Rattle.ldm_host.proofs.HeldLaws.{there, fits, image_is}
 use Rattle.ldm_host.proofs.in_memory.MemoryHostHost.read_at.Goals as goal
 
 pub read_in-requires : goal.read_in-requires

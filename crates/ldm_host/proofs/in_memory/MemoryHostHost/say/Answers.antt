@@ -4,10 +4,9 @@ use Rattle.ldm_host.specs.Images.{items_of}
 use Rattle.ldm_host.specs.Memory.{memory_seen, story_of, host_counts}
 use Rattle.ldm_host.specs.Steps.{IsSay}
 use Rattle.ldm_host.specs.Story.{Counts, seen_of}
-use Rattle.ldm_host.proofs.Done.{adds_ticks, say_still, say_hears, say_said, say_front, say_took}
-use Rattle.ldm_host.proofs.Grows.{CountsRise}
-use Rattle.ldm_host.proofs.HowEnds.{outcome_is, plan_is, ends, rose, failed_count, kept_count, on_ok, is_failed}
-use Rattle.ldm_host.proofs.StillKept.{kept_say_part}
+use Rattle.ldm_host.proofs.DoneLaws.{adds_ticks, say_still, say_hears, say_said, say_front, say_took, outcome_is, plan_is, ends, rose, failed_count, kept_count, on_ok, is_failed}
+use Rattle.ldm_host.proofs.CallLaws.{CountsRise}
+use Rattle.ldm_host.proofs.HeldLaws.{kept_say_part}
 use Rattle.ldm_host.proofs.in_memory.MemoryHostHost.say.Goals as goal
 
 pub invariant_of-self : goal.invariant_of-self

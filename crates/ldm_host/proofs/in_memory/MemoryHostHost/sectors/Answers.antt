@@ -1,8 +1,7 @@
 use Rattle.std.proofs.Common.{◌/◌, ℕ, length, sym, ◌∙◌, ap}
 use Rattle.ldm_host.specs.Images.{items_of}
 use Rattle.ldm_host.specs.Story.{fresh_state, run}
-use Rattle.ldm_host.proofs.Vectors.{image_read}
-use Rattle.ldm_host.proofs.InRange.{size_is, there}
+use Rattle.ldm_host.proofs.HeldLaws.{image_read, size_is, there}
 use Rattle.ldm_host.proofs.in_memory.MemoryHostHost.sectors.Goals as goal
 
 pub returns-clause-size : goal.returns-clause-size

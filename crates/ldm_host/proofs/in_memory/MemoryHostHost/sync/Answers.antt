@@ -5,10 +5,9 @@ use Rattle.ldm_host.specs.Memory.{memory_seen, story_of, host_counts}
 use Rattle.ldm_host.specs.Moves.{SameLeft, Settled}
 use Rattle.ldm_host.specs.Steps.{IsSync}
 use Rattle.ldm_host.specs.Story.{Counts, seen_of}
-use Rattle.ldm_host.proofs.Done.{adds_ticks, sync_syncs, sync_settled, sync_took, nothing_failed}
-use Rattle.ldm_host.proofs.Grows.{CountsRise}
-use Rattle.ldm_host.proofs.HowEnds.{outcome_is, plan_is, ends, rose, failed_count, kept_count, on_ok, on_err, is_failed}
-use Rattle.ldm_host.proofs.StillKept.{kept_sync_part}
+use Rattle.ldm_host.proofs.DoneLaws.{adds_ticks, sync_syncs, sync_settled, sync_took, nothing_failed, outcome_is, plan_is, ends, rose, failed_count, kept_count, on_ok, on_err, is_failed}
+use Rattle.ldm_host.proofs.CallLaws.{CountsRise}
+use Rattle.ldm_host.proofs.HeldLaws.{kept_sync_part}
 use Rattle.ldm_host.proofs.in_memory.MemoryHostHost.sync.Goals as goal
 
 pub invariant_of-self : goal.invariant_of-self

@@ -9,12 +9,9 @@ use Rattle.ldm_host.specs.Memory.{memory_seen, story_of, host_counts}
 use Rattle.ldm_host.specs.Seen.{image}
 use Rattle.ldm_host.specs.Steps.{IsWrite}
 use Rattle.ldm_host.specs.Story.{Counts, fresh_state, run, seen_of}
-use Rattle.ldm_host.proofs.Done.{adds_ticks, write_writes, write_placed, write_took}
-use Rattle.ldm_host.proofs.Grows.{CountsRise}
-use Rattle.ldm_host.proofs.Handed.{handed_here, handed_others}
-use Rattle.ldm_host.proofs.HowEnds.{outcome_is, plan_is, ends, rose, failed_count, kept_count, on_ok, is_failed}
-use Rattle.ldm_host.proofs.InRange.{there, fits, fits_disk}
-use Rattle.ldm_host.proofs.StillKept.{kept_write_part}
+use Rattle.ldm_host.proofs.DoneLaws.{adds_ticks, write_writes, write_placed, write_took, handed_here, handed_others, outcome_is, plan_is, ends, rose, failed_count, kept_count, on_ok, is_failed}
+use Rattle.ldm_host.proofs.CallLaws.{CountsRise}
+use Rattle.ldm_host.proofs.HeldLaws.{there, fits, fits_disk, kept_write_part}
 use Rattle.ldm_host.proofs.in_memory.MemoryHostHost.write_at.Goals as goal
 
 pub hand-requires : goal.hand-requires

@@ -6,7 +6,7 @@ use Rattle.ldm_host.specs.Images.{items_of}
 use Rattle.ldm_host.specs.Left.{IsLastSync, overlaid, filled_on}
 use Rattle.ldm_host.specs.Seen.{image}
 use Rattle.ldm_host.specs.Story.{Disk}
-use Rattle.ldm_host.proofs.Vectors.{image_read}
+use Rattle.ldm_host.proofs.HeldLaws.{image_read}
 use Rattle.ldm_host.proofs.LeftLaws.{as_many, at_time, fills, held_length, length_at, length-filled, none_pending, now_is, write_fits}
 use Rattle.ldm_host.proofs.memory.MemoryHost.filled.Goals as goal
 

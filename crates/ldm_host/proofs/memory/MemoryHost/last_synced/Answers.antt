@@ -4,7 +4,7 @@ use Rattle.ldm_host.specs.declared.call.Call.{Call}
 use Rattle.ldm_host.specs.Images.{items_of}
 use Rattle.ldm_host.specs.Left.{IsLastSync, written_on}
 use Rattle.ldm_host.specs.Story.{Disk}
-use Rattle.ldm_host.proofs.Vectors.{image_read}
+use Rattle.ldm_host.proofs.HeldLaws.{image_read}
 use Rattle.ldm_host.proofs.LeftLaws.{as_many, at_time, front_call, fresh_disk, last_content, now_is, takes, write_fits}
 use Rattle.ldm_host.proofs.memory.MemoryHost.last_synced.Goals as goal
 

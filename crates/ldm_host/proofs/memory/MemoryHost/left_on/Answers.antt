@@ -2,7 +2,7 @@ use Rattle.std.proofs.Common.{rules, ◌≡◌, sym, ◌∙◌, ap}
 use Rattle.ldm_host.specs.Images.{items_of}
 use Rattle.ldm_host.specs.Left.{left_on}
 use Rattle.ldm_host.specs.Story.{fresh_state, run, disk_at}
-use Rattle.ldm_host.proofs.Vectors.{image_read}
+use Rattle.ldm_host.proofs.HeldLaws.{image_read}
 use Rattle.ldm_host.proofs.LeftLaws.{content_is}
 use Rattle.ldm_host.proofs.memory.MemoryHost.left_on.Goals as goal
 

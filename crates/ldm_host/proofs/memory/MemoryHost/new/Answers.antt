@@ -3,7 +3,7 @@ use Rattle.std.proofs.lemmas.List.{length-replicate}
 use Rattle.ldm_bytes.specs.Numbers.{IsBytes}
 use Rattle.ldm_host.specs.Images.{items_of}
 use Rattle.ldm_host.specs.Seen.{image}
-use Rattle.ldm_host.proofs.Fresh.{fresh_kept, fresh_settled}
+use Rattle.ldm_host.proofs.HeldLaws.{fresh_kept, fresh_settled}
 use Rattle.ldm_host.proofs.memory.MemoryHost.new.Goals as goal
 
 pub invariant_of-result : goal.invariant_of-result

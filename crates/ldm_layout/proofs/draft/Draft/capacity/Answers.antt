@@ -1,5 +1,5 @@
 use Rattle.std.proofs.Common.{◌≡◌, rules}
-use Rattle.ldm_layout.proofs.LeastLaws.{least_whole}
+use Rattle.ldm_layout.proofs.SortLaws.{least_whole}
 use Rattle.ldm_layout.specs.Layouts.{plex_capacity}
 use Rattle.ldm_layout.proofs.draft.Draft.capacity.Goals as goal
 

@@ -1,5 +1,5 @@
 use Rattle.std.proofs.Common.{◌≡◌, arith, rules, length}
-use Rattle.ldm_layout.proofs.PlanLaws.{some_plex}
+use Rattle.ldm_layout.proofs.SpotLaws.{some_plex}
 use Rattle.ldm_layout.specs.Answers.{IsPlan}
 use Rattle.ldm_layout.specs.Layouts.{copies_of}
 use Rattle.ldm_layout.proofs.places.Plan.copies.Goals as goal

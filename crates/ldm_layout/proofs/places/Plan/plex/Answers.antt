@@ -1,10 +1,10 @@
 use Rattle.std.proofs.Common.{◌≡◌, ◌<◌, List, length, get_or, Some, rules, arith, sym, ap, ◌∙◌, subst}
-use Rattle.ldm_layout.proofs.ColumnLaws.{get_at}
-use Rattle.ldm_layout.proofs.PlanLaws.{plex_of_plan}
+use Rattle.ldm_layout.proofs.SpotLaws.{plex_of_plan}
 use Rattle.ldm_layout.specs.Answers.{IsPlan, IsPlexOf}
 use Rattle.ldm_layout.specs.Layouts.{Layout}
 use Rattle.ldm_layout.specs.declared.parts.Extent.{Extent}
 use Rattle.ldm_layout.proofs.places.Plan.plex.Goals as goal
+use Rattle.std.proofs.lemmas.Option.{slice_get-get_or}
 
 pub returns : goal.returns
 returns c =
@@ -16,6 +16,6 @@ returns c =
     let is : c.as_slice.result.now ≡ get_or l.plexes c.args.copy first =
     c.as_slice.ensures ∙ (c.index-plexes-copy.is ∙ ap (λ (ps : List (List Extent)). get_or ps c.args.copy first) plexes) in
     record {
-      there = get_at l.plexes c.args.copy first within ∙ ap (λ (es : List Extent). Some es) (sym is);
+      there = slice_get-get_or l.plexes c.args.copy first within ∙ ap (λ (es : List Extent). Some es) (sym is);
       holds = subst (λ (es : List Extent). IsPlexOf l es) (sym is) (plex_of_plan l c.args.copy first plan within);
     }

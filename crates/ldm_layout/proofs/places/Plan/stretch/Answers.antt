@@ -1,6 +1,6 @@
 use Rattle.std.proofs.Common.{◌∙◌, ap, sym}
 use Rattle.ldm_layout.specs.declared.places.Plan.TheInside.{Inside}
-use Rattle.ldm_layout.proofs.StretchLaws.{stretch_there}
+use Rattle.ldm_layout.proofs.SpotLaws.{stretch_there}
 use Rattle.ldm_layout.proofs.places.Plan.stretch.Goals as goal
 
 pub returns : goal.returns

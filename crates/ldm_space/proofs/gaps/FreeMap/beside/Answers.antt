@@ -8,7 +8,7 @@ use Rattle.ldm_records.specs.declared.types.Record.{Record}
 use Rattle.ldm_group.specs.Partitions.{EndsInRange}
 use Rattle.ldm_space.specs.Free.{Taken, taken_in}
 use Rattle.ldm_space.specs.Gaps.{Gap, AreGaps, taken_on, with_gap}
-use Rattle.ldm_space.proofs.GapWalk.{IsOn, IsWalked, all_on, sorted_same, gaps_same, walk_begun, walk_more, walk_done}
+use Rattle.ldm_space.proofs.GapLaws.{IsOn, IsWalked, all_on, sorted_same, gaps_same, walk_begun, walk_more, walk_done}
 use Rattle.ldm_space.proofs.gaps.FreeMap.beside.Goals as goal
 
 slice_on : (records : List Record) (items slice : List Taken) (disk : ℕ) → slice ≡ items → IsPermutation (filter_map (taken_on disk) records) items → All EndsInRange records → All (IsOn disk) slice

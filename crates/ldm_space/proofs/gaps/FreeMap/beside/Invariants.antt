@@ -1,4 +1,4 @@
-use Rattle.ldm_space.proofs.GapWalk.{IsWalked}
+use Rattle.ldm_space.proofs.GapLaws.{IsWalked}
 use Rattle.ldm_space.proofs.gaps.FreeMap.beside.Given as goal
 
 abbrev pub invariant-loop-t : goal.invariant-loop-t

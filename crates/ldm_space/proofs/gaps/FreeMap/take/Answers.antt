@@ -3,8 +3,7 @@ use Rattle.std.specs.List.{All, position}
 use Rattle.std.proofs.lemmas.Bool.{leb-true}
 use Rattle.std.proofs.lemmas.List.Elements.{All-set}
 use Rattle.ldm_space.specs.Gaps.{Gap, AreGaps, TakesFirst, has_length, first_gap, shorter, without_first}
-use Rattle.ldm_space.proofs.GapLaws.{IsFirstLong}
-use Rattle.ldm_space.proofs.GapTake.{first_at, starts_first, is_removed, is_shortened, none_long, none_starts, all_stay, takes_whole, takes_part, takes_none}
+use Rattle.ldm_space.proofs.GapLaws.{IsFirstLong, first_at, starts_first, is_removed, is_shortened, none_long, none_starts, all_stay, takes_whole, takes_part, takes_none}
 use Rattle.ldm_space.proofs.gaps.FreeMap.take.Goals as goal
 
 -- none is long enough

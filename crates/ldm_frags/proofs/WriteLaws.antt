@@ -1,10 +1,59 @@
--- Blocks that are put into a list of blocks.
-use Rattle.std.proofs.Common.{◌≡◌, ℕ, suc, ◌+◌, ◌-◌, ◌*◌, ◌<◌, ◌≤◌, List, ◌++◌, length, take, drop, replicate, min, sym, ap, ◌∙◌, arith, append_assoc, inl, inr}
+-- A block that is written: what it says, what is compared with it, and what its write leaves.
+use Rattle.std.proofs.Common.{◌≡◌, ℕ, ◌+◌, ◌-◌, ◌*◌, ◌^◌, ◌<◌, ◌≤◌, true, List, ◌++◌, take, drop, sym, ap, subst, ◌∙◌, arith, eq-eqb, suc, length, replicate, min, append_assoc, inl, inr, ◌↔◌, Bool, false, IsTrue}
+use Rattle.std.proofs.Math.Nat.{mod-eq_of_lt}
+use Rattle.std.proofs.lemmas.List.{drop-drop, drop-take, append-nil, drop_at, take_at, take-append-le, take-take, take_all, take_rest, drop-append-le, drop-replicate, length-append, length-take-le, length-drop, length-replicate}
+use Rattle.byteorder.specs.Endian.{big_number, big_bytes}
+use Rattle.byteorder.specs.Numbers.{big_from-take, big_from-bytes}
+use Rattle.ldm_frags.specs.Blocks.{has_magic, group, part, parts, payload, count}
+use Rattle.ldm_frags.specs.Written.{written_block, block_at, parts_of, filled, part_bytes, head}
 use Rattle.std.proofs.lemmas.Bool.{cases_lt}
-use Rattle.std.proofs.lemmas.List.{append-nil, drop-drop, drop-take, drop_at, take_at, take-append-le, take-take, take_all, take_rest, drop-append-le, drop-replicate, length-append, length-take-le, length-drop, length-replicate}
 use Rattle.ldm_bytes.specs.Places.{put}
-use Rattle.ldm_frags.specs.Written.{parts_of, filled, part_bytes, written_block, block_at}
-use Rattle.ldm_frags.specs.Blocks.{count}
+use Rattle.std.specs.Prelude.{bytes_eq}
+use Rattle.std.proofs.Math.Seq.{take-add}
+use Rattle.std.proofs.lemmas.Slice.Eq.{bytes_eq-Decides}
+
+-- ---- The fields of a block that is written are those that it is written with.
+
+-- what the head and the payload of block k say
+pub record HasFields (blocks : List ℕ) (k g p n : ℕ) (bytes : List ℕ) : Type 0 where
+  pub magic : has_magic blocks k ≡ true
+  pub group : group blocks k ≡ g
+  pub part : part blocks k ≡ p
+  pub parts : parts blocks k ≡ n
+  pub payload : payload blocks k ≡ bytes
+
+-- a number within a block reads the block alone
+pub number_within : (m o a : ℕ) (xs : List ℕ) → o + m ≤ 128 → big_number m (drop (a + o) xs) ≡ big_number m (drop o (take 128 (drop a xs)))
+number_within m o a xs le =
+    let split : 128 ≡ o + (128 - o) = omega arith in
+    let cut : drop o (take 128 (drop a xs)) ≡ take (128 - o) (drop o (drop a xs)) = ap (λ (t : ℕ). drop o (take t (drop a xs))) split ∙ drop-take o (128 - o) (drop a xs) in
+    let whole : drop o (drop a xs) ≡ drop (a + o) xs = drop-drop o a xs in
+    sym (ap (big_number m) (cut ∙ ap (take (128 - o)) whole) ∙ big_from-take 0 m (128 - o) (drop (a + o) xs) (omega arith))
+
+written_number : (m v : ℕ) (rest : List ℕ) → v < 256 ^ m → big_number m (big_bytes m v ++ rest) ≡ v
+written_number m v rest lt = big_from-bytes m v rest ∙ mod-eq_of_lt lt
+
+-- the payload lies within the block
+pub payload_within : (blocks : List ℕ) (k : ℕ) → payload blocks k ≡ drop 16 (take 128 (drop (128 * k) blocks))
+payload_within blocks k =
+    let span : 128 * k + 128 - (128 * k + 16) ≡ 112 = omega arith in
+    ap (λ (m : ℕ). take m (drop (128 * k + 16) blocks)) span ∙ ap (take 112) (sym (drop-drop 16 (128 * k) blocks)) ∙ sym (drop-take 16 112 (drop (128 * k) blocks))
+
+pub fields_of : (blocks : List ℕ) (k number sequence g p n : ℕ) (bytes : List ℕ) → number ≡ k + 4 → block_at blocks number ≡ written_block sequence g p n bytes → g < 256 ^ 4 → p < 256 ^ 2 → n < 256 ^ 2 → HasFields blocks k g p n bytes
+unfolding written_block
+fields_of blocks k number sequence g p n bytes e block small-g small-p small-n =
+    let at : 128 * (number - 4) ≡ 128 * k = omega arith in
+    let here : take 128 (drop (128 * k) blocks) ≡ written_block sequence g p n bytes = subst (λ (a : ℕ). take 128 (drop a blocks) ≡ written_block sequence g p n bytes) at block in
+    let head : drop (128 * k + 0) blocks ≡ drop (128 * k) blocks = ap (λ (a : ℕ). drop a blocks) (omega arith) in
+    record {
+      magic = eq-eqb _ _ (ap (big_number 4) (sym head) ∙ number_within 4 0 (128 * k) blocks (omega arith) ∙ ap (λ (b : List ℕ). big_number 4 b) here);
+      group = number_within 4 8 (128 * k) blocks (omega arith) ∙ ap (λ (b : List ℕ). big_number 4 (drop 8 b)) here ∙ written_number 4 g (big_bytes 2 p ++ big_bytes 2 n ++ bytes) small-g;
+      part = number_within 2 12 (128 * k) blocks (omega arith) ∙ ap (λ (b : List ℕ). big_number 2 (drop 12 b)) here ∙ written_number 2 p (big_bytes 2 n ++ bytes) small-p;
+      parts = number_within 2 14 (128 * k) blocks (omega arith) ∙ ap (λ (b : List ℕ). big_number 2 (drop 14 b)) here ∙ written_number 2 n bytes small-n;
+      payload = payload_within blocks k ∙ ap (drop 16) here;
+    }
+
+-- ---- Blocks that are put into a list of blocks.
 
 -- what stands up to the end of what was put
 put_front : (old : List ℕ) (at : ℕ) (x : List ℕ) → at ≤ length old → length (take at old ++ x) ≡ at + length x
@@ -115,3 +164,47 @@ part_filled bytes i end part lt e is =
           ∙ sym (take-append-le 112 (drop (112 * i) bytes) zeros (omega arith))
           ∙ ap (take 112) (sym split)
     ]
+
+-- ---- A block that is compared with what is written.
+
+abbrev pub place : ℕ → ℕ
+place number = 128 * (number - 4)
+
+block_pieces : (xs : List ℕ) (at : ℕ) → take 128 (drop at xs) ≡ take (at + 16 - at) (drop at xs) ++ take (at + 128 - (at + 16)) (drop (at + 16) xs)
+block_pieces xs at =
+    let first : at + 16 - at ≡ 16 = omega arith in
+    let second : at + 128 - (at + 16) ≡ 112 = omega arith in
+    take-add 16 112 (drop at xs) ∙ ap (λ (l : List ℕ). take 16 (drop at xs) ++ take 112 l) (drop-drop 16 at xs)
+    ∙ ap (λ (n : ℕ). take n (drop at xs) ++ take 112 (drop (at + 16) xs)) (sym first) ∙ ap (λ (n : ℕ). take (at + 16 - at) (drop at xs) ++ take n (drop (at + 16) xs)) (sym second)
+
+first_piece : (xs : List ℕ) (at : ℕ) → take (at + 16 - at) (drop at xs) ≡ take 16 (take 128 (drop at xs))
+first_piece xs at =
+    let first : at + 16 - at ≡ 16 = omega arith in
+    ap (λ (n : ℕ). take n (drop at xs)) first ∙ sym (take-take 16 128 (drop at xs) (omega arith))
+
+second_piece : (xs : List ℕ) (at : ℕ) → take (at + 128 - (at + 16)) (drop (at + 16) xs) ≡ drop 16 (take 128 (drop at xs))
+second_piece xs at =
+    let second : at + 128 - (at + 16) ≡ 112 = omega arith in
+    ap (λ (n : ℕ). take n (drop (at + 16) xs)) second ∙ ap (take 112) (sym (drop-drop 16 at xs)) ∙ sym (drop-take 16 112 (drop at xs))
+
+pub block_then : (blocks : List ℕ) (number g p n : ℕ) (bytes first second : List ℕ) (a b : Bool) → first ≡ head number g p n → second ≡ bytes
+    → a ≡ bytes_eq (take (place number + 16 - place number) (drop (place number) blocks)) first → a ≡ true
+    → b ≡ bytes_eq (take (place number + 128 - (place number + 16)) (drop (place number + 16) blocks)) second → IsTrue b ↔ (block_at blocks number ≡ written_block number g p n bytes)
+unfolding written_block
+block_then blocks number g p n bytes first second a b is_first is_second head_is met rest_is = (
+  λ t.
+      let one = (bytes_eq-Decides (take (place number + 16 - place number) (drop (place number) blocks)) first).0 (sym head_is ∙ met) in
+      let two = (bytes_eq-Decides (take (place number + 128 - (place number + 16)) (drop (place number + 16) blocks)) second).0 (sym rest_is ∙ t) in
+      block_pieces blocks (place number) ∙ ap (λ (l : List ℕ). l ++ take (place number + 128 - (place number + 16)) (drop (place number + 16) blocks)) (one ∙ is_first)
+      ∙ ap (λ (l : List ℕ). head number g p n ++ l) (two ∙ is_second),
+  λ same. rest_is ∙ (bytes_eq-Decides (take (place number + 128 - (place number + 16)) (drop (place number + 16) blocks)) second).1 (second_piece blocks (place number) ∙ ap (λ (l : List ℕ). drop 16 l) same ∙ sym is_second),
+)
+
+pub block_else : (blocks : List ℕ) (number g p n : ℕ) (bytes first : List ℕ) (a : Bool) → first ≡ head number g p n
+    → a ≡ bytes_eq (take (place number + 16 - place number) (drop (place number) blocks)) first → a ≡ false
+    → IsTrue a ↔ (block_at blocks number ≡ written_block number g p n bytes)
+unfolding written_block
+block_else blocks number g p n bytes first a is_first head_is not = (
+  λ t. let bad : true ≡ false = sym t ∙ not in absurd cc,
+  λ same. head_is ∙ (bytes_eq-Decides (take (place number + 16 - place number) (drop (place number) blocks)) first).1 (first_piece blocks (place number) ∙ ap (λ (l : List ℕ). take 16 l) same ∙ sym is_first),
+)

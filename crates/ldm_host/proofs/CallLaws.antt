@@ -1,21 +1,201 @@
--- What each call of a host in memory does.
-use Rattle.std.proofs.Common.{◌≡◌, ◌≢◌, inl, inr, ⊎_elim, ℕ, zero, suc, ◌+◌, ◌/◌, ◌<◌, ◌≤◌, List, [], ◌∷◌, ◌++◌, length, set, take, drop, slice_index, refl, sym, ◌∙◌, ap, subst, arith, Vec}
-use Rattle.std.proofs.lemmas.List.{length-set, length-map, get_or-set_same, get_or-set_other, set-get_or, ext_get_or}
-use Rattle.std.proofs.lemmas.Bool.{cases_eq}
-use Rattle.std.specs.declared.alloc.Global.{Global}
-use Rattle.ldm_bytes.proofs.PlaceLaws.{length-put}
-use Rattle.ldm_host.specs.Seen.{Seen, Leaves, image}
-use Rattle.ldm_host.specs.Ending.{TakesNothing}
-use Rattle.ldm_host.specs.Moves.{Begins, Torn, TornAt, Later, Still, Settled, Writes, Syncs}
+-- What one call more makes of what is seen of a host in memory: the bytes round a range that is written, what a stop may leave, and what each kind of call changes.
+use Rattle.std.proofs.Common.{[], ◌≡◌, ◌⊎◌, inl, inr, ⊎_elim, ℕ, ◌+◌, ◌-◌, ◌<◌, ◌≤◌, List, length, drop, slice_index, slice_range, sym, ◌∙◌, ap, arith, rules, ◌∷◌, ◌++◌, refl, subst, ◌≢◌, zero, suc, ◌/◌, set, take, Vec}
+use Rattle.std.proofs.lemmas.List.{map-set, places, get_or-take, get_or-drop, take-append-le, length_push, length-set, length-map, get_or-set_same, get_or-set_other, set-get_or, ext_get_or}
+use Rattle.ldm_host.specs.Moves.{Torn, Begins, Later, TornAt, Still, Settled, Writes, Syncs}
 use Rattle.ldm_bytes.specs.Numbers.{IsBytes}
 use Rattle.ldm_bytes.specs.Places.{put}
-use Rattle.ldm_host.proofs.Relations.{torn_itself, torn_at_itself, torn_from}
+use Rattle.ldm_bytes.proofs.PlaceLaws.{length-put}
+use Rattle.ldm_bytes.proofs.ByteLaws.{put_before, put_in, put_behind, sides}
+use Rattle.ldm_host.specs.Story.{Disk, Agrees, Outside, written_disk, StoryState, MayLeave, LeftSince, Counts, sizes_of, after, run, state_at, seen_from, disk_at, no_disk, synced_disk, contents}
+use Rattle.ldm_host.proofs.Relations.{begins_trans, torn_itself, torn_at_itself, torn_from}
 use Rattle.ldm_host.specs.declared.call.Call.{Call}
-use Rattle.ldm_host.specs.declared.call.Call.TheVariants.{Write, Sync, Hear, Say, Nothing}
-use Rattle.ldm_host.specs.Story.{Disk, StoryState, Agrees, MayLeave, LeftSince, Counts, disk_at, no_disk, written_disk, synced_disk, sizes_of, contents, after, run, seen_from}
-use Rattle.ldm_host.specs.StoryLaws.{image_at, one_each, stays, begins_both, counts_now, only_now, begins_itself}
-use Rattle.ldm_host.proofs.Grows.{CountsRise, run_push, moments, later}
-use Rattle.ldm_host.proofs.Ranges.{unwritten, torn_agrees, torn_put}
+use Rattle.ldm_host.specs.declared.call.Call.TheVariants.{Write, Sync, Say, Nothing}
+use Rattle.ldm_host.specs.StoryLaws.{begins_both, all_calls, begins_itself, image_at, one_each, stays, counts_now, only_now}
+use Rattle.std.proofs.lemmas.Bool.{cases_eq}
+use Rattle.std.specs.declared.alloc.Global.{Global}
+use Rattle.ldm_host.specs.Seen.{Seen, Leaves, image}
+use Rattle.ldm_host.specs.Ending.{TakesNothing}
+
+-- ---- The bytes in and round a range that is written.
+
+-- What may be left after a write, from what could be left before it: the content stood in the range.
+pub unwritten : (disk : Disk) (at asked : ℕ) (bytes c : List ℕ) → length bytes ≤ asked → at + asked ≤ length disk.content → IsBytes disk.content → Agrees (written_disk disk at bytes asked) c
+    → (b : List ℕ) × Agrees disk b × Torn at asked b c
+unwritten disk at asked bytes c short fits small agrees = (b, before, torn)
+  where
+    middle : List ℕ
+    middle = slice_range disk.content at (at + asked)
+
+    middle_len : length middle ≡ asked
+    middle_len = search (rules, places)
+
+    whole : length (put disk.content at bytes) ≡ length disk.content
+    whole = length-put disk.content at bytes (omega (arith, short, fits))
+
+    size : length c ≡ length disk.content
+    size = agrees.size ∙ whole
+
+    b_fits : at + length middle ≤ length c
+    b_fits = omega (arith, middle_len, size, fits)
+
+    b : List ℕ
+    b = put c at middle
+
+    -- outside the range c is the content
+    out : (k : ℕ) → Outside disk.pending k → (k < at) ⊎ (at + asked ≤ k) → slice_index c k ≡ slice_index disk.content k
+    out k free side = agrees.outside k (side, free) ∙ ⊎_elim (λ lt. put_before disk.content bytes at (omega (arith, short, fits)) k lt) (λ ge. put_behind disk.content bytes at (omega (arith, short, fits)) k (omega (arith, ge, short))) side
+
+    same : (k : ℕ) → (k < at) ⊎ (at + asked ≤ k) → slice_index b k ≡ slice_index c k
+    same k side = ⊎_elim (λ lt. put_before c middle at b_fits k lt) (λ ge. put_behind c middle at b_fits k (omega (arith, ge, middle_len))) side
+
+    of_middle : (k : ℕ) → at ≤ k → k < at + asked → slice_index middle (k - at) ≡ slice_index disk.content k
+    of_middle k ge lt =
+        let near : k - at < at + asked - at = omega arith in
+        let back : at + (k - at) ≡ k = omega arith in
+        get_or-take (at + asked - at) (drop at disk.content) (k - at) 0 near ∙ get_or-drop at disk.content (k - at) 0 ∙ ap (λ (j : ℕ). slice_index disk.content j) back
+
+    inside : (k : ℕ) → at ≤ k → k < at + asked → slice_index b k ≡ slice_index disk.content k
+    inside k ge lt = put_in c middle at b_fits k ge (omega (arith, lt, middle_len)) ∙ of_middle k ge lt
+
+    at_k : (k : ℕ) → Outside disk.pending k → slice_index b k ≡ slice_index disk.content k
+    at_k k free = ⊎_elim (λ lt. same k (inl lt) ∙ out k free (inl lt)) (λ rest. ⊎_elim (λ both. inside k both.0 both.1) (λ ge. same k (inr ge) ∙ out k free (inr ge)) rest) (sides k at asked)
+
+    b_bytes : IsBytes b
+    b_bytes k =
+        elim (sides k at asked) [
+          | inl lt ↦ omega (arith, same k (inl lt), agrees.bytes k)
+          | inr rest ↦ elim rest [
+            | inl both ↦ omega (arith, inside k both.0 both.1, small k)
+            | inr ge ↦ omega (arith, same k (inr ge), agrees.bytes k)
+          ]
+        ]
+
+    before : Agrees disk b
+    before = record { size = length-put c at middle b_fits ∙ size; bytes = b_bytes; outside = at_k }
+
+    torn : Torn at asked b c
+    torn = record { size = sym (length-put c at middle b_fits); outside = λ k side. sym (same k side) }
+
+pub torn_put : (old bytes : List ℕ) (at asked : ℕ) → length bytes ≤ asked → at + asked ≤ length old → Torn at asked old (put old at bytes)
+torn_put old bytes at asked short fits = record {
+  size = length-put old at bytes (omega (arith, short, fits));
+  outside = λ k side. ⊎_elim (λ lt. put_before old bytes at (omega (arith, short, fits)) k lt) (λ ge. put_behind old bytes at (omega (arith, short, fits)) k (omega (arith, ge, short))) side;
+}
+
+-- What may be left after a write: anything in the range, round what could be left before it.
+pub torn_agrees : (disk : Disk) (at asked : ℕ) (bytes before after : List ℕ) → length bytes ≤ asked → at + asked ≤ length disk.content → Agrees disk before → Torn at asked before after → IsBytes after → Agrees (written_disk disk at bytes asked) after
+torn_agrees disk at asked bytes before after short fits agrees torn small = record {
+  size = torn.size ∙ agrees.size ∙ sym whole.size;
+  bytes = small;
+  outside = λ k free. torn.outside k free.0 ∙ agrees.outside k free.1 ∙ sym (whole.outside k free.0);
+}
+  where
+    whole : Torn at asked disk.content (put disk.content at bytes)
+    whole = torn_put disk.content bytes at asked short fits
+
+-- ---- One call more.
+
+pub run_push : (first : StoryState) (calls : List Call) (call : Call) → run first (calls ++ call ∷ []) ≡ after (run first calls) call
+run_push first [] call = refl
+run_push first (c ∷ calls) call = run_push (after first c) calls call
+
+pub said_after : (s : StoryState) (call : Call) → Begins s.said (after s call).said
+said_after s (Say bytes) = (bytes.items, refl)
+said_after s call = begins_itself s.said
+
+-- what the counts may do
+pub record CountsRise (old new : Counts) : Type 0 where
+  pub disk_faults : old.disk_faults ≤ new.disk_faults
+  pub talk_faults : old.talk_faults ≤ new.talk_faults
+
+module _ (first : StoryState) (calls : List Call) (call : Call) where
+  abbrev longer : List Call
+  longer = calls ++ call ∷ []
+
+  pub sooner : (k : ℕ) → k ≤ length calls → state_at first longer k ≡ state_at first calls k
+  sooner k le = ap (λ (l : List Call). run first l) (take-append-le k calls (call ∷ []) le)
+
+  one_longer : length longer ≡ length calls + 1
+  one_longer = length_push calls call
+
+  pub last : (k : ℕ) → length calls < k → state_at first longer k ≡ after (run first calls) call
+  last k lt = all_calls first longer k (omega (arith, one_longer)) ∙ run_push first calls call
+
+  before_last : state_at first longer (length calls) ≡ run first calls
+  before_last = sooner (length calls) (omega arith) ∙ all_calls first calls (length calls) (omega arith)
+
+  -- with one call more, no less was said by any time
+  said_grows : (k : ℕ) → k ≤ length calls → Begins (state_at first calls (k + 1)).said (state_at first longer (k + 1)).said
+  said_grows k le = ⊎_elim
+      (λ less. subst (λ (s : StoryState). Begins (state_at first calls (k + 1)).said s.said) (sym (sooner (k + 1) less)) (begins_itself (state_at first calls (k + 1)).said))
+      (λ more. subst (λ (s : StoryState). Begins s.said (state_at first longer (k + 1)).said) (sym (all_calls first calls (k + 1) (omega (arith, more))))
+      (subst (λ (s : StoryState). Begins (run first calls).said s.said) (sym (last (k + 1) more)) (said_after (run first calls) call)))
+      (cases (k + 1) (length calls))
+    where
+      cases : (a b : ℕ) → (a ≤ b) ⊎ (b < a)
+      cases a b = grind arith
+
+  keeps : (t : ℕ) (images : List (List ℕ)) (said : List ℕ) → LeftSince first calls t images said → LeftSince first longer t images said
+  keeps t images said left = record {
+    k = left.k;
+    from = left.from;
+    to = omega (arith, left.to, one_longer);
+    may = subst (λ (s : StoryState). MayLeave s images) (sym (sooner left.k left.to)) left.may;
+    said_before = subst (λ (s : StoryState). Begins s.said said) (sym (sooner left.k left.to)) left.said_before;
+    said_after = begins_trans said (state_at first calls (left.k + 1)).said (state_at first longer (left.k + 1)).said left.said_after (said_grows left.k left.to);
+  }
+
+  adds : (t : ℕ) (images : List (List ℕ)) (said : List ℕ) → t ≤ length calls → LeftSince first longer (length calls) images said → LeftSince first longer t images said
+  adds t images said le left = record { k = left.k; from = omega (arith, le, left.from); to = left.to; may = left.may; said_before = left.said_before; said_after = left.said_after }
+
+  nothing_else : (t : ℕ) (images : List (List ℕ)) (said : List ℕ) → LeftSince first longer t images said → LeftSince first calls t images said ⊎ LeftSince first longer (length calls) images said
+  nothing_else t images said left = ⊎_elim
+      (λ less. inl (record {
+        k = left.k;
+        from = left.from;
+        to = omega (arith, less);
+        may = subst (λ (s : StoryState). MayLeave s images) (sooner left.k (omega (arith, less))) left.may;
+        said_before = subst (λ (s : StoryState). Begins s.said said) (sooner left.k (omega (arith, less))) left.said_before;
+        said_after = subst (λ (s : StoryState). Begins said s.said) (sooner (left.k + 1) less) left.said_after;
+      }))
+      (λ more. inr (record { k = left.k; from = omega (arith, more); to = left.to; may = left.may; said_before = left.said_before; said_after = left.said_after }))
+      (cases (left.k + 1) (length calls))
+    where
+      cases : (a b : ℕ) → (a ≤ b) ⊎ (b < a)
+      cases a b = grind arith
+
+  -- the moments of the call: those at its start, with some of what it says, and what it leaves
+  pub moments : (images : List (List ℕ)) (said : List ℕ) → LeftSince first longer (length calls) images said
+      → (MayLeave (run first calls) images × Begins (run first calls).said said × Begins said (after (run first calls) call).said)
+      ⊎ (MayLeave (after (run first calls) call) images × (said ≡ (after (run first calls) call).said))
+  moments images said left = ⊎_elim
+      (λ now. let here : state_at first longer left.k ≡ run first calls = ap (λ (k : ℕ). state_at first longer k) now ∙ before_last in inl (
+        subst (λ (s : StoryState). MayLeave s images) here left.may,
+        subst (λ (s : StoryState). Begins s.said said) here left.said_before,
+        subst (λ (s : StoryState). Begins said s.said) (last (left.k + 1) (omega (arith, now))) left.said_after,
+      ))
+      (λ done. inr (
+        subst (λ (s : StoryState). MayLeave s images) (last left.k done) left.may,
+        begins_both (after (run first calls) call).said said (subst (λ (s : StoryState). Begins s.said said) (last left.k done) left.said_before) (subst (λ (s : StoryState). Begins said s.said) (last (left.k + 1) (omega (arith, done))) left.said_after),
+      ))
+      (cases left.k (length calls) left.from)
+    where
+      cases : (a b : ℕ) → b ≤ a → (a ≡ b) ⊎ (b < a)
+      cases a b le = grind arith
+
+  pub later : (script : List ℕ) (old new : Counts) → CountsRise old new → sizes_of (after (run first calls) call).disks ≡ sizes_of (run first calls).disks → Later (seen_from first calls script old) (seen_from first longer script new)
+  later script old new rise sizes = record {
+    sizes = ap (λ (s : StoryState). sizes_of s.disks) (run_push first calls call) ∙ sizes;
+    disk_faults = rise.disk_faults;
+    talk_faults = rise.talk_faults;
+    said = subst (λ (s : StoryState). Begins (run first calls).said s.said) (sym (run_push first calls call)) (said_after (run first calls) call);
+    clock = omega (arith, one_longer);
+    keeps = λ t images said le left. keeps t images said left;
+    adds = adds;
+    nothing_else = λ t images said le left. nothing_else t images said left;
+  }
+
+-- ---- What each call of a host in memory does.
 
 -- a list of disks with one changed, of the same length
 pub sizes_set : (disks : List Disk) (disk : ℕ) (d : Disk) → length d.content ≡ length (disk_at disks disk).content → sizes_of (set disks disk d) ≡ sizes_of disks
@@ -24,9 +204,7 @@ sizes_set (e ∷ disks) zero d same = ap (λ (n : ℕ). n / 512 ∷ sizes_of dis
 sizes_set (e ∷ disks) (suc disk) d same = ap (λ (l : List ℕ). length e.content / 512 ∷ l) (sizes_set disks disk d same)
 
 pub contents_set : (disks : List Disk) (disk : ℕ) (d : Disk) → contents (set disks disk d) ≡ set (contents disks) disk d.content
-contents_set [] disk d = refl
-contents_set (e ∷ disks) zero d = refl
-contents_set (e ∷ disks) (suc disk) d = ap (λ (l : List (List ℕ)). e.content ∷ l) (contents_set disks disk d)
+contents_set disks disk d = map-set (λ disk. disk.content) disks disk d
 
 disk_there : (disks : List Disk) (disk : ℕ) (d : Disk) → disk < length (sizes_of disks) → disk_at (set disks disk d) disk ≡ d
 disk_there disks disk d lt = let there : disk < length disks = omega (arith, length-map disks (λ d. length d.content / 512), lt) in get_or-set_same disks disk d no_disk there
@@ -80,7 +258,7 @@ module _ (first : StoryState) (calls : List Call) (script : List ℕ) (old new :
     );
     moments = λ images said left. ⊎_elim
         (λ start. (record { one_each = start.0.one_each; each = start.0.each }, start.1, subst (λ (s : StoryState). Begins said s.said) (sym (run_push first calls call)) start.2))
-        (λ done. (was images done.0, subst (λ (l : List ℕ). Begins now.said l) (sym done.1) (said_later call), subst (λ (s : StoryState). Begins said s.said) (sym (run_push first calls call)) (subst (λ (l : List ℕ). Begins l (after now call).said) (sym done.1) (begins_itself (after now call).said))))
+        (λ done. (was images done.0, subst (λ (l : List ℕ). Begins now.said l) (sym done.1) (said_after now call), subst (λ (s : StoryState). Begins said s.said) (sym (run_push first calls call)) (subst (λ (l : List ℕ). Begins l (after now call).said) (sym done.1) (begins_itself (after now call).said))))
         (moments first calls call images said left);
   }
     where
@@ -92,13 +270,6 @@ module _ (first : StoryState) (calls : List Call) (script : List ℕ) (old new :
         one_each = may.one_each ∙ ap (λ (d : List Disk). length (sizes_of d)) same;
         each = λ disk lt. subst (λ (d : List Disk). Agrees (disk_at d disk) (image images disk)) same (may.each disk (subst (λ (d : List Disk). disk < length (sizes_of d)) (sym same) lt));
       }
-
-      said_later : (call : Call) → Begins now.said (after now call).said
-      said_later (Write disk at bytes asked) = begins_itself now.said
-      said_later (Sync disk) = begins_itself now.said
-      said_later (Hear count) = begins_itself now.said
-      said_later (Say bytes) = (bytes.items, refl)
-      said_later Nothing = begins_itself now.said
 
   module _ (disk at asked : ℕ) (bytes : Vec ℕ Global) (in_range : disk < length (sizes_of now.disks)) (short : length bytes.items ≤ asked) (fits : at + asked ≤ length (disk_at now.disks disk).content) (small : IsBytes (disk_at now.disks disk).content) where
     abbrev call : Call
