@@ -21,12 +21,12 @@ use Rattle.std.proofs.lemmas.Bool.{false_from_ne_true, false≢true, or_parts, e
 use Rattle.std.proofs.lemmas.List.Folds.{list_any_at}
 use Rattle.std.proofs.lemmas.List.Sums.{sum-map}
 use Rattle.ldm_space.specs.declared.taken.Taken.{Taken}
-use Rattle.ldm_space.specs.Placed.{AreFirstFits, AllEndWithin, AreApart}
+use Rattle.ldm_space.specs.Placed.{AreFirstFits, AllEndWithin, AreDisjoint}
 use Rattle.ldm_words.specs.declared.command.Piece.{Piece}
 use Rattle.ldm_words.specs.declared.command.NewLayout.{NewLayout}
 use Rattle.ldm_words.specs.declared.command.NewLayout.TheVariants as layouts
 use Rattle.ldm_words.specs.Limits.{IsNewLayout}
-use Rattle.ldm_edits.specs.Creating.{words_of, is_bad_size, fresh_for}
+use Rattle.ldm_edits.specs.Creating.{words_of, is_bad_size, fresh_for, is_same_disk, against_layout}
 use Rattle.ldm_edits.specs.Extending.{is_bad_length}
 use Rattle.ldm_label.specs.declared.Label.{Label}
 use Rattle.ldm_group.specs.Database.{Database}
@@ -34,8 +34,9 @@ use Rattle.ldm_rules.specs.Ends.{data_size}
 use Rattle.ldm_space.specs.Free.{taken_in}
 use Rattle.ldm_edits.specs.declared.reply.Refusal.{Refusal}
 use Rattle.ldm_group.proofs.InOrder.{max_above}
-use Rattle.ldm_edits.proofs.Shares.{all_from_map}
+use Rattle.ldm_edits.proofs.Shares.{all_from_map, map_map}
 use Rattle.ldm_rules.proofs.CarryLaws.{HasDisk}
+use Rattle.ldm_edits.proofs.LimitLaws.{two_open}
 
 -- ---- What a command asks of the disks that its words name, and what is taken for it.
 
@@ -45,13 +46,12 @@ use Rattle.ldm_rules.proofs.CarryLaws.{HasDisk}
 abbrev pub has_twin : List Wanted → ℕ → ℕ → Bool
 has_twin wanted at disk = list_any (λ w. w.disk == disk) (drop (at + 1) wanted)
 
-step_is : (wanted : List Wanted) (at : ℕ) (d : Wanted) → at < length wanted → has_twins (drop at wanted) ≡ (has_twin wanted at (get_or wanted at d).disk || has_twins (drop (at + 1) wanted))
-step_is wanted at d lt =
-    let one : suc at ≡ at + 1 = omega arith in
-    ap has_twins (drop-cons wanted at d lt) ∙ (λ i. list_any (λ w. w.disk == (get_or wanted at d).disk) (drop (one i) wanted) || has_twins (drop (one i) wanted))
-
 pub no_twin : (wanted : List Wanted) (at : ℕ) (d : Wanted) → at < length wanted → has_twin wanted at (get_or wanted at d).disk ≡ false → has_twins wanted ≡ has_twins (drop at wanted) → has_twins wanted ≡ has_twins (drop (at + 1) wanted)
-no_twin wanted at d lt none so_far = so_far ∙ step_is wanted at d lt ∙ ap (λ (b : Bool). b || has_twins (drop (at + 1) wanted)) none
+no_twin wanted at d lt none so_far =
+    let one : suc at ≡ at + 1 = omega arith in
+    so_far ∙ ap has_twins (drop-cons wanted at d lt)
+    ∙ (λ i. list_any (λ w. w.disk == (get_or wanted at d).disk) (drop (one i) wanted) || has_twins (drop (one i) wanted))
+    ∙ ap (λ (b : Bool). b || has_twins (drop (at + 1) wanted)) none
 
 -- ---- A walk over the words of a command, one disk after the other.
 
@@ -78,7 +78,8 @@ pub record AreAsked (sectors : ℕ → ℕ) (records : List Record) (words : Lis
 
 pub asks_first : (sectors : ℕ → ℕ) (records : List Record) (words : List (List ℕ × ℕ)) (done : List Wanted)
     → done ≡ [] → AreAsked sectors records words 0 done
-asks_first sectors records words done none = subst (AreAsked sectors records words 0) (sym none) (record {
+asks_first sectors records words done none = subst (AreAsked sectors records words 0) (sym none)
+    (record {
   asked = ahead_none (asked_for sectors records 0 words);
   low = All-nil (λ (w : Wanted). w.limit < 2 ^ 64);
 })
@@ -86,31 +87,37 @@ asks_first sectors records words done none = subst (AreAsked sectors records wor
 -- words that are made of other values
 module _ {X : Type 0} (f : X → List ℕ × ℕ) (xs : List X) (sectors : ℕ → ℕ) (records : List Record) (at : ℕ)
     (done : List Wanted) where
-  rest : Result (List Wanted) ℕ
+  abbrev rest : Result (List Wanted) ℕ
   rest = asked_for sectors records (at + 1) (drop (at + 1) (map f xs))
 
   next_word : (x : X) {name : List ℕ} → at < length xs → x ≡ get_or xs at x → name ≡ (f x).0
-      → asked_for sectors records at (drop at (map f xs)) ≡ ask sectors at (f x).1 (disk_named name records) rest
+      → asked_for sectors records at (drop at (map f xs)) ≡ ask sectors at (f x).1
+          (disk_named name records) rest
   next_word x {name} lt is named =
       let one : suc at ≡ at + 1 = omega arith in
       let word : get_or (map f xs) at (f x) ≡ f x = get_or-map f xs at x ∙ ap f (sym is) in
-      ap (asked_for sectors records at) (drop-cons (map f xs) at (f x) (omega (arith, length-map xs f)))
+      ap (asked_for sectors records at) (drop-cons (map f xs) at (f x)
+          (omega (arith, length-map xs f)))
       ∙ (λ i. asked_for sectors records at (word i ∷ drop (one i) (map f xs)))
       ∙ ap (λ (n : List ℕ). ask sectors at (f x).1 (disk_named n records) rest) (sym named)
 
-  pub asks_more : (items : List Wanted) (x : X) (w : Wanted) {name : List ℕ} → at < length xs → x ≡ get_or xs at x
-      → name ≡ (f x).0 → Some w ≡ asked_of sectors (f x).1 (disk_named name records) → w.limit < 2 ^ 64
+  pub asks_more : (items : List Wanted) (x : X) (w : Wanted) {name : List ℕ} → at < length xs
+      → x ≡ get_or xs at x
+      → name ≡ (f x).0 → Some w ≡ asked_of sectors (f x).1 (disk_named name records)
+          → w.limit < 2 ^ 64
       → items ≡ done ++ w ∷ [] → AreAsked sectors records (map f xs) at done
       → AreAsked sectors records (map f xs) (at + 1) items
   asks_more items x w {name} lt is named found low pushed so_far =
       subst (AreAsked sectors records (map f xs) (at + 1)) (sym pushed) (record {
         asked = so_far.asked ∙ ap (ahead done) (next_word x lt is named
-            ∙ ask_some sectors at (f x).1 (disk_named name records) rest w found) ∙ ahead_front done w rest;
+            ∙ ask_some sectors at (f x).1 (disk_named name records) rest w found)
+                ∙ ahead_front done w rest;
         low = All-push (λ (v : Wanted). v.limit < 2 ^ 64) done w so_far.low low;
       })
 
   pub asks_none : (x : X) {name : List ℕ} → at < length xs → x ≡ get_or xs at x → name ≡ (f x).0
-      → None ≡ asked_of sectors (f x).1 (disk_named name records) → AreAsked sectors records (map f xs) at done
+      → None ≡ asked_of sectors (f x).1 (disk_named name records)
+          → AreAsked sectors records (map f xs) at done
       → by_place refusals.NoDisk (asked_for sectors records 0 (map f xs)) ≡ Err (refusals.NoDisk at)
   asks_none x {name} lt is named missing so_far = ap (by_place refusals.NoDisk)
       (so_far.asked ∙ ap (ahead done) (next_word x lt is named
@@ -192,23 +199,24 @@ any_empty : {X : Type 0} (f : X → ℕ) (xs : List X) → list_any (λ x. f x =
 any_empty f [] = refl
 any_empty f (x ∷ xs) = ap (λ (b : Bool). (f x == 0) || b) (any_empty f xs)
 
-piece_sizes : (pieces : List Piece) → map (λ (word : List ℕ × ℕ). word.1) (map (λ p. (p.disk, p.len)) pieces) ≡ map (λ p. p.len) pieces
-piece_sizes [] = refl
-piece_sizes (p ∷ pieces) = ap (λ (l : List ℕ). p.len ∷ l) (piece_sizes pieces)
-
 -- as many of a size as words
 pub sizes_many : {X : Type 0} (f : X → ℕ) (xs : List X) (words : List (List ℕ × ℕ)) → map f xs ≡ map (λ (word : List ℕ × ℕ). word.1) words → length xs ≡ length words
 sizes_many f xs words same = sym (length-map xs f) ∙ ap (λ (l : List ℕ). length l) same ∙ length-map words (λ (word : List ℕ × ℕ). word.1)
 
 -- together as much as the pieces say
 pub sizes_sum : {X : Type 0} (f : X → ℕ) (xs : List X) (pieces : List Piece) → map f xs ≡ map (λ (word : List ℕ × ℕ). word.1) (words_of (layouts.Span pieces)) → sum_by f xs ≡ sum_by (λ p. p.len) pieces
-sizes_sum f xs pieces same = sym (sum-map f xs) ∙ ap sum (same ∙ piece_sizes pieces) ∙ sum-map (λ (p : Piece). p.len) pieces
+sizes_sum f xs pieces same = sym (sum-map f xs)
+    ∙ ap sum (same ∙ map_map (λ (word : List ℕ × ℕ). word.1) (λ (p : Piece). (p.disk, p.len))
+    pieces) ∙ sum-map (λ (p : Piece). p.len) pieces
 
 -- the lengths of what is asked for by pieces are bad where those of the pieces are
 pub bad_pieces : (pieces : List Piece) (wanted : List Wanted) → map (λ w. w.size) wanted ≡ map (λ (word : List ℕ × ℕ). word.1) (words_of (layouts.Span pieces)) → is_bad_length 0 wanted ≡ is_bad_size (layouts.Span pieces)
 bad_pieces pieces wanted same =
     let empty : list_any (λ w. w.size == 0) wanted ≡ list_any (λ p. p.len == 0) pieces =
-    any_empty (λ (w : Wanted). w.size) wanted ∙ ap (list_any (λ (n : ℕ). n == 0)) (same ∙ piece_sizes pieces) ∙ sym (any_empty (λ (p : Piece). p.len) pieces) in
+    any_empty (λ (w : Wanted). w.size) wanted
+        ∙ ap (list_any (λ (n : ℕ). n == 0)) (same
+        ∙ map_map (λ (word : List ℕ × ℕ). word.1) (λ (p : Piece). (p.disk, p.len)) pieces)
+        ∙ sym (any_empty (λ (p : Piece). p.len) pieces) in
     let whole : 0 + sum_by (λ w. w.size) wanted ≡ sum_by (λ p. p.len) pieces = (let e = sizes_sum (λ (w : Wanted). w.size) wanted pieces same in omega arith) in
     λ i. empty i || is_much (whole i)
 
@@ -273,12 +281,6 @@ fresh_spots (layouts.Raid5 chunk len disks) spots same = (let many = disks_many 
 abbrev pub IsSize : ℕ → Type 0
 IsSize n = ((n == 0) ≡ false) × (n < 2 ^ 64)
 
--- what is asked of a disk of the group
-record IsOnDisk (labels : List Label) (records : List Record) (w : Wanted) : Type 0 where
-  disk : HasDisk records w.disk
-  low : w.disk ≤ max_id records
-  limit : w.limit ≡ data_size labels records w.disk
-
 -- some sectors of a disk of the group
 pub record IsTaken (records : List Record) (t : Taken) : Type 0 where
   pub low : t.disk < 2 ^ 64
@@ -286,7 +288,9 @@ pub record IsTaken (records : List Record) (t : Taken) : Type 0 where
   pub some : (t.size == 0) ≡ false
   pub disk : HasDisk records t.disk
 
-module _ {db : Database} {labels : List Label} {words : List (List ℕ × ℕ)} {against : List Wanted → Option Refusal} {wanted : List Wanted} {spots : List Taken} (are : ArePlaced db labels words against wanted spots) where
+module _ {db : Database} {labels : List Label} {words : List (List ℕ × ℕ)} {against : List Wanted
+    → Option Refusal} {wanted : List Wanted} {spots : List Taken}
+    (are : ArePlaced db labels words against wanted spots) where
   pub first_fits : AreFirstFits (taken_in db.records) wanted spots
   first_fits = placed_fit wanted (taken_in db.records) 0 spots are.places
 
@@ -296,26 +300,30 @@ module _ {db : Database} {labels : List Label} {words : List (List ℕ × ℕ)} 
   pub asked_found : AreFound (data_size labels db.records) db.records words wanted
   asked_found = are_found (data_size labels db.records) db.records 0 words wanted are.asked
 
-  on_disks : All (IsOnDisk labels db.records) wanted
-  on_disks = found_all (IsOnDisk labels db.records) (λ n. Unit {0}) (data_size labels db.records) db.records words wanted
-      (λ size w on h. let low = max_above db.records (kinds.Disk on.disk) on.there in let same = on.disk_is in
-      record { disk = (on.disk, on.there, sym on.disk_is); low = omega arith; limit = on.limit_is }) asked_found (λ k d lt. tt)
+  on_disks : All (λ w. (size : ℕ) × IsFound (data_size labels db.records) db.records size w) wanted
+  on_disks = found_all (λ w. (size : ℕ) × IsFound (data_size labels db.records) db.records size w)
+      (λ n. Unit {0})
+      (data_size labels db.records) db.records words wanted (λ size w on h. (size, on)) asked_found
+          (λ k d lt. tt)
 
   -- what is taken ends within its disk, and lies apart from all that was,
   pub ends_within : AllEndWithin (data_size labels db.records) spots
-  ends_within = fits_within (data_size labels db.records) wanted (taken_in db.records) spots (λ k d lt. (on_disks k d lt).limit) first_fits
+  ends_within = fits_within (data_size labels db.records) wanted (taken_in db.records) spots
+      (λ k d lt. (on_disks k d lt).1.limit_is) first_fits
 
-  pub lie_apart : AreApart (taken_in db.records) spots
+  pub lie_apart : AreDisjoint (taken_in db.records) spots
   lie_apart = fits_apart wanted (taken_in db.records) spots first_fits
 
-  -- and where sizes are asked for that the format can say, it is some sectors of a disk of the group
-  pub are_taken : max_id db.records < 2 ^ 64 → All (λ w. IsSize w.size) wanted → All (IsTaken db.records) spots
-  are_taken ids sizes = taken_all (IsTaken db.records) wanted (taken_in db.records) spots first_fits (λ k d lt start. record {
-    low = (let low = (on_disks k d lt).low in omega arith);
-    small = (sizes k d lt).1;
-    some = (sizes k d lt).0;
-    disk = (on_disks k d lt).disk;
-  })
+  -- and where good sizes are asked for it is some sectors of a disk of the group
+  pub are_taken : max_id db.records < 2 ^ 64 → All (λ w. IsSize w.size) wanted
+      → All (IsTaken db.records) spots
+  are_taken ids sizes = taken_all (IsTaken db.records) wanted (taken_in db.records) spots first_fits
+      (λ k d lt start.
+      let on = (on_disks k d lt).1 in
+      let low = max_above db.records (kinds.Disk on.disk) on.there in
+      let same = on.disk_is in
+      record { low = omega arith; small = (sizes k d lt).1; some = (sizes k d lt).0; disk =
+          (on.disk, on.there, sym same) })
 
 -- ---- What the stages of create and extend had, where they make a group.
 
@@ -385,23 +393,35 @@ word_sizes (layouts.Raid5 chunk len disks) grammar good = each_one IsSize len di
 -- ---- what is taken
 
 -- what is asked for by the words
-pub sizes_asked : (layout : NewLayout) (sectors : ℕ → ℕ) (records : List Record) (wanted : List Wanted) → IsNewLayout layout → is_bad_size layout ≡ false → AreFound sectors records (words_of layout) wanted
+pub sizes_asked : (layout : NewLayout) (sectors : ℕ → ℕ) (records : List Record)
+    (wanted : List Wanted) → IsNewLayout layout → is_bad_size layout ≡ false
+    → AreFound sectors records (words_of layout) wanted
     → All (λ w. IsSize w.size) wanted
 sizes_asked layout sectors records wanted grammar good found =
     found_all (λ w. IsSize w.size) IsSize sectors records (words_of layout) wanted (λ size w is h. subst IsSize (sym is.size_is) h) found (word_sizes layout grammar good)
 
--- these are the sectors that the partitions of a layout take
-pub record IsTakenFor (records : List Record) (layout : NewLayout) (taken : List Taken) : Type 0 where
+-- a layout that nothing stands against has a good size,
+pub good_size : (layout : NewLayout) (wanted : List Wanted) → against_layout layout wanted ≡ None → is_bad_size layout ≡ false
+good_size layout wanted free = (two_open (is_same_disk layout wanted) (is_bad_size layout) refusals.SameDisk refusals.BadSize free).1
+
+-- and where it is placed these are the sectors that its partitions take
+pub record IsTakenFor (records : List Record) (layout : NewLayout) (taken : List Taken) : Type 0
+    where
+  pub good : is_bad_size layout ≡ false
   pub sizes : AreFor layout taken
   pub each : All (IsTaken records) taken
 
-pub taken_for : (layout : NewLayout) {db : Database} {labels : List Label} {against : List Wanted → Option Refusal} {wanted : List Wanted} {spots : List Taken} → IsNewLayout layout → is_bad_size layout ≡ false
-    → max_id db.records < 2 ^ 64 → ArePlaced db labels (words_of layout) against wanted spots → IsTakenFor db.records layout spots
-taken_for layout {db} {labels} {against} {wanted} {spots} grammar good ids are =
+pub placed_taken : (layout : NewLayout) {db : Database} {labels : List Label} {wanted : List Wanted} {ts : List Taken} → IsNewLayout layout
+    → ArePlaced db labels (words_of layout) (against_layout layout) wanted ts → max_id db.records < 2 ^ 64 → IsTakenFor db.records layout ts
+placed_taken layout {db} {labels} {wanted} {ts} grammar are low =
     let sectors = data_size labels db.records in
+    let good = good_size layout wanted are.free in
     record {
-      sizes = fits_sizes wanted (taken_in db.records) spots (first_fits are) ∙ found_sizes sectors db.records (words_of layout) wanted (asked_found are);
-      each = are_taken are ids (sizes_asked layout sectors db.records wanted grammar good (asked_found are));
+      good = good;
+      sizes = fits_sizes wanted (taken_in db.records) ts (first_fits are)
+          ∙ found_sizes sectors db.records (words_of layout) wanted (asked_found are);
+      each = are_taken are low (sizes_asked layout sectors db.records wanted grammar good
+          (asked_found are));
     }
 
 -- all are of one size
@@ -437,5 +457,6 @@ piece_each db labels pieces wanted asked =
 pub layout_some : (db : Database) (labels : List Label) (layout : NewLayout) (wanted : List Wanted) → IsNewLayout layout → is_bad_size layout ≡ false → wanted_by db labels (words_of layout) ≡ Ok wanted → All (λ w. 0 < w.size) wanted
 layout_some db labels layout wanted grammar good asked =
     let sectors = data_size labels db.records in
-    let sizes = sizes_asked layout sectors db.records wanted grammar good (found db labels (words_of layout) wanted asked) in
+    let sizes = sizes_asked layout sectors db.records wanted grammar good
+        (found db labels (words_of layout) wanted asked) in
     λ k d lt. (let some = eqb-false (get_or wanted k d).size 0 (sizes k d lt).0 in omega arith)

@@ -1,4 +1,5 @@
--- A new volume with its components and their partitions, whose ids follow one another: the next group has its order, and keeps the rules.
+-- A new volume with its components and their partitions, whose ids follow one another: the next
+-- group has its order, and keeps the rules.
 use Rattle.std.proofs.Common.{◌≡◌, ◌≢◌, ◌∙◌, inl, inr, ap, sym, refl, subst, ℕ, suc, ◌+◌, ◌*◌, ◌≤◌, ◌<◌, ◌^◌, ◌==◌, [], ◌∷◌, ◌++◌, length, get_or, map, arith, Some, None, List, Option, Bool, true, false, Ok, bytes_eq}
 use Rattle.std.specs.Prelude.{filter}
 use Rattle.std.specs.List.{All, AllPairs, cons_option, filter_map, flat_map, Contains}
@@ -33,33 +34,36 @@ use Rattle.ldm_rules.proofs.GroupLaws.{names_next}
 use Rattle.ldm_rules.proofs.SoundLaws.{EachRule}
 use Rattle.ldm_space.specs.declared.taken.Taken.{Taken}
 use Rattle.ldm_space.specs.Free.{taken_of, taken_in}
-use Rattle.ldm_space.specs.Placed.{AreApart, AllEndWithin}
+use Rattle.ldm_space.specs.Placed.{AreDisjoint, AllEndWithin}
 use Rattle.ldm_volumes.specs.Volumes.{there, span_parts, mirror_parts, mirror_made}
 use Rattle.ldm_edits.proofs.AskedLaws.{AllSized, IsTaken}
 use Rattle.ldm_edits.proofs.Layouts.{IsTiledTo, IsCopy, mirror_layout, tile_extents, tiles_whole, tiles_sum, AreExtentsOf, tiles_of, parts_taken, AreNumbers, numbers_head, numbers_tail, IdsFollow, MakesParts, makes_span_parts, parts_rise, follow_above, follow_at, parts_own}
-use Rattle.ldm_edits.proofs.Shares.{Below, map_there, each_mapped, each_more, flat_there, flat_from, records_of, Share, news, parts_of, IsOther, IsMade, IsRemade, of_partition, read_plexes, read_extents, volume_keeps, remade_carries, remade_each}
+use Rattle.ldm_edits.proofs.Shares.{Below, map_there, each_mapped, each_more, flat_there, flat_from, records_of, Share, news, parts_of, IsOther, IsMade, IsRemade, of_partition, read_plexes, read_extents, volume_keeps, remade_carries, remade_each, moved, behind, new_of}
 
 -- ---- ids that follow one another
 
-follow_join : (id n : ℕ) (xs ys : List Record) → n ≡ id + length xs → IdsFollow id xs → IdsFollow n ys → IdsFollow id (xs ++ ys)
-follow_join id n [] ys is h rest = subst (λ (m : ℕ). IdsFollow m ys) (let e : n ≡ id = omega arith in e) rest
+follow_join : (id n : ℕ) (xs ys : List Record) → n ≡ id + length xs → IdsFollow id xs
+    → IdsFollow n ys → IdsFollow id (xs ++ ys)
+follow_join id n [] ys is h rest = subst (λ (m : ℕ). IdsFollow m ys)
+    (let e : n ≡ id = omega arith in e) rest
 follow_join id n (x ∷ xs) ys is h rest = (h.0, follow_join (id + 1) n xs ys (omega arith) h.1 rest)
 
-follow_split : (id : ℕ) (xs ys : List Record) → IdsFollow id (xs ++ ys) → IdsFollow id xs × ((n : ℕ) × (id ≤ n) × IdsFollow n ys)
+follow_split : (id : ℕ) (xs ys : List Record) → IdsFollow id (xs ++ ys) → IdsFollow id xs
+    × ((n : ℕ) × (id ≤ n) × IdsFollow n ys)
 follow_split id [] ys h = (tt, (id, omega arith, h))
-follow_split id (x ∷ xs) ys h = let rest = follow_split (id + 1) xs ys h.1 in ((h.0, rest.0), (rest.1.0, (let low = rest.1.1 in omega arith), rest.1.2))
+follow_split id (x ∷ xs) ys h = let rest = follow_split (id + 1) xs ys h.1 in
+    ((h.0, rest.0), (rest.1.0, (let low = rest.1.1 in omega arith), rest.1.2))
 
 -- two ids of the format give two places
-apart_by_id : (k l i j : ℕ) → i < 2 ^ 64 → j < 2 ^ 64 → i ≢ j → k * 2 ^ 64 + i ≢ l * 2 ^ 64 + j
-apart_by_id k l i j low_i low_j off = λ e. omega arith
-
 place_apart : (r s : Record) → id_of r < 2 ^ 64 → id_of s < 2 ^ 64 → id_of r ≢ id_of s → place_of r ≢ place_of s
 unfolding place_of
-place_apart r s low_r low_s off = apart_by_id (kind_of r) (kind_of s) (id_of r) (id_of s) low_r low_s off
+place_apart r s low_r low_s off e = (let places : kind_of r * 2 ^ 64 + id_of r ≡ kind_of
+    s * 2 ^ 64 + id_of s = e in omega arith)
 
 -- those that are made differ in their places, and from all that was there
 pub added_rises : (old made : List Record) (id : ℕ) → Rising old → IdsFollow id made → max_id old < id → id + length made ≤ 2 ^ 64 → Rising (in_order (old ++ made))
-added_rises old made id up h new few = in_order_rises (old ++ made) (pairs_append (λ (a b : Record). place_of a ≢ place_of b) old made old_apart made_apart cross)
+added_rises old made id up h new few = in_order_rises (old ++ made)
+    (pairs_append (λ (a b : Record). place_of a ≢ place_of b) old made old_apart made_apart cross)
   where
     old_apart : AllPairs (λ a b. place_of a ≢ place_of b) old
     old_apart i j d low within = λ e. (let below : place_of (get_or old i d) < place_of (get_or old j d) = up i j d low within in omega arith)
@@ -99,7 +103,7 @@ pub record AreBlocks (volume id : ℕ) (ss : List Share) (taken : List Taken) : 
   pub taken_are : map taken_of (parts_of ss) ≡ taken
   pub many : length (blocks ss) ≡ length ss + length taken
 
--- what is made: a new volume of this name with its components. Where a layout reads just these it has no fault
+-- a new volume of this name with its components. Where a layout reads just these it has no fault
 pub record MakesNew (id : ℕ) (name : List ℕ) (made : List Record) (taken : List Taken) : Type 0 where
   pub volume : Volume
   pub ss : List Share
@@ -121,17 +125,20 @@ blocks_rise id (s ∷ ss) h =
     let here : s.d.head.id ≡ id = h.0 in
     let rest = (follow_split (id + 1) (records_of s.parts) (blocks ss) h.1).1 in
     AllPairs-cons Below (kinds.Component s.d) (news ss)
-    (λ k d lt. each_mapped (Below (kinds.Component s.d)) (λ (t : Share). kinds.Component t.d) ss (λ t at.
-        let above : rest.0 ≤ t.d.head.id = follow_above rest.0 (blocks ss) (kinds.Component t.d) rest.2 (flat_there block ss t (kinds.Component t.d) at (0, omega arith, refl)) in
+    (λ k d lt. each_mapped (Below (kinds.Component s.d)) new_of ss (λ t at.
+        let above : rest.0 ≤ t.d.head.id = follow_above rest.0 (blocks ss) (kinds.Component t.d)
+            rest.2 (flat_there block ss t (kinds.Component t.d) at (0, omega arith, refl)) in
         let low = rest.1 in
         omega arith) (get_or (news ss) k d) (Contains-get_or (news ss) k d lt))
     (blocks_rise rest.0 ss rest.2)
 
-block_rises : (id : ℕ) (ss : List Share) → IdsFollow id (blocks ss) → (s : Share) → Contains ss s → Rising (records_of s.parts)
+block_rises : (id : ℕ) (ss : List Share) → IdsFollow id (blocks ss) → (s : Share) → Contains ss s
+    → Rising (records_of s.parts)
 block_rises id [] h s (k, lt, is) = absurd (omega arith)
-block_rises id (s ∷ ss) h =
+block_rises id (s ∷ ss) h q at =
     let parts = follow_split (id + 1) (records_of s.parts) (blocks ss) h.1 in
-    each_more (λ (t : Share). Rising (records_of t.parts)) s ss (parts_rise (id + 1) s.parts parts.0) (block_rises parts.1.0 ss parts.1.2)
+    each_more (λ (t : Share). Rising (records_of t.parts)) s ss
+        (parts_rise (id + 1) s.parts parts.0) (block_rises parts.1.0 ss parts.1.2) q at
 
 -- what is listed is what is made
 listed : (v : Volume) (ss : List Share) (r : Record) → Contains (kinds.Volume v ∷ blocks ss) r → IsMade v ss r
@@ -140,20 +147,29 @@ listed v ss = each_more (IsMade v ss) (kinds.Volume v) (blocks ss) refl (λ r at
     each_more (IsMade v ss) (kinds.Component s.0.d) (records_of s.0.parts) (s.0, s.1, refl)
     (each_mapped (IsMade v ss) kinds.Partition s.0.parts (λ p here. (s.0, s.1, here))) r s.2)
 
-lists : (v : Volume) (ss : List Share) (r : Record) → IsMade v ss r → Contains (kinds.Volume v ∷ blocks ss) r
+lists : (v : Volume) (ss : List Share) (r : Record) → IsMade v ss r
+    → Contains (kinds.Volume v ∷ blocks ss) r
 lists v ss (kinds.Group g) m = absurd m
 lists v ss (kinds.Disk d) m = absurd m
 lists v ss (kinds.Volume x) m = (0, omega arith, ap kinds.Volume (sym m))
-lists v ss (kinds.Component x) (s, at, e) = Contains-append_right (kinds.Volume v ∷ []) (blocks ss) (kinds.Component x) (flat_there block ss s (kinds.Component x) at (0, omega arith, ap kinds.Component (sym e)))
-lists v ss (kinds.Partition x) (s, at, in') = Contains-append_right (kinds.Volume v ∷ []) (blocks ss) (kinds.Partition x) (flat_there block ss s (kinds.Partition x) at
-    (Contains-append_right (kinds.Component s.d ∷ []) (records_of s.parts) (kinds.Partition x) (map_there kinds.Partition s.parts x in')))
+lists v ss (kinds.Component x) (s, at, e) = behind (kinds.Volume v) (blocks ss) (kinds.Component x)
+    (flat_there block ss s (kinds.Component x) at (0, omega arith, ap kinds.Component (sym e)))
+lists v ss (kinds.Partition x) (s, at, in') =
+    behind (kinds.Volume v) (blocks ss) (kinds.Partition x)
+    (flat_there block ss s (kinds.Partition x) at
+    (behind (kinds.Component s.d) (records_of s.parts) (kinds.Partition x)
+        (map_there kinds.Partition s.parts x in')))
 
 -- ---- the next group
 
-pub created_rises : {old made : List Record} {name : List ℕ} {ts : List Taken} → Rising old → MakesNew (max_id old + 1) name made ts → Rising (in_order (old ++ made))
-created_rises {old} {made} up new = added_rises old made (max_id old + 1) up (subst (IdsFollow (max_id old + 1)) (sym new.made_are) (new.first, new.are.follow)) (omega arith) new.few
+pub created_rises : (old made : List Record) {name : List ℕ} {ts : List Taken} → Rising old → MakesNew (max_id old + 1) name made ts → Rising (in_order (old ++ made))
+created_rises old made up new = added_rises old made (max_id old + 1) up
+    (subst (IdsFollow (max_id old + 1)) (sym new.made_are) (new.first, new.are.follow))
+    (omega arith) new.few
 
-module _ {old made : List Record} {labels : List Label} {name : List ℕ} {ts : List Taken} (up : Rising old) (each : EachRule old labels) (new : MakesNew (max_id old + 1) name made ts) (on : All (IsTaken old) ts) where
+module _ {old made : List Record} {labels : List Label} {name : List ℕ} {ts : List Taken}
+    (up : Rising old) (each : EachRule old labels) (new : MakesNew (max_id old + 1) name made ts)
+    (on : All (IsTaken old) ts) where
   abbrev next : List Record
   next = in_order (old ++ made)
 
@@ -162,22 +178,28 @@ module _ {old made : List Record} {labels : List Label} {name : List ℕ} {ts : 
   others (kinds.Group g) at = tt
   others (kinds.Disk d) at = tt
   others (kinds.Partition p) at = tt
-  others (kinds.Volume x) at = (let low = max_above old (kinds.Volume x) at in ne_eqb x.head.id (max_id old + 1) (λ e. omega arith))
+  others (kinds.Volume x) at = (let low = max_above old (kinds.Volume x) at in
+      ne_eqb x.head.id (max_id old + 1) (λ e. omega arith))
   others (kinds.Component x) at =
       let v = (component_kept old labels each x at).parent in
       let low = max_above old (kinds.Volume v.0) v.1 in
       let id = v.2 in
       ne_eqb x.parent (max_id old + 1) (λ e. omega arith)
 
-  above : (s : Share) → Contains new.ss s → (r : Record) → Contains (block s) r → max_id old < id_of r
-  above s at r in' = (let low = follow_above (max_id old + 1 + 1) (blocks new.ss) r new.are.follow (flat_there block new.ss s r at in') in omega arith)
+  above : (s : Share) → Contains new.ss s → (r : Record) → Contains (block s) r
+      → max_id old < id_of r
+  above s at r in' = (let low = follow_above (max_id old + 1 + 1) (blocks new.ss) r new.are.follow
+      (flat_there block new.ss s r at in') in omega arith)
 
   c_above : (s : Share) → Contains new.ss s → max_id old < s.c.head.id
-  c_above s at = (let high = above s at (kinds.Component s.d) (0, omega arith, refl) in let same = ap (λ (c : Component). c.head.id) (new.are.each s at).same in omega arith)
+  c_above s at = (let high = above s at (kinds.Component s.d) (0, omega arith, refl) in
+      let same = ap (λ (c : Component). c.head.id) (new.are.each s at).same in omega arith)
 
   none_before : (s : Share) → Contains new.ss s → filter (is_child 4 s.c.head.id) old ≡ []
-  none_before s at = kin_are (is_child 4 s.c.head.id) old [] up (λ i j d lt within. absurd (omega arith)) (λ r h. absurd (let lt = h.1 in omega arith))
-      (of_partition s.c.head.id (λ (y : Record). Contains old y → Contains [] y) (λ p parent there. absurd (
+  none_before s at = kin_are (is_child 4 s.c.head.id) old [] up
+      (λ i j d lt within. absurd (omega arith)) (λ r h. absurd (let lt = h.1 in omega arith))
+      (of_partition s.c.head.id (λ (y : Record). Contains old y → Contains [] y)
+          (λ p parent there. absurd (
           let c = (partition_kept old labels each p there).parent in
           let low = max_above old (kinds.Component c.0) c.1 in
           let id = c.2 in
@@ -191,16 +213,20 @@ module _ {old made : List Record} {labels : List Label} {name : List ℕ} {ts : 
   remade : IsRemade old next (max_id old + 1) new.volume new.ss
   remade = record {
     up = up;
-    vp = created_rises up new;
-    back = λ r at. elim (member_next old made r at) [ inl was ↦ inl (was, others r was) | inr m ↦ inr (listed new.volume new.ss r (subst (λ (l : List Record). Contains l r) new.made_are m)) ];
+    vp = created_rises old made up new;
+    back = λ r at. elim (member_next old made r at)
+        [ inl was ↦ inl (was, others r was) | inr m ↦ inr
+        (listed new.volume new.ss r (moved new.made_are r m)) ];
     there = λ r at other. stays_next old made r at;
-    made = λ r m. made_next old made r (subst (λ (l : List Record). Contains l r) (sym new.made_are) (lists new.volume new.ss r m));
+    made = λ r m. made_next old made r (moved (sym new.made_are) r (lists new.volume new.ss r m));
     id = new.first;
     each = λ s at. (let is = new.are.each s at in record {
       parent = is.parent;
       same_plex = ap plex_of (sym is.same);
       each = λ p in'. record {
-        above = above s at (kinds.Partition p) (Contains-append_right (kinds.Component s.d ∷ []) (records_of s.parts) (kinds.Partition p) (map_there kinds.Partition s.parts p in'));
+        above = above s at (kinds.Partition p)
+            (behind (kinds.Component s.d) (records_of s.parts) (kinds.Partition p)
+            (map_there kinds.Partition s.parts p in'));
         parent = is.own p in';
         disk = (takes s p at in').disk;
         some = (takes s p at in').some;
@@ -212,22 +238,29 @@ module _ {old made : List Record} {labels : List Label} {name : List ℕ} {ts : 
           omega arith);
     });
     rise = blocks_rise (max_id old + 1 + 1) new.ss new.are.follow;
-    own = λ x there parent. absurd (false≢true (sym (others (kinds.Component x) there) ∙ eq-eqb x.parent (max_id old + 1) parent));
-    apart = λ x there other s at. (let low = max_above old (kinds.Component x) there in let high = c_above s at in ne_eqb x.head.id s.c.head.id (λ e. omega arith));
+    own = λ x there parent. absurd (false≢true (sym (others (kinds.Component x) there)
+        ∙ eq-eqb x.parent (max_id old + 1) parent));
+    apart = λ x there other s at. (let low = max_above old (kinds.Component x) there in
+        let high = c_above s at in ne_eqb x.head.id s.c.head.id (λ e. omega arith));
   }
 
   keeps : KeepsVolume next new.volume
   keeps = volume_keeps remade new.count new.some (new.laid next (read_plexes remade) (λ s at.
-      ap (λ (c : Component). extents_of c.head.id next) (sym (new.are.each s at).same) ∙ read_extents remade s at
-      ∙ ap (λ (l : List Extent). l ++ map extent_of s.parts) (extents_by s.c.head.id old ∙ ap (filter_map extent_in) (none_before s at))))
+      ap (λ (c : Component). extents_of c.head.id next) (sym (new.are.each s at).same)
+          ∙ read_extents remade s at
+      ∙ ap (λ (l : List Extent). l ++ map extent_of s.parts) (extents_by s.c.head.id old
+          ∙ ap (filter_map extent_in) (none_before s at))))
 
   pub created_carries : Carries old next
   created_carries = remade_carries remade keeps
 
   -- the new volume has a name that no old one has
-  pub created_each : ((r : Record) → Contains old r → is_volume_named name r ≡ false) → AreApart (taken_in old) ts → AllEndWithin (data_size labels old) ts → EachRule next labels
+  pub created_each : ((r : Record) → Contains old r → is_volume_named name r ≡ false)
+      → AreDisjoint (taken_in old) ts → AllEndWithin (data_size labels old) ts → EachRule next labels
   created_each free apart within =
-      remade_each remade keeps labels each (subst (AllEndWithin (data_size labels old)) (sym new.are.taken_are) within) (subst (AreApart (taken_in old)) (sym new.are.taken_are) apart)
+      remade_each remade keeps labels each (subst (AllEndWithin (data_size labels old))
+          (sym new.are.taken_are) within) (subst (AreDisjoint (taken_in old)) (sym new.are.taken_are)
+          apart)
       (names_next old next (Some new.volume.head) remade.vp (record {
         from = λ v at. elim (remade.back (kinds.Volume v) at) [ inl was ↦ inl (v, was.0, refl) | inr m ↦ inr (ap (λ (x : Volume). Some x.head) (sym m)) ];
         free = λ head is w at. (let same : new.volume.head ≡ head = cc in
@@ -241,24 +274,34 @@ abbrev share_of : Component → List Partition → Share
 share_of c parts = record { c = c; d = c; parts = parts }
 
 no_blocks : (volume id : ℕ) → AreBlocks volume id [] []
-no_blocks volume id = record { follow = tt; each = λ s at. absurd (let lt = at.1 in omega arith); taken_are = refl; many = refl }
+no_blocks volume id = record { follow = tt; each = λ s at. absurd (let lt = at.1 in
+    omega arith); taken_are = refl; many = refl }
 
 -- one component more in front, with its partitions
-one_block : {volume id layout first behind : ℕ} {striping : Option Striping} {made : List (Option Record)} {es : List Extent} {ts more : List Taken} {ss : List Share}
-    → (c : MakesComponent id volume layout (length ts) striping) (p : MakesParts first made es) → AreExtentsOf id es ts → first ≡ id + 1 → behind ≡ first + length ts
-    → AreBlocks volume behind ss more → AreBlocks volume id (share_of c.component p.parts ∷ ss) (ts ++ more)
-one_block {volume} {id} {layout} {first} {behind} {striping} {made} {es} {ts} {more} {ss} c p are first_is behind_is rest = record {
-  follow = (c.id_is, follow_join (id + 1) behind (records_of p.parts) (blocks ss) (omega arith) (subst (λ (n : ℕ). IdsFollow n (records_of p.parts)) first_is p.ids) rest.follow);
+one_block : {volume id layout first after : ℕ} {striping : Option Striping} {made : List
+    (Option Record)} {es : List Extent} {ts more : List Taken} {ss : List Share}
+    → (c : MakesComponent id volume layout (length ts) striping) (p : MakesParts first made es)
+        → AreExtentsOf id es ts → first ≡ id + 1 → after ≡ first + length ts
+    → AreBlocks volume after ss more → AreBlocks volume id (share_of c.component p.parts ∷ ss)
+        (ts ++ more)
+one_block {volume} {id} {layout} {first} {after} {striping} {made} {es} {ts} {more} {ss} c p are
+    first_is after_is rest = record {
+  follow = (c.id_is, follow_join (id + 1) after (records_of p.parts) (blocks ss) (let many = long in
+      omega arith) (subst (λ (n : ℕ). IdsFollow n (records_of p.parts)) first_is p.ids)
+      rest.follow);
   each = each_more (IsNewShare volume) (share_of c.component p.parts) ss new rest.each;
   taken_are = map-append taken_of p.parts (parts_of ss) ∙ (λ i. takes i ++ rest.taken_are i);
-  many = (let count = rest.many in let split = length-append (records_of p.parts) (blocks ss) in let all = length-append ts more in omega arith);
+  many = (let here = long in let count = rest.many in
+      let split = length-append (records_of p.parts) (blocks ss) in
+      let all = length-append ts more in omega arith);
 }
   where
     takes : map taken_of p.parts ≡ ts
     takes = parts_taken id es ts p.parts are p.extents_are
 
     long : length (records_of p.parts) ≡ length ts
-    long = length-map p.parts kinds.Partition ∙ sym (length-map p.parts taken_of) ∙ ap (λ (l : List Taken). length l) takes
+    long = length-map p.parts kinds.Partition ∙ sym (length-map p.parts taken_of)
+        ∙ ap (λ (l : List Taken). length l) takes
 
     new : IsNewShare volume (share_of c.component p.parts)
     new = record {
@@ -283,10 +326,13 @@ single_new id name guid raid size layout striping parts es ts few short low some
     let mv : MakesVolume id name guid raid 1 size = makes_volume id name guid raid 1 size (omega arith) short (omega arith) low in
     let mc : MakesComponent (id + 1) id layout (length ts) striping = makes_component (id + 1) id layout (length ts) striping (omega arith) (omega arith) (omega arith) fits in
     let s : Share = share_of mc.component has.parts in
-    let are : AreBlocks id (id + 1) (s ∷ []) (ts ++ []) = one_block mc has extents (omega arith) refl (no_blocks id (id + 2 + length ts)) in
+    let are : AreBlocks id (id + 1) (s ∷ []) (ts ++ []) =
+        one_block mc has extents (omega arith) refl (no_blocks id (id + 2 + length ts)) in
     let made : List Record = there (new_volume id name guid raid 1 size ∷ (new_component (id + 1) id layout (length ts) striping ∷ parts)) in
-    let made_are : made ≡ kinds.Volume mv.volume ∷ blocks (s ∷ []) = (λ i. cons_option (mv.made i) (cons_option (mc.made i) (has.made_are i)))
-    ∙ ap (λ (l : List Record). kinds.Volume mv.volume ∷ (kinds.Component mc.component ∷ l)) (sym (append-nil (records_of has.parts))) in
+    let made_are : made ≡ kinds.Volume mv.volume ∷ blocks (s ∷ []) =
+        (λ i. cons_option (mv.made i) (cons_option (mc.made i) (has.made_are i)))
+    ∙ ap (λ (l : List Record). kinds.Volume mv.volume ∷ (kinds.Component mc.component ∷ l))
+        (sym (append-nil (records_of has.parts))) in
     record {
       volume = mv.volume;
       ss = s ∷ [];
@@ -295,11 +341,13 @@ single_new id name guid raid size layout striping parts es ts few short low some
       count = mv.children_is;
       some = ne_eqb mv.volume.size 0 (λ e. some (sym mv.size_is ∙ e));
       made_are = made_are;
-      few = (let whole = ap (λ (l : List Record). length l) made_are in let many = are.many in let all = length-append ts [] in omega arith);
+      few = (let whole = ap (λ (l : List Record). length l) made_are in let many = are.many in
+          let all = length-append ts [] in omega arith);
       are = subst (AreBlocks id (id + 1) (s ∷ [])) (append-nil ts) are;
       laid = λ next plexes read. lay next mv.volume mv.size_is
           (plexes ∙ ap (λ (x : Plex). x ∷ []) (plex_is mc ∙ ap (λ k. record { volume = k; id = id + 1; layout = layout; striping = striping }) (sym mv.id_is)))
-          (ap (λ k. extents_of k next) (sym mc.id_is) ∙ read s (0, omega arith, refl) ∙ has.extents_are);
+          (ap (λ k. extents_of k next) (sym mc.id_is) ∙ read s (0, omega arith, refl)
+              ∙ has.extents_are);
     }
 
 -- the components of a mirror, each followed by its partition
@@ -310,16 +358,23 @@ record MakesCopies (volume id len : ℕ) (ts : List Taken) : Type 0 where
   pub each : (s : Share) → Contains ss s → IsCopy len s
   pub many : length ss ≡ length ts
 
-makes_copies : (volume id len : ℕ) (ts : List Taken) → volume < 2 ^ 64 → id + 2 * length ts ≤ 2 ^ 64 → AreNumbers ts → AllSized len ts → MakesCopies volume id len ts
-makes_copies volume id len [] low few fits same = record { ss = []; made_are = refl; are = no_blocks volume id; each = λ s at. absurd (let lt = at.1 in omega arith); many = refl }
+makes_copies : (volume id len : ℕ) (ts : List Taken) → volume < 2 ^ 64 → id + 2 * length ts ≤ 2 ^ 64
+    → AreNumbers ts → AllSized len ts → MakesCopies volume id len ts
+makes_copies volume id len [] low few fits same = record { ss = []; made_are = refl; many = refl;
+    are = no_blocks volume id; each = λ s at. absurd (let lt = at.1 in omega arith) }
 makes_copies volume id len (t ∷ ts) low few fits same =
-    let here : AreNumbers (t ∷ []) = All-cons (λ (u : Taken). (u.disk < 2 ^ 64) × (u.size < 2 ^ 64)) t [] (numbers_head t ts fits) (All-nil (λ (u : Taken). (u.disk < 2 ^ 64) × (u.size < 2 ^ 64))) in
+    let here : AreNumbers (t ∷ []) = All-cons (λ (u : Taken). (u.disk < 2 ^ 64) × (u.size < 2 ^ 64))
+        t [] (numbers_head t ts fits) (All-nil (λ (u : Taken). (u.disk < 2 ^ 64)
+        × (u.size < 2 ^ 64))) in
     let c : MakesComponent id volume 2 1 None = makes_component id volume 2 1 None (omega arith) low (omega arith) tt in
-    let p : MakesParts (id + 1) (span_parts (id + 1) id 0 (t ∷ [])) (tile_extents id 0 (t ∷ [])) = makes_span_parts (id + 1) id 0 (t ∷ []) (omega arith) (omega arith) here in
+    let p : MakesParts (id + 1) (span_parts (id + 1) id 0 (t ∷ [])) (tile_extents id 0 (t ∷ [])) =
+        makes_span_parts (id + 1) id 0 (t ∷ []) (omega arith) (omega arith) here in
     let rest : MakesCopies volume (id + 2) len ts = makes_copies volume (id + 2) len ts low (omega arith) (numbers_tail t ts fits) (All-tail (λ (u : Taken). u.size ≡ len) t ts same) in
     record {
       ss = share_of c.component p.parts ∷ rest.ss;
-      made_are = (λ i. cons_option (c.made i) (filter_map-append (λ (o : Option Record). o) (span_parts (id + 1) id 0 (t ∷ [])) (mirror_parts (id + 2) volume ts) i))
+      made_are = (λ i. cons_option (c.made i)
+          (filter_map-append (λ (o : Option Record). o) (span_parts (id + 1) id 0 (t ∷ []))
+          (mirror_parts (id + 2) volume ts) i))
           ∙ (λ i. kinds.Component c.component ∷ (p.made_are i ++ rest.made_are i));
       are = one_block c p (tiles_of id 0 (t ∷ [])) refl (omega arith) rest.are;
       each = each_more (IsCopy len) (share_of c.component p.parts) rest.ss (record {
@@ -327,7 +382,9 @@ makes_copies volume id len (t ∷ ts) low few fits same =
         laid = subst (IsTiledTo len) (sym p.extents_are) (record {
           sorted = refl;
           tiled = tiles_whole id (t ∷ []) (omega arith);
-          holds = (let sum = tiles_sum id 0 (t ∷ []) in let one = sum_by-cons (λ (u : Taken). u.size) t [] in let size : t.size ≡ len = same 0 t (omega arith) in omega arith);
+          holds = (let sum = tiles_sum id 0 (t ∷ []) in
+              let one = sum_by-cons (λ (u : Taken). u.size) t [] in
+              let size : t.size ≡ len = same 0 t (omega arith) in omega arith);
         });
       }) rest.each;
       many = ap suc rest.many;
@@ -349,5 +406,6 @@ mirror_new id name guid len ts few short enough same low some numbers =
       made_are = made_are;
       few = (let whole = ap (λ (l : List Record). length l) made_are in let all = has.are.many in let many = has.many in omega arith);
       are = has.are;
-      laid = λ next plexes read. mirror_layout next mv.volume len has.ss plexes read has.each (let many = has.many in omega arith) mv.size_is;
+      laid = λ next plexes read. mirror_layout next mv.volume len has.ss plexes read has.each
+          (let many = has.many in omega arith) mv.size_is;
     }

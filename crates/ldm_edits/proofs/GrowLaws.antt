@@ -114,7 +114,9 @@ module _ {db : Database} {labels : List Label} {v : Volume} {len : ℕ} {wanted 
       let from = taken_from wanted (taken_in db.records) spots t (first_fits are) at in
       let ids = may.ids in
       let room = may.fits in (
-        All-contains (IsTaken db.records) spots t (are_taken are (omega arith) (λ k d lt. let size = may.sizes k d lt in (ap (λ (n : ℕ). n == 0) size ∙ may.some, omega arith))) at,
+        All-contains (IsTaken db.records) spots t
+            (are_taken are (omega arith) (λ k d lt. let size = may.sizes k d lt in
+            (ap (λ (n : ℕ). n == 0) size ∙ may.some, omega arith))) at,
         sym from.3 ∙ All-contains (λ (x : Wanted). x.size ≡ len) wanted from.0 may.sizes from.1,
       )
 

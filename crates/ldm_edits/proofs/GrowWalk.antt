@@ -32,7 +32,8 @@ pub component_more : (rs : List Record) (at q : ℕ) (r : Record) (c : Component
     → map (λ (x : Bor Component). x.now) pushed ≡ filter_map component_in_record (filter (is_child 3 q) (take (at + 1) rs))
 component_more rs at q r c found pushed b lt is kind parent so_far push same =
     let passes : is_child 3 q r ≡ true = ap (is_child 3 q) kind ∙ eq-eqb c.parent q parent in
-    ap (map (λ (x : Bor Component). x.now)) push ∙ map-append (λ (x : Bor Component). x.now) found (b ∷ [])
+    ap (map (λ (x : Bor Component). x.now)) push
+        ∙ map-append (λ (x : Bor Component). x.now) found (b ∷ [])
     ∙ (λ i. so_far i ++ same i ∷ [])
     ∙ ap (λ (s : Record). filter_map component_in_record (filter (is_child 3 q) (take at rs)) ++ filter_map component_in_record (s ∷ [])) (sym kind)
     ∙ sym (filter_map-append component_in_record (filter (is_child 3 q) (take at rs)) (r ∷ []))

@@ -1,4 +1,5 @@
--- The partitions that are made, as a layout reads them, and the layouts of volumes: spans, stripes, mirrors and RAID-5.
+-- The partitions that are made, as a layout reads them, and the layouts of volumes: spans, stripes,
+-- mirrors and RAID-5.
 use Rattle.std.proofs.Common.{◌≡◌, ℕ, suc, ◌+◌, ◌≤◌, ◌==◌, List, [], ◌∷◌, length, map, refl, sym, ap, ◌∙◌, arith, true, leb, zero, ◌*◌, ◌<◌, ◌^◌, get_or, Some, None, Option, subst, sum, ◌&&◌, not, Bool, false, Ok, min, ◌≢◌, ◌-◌, ◌/◌, ◌%◌}
 use Rattle.std.specs.Prelude.{sum_by, unwrap_or, if◌then◌else◌, nat_le}
 use Rattle.std.specs.List.{All, cons_option, Contains, list_all}
@@ -7,7 +8,7 @@ use Rattle.std.proofs.lemmas.List.Elements.{All-cons, All-nil, All-tail, All-con
 use Rattle.std.proofs.lemmas.Bool.{and_from, eq-eqb, le-leb, and_parts, le-ltb, ltb-false, ne_eqb}
 use Rattle.ldm_records.specs.declared.types.Partition.{Partition}
 use Rattle.ldm_layout.specs.declared.parts.Extent.{Extent}
-use Rattle.ldm_layout.specs.Parts.{extent_of, tiles, tiles_from, rises_from, by_offset, by_index, least, plexes_of, extents_of, plex_of, in_rising, tile_key}
+use Rattle.ldm_layout.specs.Parts.{extent_of, tiles, tiles_from, rises_from, by_offset, by_index, least, plexes_of, extents_of, plex_of, in_rising}
 use Rattle.ldm_space.specs.declared.taken.Taken.{Taken}
 use Rattle.ldm_space.specs.Free.{taken_of}
 use Rattle.std.proofs.lemmas.List.{length-map}
@@ -18,7 +19,7 @@ use Rattle.ldm_made.proofs.MadeLaws.{MakesPartition, makes_partition}
 use Rattle.ldm_group.specs.Order.{Rising, id_of, place_of}
 use Rattle.ldm_volumes.specs.Volumes.{span_parts, column_parts, there}
 use Rattle.ldm_edits.proofs.AskedLaws.{IsTaken, AllSized}
-use Rattle.ldm_edits.proofs.Shares.{map_there, map_map, Share, all_from_map}
+use Rattle.ldm_edits.proofs.Shares.{map_there, map_map, Share, all_from_map, moved, behind}
 use Rattle.std.specs.Option.{option_map}
 use Rattle.ldm_bytes.specs.Tables.{first_fault, unless}
 use Rattle.ldm_records.specs.declared.types.Volume.{Volume}
@@ -29,7 +30,7 @@ use Rattle.ldm_layout.specs.declared.shape.Shape.TheVariants.{Span, Stripe, Mirr
 use Rattle.ldm_layout.specs.Layouts.{Layout, has_gap, lacks_chunk, lacks_columns, has_columns, is_short, is_tiled, plex_capacity, capacity_of, fewest}
 use Rattle.ldm_layout.specs.Volumes.{layout_of, shape_of, striping_of, laid_out, draft_of, checked, is_basic}
 use Rattle.ldm_layout.proofs.SpotLaws.{has_none}
-use Rattle.ldm_layout.proofs.VolumeLaws.{laid_out_volume}
+use Rattle.ldm_layout.proofs.VolumeLaws.{laid_out_volume, by_offset_more}
 use Rattle.ldm_edits.specs.Mirroring.{held_in}
 use Rattle.std.proofs.Math.Nat.{mul_assoc}
 use Rattle.ldm_layout.specs.Places.{stripe_capacity, raid5_capacity}
@@ -73,10 +74,6 @@ columns_rise c i (t ∷ ts) = and_from (leb i i) _ (le-leb i i (omega arith)) (c
 abbrev pub sectors_of : Extent → Taken
 sectors_of e = record { disk = e.disk; start = e.start; size = e.size }
 
-pub sectors_kept : (parts : List Partition) → map taken_of parts ≡ map sectors_of (map extent_of parts)
-sectors_kept [] = refl
-sectors_kept (p ∷ parts) = ap (λ (l : List Taken). taken_of p ∷ l) (sectors_kept parts)
-
 -- these are partitions of the component that take these sectors
 pub record AreExtentsOf (component : ℕ) (extents : List Extent) (taken : List Taken) : Type 0 where
   pub own : All (λ e. e.component ≡ component) extents
@@ -94,11 +91,14 @@ columns_of c i [] = record { own = All-nil (λ (e : Extent). e.component ≡ c);
 columns_of c i (t ∷ ts) = one_extent c (record { component = c; disk = t.disk; start = t.start; size = t.size; offset = 0; index = i }) (column_extents c (i + 1) ts) ts refl (columns_of c (i + 1) ts)
 
 -- they are as many, of the same sizes
-pub extents_count : {c : ℕ} {extents : List Extent} {taken : List Taken} → AreExtentsOf c extents taken
+pub extents_count : {c : ℕ} {extents : List Extent} {taken : List Taken}
+    → AreExtentsOf c extents taken
     → length extents ≡ length taken
-extents_count {c} {extents} are = sym (length-map extents sectors_of) ∙ ap (λ (l : List Taken). length l) are.taken_are
+extents_count {c} {extents} are = sym (length-map extents sectors_of)
+    ∙ ap (λ (l : List Taken). length l) are.taken_are
 
-pub extent_sizes : {c : ℕ} {extents : List Extent} {taken : List Taken} → AreExtentsOf c extents taken
+pub extent_sizes : {c : ℕ} {extents : List Extent} {taken : List Taken}
+    → AreExtentsOf c extents taken
     → map (λ (e : Extent). e.size) extents ≡ map (λ (t : Taken). t.size) taken
 extent_sizes {c} {extents} are = sym (map_map (λ (t : Taken). t.size) sectors_of extents)
     ∙ ap (map (λ (t : Taken). t.size)) are.taken_are
@@ -110,12 +110,13 @@ tiles_sum c at ts = sym (sum-map (λ (e : Extent). e.size) (tile_extents c at ts
 
 -- partitions that a layout reads as these extents take what these do
 pub parts_taken : (c : ℕ) (extents : List Extent) (ts : List Taken) (parts : List Partition) → AreExtentsOf c extents ts → map extent_of parts ≡ extents → map taken_of parts ≡ ts
-parts_taken c extents ts parts are read = sectors_kept parts ∙ ap (map sectors_of) read ∙ are.taken_are
+parts_taken c extents ts parts are read = sym (map_map sectors_of extent_of parts) ∙ ap (map sectors_of) read ∙ are.taken_are
 
 -- and are of the component
 pub parts_own : (c : ℕ) (extents : List Extent) (ts : List Taken) (parts : List Partition) → AreExtentsOf c extents ts → map extent_of parts ≡ extents → (p : Partition) → Contains parts p → p.parent ≡ c
 parts_own c extents ts parts are read p at =
-    All-contains (λ (e : Extent). e.component ≡ c) extents (extent_of p) are.own (subst (λ (l : List Extent). Contains l (extent_of p)) read (map_there extent_of parts p at))
+    All-contains (λ (e : Extent). e.component ≡ c) extents (extent_of p) are.own
+        (moved read (extent_of p) (map_there extent_of parts p at))
 
 -- ---- The partitions that are made: records with ids one after the other, which a layout reads as they are placed.
 
@@ -123,7 +124,8 @@ parts_own c extents ts parts are read p at =
 abbrev pub AreNumbers : List Taken → Type 0
 AreNumbers taken = All (λ t. (t.disk < 2 ^ 64) × (t.size < 2 ^ 64)) taken
 
-pub are_numbers : (records : List Record) (ts : List Taken) → All (IsTaken records) ts → AreNumbers ts
+pub are_numbers : (records : List Record) (ts : List Taken) → All (IsTaken records) ts
+    → AreNumbers ts
 are_numbers records ts each k d lt = ((each k d lt).low, (each k d lt).small)
 
 pub numbers_head : (t : Taken) (ts : List Taken) → AreNumbers (t ∷ ts) → (t.disk < 2 ^ 64) × (t.size < 2 ^ 64)
@@ -186,8 +188,10 @@ follow_at id [] k d h lt = absurd (omega arith)
 follow_at id (r ∷ rs) zero d h lt = let here = h.0 in omega arith
 follow_at id (r ∷ rs) (suc k) d h lt = let rest = follow_at (id + 1) rs k d h.1 (omega arith) in omega arith
 
-pub follow_above : (id : ℕ) (rs : List Record) (r : Record) → IdsFollow id rs → Contains rs r → id ≤ id_of r
-follow_above id rs r h (k, lt, is) = let at = follow_at id rs k r h lt in let same = ap id_of is in omega arith
+pub follow_above : (id : ℕ) (rs : List Record) (r : Record) → IdsFollow id rs → Contains rs r
+    → id ≤ id_of r
+follow_above id rs r h (k, lt, is) = let at = follow_at id rs k r h lt in let same = ap id_of is in
+    omega arith
 
 -- ---- in order
 
@@ -204,7 +208,8 @@ parts_rise id ps ids i j d low within =
     let b = place_at id ps j d ids (omega arith) in
     omega arith
 
--- ---- The layouts of volumes: of a span or mirror from what its components hold, and of new volumes as they are made.
+-- ---- The layouts of volumes: of a span or mirror from what its components hold, and of new
+-- volumes as they are made.
 
 -- ---- The layout of a span or mirror: what its components hold, and that it has one where each is tiled and the least of them holds the volume.
 
@@ -288,7 +293,7 @@ pub map_same : {X Y : Type 0} (f g : X → Y) (xs : List X) → ((x : X) → Con
 map_same f g [] same = refl
 map_same {X} {Y} f g (x ∷ xs) same =
     let first : f x ≡ g x = same x (0, omega arith, refl) in
-    let rest : map f xs ≡ map g xs = map_same f g xs (λ y at. same y (Contains-append_right (x ∷ []) xs y at)) in
+    let rest : map f xs ≡ map g xs = map_same f g xs (λ y at. same y (behind x xs y at)) in
     λ i. first i ∷ rest i
 
 pub all_pass : {X Y : Type 0} (t : Y → Bool) (f : X → Y) (xs : List X)
@@ -321,14 +326,6 @@ least_more f n (x ∷ (y ∷ xs)) some =
 laid_as_is : (n : Extent → ℕ) (es : List Extent) → Climbs n es → in_rising n es ≡ es
 laid_as_is n es up = sym (stable_is n es es (climbs_rises n es up) (λ k. refl))
 
-tiles_low : (c at k : ℕ) (ts : List Taken) → k ≤ at * 2 ^ 64 → AtLeast tile_key k (tile_extents c at ts)
-tiles_low c at k [] low = tt
-tiles_low c at k (t ∷ ts) low = (omega arith, tiles_low c (at + t.size) k ts (omega arith))
-
-tiles_climb : (c at : ℕ) (ts : List Taken) → Climbs tile_key (tile_extents c at ts)
-tiles_climb c at [] = tt
-tiles_climb c at (t ∷ ts) = (tiles_low c (at + t.size) (at * 2 ^ 64 + t.size) ts (omega arith), tiles_climb c (at + t.size) ts)
-
 columns_low : (c i k : ℕ) (ts : List Taken) → k ≤ i → AtLeast (λ e. e.index) k (column_extents c i ts)
 columns_low c i k [] low = tt
 columns_low c i k (t ∷ ts) low = (low, columns_low c (i + 1) k ts (omega arith))
@@ -351,7 +348,8 @@ least_one (n ∷ (k ∷ ns)) m some same =
 columns_least : (c i len : ℕ) (ts : List Taken) → 1 ≤ length ts → AllSized len ts
     → least (map (λ (e : Extent). e.size) (column_extents c i ts)) ≡ len
 columns_least c i len ts some same = ap least (extent_sizes (columns_of c i ts))
-    ∙ least_one (map (λ (t : Taken). t.size) ts) len (omega (arith, length-map ts (λ (t : Taken). t.size)))
+    ∙ least_one (map (λ (t : Taken). t.size) ts) len
+        (omega (arith, length-map ts (λ (t : Taken). t.size)))
     (All-map (λ n. n ≡ len) (λ (t : Taken). t.size) ts same)
 
 -- ---- layouts without a fault
@@ -361,7 +359,7 @@ pub span_layout : (records : List Record) (v : Volume) (c : ℕ) (ts : List Take
     → plexes_of v.head.id records ≡ record { volume = v.head.id; id = c; layout = 2; striping = None } ∷ [] → extents_of c records ≡ tile_extents c 0 ts
     → 1 ≤ length ts → v.size ≡ sum_by (λ t. t.size) ts → (l : Layout) × (layout_of records v ≡ Ok l)
 span_layout records v c ts plexes extents some size =
-    let sorted : by_offset (extents_of c records) ≡ tile_extents c 0 ts = ap by_offset extents ∙ laid_as_is tile_key (tile_extents c 0 ts) (tiles_climb c 0 ts) in
+    let sorted : by_offset (extents_of c records) ≡ tile_extents c 0 ts = ap by_offset extents ∙ by_offset_more [] (tile_extents c 0 ts) (tiles_on c 0 ts) in
     let sum = tiles_sum c 0 ts in
     let holds = ap (sum_by (λ (e : Extent). e.size)) sorted in
     tiled_laid records v (record { volume = v.head.id; id = c; layout = 2; striping = None } ∷ []) Span plexes refl refl
@@ -373,13 +371,6 @@ whole_chunks k u len some whole =
     let fills : u * (len / u) ≡ len = omega arith in
     mul_assoc k u (len / u) ∙ ap (λ n. k * n) fills
 
--- columns as many as there are said to be
-columns_whole : (l : Layout) (c : ℕ) (ts : List Taken) (least : ℕ) → l.columns ≡ length ts → least ≤ length ts
-    → ((l.columns == length (column_extents c 0 ts)) && (nat_le least (length (column_extents c 0 ts)) && rises_from 0 (column_extents c 0 ts))) ≡ true
-columns_whole l c ts least many enough =
-    and_from _ _ (eq-eqb l.columns (length (column_extents c 0 ts)) (many ∙ sym (extents_count (columns_of c 0 ts))))
-    (and_from _ _ (le-leb least _ (omega (arith, extents_count (columns_of c 0 ts)))) (columns_rise c 0 ts))
-
 -- columns side by side that hold the volume
 columned_laid : (records : List Record) (v : Volume) (s : Shape) (c u layout : ℕ) (ts : List Taken) → is_tiled s ≡ false
     → plexes_of v.head.id records ≡ record { volume = v.head.id; id = c; layout = layout; striping = Some (record { chunk = u; columns = length ts }) } ∷ []
@@ -389,7 +380,11 @@ unfolding layout_of
 columned_laid records v s c u layout ts untiled plexes shape extents enough some fits =
     let lay : List Extent → Layout = λ es. record { shape = s; size = v.size; chunk = u; columns = length ts; plexes = es ∷ [] } in
     let es : List Extent = column_extents c 0 ts in
-    let whole = columns_whole (lay es) c ts (fewest s) refl enough in
+    let many : length (column_extents c 0 ts) ≡ length ts = extents_count (columns_of c 0 ts) in
+    let whole : has_columns (lay es) es ≡ true =
+        and_from (length ts == length es) _ (eq-eqb (length ts) (length es) (sym many))
+        (and_from (nat_le (fewest s) (length es)) _ (le-leb (fewest s) _ (omega arith))
+            (columns_rise c 0 ts)) in
     let gap : has_gap (lay es) ≡ false = ap (λ (b : Bool). b && not (tiles es && true)) untiled in
     let chunk : lacks_chunk (lay es) ≡ false = (λ i. not (untiled i) && ne_eqb u 0 some i) in
     let columns : lacks_columns (lay es) ≡ false = (λ i. not (untiled i) && not (whole i && true)) in (

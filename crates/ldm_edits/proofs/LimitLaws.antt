@@ -1,4 +1,5 @@
--- What stands against a change that all commands have in common, and what a change within these limits makes and keeps.
+-- What stands against a change that all commands have in common, and what a change within these
+-- limits makes and keeps.
 use Rattle.std.proofs.Common.{◌≡◌, ℕ, ◌+◌, ◌-◌, ◌^◌, ◌<◌, ◌≤◌, ◌==◌, ◌++◌, List, [], ◌∷◌, refl, sym, ap, ◌∙◌, arith, Bool, true, false, Option, Some, None, Err, length, get_or, take, map, min, cond, inl, inr, subst, Ok, Contains, not}
 use Rattle.std.specs.Prelude.{nat_lt, filter, unwrap_or}
 use Rattle.std.specs.Option.{option_map}
@@ -39,7 +40,8 @@ use Rattle.ldm_edits.specs.Staying.{staying}
 use Rattle.ldm_vmdb.specs.declared.header.Header.{Header}
 use Rattle.ldm_vmdb.specs.Headers.{grown_to}
 
--- ---- What stands against a change that all commands have in common, and what a change within these limits keeps of a group.
+-- ---- What stands against a change that all commands have in common, and what a change within
+-- these limits keeps of a group.
 
 -- ---- The table of the limits, row by row.
 
@@ -120,14 +122,6 @@ pub first_parts : (o : Option Refusal) (rest : List (Option Refusal)) → first_
 first_parts None rest h = (refl, h)
 first_parts (Some r) rest h = absurd cc
 
-four_none : (a b c d : Option Refusal) → first_of (a ∷ (b ∷ (c ∷ (d ∷ [])))) ≡ None → (a ≡ None) × (b ≡ None) × (c ≡ None) × (d ≡ None)
-four_none a b c d h =
-    let one = first_parts a (b ∷ (c ∷ (d ∷ []))) h in
-    let two = first_parts b (c ∷ (d ∷ [])) one.1 in
-    let three = first_parts c (d ∷ []) two.1 in
-    let four = first_parts d [] three.1 in
-    (one.0, two.0, three.0, four.0)
-
 pub not_when : (b : Bool) (r : Refusal) → when b r ≡ None → b ≡ false
 not_when true r h = absurd cc
 not_when false r h = refl
@@ -162,12 +156,14 @@ none_long made [] e h = λ k d lt. elim (tested (is_long (get_or made k d))) [
 pub within_limits : (db : Database) (labels : List Label) (fresh : ℕ) (change : Change) → first_of (limits db labels fresh change) ≡ None → IsWithinLimits db labels fresh change
 unfolding limits
 within_limits db labels fresh change h =
-    let rows = four_none _ _ _ _ h in
+    let one = first_parts _ _ h in
+    let two = first_parts _ _ one.1 in
+    let three = first_parts _ _ two.1 in
     record {
-      ids = ltb-false _ _ (not_when _ _ rows.0);
-      each = none_long change.made (filter is_long change.made) refl rows.1;
-      room = ltb-false _ _ (not_when _ _ rows.2);
-      seq = eqb-false _ _ (not_when _ _ rows.3);
+      ids = ltb-false _ _ (not_when _ _ one.0);
+      each = none_long change.made (filter is_long change.made) refl two.0;
+      room = ltb-false _ _ (not_when _ _ three.0);
+      seq = eqb-false _ _ (not_when _ _ (first_parts _ _ three.1).0);
     }
 
 -- ---- room
@@ -215,7 +211,8 @@ pub record IsGiven (db : Database) (labels : List Label) : Type 0 where
 
 -- where no limit refuses a change, and the rules are carried over
 pub carried_keeps : (db : Database) (labels : List Label) (fresh : ℕ) (change : Change) → IsGiven db labels → All IsFitting change.stay → first_of (limits db labels fresh change) ≡ None
-    → Carries db.records (changed db change).records → EachRule (changed db change).records labels → Keeps labels db (changed db change)
+    → Carries db.records (changed db change).records → EachRule (changed db change).records labels
+        → Keeps labels db (changed db change)
 carried_keeps db labels fresh change given stay open' carries each =
     let next : List Record = (changed db change).records in
     let within = within_limits db labels fresh change open' in

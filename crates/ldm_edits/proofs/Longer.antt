@@ -1,4 +1,5 @@
--- A span or mirror whose components have more partitions: what extend makes, the layout of the volume, and what the group keeps.
+-- A span or mirror whose components have more partitions: what extend makes, the layout of the
+-- volume, and what the group keeps.
 use Rattle.std.proofs.Common.{◌≡◌, ◌≢◌, ℕ, zero, suc, ◌+◌, ◌*◌, ◌^◌, ◌<◌, ◌≤◌, ◌==◌, not, List, [], ◌∷◌, ◌++◌, length, get_or, map, refl, sym, ap, subst, ◌∙◌, inl, inr, arith, Bool, true, false, Some, None, Ok, Contains, zero-add, ◌-◌, ◌||◌, Option, sum_by, find}
 use Rattle.std.specs.Prelude.{filter, filter_map, if◌then◌else◌, is_some}
 use Rattle.std.specs.List.{All, list_all, list_any, cons_option}
@@ -36,14 +37,14 @@ use Rattle.ldm_rules.proofs.GroupLaws.{names_kept}
 use Rattle.ldm_rules.proofs.SoundLaws.{EachRule, sound_parts}
 use Rattle.ldm_rules.specs.Ends.{data_size}
 use Rattle.ldm_space.specs.Free.{taken_of, taken_in}
-use Rattle.ldm_space.specs.Placed.{AllEndWithin, AreApart, AreDisjoint}
+use Rattle.ldm_space.specs.Placed.{AllEndWithin, AreDisjoint, AreDisjoint}
 use Rattle.ldm_edits.specs.Changes.{Change, limits, changed}
 use Rattle.ldm_edits.specs.Extending.{held, span_changes, lengthened, component_in, component_of, MayExtend, longer_parts}
 use Rattle.ldm_edits.specs.Mirroring.{held_in}
 use Rattle.ldm_edits.specs.Steps.{Keeps}
 use Rattle.ldm_edits.proofs.LimitLaws.{carried_keeps, IsGiven, spelled_by}
 use Rattle.ldm_edits.proofs.Layouts.{IdsFrom, parts_rise, MakesParts, makes_span_parts, tile_extents, tiles_on, tiles_sum, tiles_of, parts_taken, are_numbers, follow_above, parts_own, copies_in, tiled_laid, HoldsTiled, tiled_holds, map_same, all_pass, one_passes, least_more}
-use Rattle.ldm_edits.proofs.Shares.{Below, map_there, each_mapped, mapped, each_more, flat_there, flat_from, records_of, Share, olds, news, parts_of, IsOther, IsMade, IsNewPart, IsRemade, read_plexes, read_extents, volume_keeps, remade_carries, remade_each, only_one, alone_rises, of_component, map_map}
+use Rattle.ldm_edits.proofs.Shares.{Below, map_there, each_mapped, mapped, each_more, flat_there, flat_from, records_of, Share, olds, news, parts_of, IsOther, IsMade, IsNewPart, IsRemade, read_plexes, read_extents, volume_keeps, remade_carries, remade_each, only_one, alone_rises, of_component, map_map, moved, behind, new_of, old_of, named_all}
 use Rattle.std.specs.Option.{option_map}
 use Rattle.ldm_made.proofs.MadeLaws.{MakesChildren, MakesSize, makes_size, makes_children}
 use Rattle.ldm_group.proofs.KindLaws.{child_component}
@@ -57,17 +58,18 @@ use Rattle.ldm_edits.proofs.AskedLaws.{none_any, taken_sum, IsTaken, IsSize, are
 use Rattle.ldm_made.specs.Made.{resized, with_children}
 use Rattle.ldm_edits.specs.Spots.{ArePlaced}
 
--- ---- A span or mirror whose components have more partitions: what the change makes, the layout of the volume, and what the group keeps.
+-- ---- A span or mirror whose components have more partitions: what the change makes, the layout of
+-- the volume, and what the group keeps.
 
 -- what is made: the volume, its components, and the new partitions
 abbrev pub longer_records : Volume → List Share → List Record
 longer_records w ss = kinds.Volume w ∷ (news ss ++ records_of (parts_of ss))
 
 -- the partitions of a component in the order of the volume's sectors, and what they hold
-abbrev tiles_in : List Record → Share → List Extent
+abbrev pub tiles_in : List Record → Share → List Extent
 tiles_in records s = by_offset (extents_of s.c.head.id records)
 
-abbrev share_holds : List Record → Share → ℕ
+abbrev pub share_holds : List Record → Share → ℕ
 share_holds records s = held_in (tiles_in records s)
 
 -- a component of the volume that has more partitions, of so many sectors together, behind those that it has
@@ -92,7 +94,7 @@ pub record IsWider (labels : List Label) (old : List Record) (v w : Volume) (len
   pub size : w.size ≡ held (layout_of old v) + len
   pub each : (s : Share) → Contains ss s → IsShare old v len s
   pub within : AllEndWithin (data_size labels old) (map taken_of (parts_of ss))
-  pub free : AreApart (taken_in old) (map taken_of (parts_of ss))
+  pub free : AreDisjoint (taken_in old) (map taken_of (parts_of ss))
 
 -- it takes the volume and its components out, and makes the longer volume, its components, and new partitions behind all records
 pub record Lengthens (labels : List Label) (old : List Record) (change : Change) (v w : Volume) (len : ℕ) (ss : List Share) : Type 0 where
@@ -109,20 +111,26 @@ pub record Lengthens (labels : List Label) (old : List Record) (change : Change)
 
 -- the list of what is made has just that
 listed_made : (w : Volume) (ss : List Share) (r : Record) → Contains (longer_records w ss) r → IsMade w ss r
-listed_made w ss = each_more (IsMade w ss) (kinds.Volume w) (news ss ++ records_of (parts_of ss)) refl (λ r at. elim (Contains-append_cases (news ss) (records_of (parts_of ss)) r at) [
-  | inl h ↦ each_mapped (IsMade w ss) (λ (s : Share). kinds.Component s.d) ss (λ s here. (s, here, refl)) r h
-  | inr h ↦ each_mapped (IsMade w ss) kinds.Partition (parts_of ss) (λ p here. flat_from (λ (s : Share). s.parts) ss p here) r h
+listed_made w ss = each_more (IsMade w ss) (kinds.Volume w) (news ss ++ records_of (parts_of ss))
+    refl (λ r at. elim (Contains-append_cases (news ss) (records_of (parts_of ss)) r at) [
+  | inl h ↦ each_mapped (IsMade w ss) new_of ss (λ s here. (s, here, refl)) r h
+  | inr h ↦ each_mapped (IsMade w ss) kinds.Partition (parts_of ss)
+      (λ p here. flat_from (λ (s : Share). s.parts) ss p here) r h
 ])
 
 made_listed : (w : Volume) (ss : List Share) (r : Record) → IsMade w ss r → Contains (longer_records w ss) r
 made_listed w ss (kinds.Group g) is = absurd is
 made_listed w ss (kinds.Disk d) is = absurd is
 made_listed w ss (kinds.Volume x) is = (0, omega arith, ap kinds.Volume (sym is))
-made_listed w ss (kinds.Component x) (s, at, is) = Contains-append_right (kinds.Volume w ∷ []) (news ss ++ records_of (parts_of ss)) (kinds.Component x)
+made_listed w ss (kinds.Component x) (s, at, is) =
+    Contains-append_right (kinds.Volume w ∷ []) (news ss ++ records_of (parts_of ss))
+    (kinds.Component x)
     (Contains-append_left (news ss) (records_of (parts_of ss)) (kinds.Component x)
-    (subst (λ (y : Component). Contains (news ss) (kinds.Component y)) (sym is) (map_there (λ (t : Share). kinds.Component t.d) ss s at)))
+    (subst (λ (y : Component). Contains (news ss) (kinds.Component y)) (sym is) (map_there new_of ss s at)))
 made_listed w ss (kinds.Partition x) (s, at, in') = Contains-append_right (kinds.Volume w ∷ []) (news ss ++ records_of (parts_of ss)) (kinds.Partition x)
-    (Contains-append_right (news ss) (records_of (parts_of ss)) (kinds.Partition x) (map_there kinds.Partition (parts_of ss) x (flat_there (λ (t : Share). t.parts) ss s x at in')))
+    (Contains-append_right (news ss) (records_of (parts_of ss)) (kinds.Partition x)
+        (map_there kinds.Partition (parts_of ss) x
+        (flat_there (λ (t : Share). t.parts) ss s x at in')))
 
 -- the changed components stand as those that they were
 place_same : (ss : List Share) → ((s : Share) → Contains ss s → s.d.head.id ≡ s.c.head.id) → (k : ℕ) (d : Record)
@@ -130,12 +138,13 @@ place_same : (ss : List Share) → ((s : Share) → Contains ss s → s.d.head.i
 unfolding place_of
 place_same [] same k d lt = absurd (omega arith)
 place_same (s ∷ ss) same zero d lt = ap (λ (n : ℕ). 4 * 2 ^ 64 + n) (same s (0, omega arith, refl))
-place_same (s ∷ ss) same (suc k) d lt = place_same ss (λ t at. same t (Contains-append_right (s ∷ []) ss t at)) k d (omega arith)
+place_same (s ∷ ss) same (suc k) d lt = place_same ss (λ t at. same t (behind s ss t at)) k d
+    (omega arith)
 
 news_rise : (ss : List Share) → ((s : Share) → Contains ss s → s.d.head.id ≡ s.c.head.id) → Rising (olds ss) → Rising (news ss)
 news_rise ss same up i j d lt within =
-    let long_news = length-map ss (λ (s : Share). kinds.Component s.d) in
-    let long_olds = length-map ss (λ (s : Share). kinds.Component s.c) in
+    let long_news = length-map ss new_of in
+    let long_olds = length-map ss old_of in
     let a = place_same ss same i d (omega arith) in
     let b = place_same ss same j d (omega arith) in
     let less : place_of (get_or (olds ss) i d) < place_of (get_or (olds ss) j d) = up i j d lt (omega arith) in
@@ -145,12 +154,11 @@ news_rise ss same up i j d lt within =
 abbrev plexes_in : List Share → List Plex
 plexes_in ss = map (λ (s : Share). plex_of s.c) ss
 
-old_plexes : (old : List Record) (q : ℕ) (ss : List Share) → filter (is_child 3 q) old ≡ olds ss → plexes_of q old ≡ plexes_in ss
-old_plexes old q ss are = plexes_by q old ∙ ap (filter_map plex_in) are ∙ go ss
-  where
-    go : (ss : List Share) → filter_map plex_in (olds ss) ≡ plexes_in ss
-    go [] = refl
-    go (s ∷ ss) = ap (λ (l : List Plex). plex_of s.c ∷ l) (go ss)
+old_plexes : (old : List Record) (q : ℕ) (ss : List Share) → filter (is_child 3 q) old ≡ olds ss
+    → plexes_of q old ≡ plexes_in ss
+old_plexes old q ss are =
+    plexes_by q old ∙ ap (filter_map plex_in) are
+        ∙ named_all plex_in old_of (λ (s : Share). plex_of s.c) (λ s. refl) ss
 
 copies_are : (ss : List Share) (records : List Record) → copies_in records (plexes_in ss) ≡ map (tiles_in records) ss
 copies_are ss records = map_map (λ (p : Plex). by_offset (extents_of p.id records)) (λ (s : Share). plex_of s.c) ss
@@ -182,11 +190,11 @@ place_below r p top low most above e = (let kind = kind_most r in let places : k
 module _ {labels : List Label} {old : List Record} {change : Change} {v w : Volume} {len : ℕ} {ss : List Share} (up : Rising old) (is : Lengthens labels old change v w len ss) where
   stay_has : (r : Record) → Contains change.stay r → Contains old r × IsOther v.head.id r
   stay_has r at =
-      let has = filter_has (λ r. not (is.t r)) old r (subst (λ (l : List Record). Contains l r) is.stay at) in
+      let has = filter_has (λ r. not (is.t r)) old r (moved is.stay r at) in
       (has.0, is.other r has.0 (not-true (is.t r) has.1))
 
   made_has : (r : Record) → Contains change.made r → IsMade w ss r
-  made_has r at = listed_made w ss r (subst (λ (l : List Record). Contains l r) is.made at)
+  made_has r at = listed_made w ss r (moved is.made r at)
 
   w_id : w.head.id ≡ v.head.id
   w_id = ap (λ (h : Head). h.id) is.wider.same_head
@@ -194,18 +202,20 @@ module _ {labels : List Label} {old : List Record} {change : Change} {v w : Volu
   -- a component of a share was there
   c_there : (s : Share) → Contains ss s → Contains old (kinds.Component s.c)
   c_there s at = (filter_has (is_child 3 v.head.id) old (kinds.Component s.c)
-      (subst (λ (l : List Record). Contains l (kinds.Component s.c)) (sym is.wider.components) (map_there (λ (t : Share). kinds.Component t.c) ss s at))).0
+      (moved (sym is.wider.components) (kinds.Component s.c) (map_there old_of ss s at))).0
 
   d_id : (s : Share) → Contains ss s → s.d.head.id ≡ s.c.head.id
   d_id s at = ap (λ (x : Plex). x.id) (is.wider.each s at).same_plex
 
   d_rise : Rising (news ss)
-  d_rise = news_rise ss d_id (subst Rising is.wider.components (AllPairs-filter Below (is_child 3 v.head.id) old up))
+  d_rise = news_rise ss d_id (subst Rising is.wider.components
+      (AllPairs-filter Below (is_child 3 v.head.id) old up))
 
   -- a changed component stands behind the volumes and in front of the partitions
   between : (r : Record) → Contains (news ss) r → (4 * 2 ^ 64 ≤ place_of r) × (place_of r < 5 * 2 ^ 64)
   unfolding place_of
-  between = each_mapped (λ (r : Record). (4 * 2 ^ 64 ≤ place_of r) × (place_of r < 5 * 2 ^ 64)) (λ (t : Share). kinds.Component t.d) ss (λ s at.
+  between = each_mapped (λ (r : Record). (4 * 2 ^ 64 ≤ place_of r) × (place_of r < 5 * 2 ^ 64))
+      new_of ss (λ s at.
       let id = d_id s at in
       let top = max_above old (kinds.Component s.c) (c_there s at) in
       let low = is.low in
@@ -213,7 +223,8 @@ module _ {labels : List Label} {old : List Record} {change : Change} {v w : Volu
 
   last : (r : Record) → Contains (records_of (parts_of ss)) r → 5 * 2 ^ 64 ≤ place_of r
   unfolding place_of
-  last = each_mapped (λ (r : Record). 5 * 2 ^ 64 ≤ place_of r) kinds.Partition (parts_of ss) (λ p at. omega arith)
+  last = each_mapped (λ (r : Record). 5 * 2 ^ 64 ≤ place_of r) kinds.Partition (parts_of ss)
+      (λ p at. omega arith)
 
   rise : Rising (longer_records w ss)
   unfolding place_of
@@ -227,7 +238,8 @@ module _ {labels : List Label} {old : List Record} {change : Change} {v w : Volu
         | inl c ↦ (let above = (between (get_or rest k e) c).0 in omega arith)
         | inr p ↦ (let above = last (get_or rest k e) p in omega arith)
       ])
-      (pairs_append Below (news ss) (records_of (parts_of ss)) d_rise (parts_rise (max_id old + 1) (parts_of ss) is.ids)
+      (pairs_append Below (news ss) (records_of (parts_of ss)) d_rise
+          (parts_rise (max_id old + 1) (parts_of ss) is.ids)
       (λ r q at_r at_q. let a = (between r at_r).1 in let b = last q at_q in omega arith))
 
   -- no record that stays stands at the place of one that changes
@@ -235,7 +247,8 @@ module _ {labels : List Label} {old : List Record} {change : Change} {v w : Volu
       → place_of r ≢ place_of t
   apart r s t at there changes same e = changes (subst (IsOther v.head.id) (one_record old r s up at.0 there (e ∙ same)) at.1)
 
-  cross : (r s : Record) → Contains old r × IsOther v.head.id r → IsMade w ss s → place_of r ≢ place_of s
+  cross : (r s : Record) → Contains old r × IsOther v.head.id r → IsMade w ss s
+      → place_of r ≢ place_of s
   unfolding place_of
   cross r (kinds.Group g) at made = absurd made
   cross r (kinds.Disk d) at made = absurd made
@@ -261,17 +274,18 @@ module _ {labels : List Label} {old : List Record} {change : Change} {v w : Volu
       vp = longer_rises;
       back = λ r at. elim (member_next change.stay change.made r at) [ inl stays ↦ inl (stay_has r stays) | inr new ↦ inr (made_has r new) ];
       there = λ r at other. stays_next change.stay change.made r (subst (λ (l : List Record). Contains l r) (sym is.stay) (filter_keeps (λ r. not (is.t r)) old r at (ap not (is.stays r at other))));
-      made = λ r new. made_next change.stay change.made r (subst (λ (l : List Record). Contains l r) (sym is.made) (made_listed w ss r new));
+      made = λ r new. made_next change.stay change.made r (moved (sym is.made) r (made_listed w ss r new));
       id = w_id;
       each = λ s at. (let of = is.wider.each s at in record {
         parent = of.parent;
         same_plex = of.same_plex;
         each = of.each;
         rise = of.rise;
-        counted = of.children ∙ ap (λ (n : ℕ). n + length s.parts) (component_kept old labels each s.c (c_there s at)).counted;
+        counted = of.children ∙ ap (λ (n : ℕ). n + length s.parts)
+            (component_kept old labels each s.c (c_there s at)).counted;
       });
       rise = d_rise;
-      own = λ x there parent. (let s = mapped (λ (t : Share). kinds.Component t.c) ss (kinds.Component x)
+      own = λ x there parent. (let s = mapped old_of ss (kinds.Component x)
           (subst (λ (l : List Record). Contains l (kinds.Component x)) is.wider.components (filter_keeps (is_child 3 v.head.id) old (kinds.Component x) there (eq-eqb x.parent v.head.id parent))) in
           (s.0, s.1, (let e = s.2 in cc)));
       apart = λ x there other s at. elim (tested (x.head.id == s.c.head.id)) [
@@ -309,7 +323,8 @@ module _ {labels : List Label} {old : List Record} {change : Change} {v w : Volu
         (subst (λ (n : ℕ). tiles_from n (map extent_of s.parts) ≡ true) (sym (zero-add _)) (is.wider.each s at).tiled)
 
     tiles_next : (s : Share) → Contains ss s → tiles_in next s ≡ tiles_in old s ++ map extent_of s.parts
-    tiles_next s at = ap by_offset (read_extents remade s at) ∙ by_offset_more (extents_of s.c.head.id old) (map extent_of s.parts) (tiled_all s at)
+    tiles_next s at = ap by_offset (read_extents remade s at)
+        ∙ by_offset_more (extents_of s.c.head.id old) (map extent_of s.parts) (tiled_all s at)
 
     holds_more : (s : Share) → Contains ss s → share_holds next s ≡ share_holds old s + len
     holds_more s at =
@@ -356,11 +371,14 @@ module _ {labels : List Label} {old : List Record} {change : Change} {v w : Volu
     -- ---- the rules
 
     keeps : KeepsVolume next w
-    keeps = volume_keeps remade (is.wider.same_children ∙ was.counted ∙ sym (length-filter (is_child 3 v.head.id) old) ∙ ap (λ (l : List Record). length l) is.wider.components
-        ∙ length-map ss (λ (s : Share). kinds.Component s.c)) own_some own_laid
+    keeps = volume_keeps remade (is.wider.same_children ∙ was.counted
+        ∙ sym (length-filter (is_child 3 v.head.id) old)
+        ∙ ap (λ (l : List Record). length l) is.wider.components
+        ∙ length-map ss old_of) own_some own_laid
 
     longer_each : EachRule next labels
-    longer_each = remade_each remade keeps labels each is.wider.within is.wider.free (names_kept old next longer_rises (λ x at. elim (remade.back (kinds.Volume x) at) [
+    longer_each = remade_each remade keeps labels each is.wider.within is.wider.free
+        (names_kept old next longer_rises (λ x at. elim (remade.back (kinds.Volume x) at) [
       | inl was ↦ (x, was.0, refl)
       | inr e ↦ (v, is.wider.volume, sym is.wider.same_head ∙ ap (λ (y : Volume). y.head) (sym e))
     ]) each.names)
@@ -372,7 +390,8 @@ pub longer_keeps : {db : Database} {labels : List Label} {change : Change} {v w 
 longer_keeps {db} {labels} {change} given fresh is within =
     let rules = sound_parts db.records labels given.sound.sound in
     carried_keeps db labels fresh change given (subst (All IsFitting) (sym is.stay) (All-filter (λ r. not (is.t r)) IsFitting db.records given.sound.room.each))
-    within (remade_carries (remade given.up is rules) (keeps given.up is rules)) (longer_each given.up is rules)
+    within (remade_carries (remade given.up is rules) (keeps given.up is rules))
+        (longer_each given.up is rules)
 
 -- ---- Extend: the longer span, its component and the new partitions are made where no word refuses them.
 
@@ -396,11 +415,9 @@ component_there v c records e =
 one_span : (ps : List Plex) → shape_of ps ≡ Some Span → (p : Plex) × (ps ≡ p ∷ [])
 one_span [] h = absurd cc
 one_span (p ∷ []) h = (p, refl)
-one_span (p ∷ (q ∷ ps)) h = absurd (go (list_all is_basic (p ∷ (q ∷ ps))) h)
-  where
-    go : (b : Bool) → (if b then Some Mirror else None) ≡ Some Span → ⊥
-    go true e = cc
-    go false e = cc
+one_span (p ∷ (q ∷ ps)) h = absurd (elim (list_all is_basic (p ∷ (q ∷ ps)))
+    as (λ (b : Bool). (if b then Some Mirror else None) ≡ Some Span → ⊥)
+        [ true ↦ λ e. cc | false ↦ λ e. cc ] h)
 
 -- a span's component is its only one
 own_plex : (records : List Record) (v : Volume) (c : Component) → shape_of (plexes_of v.head.id records) ≡ Some Span
@@ -409,7 +426,7 @@ own_plex : (records : List Record) (v : Volume) (c : Component) → shape_of (pl
 own_plex records v c shape there parent =
     let one = one_span (plexes_of v.head.id records) shape in
     let own : Contains (plexes_of v.head.id records) (plex_of c) = subst (λ (q : ℕ). Contains (plexes_of q records) (plex_of c)) parent (plex_there records c there) in
-    one.1 ∙ ap (λ (p : Plex). p ∷ []) (only_one one.0 (plex_of c) (subst (λ (l : List Plex). Contains l (plex_of c)) one.1 own))
+    one.1 ∙ ap (λ (p : Plex). p ∷ []) (only_one one.0 (plex_of c) (moved one.1 (plex_of c) own))
 
 -- the partitions of a component are at most the sectors that they hold
 few_children : (old : List Record) (labels : List Label) (c : Component) → EachRule old labels → Contains old (kinds.Component c)
@@ -440,22 +457,11 @@ pub record MakesLonger (db : Database) (v : Volume) (c : Component) (capacity : 
   pub parts : MakesParts (max_id db.records + 1) (span_parts (max_id db.records + 1) c.head.id capacity taken) (tile_extents c.head.id capacity taken)
   pub size_low : capacity + sum_by (λ (t : Taken). t.size) taken < 2 ^ 64
   pub children_low : c.children + length taken < 2 ^ 64
-
--- what the records of a longer span of this capacity ask for
-pub record AsksLonger (db : Database) (v : Volume) (c : Component) (wanted : List Wanted) (spots : List Taken) (capacity : ℕ) : Type 0 where
-  pub many : length spots ≡ length wanted
-  pub size : capacity + sum_by (λ t. t.size) spots < 2 ^ 64
-  pub children : c.children + length spots < 2 ^ 64
-  pub volume_there : is_some (resized v (capacity + sum_by (λ t. t.size) spots)) ≡ true
-  pub component_there : is_some (with_children c (c.children + length spots)) ≡ true
-  pub rising : Rising (changed db (lengthened db.records v c capacity spots)).records
+  pub ids_low : max_id db.records + 1 + length taken ≤ 2 ^ 64
 
 module _ {db : Database} {labels : List Label} {v : Volume} {c : Component} {wanted : List Wanted} {spots : List Taken} (up : Rising db.records) (sound : IsSoundOn db labels) (may : MayExtend db labels v c wanted spots) where
   abbrev capacity : ℕ
   capacity = held (layout_of db.records v)
-
-  abbrev taken : List Taken
-  taken = spots
 
   are : ArePlaced db labels may.words (λ w. None) wanted spots
   are = record { asked = may.asked; free = refl; places = may.places }
@@ -470,42 +476,48 @@ module _ {db : Database} {labels : List Label} {v : Volume} {c : Component} {wan
 
   components : filter (is_child 3 v.head.id) db.records ≡ kinds.Component c ∷ []
   components = kin_are (is_child 3 v.head.id) db.records (kinds.Component c ∷ []) up (alone_rises (kinds.Component c))
-      (λ r at. subst (λ (y : Record). Contains db.records y × (is_child 3 v.head.id y ≡ true)) (only_one (kinds.Component c) r at) (own.0, eq-eqb c.parent v.head.id own.1))
-      (of_component v.head.id (λ (y : Record). Contains db.records y → Contains (kinds.Component c ∷ []) y) (λ x parent at. (0, omega arith, ap kinds.Component (sym (only_c x at parent)))))
+      (λ r at. subst (λ (y : Record). Contains db.records y × (is_child 3 v.head.id y ≡ true))
+          (only_one (kinds.Component c) r at) (own.0, eq-eqb c.parent v.head.id own.1))
+      (of_component v.head.id (λ (y : Record). Contains db.records y
+          → Contains (kinds.Component c ∷ []) y)
+          (λ x parent at. (0, omega arith, ap kinds.Component (sym (only_c x at parent)))))
 
   -- what the partitions hold that the component has
   capacity_is : capacity ≡ sum_by (λ (e : Extent). e.size) (by_offset (extents_of c.head.id db.records))
   capacity_is = (let laid = sound.laid_out v may.there in held_shared db.records v laid.0 Span (record { c = c; d = c; parts = [] } ∷ []) components may.span refl laid.1.layout)
 
   -- each piece has some sectors, and all together are a number of the format
-  sizes : All (λ w. IsSize w.size) wanted × (capacity + sum_by (λ (t : Taken). t.size) spots ≤ 2 ^ 64 - 1)
+  sizes : All (λ w. IsSize w.size) wanted × (capacity + sum_by (λ (t : Taken). t.size)
+      spots ≤ 2 ^ 64 - 1)
   sizes =
       let parts = or_parts (list_any (λ (w : Wanted). w.size == 0) wanted) (is_much (capacity + sum_by (λ (w : Wanted). w.size) wanted)) may.sizes in
       let most : capacity + sum_by (λ (w : Wanted). w.size) wanted ≤ 2 ^ 64 - 1 = ltb-false (2 ^ 64 - 1) _ parts.1 in
       let sum : sum_by (λ (t : Taken). t.size) spots ≡ sum_by (λ (w : Wanted). w.size) wanted = taken_sum wanted (taken_in db.records) spots (first_fits are) in (
-        λ k d lt. (none_any (λ (x : Wanted). x.size == 0) wanted parts.0 k d lt, (let part = get_or-le-sum_by (λ (x : Wanted). x.size) wanted k d lt in omega arith)),
+        λ k d lt. (none_any (λ (x : Wanted). x.size == 0) wanted parts.0 k d lt,
+            (let part = get_or-le-sum_by (λ (x : Wanted). x.size) wanted k d lt in omega arith)),
         omega arith,
       )
 
   takes : All (IsTaken db.records) spots
   takes = (let ids = may.ids in are_taken are (omega arith) sizes.0)
 
-  pub makes_longer : MakesLonger db v c capacity taken
+  pub makes_longer : MakesLonger db v c capacity spots
   makes_longer =
       let ids : max_id db.records + length wanted ≤ 2 ^ 64 - 1 = may.ids in
       let size = sizes.1 in
-      let many : length taken ≡ length wanted = as_asked are in
-      let few : length taken ≤ sum_by (λ (t : Taken). t.size) taken =
-      few_by (λ (t : Taken). t.size) taken (λ k d lt. let none = eqb-false _ 0 (takes k d lt).some in omega arith) in
+      let many : length spots ≡ length wanted = as_asked are in
+      let few : length spots ≤ sum_by (λ (t : Taken). t.size) spots =
+      few_by (λ (t : Taken). t.size) spots (λ k d lt. let none = eqb-false _ 0 (takes k d lt).some in omega arith) in
       let kids = few_children db.records labels c (sound_parts db.records labels sound.sound) own.0 in
       let held_is = capacity_is in
       let c_low = max_above db.records (kinds.Component c) own.0 in
       record {
-        volume = makes_size v (capacity + sum_by (λ (t : Taken). t.size) taken) (omega arith) (spelled_by (kinds.Volume v) (All-contains IsFitting db.records (kinds.Volume v) sound.room.each may.there));
-        component = makes_children c (c.children + length taken) (omega arith) (spelled_by (kinds.Component c) (All-contains IsFitting db.records (kinds.Component c) sound.room.each own.0));
-        parts = makes_span_parts (max_id db.records + 1) c.head.id capacity taken (omega arith) (omega arith) (are_numbers db.records taken takes);
+        volume = makes_size v (capacity + sum_by (λ (t : Taken). t.size) spots) (omega arith) (spelled_by (kinds.Volume v) (All-contains IsFitting db.records (kinds.Volume v) sound.room.each may.there));
+        component = makes_children c (c.children + length spots) (omega arith) (spelled_by (kinds.Component c) (All-contains IsFitting db.records (kinds.Component c) sound.room.each own.0));
+        parts = makes_span_parts (max_id db.records + 1) c.head.id capacity spots (omega arith) (omega arith) (are_numbers db.records spots takes);
         size_low = omega arith;
         children_low = omega arith;
+        ids_low = omega arith;
       }
 
   abbrev parts : List Partition
@@ -514,20 +526,23 @@ module _ {db : Database} {labels : List Label} {v : Volume} {c : Component} {wan
   abbrev share : Share
   share = record { c = c; d = makes_longer.component.component; parts = makes_longer.parts.parts }
 
-  taken_are : map taken_of parts ≡ taken
-  taken_are = parts_taken c.head.id (tile_extents c.head.id capacity taken) taken parts (tiles_of c.head.id capacity taken) makes_longer.parts.extents_are
+  taken_are : map taken_of parts ≡ spots
+  taken_are = parts_taken c.head.id (tile_extents c.head.id capacity spots) spots parts (tiles_of c.head.id capacity spots) makes_longer.parts.extents_are
 
   new_part : (p : Partition) → Contains parts p → IsNewPart db.records c p
   new_part p at =
-      let t = All-contains (IsTaken db.records) taken (taken_of p) takes (subst (λ (l : List Taken). Contains l (taken_of p)) taken_are (map_there taken_of parts p at)) in
+      let t = All-contains (IsTaken db.records) spots (taken_of p) takes
+          (moved taken_are (taken_of p) (map_there taken_of parts p at)) in
       record {
-        above = (let least = follow_above (max_id db.records + 1) (records_of parts) (kinds.Partition p) makes_longer.parts.ids (map_there kinds.Partition parts p at) in omega arith);
-        parent = parts_own c.head.id (tile_extents c.head.id capacity taken) taken parts (tiles_of c.head.id capacity taken) makes_longer.parts.extents_are p at;
+        above = (let least = follow_above (max_id db.records + 1) (records_of parts)
+            (kinds.Partition p) makes_longer.parts.ids (map_there kinds.Partition parts p at) in
+            omega arith);
+        parent = parts_own c.head.id (tile_extents c.head.id capacity spots) spots parts (tiles_of c.head.id capacity spots) makes_longer.parts.extents_are p at;
         disk = t.disk;
         some = t.some;
       }
 
-  is_share : IsShare db.records v (sum_by (λ (t : Taken). t.size) taken) share
+  is_share : IsShare db.records v (sum_by (λ (t : Taken). t.size) spots) share
   is_share = record {
     parent = own.1;
     same_plex = plex_is makes_longer.component;
@@ -535,8 +550,8 @@ module _ {db : Database} {labels : List Label} {v : Volume} {c : Component} {wan
     each = new_part;
     rise = parts_rise (max_id db.records + 1) parts makes_longer.parts.ids;
     tiled = subst (λ (n : ℕ). tiles_from n (map extent_of parts) ≡ true) capacity_is
-        (subst (λ (es : List Extent). tiles_from capacity es ≡ true) {y = map extent_of parts} (sym makes_longer.parts.extents_are) (tiles_on c.head.id capacity taken));
-    size = ap (sum_by (λ (e : Extent). e.size)) makes_longer.parts.extents_are ∙ tiles_sum c.head.id capacity taken;
+        (subst (λ (es : List Extent). tiles_from capacity es ≡ true) {y = map extent_of parts} (sym makes_longer.parts.extents_are) (tiles_on c.head.id capacity spots));
+    size = ap (sum_by (λ (e : Extent). e.size)) makes_longer.parts.extents_are ∙ tiles_sum c.head.id capacity spots;
   }
 
   -- a component has the id of the span's where it is of the span
@@ -564,10 +579,10 @@ module _ {db : Database} {labels : List Label} {v : Volume} {c : Component} {wan
         let other_parent : (x.parent == v.head.id) ≡ false = off in absurd cc)
   ]
 
-  pub lengthens : Lengthens labels db.records (lengthened db.records v c capacity taken) v makes_longer.volume.volume (sum_by (λ (t : Taken). t.size) taken) (share ∷ [])
+  pub lengthens : Lengthens labels db.records (lengthened db.records v c capacity spots) v makes_longer.volume.volume (sum_by (λ (t : Taken). t.size) spots) (share ∷ [])
   lengthens =
       let all : parts ≡ parts_of (share ∷ []) = sym (append-nil parts) in
-      let takes_all : map taken_of (parts_of (share ∷ [])) ≡ taken = ap (map taken_of) (append-nil parts) ∙ taken_are in
+      let takes_all : map taken_of (parts_of (share ∷ [])) ≡ spots = ap (map taken_of) (append-nil parts) ∙ taken_are in
       record {
         t = span_changes v c;
         stay = refl;
@@ -586,22 +601,15 @@ module _ {db : Database} {labels : List Label} {v : Volume} {c : Component} {wan
           same_head = makes_longer.volume.head_is;
           same_children = makes_longer.volume.children_is;
           size = makes_longer.volume.size_is;
-          each = λ s at. subst (IsShare db.records v (sum_by (λ (t : Taken). t.size) taken)) (only_one share s at) is_share;
-          within = subst (λ (l : List Taken). AllEndWithin (data_size labels db.records) l) {x = taken} (sym takes_all)
+          each = λ s at. subst (IsShare db.records v (sum_by (λ (t : Taken). t.size) spots)) (only_one share s at) is_share;
+          within = subst (λ (l : List Taken). AllEndWithin (data_size labels db.records) l) {x = spots} (sym takes_all)
               (ends_within are);
-          free = subst (λ (l : List Taken). AreDisjoint (taken_in db.records) l) {x = taken} (sym takes_all) (lie_apart are);
+          free = subst (λ (l : List Taken). AreDisjoint (taken_in db.records) l) {x = spots} (sym takes_all) (lie_apart are);
         };
       }
 
-  pub asks_longer : {n : ℕ} → n ≡ held (layout_of db.records v) → AsksLonger db v c wanted spots n
-  asks_longer held_is = subst (AsksLonger db v c wanted spots) (sym held_is) (record {
-    many = as_asked are;
-    size = makes_longer.size_low;
-    children = makes_longer.children_low;
-    volume_there = ap (λ (o : Option Volume). is_some o) makes_longer.volume.made;
-    component_there = ap (λ (o : Option Component). is_some o) makes_longer.component.made;
-    rising = longer_rises up lengthens;
-  })
+  pub asks_longer : {n : ℕ} → n ≡ held (layout_of db.records v) → MakesLonger db v c n spots
+  asks_longer held_is = subst (λ (n : ℕ). MakesLonger db v c n spots) (sym held_is) makes_longer
 
 -- the records of a longer span, pushed one after the other
 pub longer_are : (v longer : Volume) (c fuller : Component) (capacity id size : ℕ) (taken : List Taken) (none one two : List Record) → size ≡ capacity + sum_by (λ t. t.size) taken

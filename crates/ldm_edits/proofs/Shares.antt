@@ -1,7 +1,8 @@
--- One volume of a group is new or changed, and its components have new partitions: which records the next group has, and its rules.
-use Rattle.std.proofs.Common.{◌≡◌, ◌⊎◌, inl, inr, ℕ, zero, suc, ◌+◌, ◌*◌, ◌^◌, ◌<◌, ◌≤◌, ◌==◌, ◌||◌, List, [], ◌∷◌, ◌++◌, length, get_or, map, refl, sym, ap, subst, ◌∙◌, arith, Bool, true, false, None, Ok, count_by, Contains}
+-- One volume of a group is new or changed, and its components have new partitions: which records
+-- the next group has, and its rules.
+use Rattle.std.proofs.Common.{◌≡◌, ◌⊎◌, inl, inr, ℕ, zero, suc, ◌+◌, ◌*◌, ◌^◌, ◌<◌, ◌≤◌, ◌==◌, ◌||◌, List, [], ◌∷◌, ◌++◌, length, get_or, map, refl, sym, ap, subst, ◌∙◌, arith, Bool, true, false, None, Ok, count_by, Contains, Option, Some}
 use Rattle.std.specs.Prelude.{filter}
-use Rattle.std.specs.List.{All, filter_map, flat_map}
+use Rattle.std.specs.List.{All, filter_map, flat_map, cons_option}
 use Rattle.std.proofs.lemmas.List.{length-map, length-append, get_or-map, get_or_default}
 use Rattle.std.proofs.lemmas.List.Elements.{All-contains, All-map, Contains-get_or, Contains-append_left, Contains-append_right, Contains-append_cases, filter_map-append}
 use Rattle.std.proofs.lemmas.List.Kept.{AllPairs-filter}
@@ -33,7 +34,7 @@ use Rattle.ldm_rules.proofs.GroupLaws.{not_broken, none_by, NoneMeet, none_meet}
 use Rattle.ldm_rules.proofs.SoundLaws.{EachRule}
 use Rattle.ldm_space.specs.declared.taken.Taken.{Taken}
 use Rattle.ldm_space.specs.Free.{taken_of, taken_by, taken_in, clash}
-use Rattle.ldm_space.specs.Placed.{AreApart, AllEndWithin}
+use Rattle.ldm_space.specs.Placed.{AreDisjoint, AllEndWithin}
 use Rattle.ldm_space.proofs.FreeLaws.{apart_old, apart_new, clash_back}
 
 -- ---- lists
@@ -49,22 +50,34 @@ map_there f xs x (k, lt, is) = (k, omega (arith, length-map xs f), map_at f xs k
 pub all_from_map : {X Y : Type 0} (f : X → Y) (P : Y → Type 0) (xs : List X) → All P (map f xs) → All (λ x. P (f x)) xs
 all_from_map f P xs h k d lt = subst P (get_or-map f xs k d (f d) lt) (h k (f d) (omega (arith, length-map xs f)))
 
-pub each_mapped : {X Y : Type 0} (P : Y → Type 0) (f : X → Y) (xs : List X) → ((x : X) → Contains xs x → P (f x)) → (y : Y) → Contains (map f xs) y → P y
-each_mapped P f xs each y at = All-contains P (map f xs) y (All-map P f xs (λ k d lt. each (get_or xs k d) (Contains-get_or xs k d lt))) at
+pub each_mapped : {X Y : Type 0} (P : Y → Type 0) (f : X → Y) (xs : List X)
+    → ((x : X) → Contains xs x → P (f x)) → (y : Y) → Contains (map f xs) y → P y
+each_mapped P f xs each y at = All-contains P (map f xs) y
+    (All-map P f xs (λ k d lt. each (get_or xs k d) (Contains-get_or xs k d lt))) at
 
 -- an element of what a function makes of a list is made of one of the list
 pub mapped : {X Y : Type 0} (f : X → Y) (xs : List X) (y : Y) → Contains (map f xs) y → (x : X) × Contains xs x × (y ≡ f x)
-mapped {X} {Y} f xs y at = each_mapped (λ (z : Y). (x : X) × Contains xs x × (z ≡ f x)) f xs (λ x there. (x, there, refl)) y at
+mapped {X} {Y} f xs y at = each_mapped (λ (z : Y). (x : X) × Contains xs x × (z ≡ f x)) f xs
+    (λ x there. (x, there, refl)) y at
 
 pub map_map : {X Y Z : Type 0} (f : Y → Z) (g : X → Y) (xs : List X) → map f (map g xs) ≡ map (λ x. f (g x)) xs
 map_map f g [] = refl
 map_map {X} {Y} {Z} f g (x ∷ xs) = ap (λ (l : List Z). f (g x) ∷ l) (map_map f g xs)
 
+-- what is named by what a function makes
+pub named_all : {X Y Z : Type 0} (g : Y → Option Z) (f : X → Y) (h : X → Z)
+    → ((x : X) → g (f x) ≡ Some (h x))
+    → (xs : List X) → filter_map g (map f xs) ≡ map h xs
+named_all g f h e [] = refl
+named_all g f h e (x ∷ xs) = λ i. cons_option (e x i) (named_all g f h e xs i)
+
 -- what a function lists for an element of a list, and back
 pub flat_there : {X Y : Type 0} (f : X → List Y) (xs : List X) (x : X) (y : Y) → Contains xs x → Contains (f x) y → Contains (flat_map f xs) y
 flat_there f [] x y (k, lt, is) at = absurd (omega arith)
-flat_there f (z ∷ xs) x y (zero, lt, is) at = Contains-append_left (f z) (flat_map f xs) y (subst (λ w. Contains (f w) y) (sym is) at)
-flat_there f (z ∷ xs) x y (suc k, lt, is) at = Contains-append_right (f z) (flat_map f xs) y (flat_there f xs x y (k, omega arith, is) at)
+flat_there f (z ∷ xs) x y (zero, lt, is) at =
+    Contains-append_left (f z) (flat_map f xs) y (subst (λ w. Contains (f w) y) (sym is) at)
+flat_there f (z ∷ xs) x y (suc k, lt, is) at =
+    Contains-append_right (f z) (flat_map f xs) y (flat_there f xs x y (k, omega arith, is) at)
 
 pub flat_from : {X Y : Type 0} (f : X → List Y) (xs : List X) (y : Y) → Contains (flat_map f xs) y → (x : X) × Contains xs x × Contains (f x) y
 flat_from f [] y (k, lt, is) = absurd (omega arith)
@@ -73,13 +86,21 @@ flat_from f (x ∷ xs) y at = elim (Contains-append_cases (f x) (flat_map f xs) 
   | inr h ↦ (let rest = flat_from f xs y h in (rest.0, (suc rest.1.0, (let lt = rest.1.1 in omega arith), rest.1.2), rest.2))
 ]
 
+-- what is in a list is in one that is equal, and behind one more
+pub moved : {X : Type 0} {xs ys : List X} → xs ≡ ys → (x : X) → Contains xs x → Contains ys x
+moved {X} e x at = subst (λ (l : List X). Contains l x) e at
+
+pub behind : {X : Type 0} (x : X) (xs : List X) (y : X) → Contains xs y → Contains (x ∷ xs) y
+behind x xs y at = Contains-append_right (x ∷ []) xs y at
+
 -- a list of one element has that alone
 pub only_one : {X : Type 0} (x y : X) → Contains (x ∷ []) y → x ≡ y
 only_one x y (zero, lt, is) = is
 only_one x y (suc k, lt, is) = absurd (omega arith)
 
 -- what holds of the first and of the rest
-pub each_more : {X : Type 0} (P : X → Type 0) (x : X) (xs : List X) → P x → ((y : X) → Contains xs y → P y) → (y : X) → Contains (x ∷ xs) y → P y
+pub each_more : {X : Type 0} (P : X → Type 0) (x : X) (xs : List X) → P x
+    → ((y : X) → Contains xs y → P y) → (y : X) → Contains (x ∷ xs) y → P y
 each_more P x xs first rest y (zero, lt, is) = subst P is first
 each_more P x xs first rest y (suc k, lt, is) = rest y (k, omega arith, is)
 
@@ -95,7 +116,8 @@ ends_next sectors old next new sound members within = none_by (passes_end sector
     elim (members p there) [
       | inl was ↦ not_broken (passes_end sectors) old (kinds.Partition p) sound was
       | inr at ↦ le-ltb (sectors p.disk) (p.start + p.size)
-          (All-contains (λ (t : Taken). t.start + t.size ≤ sectors t.disk) (map taken_of new) (taken_of p) within (map_there taken_of new p at))
+          (All-contains (λ (t : Taken). t.start + t.size ≤ sectors t.disk) (map taken_of new)
+              (taken_of p) within (map_there taken_of new p at))
     ])
 
 -- what a partition takes is taken
@@ -104,7 +126,7 @@ taken_there records p (k, lt, is) = named_there taken_by records (kinds.Partitio
 
 -- the next group meets nowhere, where the old one doesn't and the new partitions lie apart
 meetings_next : (old next : List Record) (new : List Partition) → NoneMeet old → IsOldOrNew old next new
-    → AreApart (taken_in old) (map taken_of new) → NoneMeet next
+    → AreDisjoint (taken_in old) (map taken_of new) → NoneMeet next
 meetings_next old next new apart members free p q at_p at_q =
     elim (members p at_p) [
       | inl old_p ↦ elim (members q at_q) [
@@ -134,7 +156,7 @@ meetings_next old next new apart members free p q at_p at_q =
 pub record ArePlaced (labels : List Label) (old next : List Record) (new : List Partition) : Type 0 where
   pub members : IsOldOrNew old next new
   pub within : AllEndWithin (data_size labels old) (map taken_of new)
-  pub free : AreApart (taken_in old) (map taken_of new)
+  pub free : AreDisjoint (taken_in old) (map taken_of new)
 
 -- so what a change carries over keeps the rules, where no two volumes have one name
 pub placed_carried : (labels : List Label) (old next : List Record) (new : List Partition) → Carries old next
@@ -155,35 +177,35 @@ pub record Share : Type 0 where
   pub d : Component
   pub parts : List Partition
 
+abbrev pub old_of : Share → Record
+old_of s = kinds.Component s.c
+
+abbrev pub new_of : Share → Record
+new_of s = kinds.Component s.d
+
 abbrev pub olds : List Share → List Record
-olds ss = map (λ (s : Share). kinds.Component s.c) ss
+olds ss = map old_of ss
 
 abbrev pub news : List Share → List Record
-news ss = map (λ (s : Share). kinds.Component s.d) ss
+news ss = map new_of ss
 
 abbrev pub parts_of : List Share → List Partition
 parts_of ss = flat_map (λ (s : Share). s.parts) ss
-
--- what a layout reads of them
-part_extents : (parts : List Partition) → filter_map extent_in (records_of parts) ≡ map extent_of parts
-part_extents [] = refl
-part_extents (p ∷ parts) = ap (λ (l : List Extent). extent_of p ∷ l) (part_extents parts)
-
-new_plexes : (ss : List Share) → filter_map plex_in (news ss) ≡ map (λ (s : Share). plex_of s.d) ss
-new_plexes [] = refl
-new_plexes (s ∷ ss) = ap (λ (l : List Plex). plex_of s.d ∷ l) (new_plexes ss)
 
 pub alone_rises : (r : Record) → Rising (r ∷ [])
 alone_rises r i j d lt within = absurd (omega arith)
 
 -- no two have one component
-one_share : (ss : List Share) → Rising (news ss) → (s t : Share) → Contains ss s → Contains ss t → s.d.head.id ≡ t.d.head.id → s ≡ t
+one_share : (ss : List Share) → Rising (news ss) → (s t : Share) → Contains ss s → Contains ss t
+    → s.d.head.id ≡ t.d.head.id → s ≡ t
 unfolding place_of
 one_share ss up s t (i, lt_i, is_i) (j, lt_j, is_j) same =
     let r : Record = kinds.Component s.d in
-    let a : place_of (get_or (news ss) i r) ≡ 4 * 2 ^ 64 + s.d.head.id = ap place_of (map_at (λ (x : Share). kinds.Component x.d) ss i s r lt_i is_i) in
-    let b : place_of (get_or (news ss) j r) ≡ 4 * 2 ^ 64 + t.d.head.id = ap place_of (map_at (λ (x : Share). kinds.Component x.d) ss j t r lt_j is_j) in
-    let long : length (news ss) ≡ length ss = length-map ss (λ (x : Share). kinds.Component x.d) in
+    let a : place_of (get_or (news ss) i r) ≡ 4 * 2 ^ 64 + s.d.head.id =
+        ap place_of (map_at new_of ss i s r lt_i is_i) in
+    let b : place_of (get_or (news ss) j r) ≡ 4 * 2 ^ 64 + t.d.head.id =
+        ap place_of (map_at new_of ss j t r lt_j is_j) in
+    let long : length (news ss) ≡ length ss = length-map ss new_of in
     elim (cases_order i j) [
       | inl e ↦ sym is_i ∙ get_or_default ss i s t lt_i ∙ ap (λ (k : ℕ). get_or ss k t) e ∙ is_j
       | inr (inl low) ↦ (let less : place_of (get_or (news ss) i r) < place_of (get_or (news ss) j r) = up i j r low (omega arith) in absurd (omega arith))
@@ -229,21 +251,27 @@ pub record IsRemade (old next : List Record) (q : ℕ) (w : Volume) (ss : List S
   pub each : (s : Share) → Contains ss s → HasParts old q s
   pub rise : Rising (news ss)
   pub own : (x : Component) → Contains old (kinds.Component x) → x.parent ≡ q → (s : Share) × Contains ss s × (s.c ≡ x)
-  pub apart : (x : Component) → Contains old (kinds.Component x) → (x.parent == q) ≡ false → (s : Share) → Contains ss s → (x.head.id == s.c.head.id) ≡ false
+  pub apart : (x : Component) → Contains old (kinds.Component x) → (x.parent == q) ≡ false
+      → (s : Share) → Contains ss s → (x.head.id == s.c.head.id) ≡ false
 
 abbrev pub Below : Record → Record → Type 0
 Below a b = place_of a < place_of b
 
-pub of_component : (q : ℕ) (P : Record → Type 0) → ((c : Component) → c.parent ≡ q → P (kinds.Component c)) → (r : Record) → is_child 3 q r ≡ true → P r
+pub of_component : (q : ℕ) (P : Record → Type 0)
+    → ((c : Component) → c.parent ≡ q → P (kinds.Component c)) → (r : Record)
+    → is_child 3 q r ≡ true → P r
 of_component q P each r h = let c = child_component q r h in subst P (sym c.1) (each c.0 c.2)
 
-pub of_partition : (q : ℕ) (P : Record → Type 0) → ((p : Partition) → p.parent ≡ q → P (kinds.Partition p)) → (r : Record) → is_child 4 q r ≡ true → P r
+pub of_partition : (q : ℕ) (P : Record → Type 0)
+    → ((p : Partition) → p.parent ≡ q → P (kinds.Partition p)) → (r : Record)
+    → is_child 4 q r ≡ true → P r
 of_partition q P each r h = let p = child_partition q r h in subst P (sym p.1) (each p.0 p.2)
 
 part_of : (q : ℕ) (p : Partition) → p.parent ≡ q → is_child 4 q (kinds.Partition p) ≡ true
 part_of q p parent = ap (λ (b : Bool). b || false) (eq-eqb p.parent q parent)
 
-module _ {old next : List Record} {q : ℕ} {w : Volume} {ss : List Share} (is : IsRemade old next q w ss) where
+module _ {old next : List Record} {q : ℕ} {w : Volume} {ss : List Share}
+    (is : IsRemade old next q w ss) where
   d_there : (s : Share) → Contains ss s → Contains next (kinds.Component s.d)
   d_there s at = is.made (kinds.Component s.d) (s, at, refl)
 
@@ -257,28 +285,42 @@ module _ {old next : List Record} {q : ℕ} {w : Volume} {ss : List Share} (is :
 
   components_are : filter (is_child 3 q) next ≡ news ss
   components_are = kin_are (is_child 3 q) next (news ss) is.vp is.rise
-      (each_mapped (λ (y : Record). Contains next y × (is_child 3 q y ≡ true)) (λ (s : Share). kinds.Component s.d) ss (λ s at. (d_there s at, eq-eqb s.d.parent q (d_parent s at))))
-      (of_component q (λ (y : Record). Contains next y → Contains (news ss) y) (λ x parent at. elim (is.back (kinds.Component x) at) [
-        | inl was ↦ absurd (let own = eq-eqb x.parent q parent in let other : (x.parent == q) ≡ false = was.1 in cc)
-        | inr s ↦ subst (λ (y : Component). Contains (news ss) (kinds.Component y)) (sym s.2) (map_there (λ (t : Share). kinds.Component t.d) ss s.0 s.1)
+      (each_mapped (λ (y : Record). Contains next y × (is_child 3 q y ≡ true)) new_of ss
+          (λ s at. (d_there s at, eq-eqb s.d.parent q (d_parent s at))))
+      (of_component q (λ (y : Record). Contains next y → Contains (news ss) y)
+          (λ x parent at. elim (is.back (kinds.Component x) at) [
+        | inl was ↦ absurd (let own = eq-eqb x.parent q parent in
+            let other : (x.parent == q) ≡ false = was.1 in cc)
+        | inr s ↦ subst (λ (y : Component). Contains (news ss) (kinds.Component y)) (sym s.2)
+            (map_there new_of ss s.0 s.1)
       ]))
 
   -- those that it had, and the new ones behind them
   partitions_are : (s : Share) → Contains ss s → filter (is_child 4 s.c.head.id) next ≡ filter (is_child 4 s.c.head.id) old ++ records_of s.parts
   unfolding place_of
   partitions_are s here = kin_are t next (filter t old ++ records_of s.parts) is.vp
-      (pairs_append Below (filter t old) (records_of s.parts) (AllPairs-filter Below t old is.up) (is.each s here).rise
-      (λ r e at_r at_e. let has = filter_has t old r at_r in each_mapped (Below r) kinds.Partition s.parts (below r has.0 has.1) e at_e))
+      (pairs_append Below (filter t old) (records_of s.parts) (AllPairs-filter Below t old is.up)
+          (is.each s here).rise
+      (λ r e at_r at_e. let has = filter_has t old r at_r in
+          each_mapped (Below r) kinds.Partition s.parts (below r has.0 has.1) e at_e))
       (λ r at. elim (Contains-append_cases (filter t old) (records_of s.parts) r at) [
         | inl h ↦ (let has = filter_has t old r h in
-            (of_partition s.c.head.id (λ (y : Record). Contains old y → Contains next y) (λ x parent was. is.there (kinds.Partition x) was tt) r has.1 has.0, has.1))
-        | inr h ↦ each_mapped (λ (y : Record). Contains next y × (t y ≡ true)) kinds.Partition s.parts
-            (λ x new. (is.made (kinds.Partition x) (s, here, new), part_of s.c.head.id x ((is.each s here).each x new).parent)) r h
+            (of_partition s.c.head.id (λ (y : Record). Contains old y → Contains next y)
+                (λ x parent was. is.there (kinds.Partition x) was tt) r has.1 has.0, has.1))
+        | inr h ↦ each_mapped (λ (y : Record). Contains next y × (t y ≡ true)) kinds.Partition
+            s.parts
+            (λ x new. (is.made (kinds.Partition x) (s, here, new), part_of s.c.head.id x
+                ((is.each s here).each x new).parent)) r h
       ])
-      (of_partition s.c.head.id (λ (y : Record). Contains next y → Contains (filter t old ++ records_of s.parts) y) (λ x parent at. elim (is.back (kinds.Partition x) at) [
-        | inl was ↦ Contains-append_left (filter t old) (records_of s.parts) (kinds.Partition x) (filter_keeps t old (kinds.Partition x) was.0 (part_of s.c.head.id x parent))
+      (of_partition s.c.head.id (λ (y : Record). Contains next y
+          → Contains (filter t old ++ records_of s.parts) y)
+          (λ x parent at. elim (is.back (kinds.Partition x) at) [
+        | inl was ↦ Contains-append_left (filter t old) (records_of s.parts) (kinds.Partition x)
+            (filter_keeps t old (kinds.Partition x) was.0 (part_of s.c.head.id x parent))
         | inr new ↦ (let same : new.0 ≡ s = one_share ss is.rise new.0 s new.1 here (d_id new.0 new.1 ∙ sym ((is.each new.0 new.1).each x new.2).parent ∙ parent ∙ sym (d_id s here)) in
-            Contains-append_right (filter t old) (records_of s.parts) (kinds.Partition x) (map_there kinds.Partition s.parts x (subst (λ (y : Share). Contains y.parts x) same new.2)))
+            Contains-append_right (filter t old) (records_of s.parts) (kinds.Partition x)
+                (map_there kinds.Partition s.parts x
+                (subst (λ (y : Share). Contains y.parts x) same new.2)))
       ]))
     where
       t : Record → Bool
@@ -296,19 +338,25 @@ module _ {old next : List Record} {q : ℕ} {w : Volume} {ss : List Share} (is :
   -- ---- what a layout reads
 
   pub read_plexes : plexes_of w.head.id next ≡ map (λ (s : Share). plex_of s.d) ss
-  read_plexes = ap (λ (n : ℕ). plexes_of n next) is.id ∙ plexes_by q next ∙ ap (filter_map plex_in) components_are ∙ new_plexes ss
+  read_plexes = ap (λ (n : ℕ). plexes_of n next) is.id ∙ plexes_by q next
+      ∙ ap (filter_map plex_in) components_are
+      ∙ named_all plex_in new_of (λ (s : Share). plex_of s.d) (λ s. refl) ss
 
-  pub read_extents : (s : Share) → Contains ss s → extents_of s.c.head.id next ≡ extents_of s.c.head.id old ++ map extent_of s.parts
+  pub read_extents : (s : Share) → Contains ss s
+      → extents_of s.c.head.id next ≡ extents_of s.c.head.id old ++ map extent_of s.parts
   read_extents s at =
       extents_by s.c.head.id next ∙ ap (filter_map extent_in) (partitions_are s at)
       ∙ filter_map-append extent_in (filter (is_child 4 s.c.head.id) old) (records_of s.parts)
-      ∙ (λ i. sym (extents_by s.c.head.id old) i ++ part_extents s.parts i)
+      ∙ (λ i. sym (extents_by s.c.head.id old) i ++ named_all extent_in kinds.Partition extent_of
+          (λ p. refl) s.parts i)
 
   -- ---- what is made keeps the rules
 
-  pub volume_keeps : w.children ≡ length ss → (w.size == 0) ≡ false → (l : Layout) × (layout_of next w ≡ Ok l) → KeepsVolume next w
+  pub volume_keeps : w.children ≡ length ss → (w.size == 0) ≡ false → (l : Layout)
+      × (layout_of next w ≡ Ok l) → KeepsVolume next w
   volume_keeps count some layout = record {
-    counted = count ∙ sym (length-map ss (λ (s : Share). kinds.Component s.d)) ∙ ap (λ (l : List Record). length l) (sym components_are)
+    counted = count ∙ sym (length-map ss new_of)
+        ∙ ap (λ (l : List Record). length l) (sym components_are)
         ∙ length-filter (is_child 3 q) next ∙ ap (λ (n : ℕ). children_of 3 n next) (sym is.id);
     some = some;
     layout = layout;
@@ -355,7 +403,9 @@ module _ {old next : List Record} {q : ℕ} {w : Volume} {ss : List Share} (is :
     stay = λ p parent at. is.there (kinds.Partition p) at tt;
     back = λ p parent at. elim (is.back (kinds.Partition p) at) [
       | inl was ↦ was.0
-      | inr s ↦ absurd (let own = eq-eqb x.head.id s.0.c.head.id (sym parent ∙ ((is.each s.0 s.1).each p s.2).parent) in let off = is.apart x there other s.0 s.1 in cc)
+      | inr s ↦ absurd (let own = eq-eqb x.head.id s.0.c.head.id (sym parent
+          ∙ ((is.each s.0 s.1).each p s.2).parent) in let off = is.apart x there other s.0 s.1 in
+          cc)
     ];
   }
 
@@ -380,10 +430,13 @@ module _ {old next : List Record} {q : ℕ} {w : Volume} {ss : List Share} (is :
                 stay = λ c parent there. is.there (kinds.Component c) there (ap (λ (n : ℕ). n == q) parent ∙ was.1);
                 back = λ c parent there. elim (is.back (kinds.Component c) there) [
                   | inl old_one ↦ old_one.0
-                  | inr s ↦ absurd (let own = eq-eqb x.head.id q (sym parent ∙ ap (λ (y : Component). y.parent) s.2 ∙ d_parent s.0 s.1) in let other : (x.head.id == q) ≡ false = was.1 in cc)
+                  | inr s ↦ absurd (let own =
+                      eq-eqb x.head.id q (sym parent ∙ ap (λ (y : Component). y.parent) s.2
+                      ∙ d_parent s.0 s.1) in let other : (x.head.id == q) ≡ false = was.1 in cc)
                 ];
               };
-              partitions = λ c there parent. partitions_same c there (ap (λ (n : ℕ). n == q) parent ∙ was.1);
+              partitions = λ c there parent. partitions_same c there (ap (λ (n : ℕ). n == q) parent
+                  ∙ was.1);
             },
           )
           | inr e ↦ inr (subst (KeepsVolume next) (sym e) keeps)
@@ -397,9 +450,12 @@ module _ {old next : List Record} {q : ℕ} {w : Volume} {ss : List Share} (is :
           | inr s ↦ inr (partition_keeps s.0 x s.1 s.2)
         ]
 
-    pub remade_each : (labels : List Label) → EachRule old labels → AllEndWithin (data_size labels old) (map taken_of (parts_of ss)) → AreApart (taken_in old) (map taken_of (parts_of ss))
+    pub remade_each : (labels : List Label) → EachRule old labels
+        → AllEndWithin (data_size labels old) (map taken_of (parts_of ss))
+        → AreDisjoint (taken_in old) (map taken_of (parts_of ss))
         → first_broken (has_namesake (λ name. count_by (is_volume_named name) next)) next ≡ None → EachRule next labels
-    remade_each labels each within free names = placed_carried labels old next (parts_of ss) remade_carries each (record {
+    remade_each labels each within free names =
+        placed_carried labels old next (parts_of ss) remade_carries each (record {
       members = λ p at. elim (is.back (kinds.Partition p) at) [ inl was ↦ inl was.0 | inr s ↦ inr (flat_there (λ (t : Share). t.parts) ss s.0 p s.1 s.2) ];
       within = within;
       free = free;
