@@ -1,5 +1,5 @@
 -- extend of a mirror: what its records ask for, and that they lengthen it.
-use Rattle.std.proofs.Common.{◌≡◌, ℕ, ◌+◌, ◌≤◌, ◌==◌, ◌||◌, List, [], ◌∷◌, length, get_or, refl, sym, ap, subst, ◌∙◌, arith, Bool, true, false, Contains, ◌^◌, ◌<◌, Option}
+use Rattle.std.proofs.Common.{◌≡◌, ℕ, ◌+◌, ◌≤◌, ◌==◌, ◌||◌, List, [], ◌∷◌, length, get_or, refl, sym, ap, subst, ◌∙◌, arith, Bool, true, false, Contains, ◌^◌, ◌<◌, Option, None}
 use Rattle.std.specs.Prelude.{filter, if◌then◌else◌, is_some}
 use Rattle.std.proofs.lemmas.Bool.{eqb-true, or_parts}
 use Rattle.std.proofs.lemmas.List.Elements.{All-contains, Contains-get_or}
@@ -28,20 +28,18 @@ use Rattle.ldm_rules.specs.Facts.{IsSoundOn}
 use Rattle.ldm_space.specs.declared.taken.Taken.{Taken}
 use Rattle.ldm_space.specs.Free.{taken_in}
 use Rattle.ldm_space.specs.declared.placed.Wanted.{Wanted}
-use Rattle.ldm_space.specs.Placed.{AllEndWithin, AreDisjoint, AreFirstFits}
-use Rattle.ldm_space.proofs.FreeLaws.{placed_fit, as_many, fits_apart, fits_within}
+use Rattle.ldm_space.specs.Placed.{AllEndWithin, AreDisjoint}
 use Rattle.ldm_edits.specs.Changes.{Change, changed}
 use Rattle.ldm_edits.specs.Extending.{held}
 use Rattle.ldm_edits.specs.Mirroring.{mirror_changes, components_of, grown, MayGrow}
-use Rattle.ldm_edits.proofs.AskedLaws.{are_found}
+use Rattle.ldm_edits.proofs.AskedLaws.{taken_from, IsTaken, as_asked, ends_within, first_fits, lie_apart, are_taken}
 use Rattle.ldm_edits.proofs.GrownMade.{IsReady, MakesShares, makes_shares, made_are, named_components, olds_are}
 use Rattle.ldm_edits.proofs.LimitLaws.{spelled_by}
-use Rattle.ldm_edits.proofs.Longer.{IsOther}
-use Rattle.ldm_edits.proofs.LongerMade.{IsOnDisk, wanted_there, IsTaken, taken_is, Lengthens, longer_rises}
-use Rattle.ldm_edits.proofs.SizeLists.{taken_from}
-use Rattle.ldm_edits.proofs.PlacedRules.{map_there}
+use Rattle.ldm_edits.proofs.Shares.{IsOther, map_there}
+use Rattle.ldm_edits.proofs.Longer.{Lengthens, longer_rises}
 use Rattle.std.specs.List.{All}
 use Rattle.ldm_made.specs.Made.{resized, with_children}
+use Rattle.ldm_edits.specs.Spots.{ArePlaced}
 
 -- ---- there are few records
 
@@ -90,11 +88,8 @@ module _ {db : Database} {labels : List Label} {v : Volume} {len : ℕ} {wanted 
   abbrev change : Change
   change = grown db.records v (held (layout_of db.records v) + len) spots
 
-  fits : AreFirstFits (taken_in db.records) wanted spots
-  fits = placed_fit wanted (taken_in db.records) 0 spots may.places
-
-  on_disks : (w : Wanted) → Contains wanted w → IsOnDisk labels db.records w
-  on_disks = wanted_there labels db.records may.words wanted (are_found (data_size labels db.records) db.records 0 may.words wanted may.asked)
+  are : ArePlaced db labels may.words (λ w. None) wanted spots
+  are = record { asked = may.asked; free = refl; places = may.places }
 
   ready : (c : Component) → Contains (components_of v db.records) c → IsReady c
   ready c at =
@@ -114,15 +109,15 @@ module _ {db : Database} {labels : List Label} {v : Volume} {len : ℕ} {wanted 
       }
 
   -- each piece has as many sectors
-  size_is : (w : Wanted) → Contains wanted w → w.size ≡ len
-  size_is w at = All-contains (λ (x : Wanted). x.size ≡ len) wanted w may.sizes at
-
   takes : (t : Taken) → Contains taken t → IsTaken db.records t × (t.size ≡ len)
   takes t at =
-      let from = taken_from wanted (taken_in db.records) spots t fits at in
-      let ids = may.ids in (
-        taken_is labels db.records wanted (taken_in db.records) spots fits (omega arith) on_disks (λ w there. let size = size_is w there in let room = may.fits in (ap (λ (n : ℕ). n == 0) size ∙ may.some, omega arith)) t at,
-        sym from.3 ∙ size_is from.0 from.1,
+      let from = taken_from wanted (taken_in db.records) spots t (first_fits are) at in
+      let ids = may.ids in
+      let room = may.fits in (
+        All-contains (IsTaken db.records) spots t
+            (are_taken are (omega arith) (λ k d lt. let size = may.sizes k d lt in
+            (ap (λ (n : ℕ). n == 0) size ∙ may.some, omega arith))) at,
+        sym from.3 ∙ All-contains (λ (x : Wanted). x.size ≡ len) wanted from.0 may.sizes from.1,
       )
 
   pub volume : MakesSize v (capacity + len)
@@ -130,20 +125,20 @@ module _ {db : Database} {labels : List Label} {v : Volume} {len : ℕ} {wanted 
 
   pub shares : MakesShares db.records v len (max_id db.records + 1) (components_of v db.records) taken
   shares =
-      let many : length taken ≡ length wanted = as_many wanted (taken_in db.records) spots fits in
+      let many : length taken ≡ length wanted = as_asked are in
       let each = may.one_each in
       let ids = may.ids in
       makes_shares db.records v len (max_id db.records + 1) (components_of v db.records) taken (omega arith) (omega arith) (omega arith)
       (λ c at. ((component_is db.records v c at).1, ready c at)) takes
 
-  other : (r : Record) → mirror_changes v r ≡ false → IsOther v r
+  other : (r : Record) → mirror_changes v r ≡ false → IsOther v.head.id r
   other (kinds.Group g) fails = tt
   other (kinds.Disk d) fails = tt
   other (kinds.Partition p) fails = tt
   other (kinds.Volume x) fails = (or_parts (x.head.id == v.head.id) false fails).0
   other (kinds.Component x) fails = fails
 
-  stays : (r : Record) → IsOther v r → mirror_changes v r ≡ false
+  stays : (r : Record) → IsOther v.head.id r → mirror_changes v r ≡ false
   stays (kinds.Group g) off = refl
   stays (kinds.Disk d) off = refl
   stays (kinds.Partition p) off = refl
@@ -169,15 +164,14 @@ module _ {db : Database} {labels : List Label} {v : Volume} {len : ℕ} {wanted 
       same_children = volume.children_is;
       size = volume.size_is;
       each = shares.each;
-      within = subst (λ (l : List Taken). AllEndWithin (data_size labels db.records) l) (sym shares.taken_are)
-          (fits_within (data_size labels db.records) wanted (taken_in db.records) spots (λ k e lt. (on_disks (get_or wanted k e) (Contains-get_or wanted k e lt)).limit) fits);
-      free = subst (λ (l : List Taken). AreDisjoint (taken_in db.records) l) (sym shares.taken_are) (fits_apart wanted (taken_in db.records) spots fits);
+      within = subst (λ (l : List Taken). AllEndWithin (data_size labels db.records) l) (sym shares.taken_are) (ends_within are);
+      free = subst (λ (l : List Taken). AreDisjoint (taken_in db.records) l) (sym shares.taken_are) (lie_apart are);
     };
   }
 
   pub grows : Grows db v len wanted spots
   grows = record {
-    many = as_many wanted (taken_in db.records) spots fits;
+    many = as_asked are;
     volume_there = ap (λ (o : Option Volume). is_some o) volume.made;
     few = λ k d lt. (ready (get_or (components_of v db.records) k d) (Contains-get_or (components_of v db.records) k d lt)).few;
     made = λ k d lt. (let c : Component = get_or (components_of v db.records) k d in

@@ -6,7 +6,7 @@ use Rattle.std.specs.List.{cons_option, filter_map}
 use Rattle.std.specs.Option.{option_map}
 use Rattle.std.specs.Result.{IfOk}
 use Rattle.std.proofs.lemmas.Bool.{eq-eqb, ne_eqb, false_from_ne_true}
-use Rattle.std.proofs.lemmas.List.{take_more, take_all, length-take-le, append-nil, length-map}
+use Rattle.std.proofs.lemmas.List.{map-append, take_more, take_all, length-take-le, append-nil, length-map}
 use Rattle.std.proofs.lemmas.List.Elements.{filter_map-append}
 use Rattle.std.proofs.lemmas.List.Sums.{sum_by-append, sum_by-cons}
 use Rattle.ldm_records.specs.declared.types.Record.{Record}
@@ -21,22 +21,19 @@ use Rattle.ldm_layout.specs.Parts.{extent_of, extent_in, extents_of, by_offset, 
 use Rattle.ldm_layout.proofs.VolumeLaws.{extents_by, rising_sum}
 use Rattle.ldm_space.specs.declared.taken.Taken.{Taken}
 use Rattle.ldm_volumes.specs.Volumes.{there}
-use Rattle.ldm_edits.proofs.StayLaws.{walk_more}
+use Rattle.ldm_edits.proofs.CommandLaws.{walk_more}
 use Rattle.ldm_edits.specs.Mirroring.{held_in}
 use Rattle.ldm_edits.specs.Mirroring.{component_in_record, component_holds, grown_components, grown_parts}
 
 -- ---- a walk over the records
-
-map_push : {X Y : Type 0} (f : X → Y) (xs : List X) (x : X) → map f (xs ++ x ∷ []) ≡ map f xs ++ f x ∷ []
-map_push f [] x = refl
-map_push {X} {Y} f (y ∷ xs) x = ap (λ (l : List Y). f y ∷ l) (map_push f xs x)
 
 pub component_more : (rs : List Record) (at q : ℕ) (r : Record) (c : Component) (found pushed : List (Bor Component)) (b : Bor Component) → at < length rs → r ≡ get_or rs at r → r ≡ kinds.Component c → c.parent ≡ q
     → map (λ (x : Bor Component). x.now) found ≡ filter_map component_in_record (filter (is_child 3 q) (take at rs)) → pushed ≡ found ++ b ∷ [] → b.now ≡ c
     → map (λ (x : Bor Component). x.now) pushed ≡ filter_map component_in_record (filter (is_child 3 q) (take (at + 1) rs))
 component_more rs at q r c found pushed b lt is kind parent so_far push same =
     let passes : is_child 3 q r ≡ true = ap (is_child 3 q) kind ∙ eq-eqb c.parent q parent in
-    ap (map (λ (x : Bor Component). x.now)) push ∙ map_push (λ (x : Bor Component). x.now) found b
+    ap (map (λ (x : Bor Component). x.now)) push
+        ∙ map-append (λ (x : Bor Component). x.now) found (b ∷ [])
     ∙ (λ i. so_far i ++ same i ∷ [])
     ∙ ap (λ (s : Record). filter_map component_in_record (filter (is_child 3 q) (take at rs)) ++ filter_map component_in_record (s ∷ [])) (sym kind)
     ∙ sym (filter_map-append component_in_record (filter (is_child 3 q) (take at rs)) (r ∷ []))
@@ -97,7 +94,7 @@ pushed_on before xs ys o r items pushed is more e push =
 -- the components that were taken, and one more
 taken_more : (cs : List (Bor Component)) (at : ℕ) (b : Bor Component) → at < length cs → b ≡ get_or cs at b → map (λ (x : Bor Component). x.now) (take (at + 1) cs) ≡ map (λ (x : Bor Component). x.now) (take at cs) ++ b.now ∷ []
 taken_more cs at b lt is =
-    ap (map (λ (x : Bor Component). x.now)) (take_more cs at b lt) ∙ map_push (λ (x : Bor Component). x.now) (take at cs) (get_or cs at b)
+    ap (map (λ (x : Bor Component). x.now)) (take_more cs at b lt) ∙ map-append (λ (x : Bor Component). x.now) (take at cs) (get_or cs at b ∷ [])
     ∙ ap (λ (x : Bor Component). map (λ (y : Bor Component). y.now) (take at cs) ++ x.now ∷ []) (sym is)
 
 pub components_more : (before items pushed : List Record) (cs : List (Bor Component)) (at : ℕ) (b : Bor Component) (d : Component) → at < length cs → b ≡ get_or cs at b
@@ -106,7 +103,7 @@ pub components_more : (before items pushed : List Record) (cs : List (Bor Compon
 components_more before items pushed cs at b d lt at_is so_far made push =
     let grow : Component → Option Record = λ c. option_map kinds.Component (with_children c (c.children + 1)) in
     pushed_on before (grown_components (map (λ (x : Bor Component). x.now) (take at cs))) (grown_components (map (λ (x : Bor Component). x.now) (take (at + 1) cs))) (grow b.now) (kinds.Component d) items pushed so_far
-    (ap (map grow) (taken_more cs at b lt at_is) ∙ map_push grow (map (λ (x : Bor Component). x.now) (take at cs)) b.now) (ap (option_map kinds.Component) made) push
+    (ap (map grow) (taken_more cs at b lt at_is) ∙ map-append grow (map (λ (x : Bor Component). x.now) (take at cs)) (b.now ∷ [])) (ap (option_map kinds.Component) made) push
 
 grown_push : (records : List Record) (id : ℕ) (cs : List Component) (ts : List Taken) (c : Component) (t : Taken) → length cs ≡ length ts
     → grown_parts records id (cs ++ c ∷ []) (ts ++ t ∷ []) ≡ grown_parts records id cs ts ++ new_partition (id + length ts) t.start (component_holds records c) t.size c.head.id t.disk None ∷ []

@@ -21,13 +21,10 @@ use Rattle.ldm_space.specs.declared.taken.Taken.{Taken}
 use Rattle.ldm_space.specs.Free.{taken_of}
 use Rattle.ldm_volumes.specs.Volumes.{there}
 use Rattle.ldm_edits.specs.Mirroring.{component_in_record, components_of, component_holds, grown_components, grown_parts, grown_made}
-use Rattle.ldm_edits.proofs.CreatedNext.{alone_rises}
-use Rattle.ldm_edits.proofs.ExtendedParts.{plex_is}
-use Rattle.ldm_edits.proofs.Longer.{Share, olds, news, parts_of, longer_records, IsNewPart, IsShare}
-use Rattle.ldm_edits.proofs.LongerMade.{IsTaken}
-use Rattle.ldm_edits.proofs.MadeParts.{IdsFrom}
-use Rattle.ldm_edits.proofs.SingleLists.{records_of, only_one}
-use Rattle.ldm_edits.proofs.TiledLayouts.{map_map}
+use Rattle.ldm_edits.proofs.Shares.{Share, olds, news, parts_of, IsNewPart, records_of, only_one, alone_rises, each_more, map_map}
+use Rattle.ldm_edits.proofs.Longer.{longer_records, IsShare, plex_is}
+use Rattle.ldm_edits.proofs.AskedLaws.{IsTaken}
+use Rattle.ldm_edits.proofs.Layouts.{IdsFrom}
 
 -- a component that can have one partition more
 pub record IsReady (c : Component) : Type 0 where
@@ -63,7 +60,7 @@ one_share records v len id c cs t ts new parent takes size d p rest = record {
   components_are = λ i. c ∷ rest.components_are i;
   changed_are = λ i. cons_option (option_map kinds.Component (d.made i)) (rest.changed_are i);
   parts_are = λ i. cons_option (p.made i) (rest.parts_are i);
-  each = each;
+  each = each_more (IsShare records v len) here rest.ss first rest.each;
   ids = (p.id_is, rest.ids);
   taken_are = λ i. record { disk = p.disk_is i; start = p.start_is i; size = p.size_is i } ∷ rest.taken_are i;
 }
@@ -89,10 +86,6 @@ one_share records v len id c cs t ts new parent takes size d p rest = record {
       tiled = and_from (p.partition.offset == component_holds records c) true (eq-eqb p.partition.offset (component_holds records c) p.offset_is) refl;
       size = (let one = sum_by-cons (λ (e : Extent). e.size) (extent_of p.partition) [] in let same = p.size_is in omega arith);
     }
-
-    each : (s : Share) → Contains (here ∷ rest.ss) s → IsShare records v len s
-    each s (zero, lt, is) = subst (IsShare records v len) is first
-    each s (suc k, lt, is) = rest.each s (k, omega arith, is)
 
 pub makes_shares : (records : List Record) (v : Volume) (len id : ℕ) (cs : List Component) (ts : List Taken)
     → length cs ≡ length ts → max_id records < id → id + length ts ≤ 2 ^ 64

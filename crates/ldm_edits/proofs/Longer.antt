@@ -1,41 +1,65 @@
--- A volume whose components have more partitions: what is known of the next group.
-use Rattle.std.specs.Prelude.{◌≡◌, ℕ, ◌+◌, ◌<◌, ◌==◌, ◌⊎◌, ◌++◌, true, false, List, [], ◌∷◌, length, map, filter, Some, Contains}
+-- A span or mirror whose components have more partitions: what extend makes, the layout of the
+-- volume, and what the group keeps.
+use Rattle.std.proofs.Common.{◌≡◌, ◌≢◌, ℕ, zero, suc, ◌+◌, ◌*◌, ◌^◌, ◌<◌, ◌≤◌, ◌==◌, not, List, [], ◌∷◌, ◌++◌, length, get_or, map, refl, sym, ap, subst, ◌∙◌, inl, inr, arith, Bool, true, false, Some, None, Ok, Contains, zero-add, ◌-◌, ◌||◌, Option, sum_by, find}
+use Rattle.std.specs.Prelude.{filter, filter_map, if◌then◌else◌, is_some}
+use Rattle.std.specs.List.{All, list_all, list_any, cons_option}
+use Rattle.std.proofs.lemmas.Bool.{not-true, eqb-true, eq-eqb, eqb-false, or_parts, ltb-false}
+use Rattle.std.proofs.lemmas.List.{length-map, append-nil}
+use Rattle.std.proofs.lemmas.List.Elements.{All-filter, Contains-get_or, Contains-append_left, Contains-append_right, Contains-append_cases, All-contains}
+use Rattle.std.proofs.lemmas.List.Kept.{AllPairs-cons, AllPairs-filter}
+use Rattle.std.proofs.lemmas.List.Sums.{length-filter, sum_by-append, get_or-le-sum_by}
+use Rattle.ldm_bytes.specs.Tables.{first_of}
 use Rattle.ldm_records.specs.declared.types.Record.{Record}
 use Rattle.ldm_records.specs.declared.types.Record.TheVariants as kinds
 use Rattle.ldm_records.specs.declared.types.Volume.{Volume}
 use Rattle.ldm_records.specs.declared.types.Component.{Component}
 use Rattle.ldm_records.specs.declared.types.Partition.{Partition}
-use Rattle.ldm_group.specs.Order.{Rising}
-use Rattle.ldm_group.specs.Looks.{is_child, max_id}
+use Rattle.ldm_records.specs.declared.pieces.Head.{Head}
+use Rattle.ldm_group.specs.Order.{Rising, kind_of, id_of, place_of, in_order}
+use Rattle.ldm_group.specs.Looks.{is_child, max_id, children_of}
+use Rattle.ldm_group.specs.Database.{Database}
+use Rattle.ldm_group.specs.Room.{IsFitting}
+use Rattle.ldm_group.proofs.InOrder.{next_rises, max_above, pairs_append, member_next, stays_next, made_next}
+use Rattle.ldm_group.proofs.KinLaws.{filter_has, filter_keeps, kin_are}
+use Rattle.ldm_group.proofs.LookLaws.{one_record, find_there}
+use Rattle.ldm_group.proofs.Rise.{tested}
 use Rattle.ldm_label.specs.declared.Label.{Label}
+use Rattle.ldm_layout.specs.declared.parts.Plex.{Plex}
 use Rattle.ldm_layout.specs.declared.parts.Extent.{Extent}
 use Rattle.ldm_layout.specs.declared.shape.Shape.{Shape}
-use Rattle.ldm_layout.specs.Layouts.{is_tiled}
-use Rattle.ldm_layout.specs.Parts.{plex_of, plexes_of, extent_of, extents_of, by_offset, tiles_from}
-use Rattle.ldm_layout.specs.Volumes.{layout_of, shape_of}
+use Rattle.ldm_layout.specs.Layouts.{Layout, is_tiled}
+use Rattle.ldm_layout.specs.Parts.{plex_of, plex_in, plexes_of, extent_of, extents_of, by_offset, tiles, tiles_from, least, tile_key}
+use Rattle.ldm_layout.specs.Volumes.{layout_of, shape_of, is_basic}
+use Rattle.ldm_layout.proofs.VolumeLaws.{plexes_by, plex_there, tiles_append, by_offset_more, some_tiles, rising_sum, few_by, many_extents, one_component, IsExtentOf, extents_are}
+use Rattle.ldm_layout.proofs.SpotLaws.{tiles_zero}
+use Rattle.ldm_rules.proofs.CarryLaws.{KeepsVolume, volume_kept, component_kept, partition_kept}
+use Rattle.ldm_rules.proofs.GroupLaws.{names_kept}
+use Rattle.ldm_rules.proofs.SoundLaws.{EachRule, sound_parts}
 use Rattle.ldm_rules.specs.Ends.{data_size}
-use Rattle.ldm_rules.proofs.CarryLaws.{HasDisk}
 use Rattle.ldm_space.specs.Free.{taken_of, taken_in}
-use Rattle.ldm_space.specs.Placed.{AllEndWithin, AreDisjoint}
-use Rattle.ldm_edits.specs.Extending.{held}
+use Rattle.ldm_space.specs.Placed.{AllEndWithin, AreDisjoint, AreDisjoint}
+use Rattle.ldm_edits.specs.Changes.{Change, limits, changed}
+use Rattle.ldm_edits.specs.Extending.{held, span_changes, lengthened, component_in, component_of, MayExtend, longer_parts}
 use Rattle.ldm_edits.specs.Mirroring.{held_in}
-use Rattle.ldm_edits.proofs.SingleLists.{records_of}
+use Rattle.ldm_edits.specs.Steps.{Keeps}
+use Rattle.ldm_edits.proofs.LimitLaws.{carried_keeps, IsGiven, spelled_by}
+use Rattle.ldm_edits.proofs.Layouts.{IdsFrom, parts_rise, MakesParts, makes_span_parts, tile_extents, tiles_on, tiles_sum, tiles_of, parts_taken, are_numbers, follow_above, parts_own, copies_in, tiled_laid, HoldsTiled, tiled_holds, map_same, all_pass, one_passes, least_more}
+use Rattle.ldm_edits.proofs.Shares.{Below, map_there, each_mapped, mapped, each_more, flat_there, flat_from, records_of, Share, olds, news, parts_of, IsOther, IsMade, IsNewPart, IsRemade, read_plexes, read_extents, volume_keeps, remade_carries, remade_each, only_one, alone_rises, of_component, map_map, moved, behind, new_of, old_of, named_all}
+use Rattle.std.specs.Option.{option_map}
+use Rattle.ldm_made.proofs.MadeLaws.{MakesChildren, MakesSize, makes_size, makes_children}
+use Rattle.ldm_group.proofs.KindLaws.{child_component}
+use Rattle.ldm_layout.specs.declared.shape.Shape.TheVariants.{Span, Mirror}
+use Rattle.ldm_rules.specs.Facts.{IsSoundOn}
+use Rattle.ldm_space.specs.declared.taken.Taken.{Taken}
+use Rattle.ldm_space.specs.declared.placed.Wanted.{Wanted}
+use Rattle.ldm_edits.specs.Asked.{is_much}
+use Rattle.ldm_volumes.specs.Volumes.{span_parts, there}
+use Rattle.ldm_edits.proofs.AskedLaws.{none_any, taken_sum, IsTaken, IsSize, are_taken, as_asked, ends_within, first_fits, lie_apart}
+use Rattle.ldm_made.specs.Made.{resized, with_children}
+use Rattle.ldm_edits.specs.Spots.{ArePlaced}
 
--- a component as it was and as it is, and its new partitions
-pub record Share : Type 0 where
-  pub c : Component
-  pub d : Component
-  pub parts : List Partition
-
-abbrev pub olds : List Share → List Record
-olds ss = map (λ (s : Share). kinds.Component s.c) ss
-
-abbrev pub news : List Share → List Record
-news ss = map (λ (s : Share). kinds.Component s.d) ss
-
-abbrev pub parts_of : List Share → List Partition
-parts_of [] = []
-parts_of (s ∷ ss) = s.parts ++ parts_of ss
+-- ---- A span or mirror whose components have more partitions: what the change makes, the layout of
+-- the volume, and what the group keeps.
 
 -- what is made: the volume, its components, and the new partitions
 abbrev pub longer_records : Volume → List Share → List Record
@@ -48,13 +72,6 @@ tiles_in records s = by_offset (extents_of s.c.head.id records)
 abbrev pub share_holds : List Record → Share → ℕ
 share_holds records s = held_in (tiles_in records s)
 
--- a new partition of the component
-pub record IsNewPart (old : List Record) (c : Component) (p : Partition) : Type 0 where
-  pub above : max_id old < p.head.id
-  pub parent : p.parent ≡ c.head.id
-  pub disk : HasDisk old p.disk
-  pub some : (p.size == 0) ≡ false
-
 -- a component of the volume that has more partitions, of so many sectors together, behind those that it has
 pub record IsShare (old : List Record) (v : Volume) (len : ℕ) (s : Share) : Type 0 where
   pub parent : s.c.parent ≡ v.head.id
@@ -64,19 +81,6 @@ pub record IsShare (old : List Record) (v : Volume) (len : ℕ) (s : Share) : Ty
   pub rise : Rising (records_of s.parts)
   pub tiled : tiles_from (share_holds old s) (map extent_of s.parts) ≡ true
   pub size : held_in (map extent_of s.parts) ≡ len
-
--- a record that is neither the volume nor one of its components
-abbrev pub IsOther : Volume → Record → Type 0
-IsOther v (kinds.Volume x) = (x.head.id == v.head.id) ≡ false
-IsOther v (kinds.Component x) = (x.parent == v.head.id) ≡ false
-IsOther v _ = Unit {0}
-
--- one that is made
-abbrev pub IsMade : Volume → List Share → Record → Type 0
-IsMade w ss (kinds.Volume x) = x ≡ w
-IsMade w ss (kinds.Component x) = (s : Share) × Contains ss s × (x ≡ s.d)
-IsMade w ss (kinds.Partition x) = (s : Share) × Contains ss s × Contains s.parts x
-IsMade w ss _ = ⊥
 
 -- a span or mirror whose components have more partitions, each so many sectors more, where none were taken
 pub record IsWider (labels : List Label) (old : List Record) (v w : Volume) (len : ℕ) (ss : List Share) : Type 0 where
@@ -92,11 +96,528 @@ pub record IsWider (labels : List Label) (old : List Record) (v w : Volume) (len
   pub within : AllEndWithin (data_size labels old) (map taken_of (parts_of ss))
   pub free : AreDisjoint (taken_in old) (map taken_of (parts_of ss))
 
--- the next records: the volume and its components, changed, and the new partitions
-pub record IsLonger (labels : List Label) (old next : List Record) (v w : Volume) (len : ℕ) (ss : List Share) : Type 0 where
-  pub up : Rising old
-  pub vp : Rising next
-  pub back : (r : Record) → Contains next r → (Contains old r × IsOther v r) ⊎ IsMade w ss r
-  pub there : (r : Record) → Contains old r → IsOther v r → Contains next r
-  pub made : (r : Record) → IsMade w ss r → Contains next r
+-- it takes the volume and its components out, and makes the longer volume, its components, and new partitions behind all records
+pub record Lengthens (labels : List Label) (old : List Record) (change : Change) (v w : Volume) (len : ℕ) (ss : List Share) : Type 0 where
+  pub t : Record → Bool
+  pub stay : change.stay ≡ filter (λ r. not (t r)) old
+  pub other : (r : Record) → Contains old r → t r ≡ false → IsOther v.head.id r
+  pub stays : (r : Record) → Contains old r → IsOther v.head.id r → t r ≡ false
+  pub made : change.made ≡ longer_records w ss
+  pub low : max_id old < 2 ^ 64
+  pub ids : IdsFrom (max_id old + 1) (parts_of ss)
   pub wider : IsWider labels old v w len ss
+
+-- ---- lists of components
+
+-- the list of what is made has just that
+listed_made : (w : Volume) (ss : List Share) (r : Record) → Contains (longer_records w ss) r → IsMade w ss r
+listed_made w ss = each_more (IsMade w ss) (kinds.Volume w) (news ss ++ records_of (parts_of ss))
+    refl (λ r at. elim (Contains-append_cases (news ss) (records_of (parts_of ss)) r at) [
+  | inl h ↦ each_mapped (IsMade w ss) new_of ss (λ s here. (s, here, refl)) r h
+  | inr h ↦ each_mapped (IsMade w ss) kinds.Partition (parts_of ss)
+      (λ p here. flat_from (λ (s : Share). s.parts) ss p here) r h
+])
+
+made_listed : (w : Volume) (ss : List Share) (r : Record) → IsMade w ss r → Contains (longer_records w ss) r
+made_listed w ss (kinds.Group g) is = absurd is
+made_listed w ss (kinds.Disk d) is = absurd is
+made_listed w ss (kinds.Volume x) is = (0, omega arith, ap kinds.Volume (sym is))
+made_listed w ss (kinds.Component x) (s, at, is) =
+    Contains-append_right (kinds.Volume w ∷ []) (news ss ++ records_of (parts_of ss))
+    (kinds.Component x)
+    (Contains-append_left (news ss) (records_of (parts_of ss)) (kinds.Component x)
+    (subst (λ (y : Component). Contains (news ss) (kinds.Component y)) (sym is) (map_there new_of ss s at)))
+made_listed w ss (kinds.Partition x) (s, at, in') = Contains-append_right (kinds.Volume w ∷ []) (news ss ++ records_of (parts_of ss)) (kinds.Partition x)
+    (Contains-append_right (news ss) (records_of (parts_of ss)) (kinds.Partition x)
+        (map_there kinds.Partition (parts_of ss) x
+        (flat_there (λ (t : Share). t.parts) ss s x at in')))
+
+-- the changed components stand as those that they were
+place_same : (ss : List Share) → ((s : Share) → Contains ss s → s.d.head.id ≡ s.c.head.id) → (k : ℕ) (d : Record)
+    → k < length ss → place_of (get_or (news ss) k d) ≡ place_of (get_or (olds ss) k d)
+unfolding place_of
+place_same [] same k d lt = absurd (omega arith)
+place_same (s ∷ ss) same zero d lt = ap (λ (n : ℕ). 4 * 2 ^ 64 + n) (same s (0, omega arith, refl))
+place_same (s ∷ ss) same (suc k) d lt = place_same ss (λ t at. same t (behind s ss t at)) k d
+    (omega arith)
+
+news_rise : (ss : List Share) → ((s : Share) → Contains ss s → s.d.head.id ≡ s.c.head.id) → Rising (olds ss) → Rising (news ss)
+news_rise ss same up i j d lt within =
+    let long_news = length-map ss new_of in
+    let long_olds = length-map ss old_of in
+    let a = place_same ss same i d (omega arith) in
+    let b = place_same ss same j d (omega arith) in
+    let less : place_of (get_or (olds ss) i d) < place_of (get_or (olds ss) j d) = up i j d lt (omega arith) in
+    omega arith
+
+-- as a layout reads them
+abbrev plexes_in : List Share → List Plex
+plexes_in ss = map (λ (s : Share). plex_of s.c) ss
+
+old_plexes : (old : List Record) (q : ℕ) (ss : List Share) → filter (is_child 3 q) old ≡ olds ss
+    → plexes_of q old ≡ plexes_in ss
+old_plexes old q ss are =
+    plexes_by q old ∙ ap (filter_map plex_in) are
+        ∙ named_all plex_in old_of (λ (s : Share). plex_of s.c) (λ s. refl) ss
+
+copies_are : (ss : List Share) (records : List Record) → copies_in records (plexes_in ss) ≡ map (tiles_in records) ss
+copies_are ss records = map_map (λ (p : Plex). by_offset (extents_of p.id records)) (λ (s : Share). plex_of s.c) ss
+
+-- what the volume holds
+pub held_shared : (old : List Record) (v : Volume) (l : Layout) (shape : Shape) (ss : List Share)
+    → filter (is_child 3 v.head.id) old ≡ olds ss → shape_of (plexes_of v.head.id old) ≡ Some shape → is_tiled shape ≡ true
+    → layout_of old v ≡ Ok l → held (layout_of old v) ≡ least (map (share_holds old) ss)
+held_shared old v l shape ss components shape_is tiled layout =
+    let plexes : plexes_of v.head.id old ≡ plexes_in ss = old_plexes old v.head.id ss components in
+    ap held layout ∙ (tiled_holds old v (plexes_in ss) shape l plexes (ap shape_of (sym plexes) ∙ shape_is) tiled layout).capacity
+    ∙ ap (λ (ls : List (List Extent)). least (map held_in ls)) (copies_are ss old) ∙ ap least (map_map held_in (tiles_in old) ss)
+
+-- ---- the order
+
+kind_most : (r : Record) → kind_of r ≤ 5
+kind_most (kinds.Group x) = omega arith
+kind_most (kinds.Disk x) = omega arith
+kind_most (kinds.Volume x) = omega arith
+kind_most (kinds.Component x) = omega arith
+kind_most (kinds.Partition x) = omega arith
+
+-- ids are at most this, and new ids above them
+place_below : (r : Record) (p : Partition) (top : ℕ) → id_of r ≤ top → top < 2 ^ 64 → top < p.head.id
+    → place_of r ≢ place_of (kinds.Partition p)
+unfolding place_of
+place_below r p top low most above e = (let kind = kind_most r in let places : kind_of r * 2 ^ 64 + id_of r ≡ 5 * 2 ^ 64 + p.head.id = e in omega arith)
+
+module _ {labels : List Label} {old : List Record} {change : Change} {v w : Volume} {len : ℕ} {ss : List Share} (up : Rising old) (is : Lengthens labels old change v w len ss) where
+  stay_has : (r : Record) → Contains change.stay r → Contains old r × IsOther v.head.id r
+  stay_has r at =
+      let has = filter_has (λ r. not (is.t r)) old r (moved is.stay r at) in
+      (has.0, is.other r has.0 (not-true (is.t r) has.1))
+
+  made_has : (r : Record) → Contains change.made r → IsMade w ss r
+  made_has r at = listed_made w ss r (moved is.made r at)
+
+  w_id : w.head.id ≡ v.head.id
+  w_id = ap (λ (h : Head). h.id) is.wider.same_head
+
+  -- a component of a share was there
+  c_there : (s : Share) → Contains ss s → Contains old (kinds.Component s.c)
+  c_there s at = (filter_has (is_child 3 v.head.id) old (kinds.Component s.c)
+      (moved (sym is.wider.components) (kinds.Component s.c) (map_there old_of ss s at))).0
+
+  d_id : (s : Share) → Contains ss s → s.d.head.id ≡ s.c.head.id
+  d_id s at = ap (λ (x : Plex). x.id) (is.wider.each s at).same_plex
+
+  d_rise : Rising (news ss)
+  d_rise = news_rise ss d_id (subst Rising is.wider.components
+      (AllPairs-filter Below (is_child 3 v.head.id) old up))
+
+  -- a changed component stands behind the volumes and in front of the partitions
+  between : (r : Record) → Contains (news ss) r → (4 * 2 ^ 64 ≤ place_of r) × (place_of r < 5 * 2 ^ 64)
+  unfolding place_of
+  between = each_mapped (λ (r : Record). (4 * 2 ^ 64 ≤ place_of r) × (place_of r < 5 * 2 ^ 64))
+      new_of ss (λ s at.
+      let id = d_id s at in
+      let top = max_above old (kinds.Component s.c) (c_there s at) in
+      let low = is.low in
+      (omega arith, omega arith))
+
+  last : (r : Record) → Contains (records_of (parts_of ss)) r → 5 * 2 ^ 64 ≤ place_of r
+  unfolding place_of
+  last = each_mapped (λ (r : Record). 5 * 2 ^ 64 ≤ place_of r) kinds.Partition (parts_of ss)
+      (λ p at. omega arith)
+
+  rise : Rising (longer_records w ss)
+  unfolding place_of
+  rise =
+      let rest : List Record = news ss ++ records_of (parts_of ss) in
+      let id = w_id in
+      let top = max_above old (kinds.Volume v) is.wider.volume in
+      let low = is.low in
+      AllPairs-cons Below (kinds.Volume w) rest
+      (λ k e lt. elim (Contains-append_cases (news ss) (records_of (parts_of ss)) (get_or rest k e) (Contains-get_or rest k e lt)) [
+        | inl c ↦ (let above = (between (get_or rest k e) c).0 in omega arith)
+        | inr p ↦ (let above = last (get_or rest k e) p in omega arith)
+      ])
+      (pairs_append Below (news ss) (records_of (parts_of ss)) d_rise
+          (parts_rise (max_id old + 1) (parts_of ss) is.ids)
+      (λ r q at_r at_q. let a = (between r at_r).1 in let b = last q at_q in omega arith))
+
+  -- no record that stays stands at the place of one that changes
+  apart : (r s t : Record) → Contains old r × IsOther v.head.id r → Contains old s → (IsOther v.head.id s → ⊥) → place_of t ≡ place_of s
+      → place_of r ≢ place_of t
+  apart r s t at there changes same e = changes (subst (IsOther v.head.id) (one_record old r s up at.0 there (e ∙ same)) at.1)
+
+  cross : (r s : Record) → Contains old r × IsOther v.head.id r → IsMade w ss s
+      → place_of r ≢ place_of s
+  unfolding place_of
+  cross r (kinds.Group g) at made = absurd made
+  cross r (kinds.Disk d) at made = absurd made
+  cross r (kinds.Volume x) at made = apart r (kinds.Volume v) (kinds.Volume x) at is.wider.volume (λ other. let own = eq-eqb v.head.id v.head.id refl in cc)
+      (ap (λ (n : ℕ). 3 * 2 ^ 64 + n) (ap (λ (y : Volume). y.head.id) made ∙ w_id))
+  cross r (kinds.Component x) at (s, here, made) = apart r (kinds.Component s.c) (kinds.Component x) at (c_there s here) (λ other. let own = eq-eqb s.c.parent v.head.id (is.wider.each s here).parent in cc)
+      (ap (λ (n : ℕ). 4 * 2 ^ 64 + n) (ap (λ (y : Component). y.head.id) made ∙ d_id s here))
+  cross r (kinds.Partition x) at (s, here, made) = place_below r x (max_id old) (max_above old r at.0) is.low ((is.wider.each s here).each x made).above
+
+  -- so the next group has its order
+  pub longer_rises : Rising (in_order (change.stay ++ change.made))
+  longer_rises =
+      next_rises change.stay change.made (subst Rising (sym is.stay) (AllPairs-filter Below (λ r. not (is.t r)) old up)) (subst Rising (sym is.made) rise)
+      (λ r s at_r at_s. cross r s (stay_has r at_r) (made_has s at_s))
+
+  module _ (each : EachRule old labels) where
+    abbrev next : List Record
+    next = in_order (change.stay ++ change.made)
+
+    remade : IsRemade old next v.head.id w ss
+    remade = record {
+      up = up;
+      vp = longer_rises;
+      back = λ r at. elim (member_next change.stay change.made r at) [ inl stays ↦ inl (stay_has r stays) | inr new ↦ inr (made_has r new) ];
+      there = λ r at other. stays_next change.stay change.made r (subst (λ (l : List Record). Contains l r) (sym is.stay) (filter_keeps (λ r. not (is.t r)) old r at (ap not (is.stays r at other))));
+      made = λ r new. made_next change.stay change.made r (moved (sym is.made) r (made_listed w ss r new));
+      id = w_id;
+      each = λ s at. (let of = is.wider.each s at in record {
+        parent = of.parent;
+        same_plex = of.same_plex;
+        each = of.each;
+        rise = of.rise;
+        counted = of.children ∙ ap (λ (n : ℕ). n + length s.parts)
+            (component_kept old labels each s.c (c_there s at)).counted;
+      });
+      rise = d_rise;
+      own = λ x there parent. (let s = mapped old_of ss (kinds.Component x)
+          (subst (λ (l : List Record). Contains l (kinds.Component x)) is.wider.components (filter_keeps (is_child 3 v.head.id) old (kinds.Component x) there (eq-eqb x.parent v.head.id parent))) in
+          (s.0, s.1, (let e = s.2 in cc)));
+      apart = λ x there other s at. elim (tested (x.head.id == s.c.head.id)) [
+        | inr fails ↦ fails
+        | inl same ↦ (let e : x ≡ s.c = one_component old x s.c up there (c_there s at) (eqb-true x.head.id s.c.head.id same) in
+            let own : (x.parent == v.head.id) ≡ true = eq-eqb x.parent v.head.id (ap (λ (y : Component). y.parent) e ∙ (is.wider.each s at).parent) in absurd cc)
+      ];
+    }
+
+    was : KeepsVolume old v
+    was = volume_kept old labels each v is.wider.volume
+
+    -- ---- the layout
+
+    -- the components that it reads are those that it read
+    plexes_old : plexes_of v.head.id old ≡ plexes_in ss
+    plexes_old = old_plexes old v.head.id ss is.wider.components
+
+    plexes_next : plexes_of w.head.id next ≡ plexes_in ss
+    plexes_next = read_plexes remade ∙ map_same (λ (s : Share). plex_of s.d) (λ (s : Share). plex_of s.c) ss (λ s at. (is.wider.each s at).same_plex)
+
+    shape : shape_of (plexes_in ss) ≡ Some is.wider.shape
+    shape = ap shape_of (sym plexes_old) ∙ is.wider.shape_is
+
+    holds : HoldsTiled old v (plexes_in ss) was.layout.0
+    holds = tiled_holds old v (plexes_in ss) is.wider.shape was.layout.0 plexes_old shape is.wider.tiled was.layout.1
+
+    tiled_old : (s : Share) → Contains ss s → tiles (tiles_in old s) ≡ true
+    tiled_old s at = one_passes tiles (tiles_in old) ss s (ap (list_all tiles) (sym (copies_are ss old)) ∙ holds.tiled) at
+
+    -- the tiles of a component, and the new ones behind
+    tiled_all : (s : Share) → Contains ss s → tiles_from 0 (tiles_in old s ++ map extent_of s.parts) ≡ true
+    tiled_all s at =
+        tiles_append 0 (tiles_in old s) (map extent_of s.parts) (tiles_zero (tiles_in old s) (tiled_old s at))
+        (subst (λ (n : ℕ). tiles_from n (map extent_of s.parts) ≡ true) (sym (zero-add _)) (is.wider.each s at).tiled)
+
+    tiles_next : (s : Share) → Contains ss s → tiles_in next s ≡ tiles_in old s ++ map extent_of s.parts
+    tiles_next s at = ap by_offset (read_extents remade s at)
+        ∙ by_offset_more (extents_of s.c.head.id old) (map extent_of s.parts) (tiled_all s at)
+
+    holds_more : (s : Share) → Contains ss s → share_holds next s ≡ share_holds old s + len
+    holds_more s at =
+        let sum = sum_by-append (λ (e : Extent). e.size) (tiles_in old s) (map extent_of s.parts) in
+        let size = (is.wider.each s at).size in
+        ap held_in (tiles_next s at) ∙ omega arith
+
+    some : 1 ≤ length ss
+    some = by ss shape
+      where
+        by : (ss : List Share) → shape_of (plexes_in ss) ≡ Some is.wider.shape → 1 ≤ length ss
+        by [] h = absurd cc
+        by (s ∷ ss) h = omega arith
+
+    least_next : least (map held_in (copies_in next (plexes_in ss))) ≡ least (map (share_holds old) ss) + len
+    least_next =
+        ap (λ (l : List (List Extent)). least (map held_in l)) (copies_are ss next)
+        ∙ ap least (map_map held_in (tiles_in next) ss ∙ map_same (share_holds next) (λ s. share_holds old s + len) ss holds_more)
+        ∙ least_more (share_holds old) len ss some
+
+    own_laid : (l : Layout) × (layout_of next w ≡ Ok l)
+    own_laid =
+        let size = is.wider.size in
+        let held = held_shared old v was.layout.0 is.wider.shape ss is.wider.components is.wider.shape_is is.wider.tiled was.layout.1 in
+        let whole = least_next in
+        tiled_laid next w (plexes_in ss) is.wider.shape plexes_next shape is.wider.tiled
+        (ap (list_all tiles) (copies_are ss next) ∙ all_pass tiles (tiles_in next) ss
+        (λ s at. ap tiles (tiles_next s at) ∙ some_tiles (tiles_in old s) (map extent_of s.parts) (tiled_old s at) (tiled_all s at)))
+        (omega arith)
+
+    -- the volume has as many sectors as it had, at least
+    own_some : (w.size == 0) ≡ false
+    own_some = elim (tested (w.size == 0)) [
+      | inr some ↦ some
+      | inl none ↦ (let empty : w.size ≡ 0 = eqb-true w.size 0 none in
+          let size = is.wider.size in
+          let fits = holds.fits in
+          let capacity = ap held was.layout.1 ∙ holds.capacity in
+          let bad : (v.size == 0) ≡ true = eq-eqb v.size 0 (omega arith) in
+          let some = was.some in
+          absurd cc)
+    ]
+
+    -- ---- the rules
+
+    keeps : KeepsVolume next w
+    keeps = volume_keeps remade (is.wider.same_children ∙ was.counted
+        ∙ sym (length-filter (is_child 3 v.head.id) old)
+        ∙ ap (λ (l : List Record). length l) is.wider.components
+        ∙ length-map ss old_of) own_some own_laid
+
+    longer_each : EachRule next labels
+    longer_each = remade_each remade keeps labels each is.wider.within is.wider.free
+        (names_kept old next longer_rises (λ x at. elim (remade.back (kinds.Volume x) at) [
+      | inl was ↦ (x, was.0, refl)
+      | inr e ↦ (v, is.wider.volume, sym is.wider.same_head ∙ ap (λ (y : Volume). y.head) (sym e))
+    ]) each.names)
+
+-- a group whose span or mirror is longer is as sound
+pub longer_keeps : {db : Database} {labels : List Label} {change : Change} {v w : Volume} {len : ℕ} {ss : List Share}
+    → IsGiven db labels → (fresh : ℕ) → Lengthens labels db.records change v w len ss → first_of (limits db labels fresh change) ≡ None
+    → Keeps labels db (changed db change)
+longer_keeps {db} {labels} {change} given fresh is within =
+    let rules = sound_parts db.records labels given.sound.sound in
+    carried_keeps db labels fresh change given (subst (All IsFitting) (sym is.stay) (All-filter (λ r. not (is.t r)) IsFitting db.records given.sound.room.each))
+    within (remade_carries (remade given.up is rules) (keeps given.up is rules))
+        (longer_each given.up is rules)
+
+-- ---- Extend: the longer span, its component and the new partitions are made where no word refuses them.
+
+-- ---- the component
+
+component_is : (o : Option Record) (c : Component) → component_in o ≡ Some c → o ≡ Some (kinds.Component c)
+component_is (Some (kinds.Component x)) c e = (let same : x ≡ c = cc in ap (λ (y : Component). Some (kinds.Component y)) same)
+component_is (Some (kinds.Group x)) c e = absurd cc
+component_is (Some (kinds.Volume x)) c e = absurd cc
+component_is (Some (kinds.Disk x)) c e = absurd cc
+component_is (Some (kinds.Partition x)) c e = absurd cc
+component_is None c e = absurd cc
+
+pub component_there : (v : Volume) (c : Component) (records : List Record) → component_of v records ≡ Some c
+    → Contains records (kinds.Component c) × (c.parent ≡ v.head.id)
+component_there v c records e =
+    let at = find_there (is_child 3 v.head.id) records (kinds.Component c) (component_is (find (is_child 3 v.head.id) records) c e) in
+    let child = child_component v.head.id (kinds.Component c) at.1 in
+    (at.0, (let same : c ≡ child.0 = cc in ap (λ (x : Component). x.parent) same ∙ child.2))
+
+one_span : (ps : List Plex) → shape_of ps ≡ Some Span → (p : Plex) × (ps ≡ p ∷ [])
+one_span [] h = absurd cc
+one_span (p ∷ []) h = (p, refl)
+one_span (p ∷ (q ∷ ps)) h = absurd (elim (list_all is_basic (p ∷ (q ∷ ps)))
+    as (λ (b : Bool). (if b then Some Mirror else None) ≡ Some Span → ⊥)
+        [ true ↦ λ e. cc | false ↦ λ e. cc ] h)
+
+-- a span's component is its only one
+own_plex : (records : List Record) (v : Volume) (c : Component) → shape_of (plexes_of v.head.id records) ≡ Some Span
+    → Contains records (kinds.Component c) → c.parent ≡ v.head.id
+    → plexes_of v.head.id records ≡ plex_of c ∷ []
+own_plex records v c shape there parent =
+    let one = one_span (plexes_of v.head.id records) shape in
+    let own : Contains (plexes_of v.head.id records) (plex_of c) = subst (λ (q : ℕ). Contains (plexes_of q records) (plex_of c)) parent (plex_there records c there) in
+    one.1 ∙ ap (λ (p : Plex). p ∷ []) (only_one one.0 (plex_of c) (moved one.1 (plex_of c) own))
+
+-- the partitions of a component are at most the sectors that they hold
+few_children : (old : List Record) (labels : List Label) (c : Component) → EachRule old labels → Contains old (kinds.Component c)
+    → c.children ≤ sum_by (λ (e : Extent). e.size) (by_offset (extents_of c.head.id old))
+few_children old labels c each at =
+    let counted = (component_kept old labels each c at).counted in
+    let many : length (extents_of c.head.id old) ≡ children_of 4 c.head.id old = sym (many_extents c.head.id old) ∙ length-filter (is_child 4 c.head.id) old in
+    let few = few_by (λ (e : Extent). e.size) (extents_of c.head.id old) (λ k d lt. some (get_or (extents_of c.head.id old) k d) (extents_are old c.head.id k d lt)) in
+    let sum = rising_sum tile_key (extents_of c.head.id old) in
+    omega arith
+  where
+    some : (e : Extent) → IsExtentOf old c.head.id e → 1 ≤ e.size
+    some e is =
+        let none = eqb-false is.partition.size 0 (partition_kept old labels each is.partition is.there).some in
+        let same : is.partition.size ≡ e.size = ap (λ (x : Extent). x.size) is.is in
+        omega arith
+
+-- a component of another number of partitions is the same part of its volume
+pub plex_is : {c : Component} {children : ℕ} (more : MakesChildren c children) → plex_of more.component ≡ plex_of c
+plex_is more = λ i. record { volume = more.parent_is i; id = (more.head_is i).id; layout = more.layout_is i; striping = more.striping_is i }
+
+-- ---- what is made
+
+-- the volume, its component and the partitions that take these sectors are made
+pub record MakesLonger (db : Database) (v : Volume) (c : Component) (capacity : ℕ) (taken : List Taken) : Type 0 where
+  pub volume : MakesSize v (capacity + sum_by (λ (t : Taken). t.size) taken)
+  pub component : MakesChildren c (c.children + length taken)
+  pub parts : MakesParts (max_id db.records + 1) (span_parts (max_id db.records + 1) c.head.id capacity taken) (tile_extents c.head.id capacity taken)
+  pub size_low : capacity + sum_by (λ (t : Taken). t.size) taken < 2 ^ 64
+  pub children_low : c.children + length taken < 2 ^ 64
+  pub ids_low : max_id db.records + 1 + length taken ≤ 2 ^ 64
+
+module _ {db : Database} {labels : List Label} {v : Volume} {c : Component} {wanted : List Wanted} {spots : List Taken} (up : Rising db.records) (sound : IsSoundOn db labels) (may : MayExtend db labels v c wanted spots) where
+  abbrev capacity : ℕ
+  capacity = held (layout_of db.records v)
+
+  are : ArePlaced db labels may.words (λ w. None) wanted spots
+  are = record { asked = may.asked; free = refl; places = may.places }
+
+  own : Contains db.records (kinds.Component c) × (c.parent ≡ v.head.id)
+  own = component_there v c db.records may.component
+
+  -- the component is the only one of the span
+  only_c : (x : Component) → Contains db.records (kinds.Component x) → x.parent ≡ v.head.id → x ≡ c
+  only_c x there parent = one_component db.records x c up there own.0 (sym (ap (λ (p : Plex). p.id) (only_one (plex_of c) (plex_of x)
+      (subst (λ (l : List Plex). Contains l (plex_of x)) (own_plex db.records v c may.span own.0 own.1) (subst (λ (q : ℕ). Contains (plexes_of q db.records) (plex_of x)) parent (plex_there db.records x there))))))
+
+  components : filter (is_child 3 v.head.id) db.records ≡ kinds.Component c ∷ []
+  components = kin_are (is_child 3 v.head.id) db.records (kinds.Component c ∷ []) up (alone_rises (kinds.Component c))
+      (λ r at. subst (λ (y : Record). Contains db.records y × (is_child 3 v.head.id y ≡ true))
+          (only_one (kinds.Component c) r at) (own.0, eq-eqb c.parent v.head.id own.1))
+      (of_component v.head.id (λ (y : Record). Contains db.records y
+          → Contains (kinds.Component c ∷ []) y)
+          (λ x parent at. (0, omega arith, ap kinds.Component (sym (only_c x at parent)))))
+
+  -- what the partitions hold that the component has
+  capacity_is : capacity ≡ sum_by (λ (e : Extent). e.size) (by_offset (extents_of c.head.id db.records))
+  capacity_is = (let laid = sound.laid_out v may.there in held_shared db.records v laid.0 Span (record { c = c; d = c; parts = [] } ∷ []) components may.span refl laid.1.layout)
+
+  -- each piece has some sectors, and all together are a number of the format
+  sizes : All (λ w. IsSize w.size) wanted × (capacity + sum_by (λ (t : Taken). t.size)
+      spots ≤ 2 ^ 64 - 1)
+  sizes =
+      let parts = or_parts (list_any (λ (w : Wanted). w.size == 0) wanted) (is_much (capacity + sum_by (λ (w : Wanted). w.size) wanted)) may.sizes in
+      let most : capacity + sum_by (λ (w : Wanted). w.size) wanted ≤ 2 ^ 64 - 1 = ltb-false (2 ^ 64 - 1) _ parts.1 in
+      let sum : sum_by (λ (t : Taken). t.size) spots ≡ sum_by (λ (w : Wanted). w.size) wanted = taken_sum wanted (taken_in db.records) spots (first_fits are) in (
+        λ k d lt. (none_any (λ (x : Wanted). x.size == 0) wanted parts.0 k d lt,
+            (let part = get_or-le-sum_by (λ (x : Wanted). x.size) wanted k d lt in omega arith)),
+        omega arith,
+      )
+
+  takes : All (IsTaken db.records) spots
+  takes = (let ids = may.ids in are_taken are (omega arith) sizes.0)
+
+  pub makes_longer : MakesLonger db v c capacity spots
+  makes_longer =
+      let ids : max_id db.records + length wanted ≤ 2 ^ 64 - 1 = may.ids in
+      let size = sizes.1 in
+      let many : length spots ≡ length wanted = as_asked are in
+      let few : length spots ≤ sum_by (λ (t : Taken). t.size) spots =
+      few_by (λ (t : Taken). t.size) spots (λ k d lt. let none = eqb-false _ 0 (takes k d lt).some in omega arith) in
+      let kids = few_children db.records labels c (sound_parts db.records labels sound.sound) own.0 in
+      let held_is = capacity_is in
+      let c_low = max_above db.records (kinds.Component c) own.0 in
+      record {
+        volume = makes_size v (capacity + sum_by (λ (t : Taken). t.size) spots) (omega arith) (spelled_by (kinds.Volume v) (All-contains IsFitting db.records (kinds.Volume v) sound.room.each may.there));
+        component = makes_children c (c.children + length spots) (omega arith) (spelled_by (kinds.Component c) (All-contains IsFitting db.records (kinds.Component c) sound.room.each own.0));
+        parts = makes_span_parts (max_id db.records + 1) c.head.id capacity spots (omega arith) (omega arith) (are_numbers db.records spots takes);
+        size_low = omega arith;
+        children_low = omega arith;
+        ids_low = omega arith;
+      }
+
+  abbrev parts : List Partition
+  parts = makes_longer.parts.parts
+
+  abbrev share : Share
+  share = record { c = c; d = makes_longer.component.component; parts = makes_longer.parts.parts }
+
+  taken_are : map taken_of parts ≡ spots
+  taken_are = parts_taken c.head.id (tile_extents c.head.id capacity spots) spots parts (tiles_of c.head.id capacity spots) makes_longer.parts.extents_are
+
+  new_part : (p : Partition) → Contains parts p → IsNewPart db.records c p
+  new_part p at =
+      let t = All-contains (IsTaken db.records) spots (taken_of p) takes
+          (moved taken_are (taken_of p) (map_there taken_of parts p at)) in
+      record {
+        above = (let least = follow_above (max_id db.records + 1) (records_of parts)
+            (kinds.Partition p) makes_longer.parts.ids (map_there kinds.Partition parts p at) in
+            omega arith);
+        parent = parts_own c.head.id (tile_extents c.head.id capacity spots) spots parts (tiles_of c.head.id capacity spots) makes_longer.parts.extents_are p at;
+        disk = t.disk;
+        some = t.some;
+      }
+
+  is_share : IsShare db.records v (sum_by (λ (t : Taken). t.size) spots) share
+  is_share = record {
+    parent = own.1;
+    same_plex = plex_is makes_longer.component;
+    children = (let grown = makes_longer.component.children_is in let long = length-map parts taken_of in let same = ap (λ (l : List Taken). length l) taken_are in omega arith);
+    each = new_part;
+    rise = parts_rise (max_id db.records + 1) parts makes_longer.parts.ids;
+    tiled = subst (λ (n : ℕ). tiles_from n (map extent_of parts) ≡ true) capacity_is
+        (subst (λ (es : List Extent). tiles_from capacity es ≡ true) {y = map extent_of parts} (sym makes_longer.parts.extents_are) (tiles_on c.head.id capacity spots));
+    size = ap (sum_by (λ (e : Extent). e.size)) makes_longer.parts.extents_are ∙ tiles_sum c.head.id capacity spots;
+  }
+
+  -- a component has the id of the span's where it is of the span
+  other : (r : Record) → Contains db.records r → span_changes v c r ≡ false → IsOther v.head.id r
+  other (kinds.Group g) at fails = tt
+  other (kinds.Disk d) at fails = tt
+  other (kinds.Partition p) at fails = tt
+  other (kinds.Volume x) at fails = (or_parts (x.head.id == v.head.id) false fails).0
+  other (kinds.Component x) at fails = elim (tested (x.parent == v.head.id)) [
+    | inr off ↦ off
+    | inl own ↦ (let one = only_c x at (eqb-true x.parent v.head.id own) in
+        let same : (x.head.id == c.head.id) ≡ true = eq-eqb x.head.id c.head.id (ap (λ (y : Component). y.head.id) one) in
+        let none : (x.head.id == c.head.id) ≡ false = fails in absurd cc)
+  ]
+
+  stays : (r : Record) → Contains db.records r → IsOther v.head.id r → span_changes v c r ≡ false
+  stays (kinds.Group g) at off = refl
+  stays (kinds.Disk d) at off = refl
+  stays (kinds.Partition p) at off = refl
+  stays (kinds.Volume x) at off = ap (λ (b : Bool). b || false) off
+  stays (kinds.Component x) at off = elim (tested (x.head.id == c.head.id)) [
+    | inr none ↦ none
+    | inl same ↦ (let one : x ≡ c = one_component db.records x c up at own.0 (eqb-true x.head.id c.head.id same) in
+        let parent : (x.parent == v.head.id) ≡ true = eq-eqb x.parent v.head.id (ap (λ (y : Component). y.parent) one ∙ own.1) in
+        let other_parent : (x.parent == v.head.id) ≡ false = off in absurd cc)
+  ]
+
+  pub lengthens : Lengthens labels db.records (lengthened db.records v c capacity spots) v makes_longer.volume.volume (sum_by (λ (t : Taken). t.size) spots) (share ∷ [])
+  lengthens =
+      let all : parts ≡ parts_of (share ∷ []) = sym (append-nil parts) in
+      let takes_all : map taken_of (parts_of (share ∷ [])) ≡ spots = ap (map taken_of) (append-nil parts) ∙ taken_are in
+      record {
+        t = span_changes v c;
+        stay = refl;
+        other = other;
+        stays = stays;
+        made = (λ i. cons_option (option_map kinds.Volume (makes_longer.volume.made i)) (cons_option (option_map kinds.Component (makes_longer.component.made i)) (makes_longer.parts.made_are i)))
+            ∙ ap (λ (l : List Partition). kinds.Volume makes_longer.volume.volume ∷ (kinds.Component makes_longer.component.component ∷ records_of l)) all;
+        low = (let ids = may.ids in omega arith);
+        ids = subst (IdsFrom (max_id db.records + 1)) all makes_longer.parts.ids;
+        wider = record {
+          volume = may.there;
+          shape = Span;
+          shape_is = may.span;
+          tiled = refl;
+          components = components;
+          same_head = makes_longer.volume.head_is;
+          same_children = makes_longer.volume.children_is;
+          size = makes_longer.volume.size_is;
+          each = λ s at. subst (IsShare db.records v (sum_by (λ (t : Taken). t.size) spots)) (only_one share s at) is_share;
+          within = subst (λ (l : List Taken). AllEndWithin (data_size labels db.records) l) {x = spots} (sym takes_all)
+              (ends_within are);
+          free = subst (λ (l : List Taken). AreDisjoint (taken_in db.records) l) {x = spots} (sym takes_all) (lie_apart are);
+        };
+      }
+
+  pub asks_longer : {n : ℕ} → n ≡ held (layout_of db.records v) → MakesLonger db v c n spots
+  asks_longer held_is = subst (λ (n : ℕ). MakesLonger db v c n spots) (sym held_is) makes_longer
+
+-- the records of a longer span, pushed one after the other
+pub longer_are : (v longer : Volume) (c fuller : Component) (capacity id size : ℕ) (taken : List Taken) (none one two : List Record) → size ≡ capacity + sum_by (λ t. t.size) taken
+    → resized v size ≡ Some longer → with_children c (c.children + length taken) ≡ Some fuller → none ≡ [] → one ≡ none ++ kinds.Volume longer ∷ [] → two ≡ one ++ kinds.Component fuller ∷ []
+    → two ++ there (span_parts id c.head.id capacity taken) ≡ longer_parts v c capacity id taken
+longer_are v longer c fuller capacity id size taken none one two size_is longer_is fuller_is none_is one_is two_is =
+    let heads : two ≡ kinds.Volume longer ∷ (kinds.Component fuller ∷ []) =
+    two_is ∙ ap (λ (l : List Record). l ++ kinds.Component fuller ∷ []) (one_is ∙ ap (λ (l : List Record). l ++ kinds.Volume longer ∷ []) none_is) in
+    let volume : Some longer ≡ resized v (capacity + sum_by (λ t. t.size) taken) = sym longer_is ∙ ap (resized v) size_is in
+    ap (λ (l : List Record). l ++ there (span_parts id c.head.id capacity taken)) heads
+    ∙ (λ i. there (option_map kinds.Volume (volume i) ∷ (option_map kinds.Component (sym fuller_is i) ∷ span_parts id c.head.id capacity taken)))

@@ -1,6 +1,6 @@
 use Rattle.std.proofs.Common.{ℕ, List}
 use Rattle.ldm_rules.specs.Ends.{data_size}
-use Rattle.ldm_edits.proofs.AskWalk.{asks_first, asks_more, asks_none, asks_all}
+use Rattle.ldm_edits.proofs.AskedLaws.{asks_first, asks_more, asks_none, asks_all}
 use Rattle.ldm_edits.proofs.asked.asked_disks.Goals as goal
 
 pub loop-at-init : goal.loop-at-init

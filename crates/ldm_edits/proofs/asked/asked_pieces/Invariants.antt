@@ -1,6 +1,6 @@
 use Rattle.std.proofs.Common.{map}
 use Rattle.ldm_rules.specs.Ends.{data_size}
-use Rattle.ldm_edits.proofs.AskWalk.{AreAsked}
+use Rattle.ldm_edits.proofs.AskedLaws.{AreAsked}
 use Rattle.ldm_edits.proofs.asked.asked_pieces.Given as goal
 
 abbrev pub invariant-loop-at : goal.invariant-loop-at

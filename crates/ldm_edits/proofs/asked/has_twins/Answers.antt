@@ -2,7 +2,7 @@ use Rattle.std.proofs.Common.{◌∙◌, ◌+◌, ◌==◌, ap, sym, get_or, Lis
 use Rattle.std.specs.List.{list_any}
 use Rattle.std.proofs.lemmas.List.{take_rest}
 use Rattle.ldm_space.specs.declared.placed.Wanted.{Wanted}
-use Rattle.ldm_edits.proofs.TwinWalk.{no_twin}
+use Rattle.ldm_edits.proofs.AskedLaws.{no_twin}
 use Rattle.ldm_edits.proofs.asked.has_twins.Goals as goal
 
 pub loop-at-preserved : goal.loop-at-preserved

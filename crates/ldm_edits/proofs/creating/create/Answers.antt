@@ -3,7 +3,7 @@ use Rattle.std.specs.Prelude.{is_some, if◌then◌else◌}
 use Rattle.ldm_edits.specs.declared.reply.Refusal.TheVariants as refusals
 use Rattle.ldm_edits.specs.Answers.{StepsTo}
 use Rattle.ldm_edits.specs.Creating.{created_new, created}
-use Rattle.ldm_edits.proofs.WalkAnswers.{copied_some}
+use Rattle.ldm_edits.proofs.AskedLaws.{copied_some}
 use Rattle.ldm_edits.proofs.creating.create.Goals as goal
 
 pub returns-then-is_some : goal.returns-then-is_some

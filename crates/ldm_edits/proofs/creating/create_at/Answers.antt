@@ -7,10 +7,11 @@ use Rattle.ldm_edits.specs.Answers.{StepsTo}
 use Rattle.ldm_edits.specs.Changes.{change_to}
 use Rattle.ldm_edits.specs.Creating.{made_for, fresh_for, change_for}
 use Rattle.ldm_edits.specs.Staying.{change_of}
-use Rattle.ldm_edits.proofs.CreatedForms.{good_size, placed_taken, placed_new, made_adds}
-use Rattle.ldm_edits.proofs.CreateSteps.{all_stay}
-use Rattle.ldm_edits.proofs.LimitTable.{change_spent}
+use Rattle.ldm_edits.proofs.CommandLaws.{placed_new}
+use Rattle.ldm_edits.proofs.LimitLaws.{all_stay, change_spent}
 use Rattle.ldm_edits.proofs.creating.create_at.Goals as goal
+use Rattle.ldm_edits.proofs.Created.{created_rises}
+use Rattle.ldm_edits.proofs.AskedLaws.{good_size, placed_taken}
 
 pub returns-in_default : goal.returns-in_default
 returns-in_default c =
@@ -29,7 +30,7 @@ change-requires-clause-rising c up =
     let ids = c.in-Some.ensures.1 in
     let fresh = c.fresh_for-fresh.ensures in
     subst (λ (l : List Record). Rising (in_order l)) (λ i. sym (all_stay c.args.db.now.records) i ++ sym made_is i)
-    (made_adds up (placed_new c.args.guid c.requires.limits c.requires.placed.1 (omega arith))).rising
+    (created_rises c.args.db.now.records _ up (placed_new c.args.guid c.requires.limits c.requires.placed.1 (omega arith)))
 
 pub returns : goal.returns
 returns c =

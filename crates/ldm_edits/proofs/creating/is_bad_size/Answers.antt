@@ -5,7 +5,7 @@ use Rattle.ldm_words.specs.declared.command.Piece.{Piece}
 use Rattle.ldm_words.specs.declared.command.NewLayout.TheVariants as layouts
 use Rattle.ldm_words.specs.Limits.{ArePieces}
 use Rattle.ldm_edits.specs.Creating.{words_of, is_bad_size}
-use Rattle.ldm_edits.proofs.SizeLists.{sizes_many, bad_pieces}
+use Rattle.ldm_edits.proofs.AskedLaws.{sizes_many, bad_pieces}
 use Rattle.ldm_edits.proofs.creating.is_bad_size.Goals as goal
 
 pub is_bad_length-requires : goal.is_bad_length-requires

@@ -6,8 +6,7 @@ use Rattle.ldm_words.specs.declared.command.Piece.{Piece}
 use Rattle.ldm_words.specs.declared.command.NewLayout.{NewLayout}
 use Rattle.ldm_edits.specs.Asked.{is_much}
 use Rattle.ldm_edits.specs.Creating.{made_for, fresh_for}
-use Rattle.ldm_edits.proofs.SizeLists.{AreFor, fresh_with, fresh_spots, some_spots, sizes_sum}
-use Rattle.ldm_edits.proofs.CreatedSizes.{low_size}
+use Rattle.ldm_edits.proofs.AskedLaws.{AreFor, fresh_with, fresh_spots, some_spots, sizes_sum, low_size}
 use Rattle.ldm_edits.proofs.creating.made_for.Goals as goal
 
 -- the ids of as many records as are made of the sectors

@@ -1,7 +1,7 @@
 use Rattle.std.proofs.Common.{ap, sym, ◌∙◌, map}
 use Rattle.ldm_space.specs.declared.placed.Wanted.{Wanted}
 use Rattle.ldm_edits.specs.Creating.{words_of}
-use Rattle.ldm_edits.proofs.WalkAnswers.{wanted_sizes, layout_some}
+use Rattle.ldm_edits.proofs.AskedLaws.{wanted_sizes, layout_some}
 use Rattle.ldm_edits.proofs.creating.open_wanted.Goals as goal
 
 pub is_bad_size-requires-clause-sizes : goal.is_bad_size-requires-clause-sizes

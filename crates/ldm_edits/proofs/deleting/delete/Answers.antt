@@ -9,7 +9,7 @@ use Rattle.ldm_edits.specs.Answers.{StepsTo}
 use Rattle.ldm_edits.specs.Changes.{change_to}
 use Rattle.ldm_edits.specs.Staying.{staying, change_of}
 use Rattle.ldm_edits.specs.Deleting.{deleted}
-use Rattle.ldm_edits.proofs.DeleteLaws.{deleted_rises}
+use Rattle.ldm_edits.proofs.CommandLaws.{deleted_rises}
 use Rattle.ldm_edits.proofs.deleting.delete.Goals as goal
 
 pub change-requires-clause-rising : goal.change-requires-clause-rising

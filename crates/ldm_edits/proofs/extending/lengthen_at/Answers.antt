@@ -1,4 +1,4 @@
-use Rattle.std.proofs.Common.{◌∙◌, ◌++◌, sym, subst, arith, length, List}
+use Rattle.std.proofs.Common.{◌∙◌, ◌++◌, sym, subst, arith, length, List, ap, Option}
 use Rattle.ldm_records.specs.declared.types.Record.{Record}
 use Rattle.ldm_group.specs.Order.{Rising, in_order}
 use Rattle.ldm_layout.specs.Volumes.{layout_of}
@@ -7,9 +7,12 @@ use Rattle.ldm_edits.specs.Answers.{StepsTo}
 use Rattle.ldm_edits.specs.Changes.{change_to}
 use Rattle.ldm_edits.specs.Extending.{held, longer_parts, lengthened}
 use Rattle.ldm_edits.specs.Staying.{staying, change_of}
-use Rattle.ldm_edits.proofs.ExtendedParts.{asks_longer}
-use Rattle.ldm_edits.proofs.LimitTable.{change_spent}
+use Rattle.ldm_edits.proofs.Longer.{asks_longer, longer_rises, lengthens}
+use Rattle.ldm_edits.proofs.LimitLaws.{change_spent}
 use Rattle.ldm_edits.proofs.extending.lengthen_at.Goals as goal
+use Rattle.std.specs.Prelude.{is_some}
+use Rattle.ldm_records.specs.declared.types.Volume.{Volume}
+use Rattle.ldm_records.specs.declared.types.Component.{Component}
 
 pub returns-in_default : goal.returns-in_default
 returns-in_default c =
@@ -17,20 +20,20 @@ returns-in_default c =
 
 pub lengthened-requires : goal.lengthened-requires
 lengthened-requires c =
-    let asks = asks_longer c.requires.rising c.requires.sound (c.requires.may c.in-Some.ensures.1) c.requires.held in
+    let makes = asks_longer c.requires.rising c.requires.sound (c.requires.may c.in-Some.ensures.1) c.requires.held in
     record {
-      size = asks.size;
-      children = asks.children;
-      volume_there = asks.volume_there;
-      component_there = asks.component_there;
-      ids = (let many = asks.many in let first = c.in-Some.ensures.0 in let most = c.in-Some.ensures.1 in omega arith);
+      size = makes.size_low;
+      children = makes.children_low;
+      volume_there = ap (λ (o : Option Volume). is_some o) makes.volume.made;
+      component_there = ap (λ (o : Option Component). is_some o) makes.component.made;
+      ids = (let few = makes.ids_low in let first = c.in-Some.ensures.0 in omega arith);
     }
 
 pub change-requires-clause-rising : goal.change-requires-clause-rising
 change-requires-clause-rising c up =
-    let made = c.in_ok-made.ensures ∙ (λ i. longer_parts c.args.volume.now c.args.component.now c.args.capacity (c.in-Some.ensures.0 i) c.args.spots.now) in
+    let made = c.in_ok-made.ensures ∙ (λ i. longer_parts c.args.volume.now c.args.component.now (c.requires.held i) (c.in-Some.ensures.0 i) c.args.spots.now) in
     subst (λ (l : List Record). Rising (in_order (staying (leavings.Changed c.args.volume.now.head.id c.args.component.now.head.id) c.args.db.now.records ++ l))) (sym made)
-    (asks_longer up c.requires.sound (c.requires.may c.in-Some.ensures.1) c.requires.held).rising
+    (longer_rises up (lengthens up c.requires.sound (c.requires.may c.in-Some.ensures.1)))
 
 pub returns : goal.returns
 returns c =

@@ -1,6 +1,6 @@
 use Rattle.std.proofs.Common.{◌≡◌, subst, List, IfOk}
 use Rattle.ldm_records.specs.declared.types.Record.{Record}
-use Rattle.ldm_edits.proofs.ExtendedParts.{longer_are}
+use Rattle.ldm_edits.proofs.Longer.{longer_are}
 use Rattle.ldm_edits.proofs.extending.lengthened.Goals as goal
 
 pub returns : goal.returns

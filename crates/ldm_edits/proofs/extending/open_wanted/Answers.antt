@@ -1,6 +1,6 @@
 use Rattle.std.proofs.Common.{ap, arith, length, List}
 use Rattle.ldm_space.specs.declared.placed.Wanted.{Wanted}
-use Rattle.ldm_edits.proofs.WalkAnswers.{piece_each}
+use Rattle.ldm_edits.proofs.AskedLaws.{piece_each}
 use Rattle.ldm_edits.proofs.extending.open_wanted.Goals as goal
 
 pub is_bad_length-requires : goal.is_bad_length-requires

@@ -1,7 +1,7 @@
 use Rattle.std.proofs.Common.{◌∙◌, ap, sym}
 use Rattle.ldm_records.specs.declared.types.Record.{Record}
 use Rattle.ldm_edits.specs.Deleting.{goes}
-use Rattle.ldm_edits.proofs.StayLaws.{component_is}
+use Rattle.ldm_edits.proofs.CommandLaws.{component_is}
 use Rattle.ldm_edits.proofs.leaving.goes.Goals as goal
 
 pub returns-in-Partition : goal.returns-in-Partition

@@ -1,7 +1,7 @@
 use Rattle.std.proofs.Common.{◌∙◌, ap, sym, [], ◌∷◌, ◌++◌, Vec, Global}
 use Rattle.ldm_records.specs.declared.types.Record.{Record}
 use Rattle.ldm_edits.specs.Staying.{leaves}
-use Rattle.ldm_edits.proofs.StayLaws.{one_stays, one_goes}
+use Rattle.ldm_edits.proofs.CommandLaws.{one_stays, one_goes}
 use Rattle.ldm_edits.proofs.leaving.stay.Goals as goal
 use Rattle.ldm_edits.proofs.leaving.stay.Goals.{then-not-takes+in_ok-clone_in+in_ok-push, else-not-takes}
 

@@ -1,7 +1,7 @@
 use Rattle.std.proofs.Common.{◌∙◌, sym}
 use Rattle.std.proofs.lemmas.Bool.{leb-true, leb-false}
 use Rattle.ldm_edits.specs.Staying.{change_of}
-use Rattle.ldm_edits.proofs.LimitTable.{ids_spent, ids_left}
+use Rattle.ldm_edits.proofs.LimitLaws.{ids_spent, ids_left}
 use Rattle.ldm_edits.proofs.limits.first_limit.Goals as goal
 
 pub returns-then-has_ids : goal.returns-then-has_ids

@@ -4,8 +4,7 @@ use Rattle.ldm_vmdb.specs.declared.header.Header.{Header}
 use Rattle.ldm_edits.specs.declared.reply.Refusal.TheVariants as refusals
 use Rattle.ldm_edits.specs.Changes.{most_blocks}
 use Rattle.ldm_edits.specs.Staying.{change_of}
-use Rattle.ldm_edits.proofs.LimitLaws.{none_long}
-use Rattle.ldm_edits.proofs.LimitTable.{too_long, no_room, spent, within}
+use Rattle.ldm_edits.proofs.LimitLaws.{none_long, too_long, no_room, spent, within}
 use Rattle.ldm_edits.proofs.limits.later_limit.Goals as goal
 
 pub need_after-need-requires-clause-made : goal.need_after-need-requires-clause-made

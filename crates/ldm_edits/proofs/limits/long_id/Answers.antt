@@ -4,7 +4,7 @@ use Rattle.std.proofs.lemmas.Bool.{lt-ltb, le-ltb}
 use Rattle.ldm_records.specs.declared.types.Record.{Record}
 use Rattle.ldm_group.specs.Order.{id_of}
 use Rattle.ldm_edits.specs.Changes.{is_long, long_id}
-use Rattle.ldm_edits.proofs.LeastId.{lesser, long_more, long_same}
+use Rattle.ldm_edits.proofs.LimitLaws.{lesser, long_more, long_same}
 use Rattle.ldm_edits.proofs.limits.long_id.Goals as goal
 use Rattle.ldm_edits.proofs.limits.long_id.Goals.{then-own_len-gt448, else-own_len-gt448}
 

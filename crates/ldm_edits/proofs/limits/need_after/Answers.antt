@@ -1,5 +1,5 @@
 use Rattle.ldm_edits.specs.Staying.{staying}
-use Rattle.ldm_edits.proofs.LimitTable.{need_both}
+use Rattle.ldm_edits.proofs.LimitLaws.{need_both}
 use Rattle.ldm_edits.proofs.limits.need_after.Goals as goal
 
 pub returns : goal.returns

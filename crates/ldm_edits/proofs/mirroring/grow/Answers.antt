@@ -16,8 +16,8 @@ use Rattle.ldm_edits.specs.Mirroring.{component_holds, grown_made, grown}
 use Rattle.ldm_edits.specs.Extended.{len_of}
 use Rattle.ldm_edits.proofs.GrowLaws.{grows}
 use Rattle.ldm_edits.proofs.GrownMade.{made_by}
-use Rattle.ldm_edits.proofs.PlacedRules.{all_from_map}
-use Rattle.ldm_edits.proofs.LimitTable.{change_spent}
+use Rattle.ldm_edits.proofs.Shares.{all_from_map}
+use Rattle.ldm_edits.proofs.LimitLaws.{change_spent}
 use Rattle.ldm_edits.proofs.mirroring.grow.Goals as goal
 
 pub returns-in_default : goal.returns-in_default

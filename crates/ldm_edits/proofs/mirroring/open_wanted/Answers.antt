@@ -1,6 +1,6 @@
 use Rattle.std.proofs.Common.{◌∙◌, ap, sym, length, List}
 use Rattle.ldm_space.specs.declared.placed.Wanted.{Wanted}
-use Rattle.ldm_edits.proofs.WalkAnswers.{piece_each}
+use Rattle.ldm_edits.proofs.AskedLaws.{piece_each}
 use Rattle.ldm_edits.proofs.mirroring.open_wanted.Goals as goal
 
 pub is_same_disk-requires : goal.is_same_disk-requires

@@ -1,0 +1,411 @@
+-- A new volume with its components and their partitions, whose ids follow one another: the next
+-- group has its order, and keeps the rules.
+use Rattle.std.proofs.Common.{◌≡◌, ◌≢◌, ◌∙◌, inl, inr, ap, sym, refl, subst, ℕ, suc, ◌+◌, ◌*◌, ◌≤◌, ◌<◌, ◌^◌, ◌==◌, [], ◌∷◌, ◌++◌, length, get_or, map, arith, Some, None, List, Option, Bool, true, false, Ok, bytes_eq}
+use Rattle.std.specs.Prelude.{filter}
+use Rattle.std.specs.List.{All, AllPairs, cons_option, filter_map, flat_map, Contains}
+use Rattle.std.proofs.lemmas.Bool.{eq-eqb, ne_eqb, false≢true}
+use Rattle.std.proofs.lemmas.List.{length-map, length-append, append-nil, map-append}
+use Rattle.std.proofs.lemmas.List.Elements.{All-contains, All-cons, All-nil, All-tail, Contains-get_or, Contains-append_right, filter_map-append}
+use Rattle.std.proofs.lemmas.List.Kept.{AllPairs-cons}
+use Rattle.std.proofs.lemmas.List.Sums.{length-filter, sum_by-cons}
+use Rattle.ldm_records.specs.declared.pieces.Head.{Head}
+use Rattle.ldm_records.specs.declared.pieces.Striping.{Striping}
+use Rattle.ldm_records.specs.declared.types.Volume.{Volume}
+use Rattle.ldm_records.specs.declared.types.Component.{Component}
+use Rattle.ldm_records.specs.declared.types.Partition.{Partition}
+use Rattle.ldm_records.specs.declared.types.Record.{Record}
+use Rattle.ldm_records.specs.declared.types.Record.TheVariants as kinds
+use Rattle.ldm_made.specs.Made.{IsStriping, new_component, new_volume}
+use Rattle.ldm_made.proofs.MadeLaws.{MakesVolume, makes_volume, MakesComponent, makes_component}
+use Rattle.ldm_group.specs.Order.{Rising, place_of, kind_of, id_of, in_order}
+use Rattle.ldm_group.specs.Looks.{is_child, is_volume_named, max_id}
+use Rattle.ldm_group.proofs.InOrder.{in_order_rises, pairs_append, member_next, stays_next, made_next, max_above}
+use Rattle.ldm_group.proofs.KinLaws.{kin_are}
+use Rattle.ldm_label.specs.declared.Label.{Label}
+use Rattle.ldm_layout.specs.declared.parts.Extent.{Extent}
+use Rattle.ldm_layout.specs.declared.parts.Plex.{Plex}
+use Rattle.ldm_layout.specs.Layouts.{Layout}
+use Rattle.ldm_layout.specs.Parts.{extent_of, extent_in, extents_of, plex_of, plexes_of}
+use Rattle.ldm_layout.specs.Volumes.{layout_of, is_basic}
+use Rattle.ldm_layout.proofs.VolumeLaws.{extents_by}
+use Rattle.ldm_rules.specs.Ends.{data_size}
+use Rattle.ldm_rules.proofs.CarryLaws.{KeepsVolume, Carries, component_kept, partition_kept}
+use Rattle.ldm_rules.proofs.GroupLaws.{names_next}
+use Rattle.ldm_rules.proofs.SoundLaws.{EachRule}
+use Rattle.ldm_space.specs.declared.taken.Taken.{Taken}
+use Rattle.ldm_space.specs.Free.{taken_of, taken_in}
+use Rattle.ldm_space.specs.Placed.{AreDisjoint, AllEndWithin}
+use Rattle.ldm_volumes.specs.Volumes.{there, span_parts, mirror_parts, mirror_made}
+use Rattle.ldm_edits.proofs.AskedLaws.{AllSized, IsTaken}
+use Rattle.ldm_edits.proofs.Layouts.{IsTiledTo, IsCopy, mirror_layout, tile_extents, tiles_whole, tiles_sum, AreExtentsOf, tiles_of, parts_taken, AreNumbers, numbers_head, numbers_tail, IdsFollow, MakesParts, makes_span_parts, parts_rise, follow_above, follow_at, parts_own}
+use Rattle.ldm_edits.proofs.Shares.{Below, map_there, each_mapped, each_more, flat_there, flat_from, records_of, Share, news, parts_of, IsOther, IsMade, IsRemade, of_partition, read_plexes, read_extents, volume_keeps, remade_carries, remade_each, moved, behind, new_of}
+
+-- ---- ids that follow one another
+
+follow_join : (id n : ℕ) (xs ys : List Record) → n ≡ id + length xs → IdsFollow id xs
+    → IdsFollow n ys → IdsFollow id (xs ++ ys)
+follow_join id n [] ys is h rest = subst (λ (m : ℕ). IdsFollow m ys)
+    (let e : n ≡ id = omega arith in e) rest
+follow_join id n (x ∷ xs) ys is h rest = (h.0, follow_join (id + 1) n xs ys (omega arith) h.1 rest)
+
+follow_split : (id : ℕ) (xs ys : List Record) → IdsFollow id (xs ++ ys) → IdsFollow id xs
+    × ((n : ℕ) × (id ≤ n) × IdsFollow n ys)
+follow_split id [] ys h = (tt, (id, omega arith, h))
+follow_split id (x ∷ xs) ys h = let rest = follow_split (id + 1) xs ys h.1 in
+    ((h.0, rest.0), (rest.1.0, (let low = rest.1.1 in omega arith), rest.1.2))
+
+-- two ids of the format give two places
+place_apart : (r s : Record) → id_of r < 2 ^ 64 → id_of s < 2 ^ 64 → id_of r ≢ id_of s → place_of r ≢ place_of s
+unfolding place_of
+place_apart r s low_r low_s off e = (let places : kind_of r * 2 ^ 64 + id_of r ≡ kind_of
+    s * 2 ^ 64 + id_of s = e in omega arith)
+
+-- those that are made differ in their places, and from all that was there
+pub added_rises : (old made : List Record) (id : ℕ) → Rising old → IdsFollow id made → max_id old < id → id + length made ≤ 2 ^ 64 → Rising (in_order (old ++ made))
+added_rises old made id up h new few = in_order_rises (old ++ made)
+    (pairs_append (λ (a b : Record). place_of a ≢ place_of b) old made old_apart made_apart cross)
+  where
+    old_apart : AllPairs (λ a b. place_of a ≢ place_of b) old
+    old_apart i j d low within = λ e. (let below : place_of (get_or old i d) < place_of (get_or old j d) = up i j d low within in omega arith)
+
+    made_apart : AllPairs (λ a b. place_of a ≢ place_of b) made
+    made_apart i j d low within =
+        let a = follow_at id made i d h (omega arith) in
+        let b = follow_at id made j d h within in
+        place_apart (get_or made i d) (get_or made j d) (omega arith) (omega arith) (λ e. omega arith)
+
+    cross : (r s : Record) → Contains old r → Contains made s → place_of r ≢ place_of s
+    cross r s at_r (k, lt, is) =
+        let a : id_of r ≤ max_id old = max_above old r at_r in
+        let b : id_of s ≡ id + k = sym (ap id_of is) ∙ follow_at id made k s h lt in
+        place_apart r s (omega arith) (omega arith) (λ e. omega arith)
+
+-- ---- the records of a new volume
+
+-- a component with its partitions behind it
+abbrev pub block : Share → List Record
+block s = kinds.Component s.d ∷ records_of s.parts
+
+abbrev pub blocks : List Share → List Record
+blocks ss = flat_map block ss
+
+-- a new component of a volume, and its partitions
+pub record IsNewShare (volume : ℕ) (s : Share) : Type 0 where
+  pub same : s.c ≡ s.d
+  pub parent : s.c.parent ≡ volume
+  pub children : s.d.children ≡ length s.parts
+  pub own : (p : Partition) → Contains s.parts p → p.parent ≡ s.c.head.id
+
+-- components of a volume whose partitions take these sectors, with ids from this on
+pub record AreBlocks (volume id : ℕ) (ss : List Share) (taken : List Taken) : Type 0 where
+  pub follow : IdsFollow id (blocks ss)
+  pub each : (s : Share) → Contains ss s → IsNewShare volume s
+  pub taken_are : map taken_of (parts_of ss) ≡ taken
+  pub many : length (blocks ss) ≡ length ss + length taken
+
+-- a new volume of this name with its components. Where a layout reads just these it has no fault
+pub record MakesNew (id : ℕ) (name : List ℕ) (made : List Record) (taken : List Taken) : Type 0 where
+  pub volume : Volume
+  pub ss : List Share
+  pub first : volume.head.id ≡ id
+  pub named : volume.head.name ≡ name
+  pub count : volume.children ≡ length ss
+  pub some : (volume.size == 0) ≡ false
+  pub made_are : made ≡ kinds.Volume volume ∷ blocks ss
+  pub few : id + length made ≤ 2 ^ 64
+  pub are : AreBlocks id (id + 1) ss taken
+  pub laid : (next : List Record) → plexes_of volume.head.id next ≡ map (λ (s : Share). plex_of s.d) ss
+      → ((s : Share) → Contains ss s → extents_of s.d.head.id next ≡ map extent_of s.parts) → (l : Layout) × (layout_of next volume ≡ Ok l)
+
+-- their components rise, and the partitions of each
+blocks_rise : (id : ℕ) (ss : List Share) → IdsFollow id (blocks ss) → Rising (news ss)
+unfolding place_of
+blocks_rise id [] h = λ i j d lt within. absurd (omega arith)
+blocks_rise id (s ∷ ss) h =
+    let here : s.d.head.id ≡ id = h.0 in
+    let rest = (follow_split (id + 1) (records_of s.parts) (blocks ss) h.1).1 in
+    AllPairs-cons Below (kinds.Component s.d) (news ss)
+    (λ k d lt. each_mapped (Below (kinds.Component s.d)) new_of ss (λ t at.
+        let above : rest.0 ≤ t.d.head.id = follow_above rest.0 (blocks ss) (kinds.Component t.d)
+            rest.2 (flat_there block ss t (kinds.Component t.d) at (0, omega arith, refl)) in
+        let low = rest.1 in
+        omega arith) (get_or (news ss) k d) (Contains-get_or (news ss) k d lt))
+    (blocks_rise rest.0 ss rest.2)
+
+block_rises : (id : ℕ) (ss : List Share) → IdsFollow id (blocks ss) → (s : Share) → Contains ss s
+    → Rising (records_of s.parts)
+block_rises id [] h s (k, lt, is) = absurd (omega arith)
+block_rises id (s ∷ ss) h q at =
+    let parts = follow_split (id + 1) (records_of s.parts) (blocks ss) h.1 in
+    each_more (λ (t : Share). Rising (records_of t.parts)) s ss
+        (parts_rise (id + 1) s.parts parts.0) (block_rises parts.1.0 ss parts.1.2) q at
+
+-- what is listed is what is made
+listed : (v : Volume) (ss : List Share) (r : Record) → Contains (kinds.Volume v ∷ blocks ss) r → IsMade v ss r
+listed v ss = each_more (IsMade v ss) (kinds.Volume v) (blocks ss) refl (λ r at.
+    let s = flat_from block ss r at in
+    each_more (IsMade v ss) (kinds.Component s.0.d) (records_of s.0.parts) (s.0, s.1, refl)
+    (each_mapped (IsMade v ss) kinds.Partition s.0.parts (λ p here. (s.0, s.1, here))) r s.2)
+
+lists : (v : Volume) (ss : List Share) (r : Record) → IsMade v ss r
+    → Contains (kinds.Volume v ∷ blocks ss) r
+lists v ss (kinds.Group g) m = absurd m
+lists v ss (kinds.Disk d) m = absurd m
+lists v ss (kinds.Volume x) m = (0, omega arith, ap kinds.Volume (sym m))
+lists v ss (kinds.Component x) (s, at, e) = behind (kinds.Volume v) (blocks ss) (kinds.Component x)
+    (flat_there block ss s (kinds.Component x) at (0, omega arith, ap kinds.Component (sym e)))
+lists v ss (kinds.Partition x) (s, at, in') =
+    behind (kinds.Volume v) (blocks ss) (kinds.Partition x)
+    (flat_there block ss s (kinds.Partition x) at
+    (behind (kinds.Component s.d) (records_of s.parts) (kinds.Partition x)
+        (map_there kinds.Partition s.parts x in')))
+
+-- ---- the next group
+
+pub created_rises : (old made : List Record) {name : List ℕ} {ts : List Taken} → Rising old → MakesNew (max_id old + 1) name made ts → Rising (in_order (old ++ made))
+created_rises old made up new = added_rises old made (max_id old + 1) up
+    (subst (IdsFollow (max_id old + 1)) (sym new.made_are) (new.first, new.are.follow))
+    (omega arith) new.few
+
+module _ {old made : List Record} {labels : List Label} {name : List ℕ} {ts : List Taken}
+    (up : Rising old) (each : EachRule old labels) (new : MakesNew (max_id old + 1) name made ts)
+    (on : All (IsTaken old) ts) where
+  abbrev next : List Record
+  next = in_order (old ++ made)
+
+  -- nobody has the new id, or names it
+  others : (r : Record) → Contains old r → IsOther (max_id old + 1) r
+  others (kinds.Group g) at = tt
+  others (kinds.Disk d) at = tt
+  others (kinds.Partition p) at = tt
+  others (kinds.Volume x) at = (let low = max_above old (kinds.Volume x) at in
+      ne_eqb x.head.id (max_id old + 1) (λ e. omega arith))
+  others (kinds.Component x) at =
+      let v = (component_kept old labels each x at).parent in
+      let low = max_above old (kinds.Volume v.0) v.1 in
+      let id = v.2 in
+      ne_eqb x.parent (max_id old + 1) (λ e. omega arith)
+
+  above : (s : Share) → Contains new.ss s → (r : Record) → Contains (block s) r
+      → max_id old < id_of r
+  above s at r in' = (let low = follow_above (max_id old + 1 + 1) (blocks new.ss) r new.are.follow
+      (flat_there block new.ss s r at in') in omega arith)
+
+  c_above : (s : Share) → Contains new.ss s → max_id old < s.c.head.id
+  c_above s at = (let high = above s at (kinds.Component s.d) (0, omega arith, refl) in
+      let same = ap (λ (c : Component). c.head.id) (new.are.each s at).same in omega arith)
+
+  none_before : (s : Share) → Contains new.ss s → filter (is_child 4 s.c.head.id) old ≡ []
+  none_before s at = kin_are (is_child 4 s.c.head.id) old [] up
+      (λ i j d lt within. absurd (omega arith)) (λ r h. absurd (let lt = h.1 in omega arith))
+      (of_partition s.c.head.id (λ (y : Record). Contains old y → Contains [] y)
+          (λ p parent there. absurd (
+          let c = (partition_kept old labels each p there).parent in
+          let low = max_above old (kinds.Component c.0) c.1 in
+          let id = c.2 in
+          let high = c_above s at in
+          omega arith)))
+
+  takes : (s : Share) (p : Partition) → Contains new.ss s → Contains s.parts p → IsTaken old (taken_of p)
+  takes s p at in' = All-contains (IsTaken old) ts (taken_of p) on
+      (subst (λ (l : List Taken). Contains l (taken_of p)) new.are.taken_are (map_there taken_of (parts_of new.ss) p (flat_there (λ (t : Share). t.parts) new.ss s p at in')))
+
+  remade : IsRemade old next (max_id old + 1) new.volume new.ss
+  remade = record {
+    up = up;
+    vp = created_rises old made up new;
+    back = λ r at. elim (member_next old made r at)
+        [ inl was ↦ inl (was, others r was) | inr m ↦ inr
+        (listed new.volume new.ss r (moved new.made_are r m)) ];
+    there = λ r at other. stays_next old made r at;
+    made = λ r m. made_next old made r (moved (sym new.made_are) r (lists new.volume new.ss r m));
+    id = new.first;
+    each = λ s at. (let is = new.are.each s at in record {
+      parent = is.parent;
+      same_plex = ap plex_of (sym is.same);
+      each = λ p in'. record {
+        above = above s at (kinds.Partition p)
+            (behind (kinds.Component s.d) (records_of s.parts) (kinds.Partition p)
+            (map_there kinds.Partition s.parts p in'));
+        parent = is.own p in';
+        disk = (takes s p at in').disk;
+        some = (takes s p at in').some;
+      };
+      rise = block_rises (max_id old + 1 + 1) new.ss new.are.follow s at;
+      counted = (let none = ap (λ (l : List Record). length l) (none_before s at) in
+          let count = length-filter (is_child 4 s.c.head.id) old in
+          let children = is.children in
+          omega arith);
+    });
+    rise = blocks_rise (max_id old + 1 + 1) new.ss new.are.follow;
+    own = λ x there parent. absurd (false≢true (sym (others (kinds.Component x) there)
+        ∙ eq-eqb x.parent (max_id old + 1) parent));
+    apart = λ x there other s at. (let low = max_above old (kinds.Component x) there in
+        let high = c_above s at in ne_eqb x.head.id s.c.head.id (λ e. omega arith));
+  }
+
+  keeps : KeepsVolume next new.volume
+  keeps = volume_keeps remade new.count new.some (new.laid next (read_plexes remade) (λ s at.
+      ap (λ (c : Component). extents_of c.head.id next) (sym (new.are.each s at).same)
+          ∙ read_extents remade s at
+      ∙ ap (λ (l : List Extent). l ++ map extent_of s.parts) (extents_by s.c.head.id old
+          ∙ ap (filter_map extent_in) (none_before s at))))
+
+  pub created_carries : Carries old next
+  created_carries = remade_carries remade keeps
+
+  -- the new volume has a name that no old one has
+  pub created_each : ((r : Record) → Contains old r → is_volume_named name r ≡ false)
+      → AreDisjoint (taken_in old) ts → AllEndWithin (data_size labels old) ts → EachRule next labels
+  created_each free apart within =
+      remade_each remade keeps labels each (subst (AllEndWithin (data_size labels old))
+          (sym new.are.taken_are) within) (subst (AreDisjoint (taken_in old)) (sym new.are.taken_are)
+          apart)
+      (names_next old next (Some new.volume.head) remade.vp (record {
+        from = λ v at. elim (remade.back (kinds.Volume v) at) [ inl was ↦ inl (v, was.0, refl) | inr m ↦ inr (ap (λ (x : Volume). Some x.head) (sym m)) ];
+        free = λ head is w at. (let same : new.volume.head ≡ head = cc in
+            let own : name ≡ head.name = sym new.named ∙ ap (λ (h : Head). h.name) same in
+            subst (λ (n : List ℕ). bytes_eq w.head.name n ≡ false) own (free (kinds.Volume w) at));
+      }) each.names)
+
+-- ---- what is made
+
+abbrev share_of : Component → List Partition → Share
+share_of c parts = record { c = c; d = c; parts = parts }
+
+no_blocks : (volume id : ℕ) → AreBlocks volume id [] []
+no_blocks volume id = record { follow = tt; each = λ s at. absurd (let lt = at.1 in
+    omega arith); taken_are = refl; many = refl }
+
+-- one component more in front, with its partitions
+one_block : {volume id layout first after : ℕ} {striping : Option Striping} {made : List
+    (Option Record)} {es : List Extent} {ts more : List Taken} {ss : List Share}
+    → (c : MakesComponent id volume layout (length ts) striping) (p : MakesParts first made es)
+        → AreExtentsOf id es ts → first ≡ id + 1 → after ≡ first + length ts
+    → AreBlocks volume after ss more → AreBlocks volume id (share_of c.component p.parts ∷ ss)
+        (ts ++ more)
+one_block {volume} {id} {layout} {first} {after} {striping} {made} {es} {ts} {more} {ss} c p are
+    first_is after_is rest = record {
+  follow = (c.id_is, follow_join (id + 1) after (records_of p.parts) (blocks ss) (let many = long in
+      omega arith) (subst (λ (n : ℕ). IdsFollow n (records_of p.parts)) first_is p.ids)
+      rest.follow);
+  each = each_more (IsNewShare volume) (share_of c.component p.parts) ss new rest.each;
+  taken_are = map-append taken_of p.parts (parts_of ss) ∙ (λ i. takes i ++ rest.taken_are i);
+  many = (let here = long in let count = rest.many in
+      let split = length-append (records_of p.parts) (blocks ss) in
+      let all = length-append ts more in omega arith);
+}
+  where
+    takes : map taken_of p.parts ≡ ts
+    takes = parts_taken id es ts p.parts are p.extents_are
+
+    long : length (records_of p.parts) ≡ length ts
+    long = length-map p.parts kinds.Partition ∙ sym (length-map p.parts taken_of)
+        ∙ ap (λ (l : List Taken). length l) takes
+
+    new : IsNewShare volume (share_of c.component p.parts)
+    new = record {
+      same = refl;
+      parent = c.parent_is;
+      children = c.children_is ∙ sym long ∙ length-map p.parts kinds.Partition;
+      own = λ q at. parts_own id es ts p.parts are p.extents_are q at ∙ sym c.id_is;
+    }
+
+-- a new component, as a layout reads it
+plex_is : {id parent layout children : ℕ} {striping : Option Striping} (made : MakesComponent id parent layout children striping)
+    → plex_of made.component ≡ record { volume = parent; id = id; layout = layout; striping = striping }
+plex_is made = λ i. record { volume = made.parent_is i; id = made.id_is i; layout = made.layout_is i; striping = made.striping_is i }
+
+-- a volume of one component
+pub single_new : (id : ℕ) (name : List ℕ) (guid : ℕ) (raid : Bool) (size layout : ℕ) (striping : Option Striping) (parts : List (Option Record)) (es : List Extent) (ts : List Taken)
+    → id + 2 + length ts ≤ 2 ^ 64 → length name ≤ 255 → size < 2 ^ 64 → size ≢ 0 → IsStriping striping → MakesParts (id + 2) parts es → AreExtentsOf (id + 1) es ts
+    → ((next : List Record) (v : Volume) → v.size ≡ size → plexes_of v.head.id next ≡ record { volume = v.head.id; id = id + 1; layout = layout; striping = striping } ∷ [] → extents_of (id + 1) next ≡ es
+    → (l : Layout) × (layout_of next v ≡ Ok l))
+    → MakesNew id name (there (new_volume id name guid raid 1 size ∷ (new_component (id + 1) id layout (length ts) striping ∷ parts))) ts
+single_new id name guid raid size layout striping parts es ts few short low some fits has extents lay =
+    let mv : MakesVolume id name guid raid 1 size = makes_volume id name guid raid 1 size (omega arith) short (omega arith) low in
+    let mc : MakesComponent (id + 1) id layout (length ts) striping = makes_component (id + 1) id layout (length ts) striping (omega arith) (omega arith) (omega arith) fits in
+    let s : Share = share_of mc.component has.parts in
+    let are : AreBlocks id (id + 1) (s ∷ []) (ts ++ []) =
+        one_block mc has extents (omega arith) refl (no_blocks id (id + 2 + length ts)) in
+    let made : List Record = there (new_volume id name guid raid 1 size ∷ (new_component (id + 1) id layout (length ts) striping ∷ parts)) in
+    let made_are : made ≡ kinds.Volume mv.volume ∷ blocks (s ∷ []) =
+        (λ i. cons_option (mv.made i) (cons_option (mc.made i) (has.made_are i)))
+    ∙ ap (λ (l : List Record). kinds.Volume mv.volume ∷ (kinds.Component mc.component ∷ l))
+        (sym (append-nil (records_of has.parts))) in
+    record {
+      volume = mv.volume;
+      ss = s ∷ [];
+      first = mv.id_is;
+      named = mv.name_is;
+      count = mv.children_is;
+      some = ne_eqb mv.volume.size 0 (λ e. some (sym mv.size_is ∙ e));
+      made_are = made_are;
+      few = (let whole = ap (λ (l : List Record). length l) made_are in let many = are.many in
+          let all = length-append ts [] in omega arith);
+      are = subst (AreBlocks id (id + 1) (s ∷ [])) (append-nil ts) are;
+      laid = λ next plexes read. lay next mv.volume mv.size_is
+          (plexes ∙ ap (λ (x : Plex). x ∷ []) (plex_is mc ∙ ap (λ k. record { volume = k; id = id + 1; layout = layout; striping = striping }) (sym mv.id_is)))
+          (ap (λ k. extents_of k next) (sym mc.id_is) ∙ read s (0, omega arith, refl)
+              ∙ has.extents_are);
+    }
+
+-- the components of a mirror, each followed by its partition
+record MakesCopies (volume id len : ℕ) (ts : List Taken) : Type 0 where
+  pub ss : List Share
+  pub made_are : there (mirror_parts id volume ts) ≡ blocks ss
+  pub are : AreBlocks volume id ss ts
+  pub each : (s : Share) → Contains ss s → IsCopy len s
+  pub many : length ss ≡ length ts
+
+makes_copies : (volume id len : ℕ) (ts : List Taken) → volume < 2 ^ 64 → id + 2 * length ts ≤ 2 ^ 64
+    → AreNumbers ts → AllSized len ts → MakesCopies volume id len ts
+makes_copies volume id len [] low few fits same = record { ss = []; made_are = refl; many = refl;
+    are = no_blocks volume id; each = λ s at. absurd (let lt = at.1 in omega arith) }
+makes_copies volume id len (t ∷ ts) low few fits same =
+    let here : AreNumbers (t ∷ []) = All-cons (λ (u : Taken). (u.disk < 2 ^ 64) × (u.size < 2 ^ 64))
+        t [] (numbers_head t ts fits) (All-nil (λ (u : Taken). (u.disk < 2 ^ 64)
+        × (u.size < 2 ^ 64))) in
+    let c : MakesComponent id volume 2 1 None = makes_component id volume 2 1 None (omega arith) low (omega arith) tt in
+    let p : MakesParts (id + 1) (span_parts (id + 1) id 0 (t ∷ [])) (tile_extents id 0 (t ∷ [])) =
+        makes_span_parts (id + 1) id 0 (t ∷ []) (omega arith) (omega arith) here in
+    let rest : MakesCopies volume (id + 2) len ts = makes_copies volume (id + 2) len ts low (omega arith) (numbers_tail t ts fits) (All-tail (λ (u : Taken). u.size ≡ len) t ts same) in
+    record {
+      ss = share_of c.component p.parts ∷ rest.ss;
+      made_are = (λ i. cons_option (c.made i)
+          (filter_map-append (λ (o : Option Record). o) (span_parts (id + 1) id 0 (t ∷ []))
+          (mirror_parts (id + 2) volume ts) i))
+          ∙ (λ i. kinds.Component c.component ∷ (p.made_are i ++ rest.made_are i));
+      are = one_block c p (tiles_of id 0 (t ∷ [])) refl (omega arith) rest.are;
+      each = each_more (IsCopy len) (share_of c.component p.parts) rest.ss (record {
+        basic = ap is_basic (plex_is c);
+        laid = subst (IsTiledTo len) (sym p.extents_are) (record {
+          sorted = refl;
+          tiled = tiles_whole id (t ∷ []) (omega arith);
+          holds = (let sum = tiles_sum id 0 (t ∷ []) in
+              let one = sum_by-cons (λ (u : Taken). u.size) t [] in
+              let size : t.size ≡ len = same 0 t (omega arith) in omega arith);
+        });
+      }) rest.each;
+      many = ap suc rest.many;
+    }
+
+pub mirror_new : (id : ℕ) (name : List ℕ) (guid len : ℕ) (ts : List Taken) → id + 1 + 2 * length ts ≤ 2 ^ 64 → length name ≤ 255
+    → 2 ≤ length ts → AllSized len ts → len < 2 ^ 64 → len ≢ 0 → AreNumbers ts → MakesNew id name (mirror_made id name guid len ts) ts
+mirror_new id name guid len ts few short enough same low some numbers =
+    let mv : MakesVolume id name guid false (length ts) len = makes_volume id name guid false (length ts) len (omega arith) short (omega arith) low in
+    let has : MakesCopies id (id + 1) len ts = makes_copies id (id + 1) len ts (omega arith) (omega arith) numbers same in
+    let made_are : mirror_made id name guid len ts ≡ kinds.Volume mv.volume ∷ blocks has.ss = λ i. cons_option (mv.made i) (has.made_are i) in
+    record {
+      volume = mv.volume;
+      ss = has.ss;
+      first = mv.id_is;
+      named = mv.name_is;
+      count = mv.children_is ∙ sym has.many;
+      some = ne_eqb mv.volume.size 0 (λ e. some (sym mv.size_is ∙ e));
+      made_are = made_are;
+      few = (let whole = ap (λ (l : List Record). length l) made_are in let all = has.are.many in let many = has.many in omega arith);
+      are = has.are;
+      laid = λ next plexes read. mirror_layout next mv.volume len has.ss plexes read has.each
+          (let many = has.many in omega arith) mv.size_is;
+    }
