@@ -44,8 +44,11 @@ pub record IsWovenUpTo (N old : List Record) (kept made : List (List ℕ)) (j : 
   pub made_are : AreTaken (lacks old) N made j taken.1 table
 
 pub woven_none : (N old : List Record) (kept made : List (List ℕ)) → IsWovenUpTo N old kept made 0 (0, 0) []
-woven_none N old kept made = record { size = refl; kept_are = record { many = refl; same = refl };
-    made_are = record { many = refl; same = refl } }
+woven_none N old kept made = record {
+  size = refl;
+  kept_are = record { many = refl; same = refl };
+  made_are = record { many = refl; same = refl };
+}
 
 count_front : (p : Record → Bool) (N : List Record) (j : ℕ) → length (filter p (take j N)) ≤ length (filter p N)
 count_front p N j =
@@ -78,8 +81,14 @@ module _ (N old : List Record) (kept made : List (List ℕ)) (j : ℕ) (r : Reco
     within : p r ≡ true → n < length slots
     within e =
         let more = ap (λ (l : List Record). length l) (filter_step p N j r lt is true e) in
-        omega (arith, more, length_push (filter p (take j N)) r, count_front p N (j + 1), w.many,
-        each)
+        omega (
+          arith,
+          more,
+          length_push (filter p (take j N)) r,
+          count_front p N (j + 1),
+          w.many,
+          each,
+        )
 
     taken_more : p r ≡ true → AreTaken p N slots (j + 1) (n + 1) (table ++ get_or slots n [] ∷ [])
     taken_more e =
@@ -116,8 +125,13 @@ module _ (N old : List Record) (kept made : List (List ℕ)) (j : ℕ) (r : Reco
 
   size_step : (table : List (List ℕ)) (s : List ℕ) → length table ≡ length (take j N)
       → length (table ++ s ∷ []) ≡ length (take (j + 1) N)
-  size_step table s size = omega (arith, length_push table s, size, length_push (take j N) r,
-      ap (λ (l : List Record). length l) take_step)
+  size_step table s size = omega (
+    arith,
+    length_push table s,
+    size,
+    length_push (take j N) r,
+    ap (λ (l : List Record). length l) take_step,
+  )
 
   pub woven_step : (b : Bool) (taken next : ℕ × ℕ) (table table' : List (List ℕ)) → has_record old r ≡ b → Weaves b kept made taken next table table'
       → IsWovenUpTo N old kept made j taken table → IsWovenUpTo N old kept made (j + 1) next table'
@@ -141,14 +155,20 @@ woven_all N old kept made n taken table e kept_each made_each w =
     let all : take n N ≡ N = ap (λ (m : ℕ). take m N) e ∙ take_all (length N) N (omega arith) in
     let counts = ap (λ (l : List Record). length (filter (has_record old) l)) all in
     let others = ap (λ (l : List Record). length (filter (lacks old) l)) all in
-    let kept_same = rw (all, take_all taken.0 kept
-    (omega (arith, w.kept_are.many, counts, kept_each))) at w.kept_are.same in
-    let made_same = rw (all, take_all taken.1 made
-    (omega (arith, w.made_are.many, others, made_each))) at w.made_are.same in
+    let kept_same = rw (
+      all,
+      take_all taken.0 kept
+          (omega (arith, w.kept_are.many, counts, kept_each)),
+    ) at w.kept_are.same in
+    let made_same = rw (
+      all,
+      take_all taken.1 made
+          (omega (arith, w.made_are.many, others, made_each)),
+    ) at w.made_are.same in
     let S : List Stored = stored_at N table in (
       w.size ∙ ap (λ (l : List Record). length l) all,
       subst (λ (l : List Stored). IsPermutation S (l ++ stored_at (filter (has_record old) N) kept))
-      made_same
+          made_same
           (subst (λ (l : List Stored). IsPermutation S
           (filter (λ (s : Stored). lacks old s.record_is) S ++ l)) kept_same
           (IsPermutation-trans S _ _

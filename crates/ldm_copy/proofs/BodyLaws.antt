@@ -117,15 +117,21 @@ laid_placed : (number : ℕ) (records : List Record)
 laid_placed number [] = refl
 laid_placed number (r ∷ records) =
     let n = parts_of (length (own_spelling (plain_of r))) in
-    ap (λ (l : List Placed). record { payload = own_spelling (plain_of r);
-    slots = numbers_from number n } ∷ l) (laid_placed (number + n) records)
+    ap (λ (l : List Placed). record {
+      payload = own_spelling (plain_of r);
+      slots = numbers_from number n;
+    } ∷ l) (laid_placed (number + n) records)
 
 pub store_of : (blocks : List ℕ) (records : List Record) → All (λ r. IsRecord (plain_of r)) records
     → Holds blocks (laid_in_order 4 (spellings records)) → Store blocks records
 store_of blocks records sound holds =
     table_store blocks records (laid_slots 4 records)
-    (record { one_each = laid_length 4 records; sound = sound; holds = subst (Holds blocks)
-    (sym (laid_placed 4 records)) holds })
+    (record {
+      one_each = laid_length 4 records;
+      sound = sound;
+      holds = subst (Holds blocks)
+          (sym (laid_placed 4 records)) holds;
+    })
 
 -- bytes that begin with a header without a fault, behind which the records are stored
 body_by : (db : Database) (bytes : List ℕ) → length bytes ≡ 512 * (db.header.last / 4)

@@ -99,9 +99,11 @@ payload_whole blocks r small is =
 mapped_there : (ss : List Stored) (m : ℕ) (d : Placed) → m < length (map placed_of ss) → (s : Stored) × Contains ss s × (get_or (map placed_of ss) m d ≡ placed_of s)
 mapped_there [] m d lt = absurd (omega (arith, lt))
 mapped_there (s ∷ ss) m d lt =
-    let near : m < length (s ∷ ss) = omega (arith, lt, length-map ss placed_of) in
-    (get_or (s ∷ ss) m s, Contains-get_or (s ∷ ss) m s near,
-    get_or-map placed_of (s ∷ ss) m s d near)
+    let near : m < length (s ∷ ss) = omega (arith, lt, length-map ss placed_of) in (
+      get_or (s ∷ ss) m s,
+      Contains-get_or (s ∷ ss) m s near,
+      get_or-map placed_of (s ∷ ss) m s d near,
+    )
 
 -- the record that begins in a block, where the blocks hold records
 pub record HeldFirst (blocks : List ℕ) (ss : List Stored) (k : ℕ) : Type 0 where
@@ -201,8 +203,11 @@ passing_kept : (n k : ℕ) (p : ℕ → Bool) → first_passing n p ≡ Some k �
 passing_kept n k p e = rw (add-one, some_passes n k p e) (ap Some (passing_least n k p e))
 
 passing_within : (n k : ℕ) (p : ℕ → Bool) → first_passing n p ≡ Some k → k < n
-passing_within n k p e = omega (arith, (least_passes n p (some_passes n k p e)).0,
-    passing_least n k p e)
+passing_within n k p e = omega (
+  arith,
+  (least_passes n p (some_passes n k p e)).0,
+  passing_least n k p e,
+)
 
 -- no block was looked at
 pub places_none : (blocks places : List ℕ) → places ≡ replicate (4 * count blocks) (count blocks + 4) → HasPlaces blocks 0 places
@@ -227,13 +232,16 @@ module _ (blocks places : List ℕ) (k n G P : ℕ) (has : HasPlaces blocks k pl
         | inr ne ↦ inr (
           (λ e. ne (omega (arith, e, few, few_k, low, low_k))),
           and_left (is_of blocks g k) (eqb (part blocks k) p)
-          (and_right (is_fragment blocks k) (eqb (group blocks k) g)
-          (ne_eqb (group blocks k) g (λ e. ne (is_g ∙ e)))),
+              (and_right (is_fragment blocks k) (eqb (group blocks k) g)
+              (ne_eqb (group blocks k) g (λ e. ne (is_g ∙ e)))),
         )
         | inl same ↦ elim (cases_eq P p) [
           | inl one ↦ inl (same, one)
-          | inr ne ↦ inr ((λ e. ne (omega (arith, e, same))), and_right (is_of blocks g k)
-              (eqb (part blocks k) p) (ne_eqb (part blocks k) p (λ e. ne (is_p ∙ e))))
+          | inr ne ↦ inr (
+            (λ e. ne (omega (arith, e, same))),
+            and_right (is_of blocks g k)
+                (eqb (part blocks k) p) (ne_eqb (part blocks k) p (λ e. ne (is_p ∙ e))),
+          )
         ]
       ]
 

@@ -205,8 +205,11 @@ module _ (disk : ℕ) (label : Label) (a : Seen) (in_range : disk < length a.siz
 
         room : tells → (x : List ℕ) → b.may_leave disk x → gate_at label + 512 * label.area_sectors
             ≤ length x
-        room told x left = omega (arith, same_length x left,
-            room_on label disk a b fits changes.later.sizes (lengths told at_b))
+        room told x left = omega (
+          arith,
+          same_length x left,
+          room_on label disk a b fits changes.later.sizes (lengths told at_b),
+        )
 
         -- the body stands there still
         has : tells → HasBody label body (image c.content disk)

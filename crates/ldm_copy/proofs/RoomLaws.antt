@@ -81,8 +81,11 @@ IsShort joined = length joined.payload ≤ 448
 
 one_joined : (j : Joined) (t : ℕ) → need j ≤ t → IsShort j → (sum_by need (j ∷ []) ≤ t)
     × All IsShort (j ∷ [])
-one_joined j t le short = (omega (arith, sum_by-cons need j []), All-cons IsShort j [] short
-    (All-nil IsShort))
+one_joined j t le short = (
+  omega (arith, sum_by-cons need j []),
+  All-cons IsShort j [] short
+      (All-nil IsShort),
+)
 
 chosen : (a b : Bool) (x y : Joined) (P : List Joined → Type 0) → P [] → (a ≡ true → P (x ∷ []))
     → (b ≡ true → P (y ∷ [])) → P (cond a (x ∷ []) (cond b (y ∷ []) []))
@@ -113,13 +116,13 @@ module _ (blocks : List ℕ) (list : List Joined) (joins : Joins blocks list) wh
       ⊎ ((leads i ≡ true) × (is_fragment blocks j ≡ true) × (group blocks j ≡ group blocks i))
   adds_is i j holds = elim (or_cases (whole i && (j == i))
       (leads i && is_of blocks (group blocks i) j) holds) [
-    | inl w ↦ (let two = and_parts (whole i) (j == i) w in
-        let is : j ≡ i = eqb-true j i two.1 in
-        inl (ap (parts blocks) is ∙ eqb-true (parts blocks i) 1 two.0, is))
-    | inr l ↦ (let two = and_parts (leads i) (is_of blocks (group blocks i) j) l in
-        let of_g = and_parts (is_fragment blocks j) (group blocks j == group blocks i) two.1 in
-        inr (two.0, of_g.0, eqb-true (group blocks j) (group blocks i) of_g.1))
-  ]
+        | inl w ↦ (let two = and_parts (whole i) (j == i) w in
+            let is : j ≡ i = eqb-true j i two.1 in
+            inl (ap (parts blocks) is ∙ eqb-true (parts blocks i) 1 two.0, is))
+        | inr l ↦ (let two = and_parts (leads i) (is_of blocks (group blocks i) j) l in
+            let of_g = and_parts (is_fragment blocks j) (group blocks j == group blocks i) two.1 in
+            inr (two.0, of_g.0, eqb-true (group blocks j) (group blocks i) of_g.1))
+      ]
 
   not_whole : (j : ℕ) → parts blocks j ≡ 1 → is_fragment blocks j ≡ true → ⊥
   not_whole j one frag = let many : 2 ≤ parts blocks j = leb-true 2 (parts blocks j) frag in omega
@@ -213,8 +216,11 @@ module _ (blocks : List ℕ) (list : List Joined) (joins : Joins blocks list) wh
       one = record { block = k + 4; payload = payload blocks k }
 
       group_of : Joined
-      group_of = record { block = k + 4; payload = gathered blocks (group blocks k)
-          (parts blocks k) }
+      group_of = record {
+        block = k + 4;
+        payload = gathered blocks (group blocks k)
+            (parts blocks k);
+      }
 
   -- ---- what all blocks add
 
@@ -226,15 +232,20 @@ module _ (blocks : List ℕ) (list : List Joined) (joins : Joins blocks list) wh
   taken_by : (k j : ℕ) → taken k j ≡ true → (i : ℕ) × (i < k) × (adds i j ≡ true)
   taken_by zero j holds = absurd cc
   taken_by (suc k) j holds = elim (or_cases (taken k j) (adds k j) holds) [
-    | inl before ↦ (let more = taken_by k j before in (more.0,
-        (let lt = more.1 in omega (arith, lt)), more.2))
+    | inl before ↦ (let more = taken_by k j before in (
+      more.0,
+      (let lt = more.1 in omega (arith, lt)),
+      more.2,
+    ))
     | inr here ↦ (k, omega arith, here)
   ]
 
   entries_fit : (k : ℕ) → k ≤ n → (sum_by need (entries blocks k) ≤ total n (taken k))
       × All IsShort (entries blocks k)
-  entries_fit zero le = (omega (arith, ap (sum_by need) (entries_none blocks)),
-      subst (All IsShort) (sym (entries_none blocks)) (All-nil IsShort))
+  entries_fit zero le = (
+    omega (arith, ap (sum_by need) (entries_none blocks)),
+    subst (All IsShort) (sym (entries_none blocks)) (All-nil IsShort),
+  )
   entries_fit (suc k) le =
       let before = entries_fit k (omega arith) in
       let here = entry_fits k (omega arith) in
@@ -246,15 +257,25 @@ module _ (blocks : List ℕ) (list : List Joined) (joins : Joins blocks list) wh
       (λ holds. or_right (taken k j) (adds k j) holds)
       (λ holds also. let by = taken_by k j holds in let lt = by.1 in let same = apart by.0 k j
       (omega (arith, lt)) (omega arith) by.2 also in omega (arith, lt, same))) in (
-        omega (arith, before.0, here.0, both, ap (sum_by need) next
-        ∙ sum_by-append need (entries blocks k) (entry blocks k)),
+        omega (
+          arith,
+          before.0,
+          here.0,
+          both,
+          ap (sum_by need) next
+              ∙ sum_by-append need (entries blocks k) (entry blocks k),
+        ),
         subst (All IsShort) (sym next) (All-append IsShort (entries blocks k) (entry blocks k)
-        before.1 here.1),
+            before.1 here.1),
       )
 
   few_blocks : sum_by need list ≤ count blocks
-  few_blocks = omega (arith, (entries_fit n (omega arith)).0, total_few n (taken n),
-      ap (sum_by need) joins.entries_are)
+  few_blocks = omega (
+    arith,
+    (entries_fit n (omega arith)).0,
+    total_few n (taken n),
+    ap (sum_by need) joins.entries_are,
+  )
 
   short_payloads : All IsShort list
   short_payloads = subst (All IsShort) (sym joins.entries_are) (entries_fit n (omega arith)).1
@@ -302,8 +323,13 @@ spelled_fit (j ∷ list) [] spelled short = absurd spelled
 spelled_fit (j ∷ list) (r ∷ records) spelled short =
     let fits = own_fits r j.payload spelled.0 in
     let rest = spelled_fit list records spelled.1 (All-tail IsShort j list short) in (
-      omega (arith, fits, rest.0, sum_by-cons need j list,
-      sum_by-cons (λ (r : Record). parts_of (own_len r)) r records),
+      omega (
+        arith,
+        fits,
+        rest.0,
+        sum_by-cons need j list,
+        sum_by-cons (λ (r : Record). parts_of (own_len r)) r records,
+      ),
       All-cons IsFitting r records (omega (arith, fits, All-head IsShort j list short)) rest.1,
     )
 
@@ -313,8 +339,12 @@ pub records_within : (blocks : List ℕ) (list : List Joined) (records ordered :
 records_within blocks list records ordered joins spelled same =
     let fit = spelled_fit list records spelled (short_payloads blocks list joins) in
     record {
-      need = omega (arith, fit.0, few_blocks blocks list joins,
-          sum_by-IsPermutation (λ r. parts_of (own_len r)) records ordered same);
+      need = omega (
+        arith,
+        fit.0,
+        few_blocks blocks list joins,
+        sum_by-IsPermutation (λ r. parts_of (own_len r)) records ordered same,
+      );
       each = All-permutation IsFitting records ordered same fit.1;
     }
 
@@ -323,5 +353,10 @@ pub fits_area_of : (sectors : ℕ) (header : Header) (blocks : List ℕ) (db : D
     → length blocks ≡ 512 * (header.last / 4) - 512 → HasRoom (count blocks) db.records → FitsArea db sectors
 fits_area_of sectors header blocks db same last size within =
     let same_last : db.header.last ≡ header.last = ap (λ (h : Header). h.last) same in
-    record { last = omega arith; room = record { need = omega (arith, within.need);
-        each = within.each } }
+    record {
+      last = omega arith;
+      room = record {
+        need = omega (arith, within.need);
+        each = within.each;
+      };
+    }

@@ -20,7 +20,7 @@ use Rattle.std.specs.Prelude.{sum_by, is_some, option_copied}
 use Rattle.std.proofs.lemmas.Bool.{false_from_ne_true, false≢true, or_parts, eqb-false, ltb-false}
 use Rattle.std.proofs.lemmas.List.Folds.{list_any_at}
 use Rattle.std.proofs.lemmas.List.Sums.{sum-map}
-use Rattle.ldm_space.specs.declared.taken.Taken.{Taken}
+use Rattle.ldm_made.specs.declared.taken.Taken.{Taken}
 use Rattle.ldm_space.specs.Placed.{AreFirstFits, AllEndWithin, AreDisjoint}
 use Rattle.ldm_words.specs.declared.command.Piece.{Piece}
 use Rattle.ldm_words.specs.declared.command.NewLayout.{NewLayout}
@@ -80,9 +80,9 @@ pub asks_first : (sectors : ℕ → ℕ) (records : List Record) (words : List (
     → done ≡ [] → AreAsked sectors records words 0 done
 asks_first sectors records words done none = subst (AreAsked sectors records words 0) (sym none)
     (record {
-  asked = ahead_none (asked_for sectors records 0 words);
-  low = All-nil (λ (w : Wanted). w.limit < 2 ^ 64);
-})
+      asked = ahead_none (asked_for sectors records 0 words);
+      low = All-nil (λ (w : Wanted). w.limit < 2 ^ 64);
+    })
 
 -- words that are made of other values
 module _ {X : Type 0} (f : X → List ℕ × ℕ) (xs : List X) (sectors : ℕ → ℕ) (records : List Record) (at : ℕ)
@@ -92,32 +92,32 @@ module _ {X : Type 0} (f : X → List ℕ × ℕ) (xs : List X) (sectors : ℕ �
 
   next_word : (x : X) {name : List ℕ} → at < length xs → x ≡ get_or xs at x → name ≡ (f x).0
       → asked_for sectors records at (drop at (map f xs)) ≡ ask sectors at (f x).1
-          (disk_named name records) rest
+      (disk_named name records) rest
   next_word x {name} lt is named =
       let one : suc at ≡ at + 1 = omega arith in
       let word : get_or (map f xs) at (f x) ≡ f x = get_or-map f xs at x ∙ ap f (sym is) in
       ap (asked_for sectors records at) (drop-cons (map f xs) at (f x)
-          (omega (arith, length-map xs f)))
+      (omega (arith, length-map xs f)))
       ∙ (λ i. asked_for sectors records at (word i ∷ drop (one i) (map f xs)))
       ∙ ap (λ (n : List ℕ). ask sectors at (f x).1 (disk_named n records) rest) (sym named)
 
   pub asks_more : (items : List Wanted) (x : X) (w : Wanted) {name : List ℕ} → at < length xs
       → x ≡ get_or xs at x
       → name ≡ (f x).0 → Some w ≡ asked_of sectors (f x).1 (disk_named name records)
-          → w.limit < 2 ^ 64
+      → w.limit < 2 ^ 64
       → items ≡ done ++ w ∷ [] → AreAsked sectors records (map f xs) at done
       → AreAsked sectors records (map f xs) (at + 1) items
   asks_more items x w {name} lt is named found low pushed so_far =
       subst (AreAsked sectors records (map f xs) (at + 1)) (sym pushed) (record {
         asked = so_far.asked ∙ ap (ahead done) (next_word x lt is named
             ∙ ask_some sectors at (f x).1 (disk_named name records) rest w found)
-                ∙ ahead_front done w rest;
+            ∙ ahead_front done w rest;
         low = All-push (λ (v : Wanted). v.limit < 2 ^ 64) done w so_far.low low;
       })
 
   pub asks_none : (x : X) {name : List ℕ} → at < length xs → x ≡ get_or xs at x → name ≡ (f x).0
       → None ≡ asked_of sectors (f x).1 (disk_named name records)
-          → AreAsked sectors records (map f xs) at done
+      → AreAsked sectors records (map f xs) at done
       → by_place refusals.NoDisk (asked_for sectors records 0 (map f xs)) ≡ Err (refusals.NoDisk at)
   asks_none x {name} lt is named missing so_far = ap (by_place refusals.NoDisk)
       (so_far.asked ∙ ap (ahead done) (next_word x lt is named
@@ -214,9 +214,9 @@ pub bad_pieces : (pieces : List Piece) (wanted : List Wanted) → map (λ w. w.s
 bad_pieces pieces wanted same =
     let empty : list_any (λ w. w.size == 0) wanted ≡ list_any (λ p. p.len == 0) pieces =
     any_empty (λ (w : Wanted). w.size) wanted
-        ∙ ap (list_any (λ (n : ℕ). n == 0)) (same
-        ∙ map_map (λ (word : List ℕ × ℕ). word.1) (λ (p : Piece). (p.disk, p.len)) pieces)
-        ∙ sym (any_empty (λ (p : Piece). p.len) pieces) in
+    ∙ ap (list_any (λ (n : ℕ). n == 0)) (same
+    ∙ map_map (λ (word : List ℕ × ℕ). word.1) (λ (p : Piece). (p.disk, p.len)) pieces)
+    ∙ sym (any_empty (λ (p : Piece). p.len) pieces) in
     let whole : 0 + sum_by (λ w. w.size) wanted ≡ sum_by (λ p. p.len) pieces = (let e = sizes_sum (λ (w : Wanted). w.size) wanted pieces same in omega arith) in
     λ i. empty i || is_much (whole i)
 
@@ -304,7 +304,7 @@ module _ {db : Database} {labels : List Label} {words : List (List ℕ × ℕ)} 
   on_disks = found_all (λ w. (size : ℕ) × IsFound (data_size labels db.records) db.records size w)
       (λ n. Unit {0})
       (data_size labels db.records) db.records words wanted (λ size w on h. (size, on)) asked_found
-          (λ k d lt. tt)
+      (λ k d lt. tt)
 
   -- what is taken ends within its disk, and lies apart from all that was,
   pub ends_within : AllEndWithin (data_size labels db.records) spots
@@ -322,8 +322,13 @@ module _ {db : Database} {labels : List Label} {words : List (List ℕ × ℕ)} 
       let on = (on_disks k d lt).1 in
       let low = max_above db.records (kinds.Disk on.disk) on.there in
       let same = on.disk_is in
-      record { low = omega arith; small = (sizes k d lt).1; some = (sizes k d lt).0; disk =
-          (on.disk, on.there, sym same) })
+      record {
+        low = omega arith;
+        small = (sizes k d lt).1;
+        some = (sizes k d lt).0;
+        disk =
+            (on.disk, on.there, sym same);
+      })
 
 -- ---- What the stages of create and extend had, where they make a group.
 
@@ -406,10 +411,10 @@ good_size layout wanted free = (two_open (is_same_disk layout wanted) (is_bad_si
 
 -- and where it is placed these are the sectors that its partitions take
 pub record IsTakenFor (records : List Record) (layout : NewLayout) (taken : List Taken) : Type 0
-    where
-  pub good : is_bad_size layout ≡ false
-  pub sizes : AreFor layout taken
-  pub each : All (IsTaken records) taken
+  where
+    pub good : is_bad_size layout ≡ false
+    pub sizes : AreFor layout taken
+    pub each : All (IsTaken records) taken
 
 pub placed_taken : (layout : NewLayout) {db : Database} {labels : List Label} {wanted : List Wanted} {ts : List Taken} → IsNewLayout layout
     → ArePlaced db labels (words_of layout) (against_layout layout) wanted ts → max_id db.records < 2 ^ 64 → IsTakenFor db.records layout ts
@@ -458,5 +463,5 @@ pub layout_some : (db : Database) (labels : List Label) (layout : NewLayout) (wa
 layout_some db labels layout wanted grammar good asked =
     let sectors = data_size labels db.records in
     let sizes = sizes_asked layout sectors db.records wanted grammar good
-        (found db labels (words_of layout) wanted asked) in
+    (found db labels (words_of layout) wanted asked) in
     λ k d lt. (let some = eqb-false (get_or wanted k d).size 0 (sizes k d lt).0 in omega arith)

@@ -25,7 +25,7 @@ use Rattle.ldm_rules.proofs.CarryLaws.{component_kept}
 use Rattle.ldm_rules.proofs.SoundLaws.{sound_parts}
 use Rattle.ldm_rules.specs.Ends.{data_size}
 use Rattle.ldm_rules.specs.Facts.{IsSoundOn}
-use Rattle.ldm_space.specs.declared.taken.Taken.{Taken}
+use Rattle.ldm_made.specs.declared.taken.Taken.{Taken}
 use Rattle.ldm_space.specs.Free.{taken_in}
 use Rattle.ldm_space.specs.declared.placed.Wanted.{Wanted}
 use Rattle.ldm_space.specs.Placed.{AllEndWithin, AreDisjoint}

@@ -19,8 +19,8 @@ use Rattle.ldm_group.proofs.KindLaws.{child_component, child_partition}
 use Rattle.ldm_layout.specs.declared.parts.Extent.{Extent}
 use Rattle.ldm_layout.specs.Parts.{extent_of, extent_in, extents_of, by_offset, tile_key}
 use Rattle.ldm_layout.proofs.VolumeLaws.{extents_by, rising_sum}
-use Rattle.ldm_space.specs.declared.taken.Taken.{Taken}
-use Rattle.ldm_volumes.specs.Volumes.{there}
+use Rattle.ldm_made.specs.declared.taken.Taken.{Taken}
+use Rattle.ldm_made.specs.Volumes.{there}
 use Rattle.ldm_edits.proofs.CommandLaws.{walk_more}
 use Rattle.ldm_edits.specs.Mirroring.{held_in}
 use Rattle.ldm_edits.specs.Mirroring.{component_in_record, component_holds, grown_components, grown_parts}
@@ -33,7 +33,7 @@ pub component_more : (rs : List Record) (at q : ℕ) (r : Record) (c : Component
 component_more rs at q r c found pushed b lt is kind parent so_far push same =
     let passes : is_child 3 q r ≡ true = ap (is_child 3 q) kind ∙ eq-eqb c.parent q parent in
     ap (map (λ (x : Bor Component). x.now)) push
-        ∙ map-append (λ (x : Bor Component). x.now) found (b ∷ [])
+    ∙ map-append (λ (x : Bor Component). x.now) found (b ∷ [])
     ∙ (λ i. so_far i ++ same i ∷ [])
     ∙ ap (λ (s : Record). filter_map component_in_record (filter (is_child 3 q) (take at rs)) ++ filter_map component_in_record (s ∷ [])) (sym kind)
     ∙ sym (filter_map-append component_in_record (filter (is_child 3 q) (take at rs)) (r ∷ []))

@@ -17,9 +17,9 @@ use Rattle.ldm_made.proofs.MadeLaws.{MakesChildren, makes_children, MakesPartiti
 use Rattle.ldm_group.specs.Looks.{is_child, max_id}
 use Rattle.ldm_layout.specs.declared.parts.Extent.{Extent}
 use Rattle.ldm_layout.specs.Parts.{extent_of}
-use Rattle.ldm_space.specs.declared.taken.Taken.{Taken}
+use Rattle.ldm_made.specs.declared.taken.Taken.{Taken}
 use Rattle.ldm_space.specs.Free.{taken_of}
-use Rattle.ldm_volumes.specs.Volumes.{there}
+use Rattle.ldm_made.specs.Volumes.{there}
 use Rattle.ldm_edits.specs.Mirroring.{component_in_record, components_of, component_holds, grown_components, grown_parts, grown_made}
 use Rattle.ldm_edits.proofs.Shares.{Share, olds, news, parts_of, IsNewPart, records_of, only_one, alone_rises, each_more, map_map}
 use Rattle.ldm_edits.proofs.Longer.{longer_records, IsShare, plex_is}

@@ -9,7 +9,7 @@ use Rattle.std.proofs.lemmas.Bool.{and_from, eq-eqb, le-leb, and_parts, le-ltb, 
 use Rattle.ldm_records.specs.declared.types.Partition.{Partition}
 use Rattle.ldm_layout.specs.declared.parts.Extent.{Extent}
 use Rattle.ldm_layout.specs.Parts.{extent_of, tiles, tiles_from, rises_from, by_offset, by_index, least, plexes_of, extents_of, plex_of, in_rising}
-use Rattle.ldm_space.specs.declared.taken.Taken.{Taken}
+use Rattle.ldm_made.specs.declared.taken.Taken.{Taken}
 use Rattle.ldm_space.specs.Free.{taken_of}
 use Rattle.std.proofs.lemmas.List.{length-map}
 use Rattle.ldm_records.specs.declared.types.Record.{Record}
@@ -17,7 +17,7 @@ use Rattle.ldm_records.specs.declared.types.Record.TheVariants as kinds
 use Rattle.ldm_made.specs.Made.{new_partition}
 use Rattle.ldm_made.proofs.MadeLaws.{MakesPartition, makes_partition}
 use Rattle.ldm_group.specs.Order.{Rising, id_of, place_of}
-use Rattle.ldm_volumes.specs.Volumes.{span_parts, column_parts, there}
+use Rattle.ldm_made.specs.Volumes.{span_parts, column_parts, there}
 use Rattle.ldm_edits.proofs.AskedLaws.{IsTaken, AllSized}
 use Rattle.ldm_edits.proofs.Shares.{map_there, map_map, Share, all_from_map, moved, behind}
 use Rattle.std.specs.Option.{option_map}
@@ -116,7 +116,7 @@ parts_taken c extents ts parts are read = sym (map_map sectors_of extent_of part
 pub parts_own : (c : ℕ) (extents : List Extent) (ts : List Taken) (parts : List Partition) → AreExtentsOf c extents ts → map extent_of parts ≡ extents → (p : Partition) → Contains parts p → p.parent ≡ c
 parts_own c extents ts parts are read p at =
     All-contains (λ (e : Extent). e.component ≡ c) extents (extent_of p) are.own
-        (moved read (extent_of p) (map_there extent_of parts p at))
+    (moved read (extent_of p) (map_there extent_of parts p at))
 
 -- ---- The partitions that are made: records with ids one after the other, which a layout reads as they are placed.
 
@@ -349,7 +349,7 @@ columns_least : (c i len : ℕ) (ts : List Taken) → 1 ≤ length ts → AllSiz
     → least (map (λ (e : Extent). e.size) (column_extents c i ts)) ≡ len
 columns_least c i len ts some same = ap least (extent_sizes (columns_of c i ts))
     ∙ least_one (map (λ (t : Taken). t.size) ts) len
-        (omega (arith, length-map ts (λ (t : Taken). t.size)))
+    (omega (arith, length-map ts (λ (t : Taken). t.size)))
     (All-map (λ n. n ≡ len) (λ (t : Taken). t.size) ts same)
 
 -- ---- layouts without a fault
@@ -382,9 +382,9 @@ columned_laid records v s c u layout ts untiled plexes shape extents enough some
     let es : List Extent = column_extents c 0 ts in
     let many : length (column_extents c 0 ts) ≡ length ts = extents_count (columns_of c 0 ts) in
     let whole : has_columns (lay es) es ≡ true =
-        and_from (length ts == length es) _ (eq-eqb (length ts) (length es) (sym many))
-        (and_from (nat_le (fewest s) (length es)) _ (le-leb (fewest s) _ (omega arith))
-            (columns_rise c 0 ts)) in
+    and_from (length ts == length es) _ (eq-eqb (length ts) (length es) (sym many))
+    (and_from (nat_le (fewest s) (length es)) _ (le-leb (fewest s) _ (omega arith))
+    (columns_rise c 0 ts)) in
     let gap : has_gap (lay es) ≡ false = ap (λ (b : Bool). b && not (tiles es && true)) untiled in
     let chunk : lacks_chunk (lay es) ≡ false = (λ i. not (untiled i) && ne_eqb u 0 some i) in
     let columns : lacks_columns (lay es) ≡ false = (λ i. not (untiled i) && not (whole i && true)) in (

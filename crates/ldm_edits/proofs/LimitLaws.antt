@@ -212,7 +212,7 @@ pub record IsGiven (db : Database) (labels : List Label) : Type 0 where
 -- where no limit refuses a change, and the rules are carried over
 pub carried_keeps : (db : Database) (labels : List Label) (fresh : ℕ) (change : Change) → IsGiven db labels → All IsFitting change.stay → first_of (limits db labels fresh change) ≡ None
     → Carries db.records (changed db change).records → EachRule (changed db change).records labels
-        → Keeps labels db (changed db change)
+    → Keeps labels db (changed db change)
 carried_keeps db labels fresh change given stay open' carries each =
     let next : List Record = (changed db change).records in
     let within = within_limits db labels fresh change open' in

@@ -6,7 +6,7 @@ use Rattle.ldm_records.specs.declared.types.Record.{Record}
 use Rattle.ldm_label.specs.declared.Label.{Label}
 use Rattle.ldm_group.specs.Database.{Database}
 use Rattle.ldm_group.specs.Looks.{volume_named, max_id}
-use Rattle.ldm_space.specs.declared.taken.Taken.{Taken}
+use Rattle.ldm_made.specs.declared.taken.Taken.{Taken}
 use Rattle.ldm_space.specs.declared.placed.Wanted.{Wanted}
 use Rattle.ldm_words.specs.declared.command.NewLayout.{NewLayout}
 use Rattle.ldm_words.specs.declared.command.NewLayout.TheVariants as layouts
@@ -15,7 +15,7 @@ use Rattle.ldm_edits.specs.declared.reply.Refusal.TheVariants as refusals
 use Rattle.ldm_edits.specs.Asked.{words_by, has_twins, is_much}
 use Rattle.ldm_edits.specs.Changes.{Change, when, change_to}
 use Rattle.ldm_edits.specs.Spots.{and_then, open_wanted, spots_for}
-use Rattle.ldm_volumes.specs.Volumes.{span_made, stripe_made, raid5_made, mirror_made}
+use Rattle.ldm_made.specs.Volumes.{span_made, stripe_made, raid5_made, mirror_made}
 
 -- the disk words in their order, each with the sectors that it is asked for
 abbrev pub words_of : NewLayout → List (List ℕ × ℕ)

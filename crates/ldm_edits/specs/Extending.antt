@@ -18,7 +18,7 @@ use Rattle.ldm_layout.specs.Parts.{plexes_of}
 use Rattle.ldm_layout.specs.Layouts.{Layout, capacity_of}
 use Rattle.ldm_layout.specs.Volumes.{layout_of, shape_of}
 use Rattle.ldm_rules.specs.Ends.{data_size}
-use Rattle.ldm_space.specs.declared.taken.Taken.{Taken}
+use Rattle.ldm_made.specs.declared.taken.Taken.{Taken}
 use Rattle.ldm_space.specs.Free.{taken_in}
 use Rattle.ldm_space.specs.declared.placed.Wanted.{Wanted}
 use Rattle.ldm_space.specs.Wanted.{placed}
@@ -30,7 +30,7 @@ use Rattle.ldm_edits.specs.declared.leaving.Leaving.TheVariants as leavings
 use Rattle.ldm_edits.specs.Staying.{change_of}
 use Rattle.ldm_edits.specs.Changes.{Change, when, change_to}
 use Rattle.ldm_edits.specs.Spots.{refused_or, and_then, open_wanted, spots_for}
-use Rattle.ldm_volumes.specs.Volumes.{span_parts, there}
+use Rattle.ldm_made.specs.Volumes.{span_parts, there}
 
 -- ---- the records
 

@@ -15,11 +15,11 @@ use Rattle.ldm_layout.specs.declared.shape.Shape.TheVariants.{Mirror}
 use Rattle.ldm_layout.specs.Parts.{plexes_of, extents_of, by_offset}
 use Rattle.ldm_layout.specs.Volumes.{layout_of, shape_of}
 use Rattle.ldm_rules.specs.Ends.{data_size}
-use Rattle.ldm_space.specs.declared.taken.Taken.{Taken}
+use Rattle.ldm_made.specs.declared.taken.Taken.{Taken}
 use Rattle.ldm_space.specs.Free.{taken_in}
 use Rattle.ldm_space.specs.declared.placed.Wanted.{Wanted}
 use Rattle.ldm_space.specs.Wanted.{placed}
-use Rattle.ldm_volumes.specs.Volumes.{there}
+use Rattle.ldm_made.specs.Volumes.{there}
 use Rattle.ldm_edits.specs.Asked.{asked_for}
 use Rattle.ldm_edits.specs.declared.leaving.Leaving.TheVariants as leavings
 use Rattle.ldm_edits.specs.Staying.{change_of}

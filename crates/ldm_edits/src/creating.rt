@@ -20,9 +20,9 @@ use crate::spots::spots_for;
 use ldm_bytes::NoMemory;
 use ldm_group::Db;
 use ldm_label::Labels;
+use ldm_made::{Taken, mirror, raid5, span, stripe};
 use ldm_records::Record;
-use ldm_space::{Taken, Wanted};
-use ldm_volumes::{mirror, raid5, span, stripe};
+use ldm_space::Wanted;
 use ldm_words::NewLayout;
 use std::alloc::Global;
 

@@ -30,11 +30,10 @@ use ldm_bytes::NoMemory;
 use ldm_group::Db;
 use ldm_label::Labels;
 use ldm_layout::Shape;
-use ldm_made::{resized, with_children};
+use ldm_made::{Taken, resized, sectors_with, with_children, with_tiles};
 use ldm_records::{Component, Record, Volume};
 use ldm_rules::sound_plan;
-use ldm_space::{Taken, Wanted};
-use ldm_volumes::{sectors_with, with_tiles};
+use ldm_space::Wanted;
 use ldm_words::Piece;
 use std::alloc::Global;
 

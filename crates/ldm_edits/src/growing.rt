@@ -6,16 +6,15 @@ ghost use Rattle.std.specs.Option.{option_map};
 ghost use Rattle.ldm_records.specs.declared.types.Record.TheVariants as kinds;
 ghost use Rattle.ldm_made.specs.Made.{resized, with_children};
 ghost use Rattle.ldm_group.specs.Looks.{is_child};
-ghost use Rattle.ldm_volumes.specs.Volumes.{there};
+ghost use Rattle.ldm_made.specs.Volumes.{there};
 ghost use Rattle.ldm_edits.specs.Mirroring.{component_in_record, component_holds, grown_components};
 ghost use Rattle.ldm_edits.specs.Mirroring.{grown_parts, held_in};
 ghost use Rattle.ldm_layout.specs.Parts.{extents_of, by_offset};
 
 use ldm_bytes::NoMemory;
 use ldm_group::Db;
-use ldm_made::{new_partition, resized, with_children};
+use ldm_made::{Taken, new_partition, resized, with_children};
 use ldm_records::{Component, Record, Volume};
-use ldm_space::Taken;
 use std::alloc::Global;
 
 /// The components of a volume, in rising id.

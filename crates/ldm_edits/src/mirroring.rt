@@ -28,8 +28,9 @@ use crate::reply::Refusal;
 use crate::spots::spots_for;
 use ldm_group::Db;
 use ldm_label::Labels;
+use ldm_made::Taken;
 use ldm_records::{Component, Volume};
-use ldm_space::{Taken, Wanted};
+use ldm_space::Wanted;
 use ldm_words::Piece;
 use std::alloc::Global;
 

@@ -8,7 +8,8 @@ ghost use Rattle.ldm_edits.specs.Spots.{CanBePlaced, spots_for};
 use crate::error::StepError;
 use crate::reply::Refusal;
 use ldm_group::Db;
-use ldm_space::{Taken, Wanted, place_all};
+use ldm_made::Taken;
+use ldm_space::{Wanted, place_all};
 use std::alloc::Global;
 
 /// What the partitions that are asked for take, each at its first fit beside those before it.

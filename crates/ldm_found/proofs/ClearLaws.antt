@@ -55,8 +55,10 @@ clear_where label fails =
     (nat_lt (max label.area_start label.log_start) (min (label.area_start + label.area_sectors) (label.log_start + label.log_sectors))) fails).0 in
     let one = or_parts (nat_lt label.area_start 3)
     (nat_lt 1856 (label.area_start + label.area_sectors)) two in
-    record { behind = ltb-false label.area_start 3 one.0;
-        before = ltb-false 1856 (label.area_start + label.area_sectors) one.1 }
+    record {
+      behind = ltb-false label.area_start 3 one.0;
+      before = ltb-false 1856 (label.area_start + label.area_sectors) one.1;
+    }
 
 several_of : (labels : List Label) → (if nat_lt (length labels) 2 then Some faults.FewDisks else None) ≡ None → 2 ≤ length labels
 several_of labels is = ⊎_elim
@@ -77,9 +79,13 @@ none_blocked db labels is =
     (find (is_absent labels) db.records)) _ is in
     let two = first_none (if nat_lt (length labels) 2 then Some faults.FewDisks else None) _ one.1 in
     let three = first_none (option_map faults.AreaSmall (position (is_small db.header.last) labels))
-    _ two.1 in
-    (one.0, two.0, three.0, (first_none (option_map faults.AreaClash (position clashes labels)) []
-    three.1).0)
+    _ two.1 in (
+      one.0,
+      two.0,
+      three.0,
+      (first_none (option_map faults.AreaClash (position clashes labels)) []
+          three.1).0,
+    )
 
 pub clear_of : (db : Database) (labels : List Label) → blocked_in db labels ≡ None → IsRoomFor db labels
 clear_of db labels is =

@@ -379,8 +379,8 @@ copies_next labels images content i d before after notes new note kept lt one_ea
       gather_next IsCopyIn (zip labels images) i copies (d, []) next.0 (omega arith) all (subst (λ (x : Label × List ℕ). IsCopyIn x (Ok next.0)) (sym there) next.1),
       next.2,
       pushed ∙ ap (λ (n : Note). notes ++ n ∷ []) next.3
-      ∙ ap (λ (l : List Note). l ++ note_of next.0 ∷ []) same
-      ∙ sym (map_push note_of copies next.0),
+          ∙ ap (λ (l : List Note). l ++ note_of next.0 ∷ []) same
+          ∙ sym (map_push note_of copies next.0),
     )
 
 -- of all images

@@ -1,1 +1,3 @@
 pub mod MadeLaws
+pub mod PartWalk
+pub mod CopyWalk

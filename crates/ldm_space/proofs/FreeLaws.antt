@@ -10,7 +10,7 @@ use Rattle.std.proofs.lemmas.List.{take_more, drop_all, append-nil}
 use Rattle.std.specs.Prelude.{take}
 use Rattle.ldm_records.specs.declared.types.Record.{Record}
 use Rattle.ldm_group.proofs.KinLaws.{named_there}
-use Rattle.ldm_space.specs.declared.taken.Taken.{Taken}
+use Rattle.ldm_made.specs.declared.taken.Taken.{Taken}
 use Rattle.ldm_space.specs.Free.{taken_by, taken_in, takes_one, is_taken, first_from, first_free_start, past, IsFirstFree, HasNoFree, clash}
 use Rattle.std.specs.Option.{option_map}
 use Rattle.ldm_space.specs.declared.placed.Wanted.{Wanted}

@@ -4,7 +4,7 @@ use Rattle.std.specs.List.{list_any, filter_map}
 use Rattle.ldm_records.specs.declared.types.Record.{Record}
 use Rattle.ldm_records.specs.declared.types.Record.TheVariants as kinds
 use Rattle.ldm_records.specs.declared.types.Partition.{Partition}
-pub use Rattle.ldm_space.specs.declared.taken.Taken.{Taken}
+pub use Rattle.ldm_made.specs.declared.taken.Taken.{Taken}
 
 -- the sectors of a partition
 abbrev pub taken_of : Partition → Taken

@@ -1,7 +1,7 @@
 -- What the partitions of a command take, and that each is free of all that was taken before it.
 use Rattle.std.specs.Prelude.{◌≡◌, ℕ, ◌+◌, ◌≤◌, false, List, [], ◌∷◌, All, Result, Ok, Err}
 use Rattle.std.specs.Global.{Vec}
-use Rattle.ldm_space.specs.declared.taken.Taken.{Taken}
+use Rattle.ldm_made.specs.declared.taken.Taken.{Taken}
 use Rattle.ldm_space.specs.Free.{is_taken, IsFirstFree}
 use Rattle.ldm_space.specs.declared.placed.Wanted.{Wanted}
 

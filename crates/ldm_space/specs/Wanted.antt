@@ -2,7 +2,7 @@
 use Rattle.std.specs.Prelude.{ℕ, ◌+◌, List, [], ◌∷◌, Option, Some, None, Result, Ok, Err}
 use Rattle.std.specs.Option.{option_map}
 pub use Rattle.ldm_space.specs.declared.placed.Wanted.{Wanted}
-pub use Rattle.ldm_space.specs.declared.taken.Taken.{Taken}
+pub use Rattle.ldm_made.specs.declared.taken.Taken.{Taken}
 use Rattle.ldm_space.specs.Free.{first_free_start}
 
 -- so many sectors of its disk, from a start on

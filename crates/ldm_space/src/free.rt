@@ -1,11 +1,26 @@
 //! The first free run of sectors of a disk, by a walk over its partitions.
-ghost use Rattle.std.specs.Prelude.{◌≡◌, ◌<◌, ◌≤◌, ℕ, All, true, false};
+ghost use Rattle.std.specs.Prelude.{◌≡◌, ◌<◌, ◌≤◌, ℕ, All, true, false, ◌+◌, ◌^◌, Some};
 ghost use Rattle.ldm_group.specs.Partitions.{EndsInRange};
 ghost use Rattle.ldm_space.specs.Free.{taken_by, taken_in, past, is_taken, first_free_start};
 
-use crate::taken::{Taken, past};
 use ldm_group::Db;
+use ldm_made::Taken;
 use ldm_records::Record;
+
+// The end of what is taken, where it has one of the `len` sectors of the disk from `at` on;
+// otherwise `at`.
+fn past(taken: &Taken, disk: u64, len: u64, at: u64) -> u64
+    requires some { 0 < len }
+    requires ends { taken.now.start + taken.now.size < 2 ^ 64 }
+    ensures { result ≡ past disk len at (Some taken.now) }
+{
+    let end = taken.start + taken.size;
+    if taken.disk == disk && taken.start.saturating_sub(at) < len && at < end && taken.start < end {
+        end
+    } else {
+        at
+    }
+}
 
 // The end of a partition of this disk that has one of the `len` sectors from `at` on; otherwise
 // `at`.

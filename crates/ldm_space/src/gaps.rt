@@ -8,9 +8,9 @@ ghost use Rattle.ldm_space.specs.Free.{Taken, taken_in};
 ghost use Rattle.ldm_space.specs.Gaps.{AreGaps, TakesFirst, has_length, first_gap, without_first};
 ghost use Rattle.ldm_space.specs.Gaps.{taken_on, with_gap};
 
-use crate::taken::Taken;
 use ldm_bytes::NoMemory;
 use ldm_group::Db;
+use ldm_made::Taken;
 use ldm_records::Record;
 use std::alloc::Global;
 use std::marker::Model;

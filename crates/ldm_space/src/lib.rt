@@ -4,9 +4,7 @@
 mod free;
 mod gaps;
 mod placed;
-mod taken;
 
 pub use free::first_fit;
 pub use gaps::{FreeMap, Gap};
 pub use placed::{Wanted, place_all};
-pub use taken::Taken;

@@ -7,8 +7,8 @@ ghost use Rattle.ldm_space.specs.Wanted.{placed};
 ghost use Rattle.ldm_space.specs.Placed.{ListsAs};
 
 use crate::gaps::FreeMap;
-use crate::taken::Taken;
 use ldm_bytes::NoMemory;
+use ldm_made::Taken;
 use ldm_records::Record;
 use std::alloc::Global;
 use std::collections::BTreeMap;

@@ -51,5 +51,8 @@ returns-clause-holds c =
     (next_holds old new c.args.table.now c.in_ok-kept.kept.items c.in_ok-kept.made.items
     c.in_ok-next.next.items out c.requires.one_each c.in_ok-kept.ensures.kept
     c.in_ok-kept.ensures.same c.in_ok-kept.ensures.holds
-    (rw (c.as_slice.ensures.all, c.deref.ensures.value,
-    c.deref-2.ensures.value) at c.in_ok-next.ensures.same))
+    (rw (
+      c.as_slice.ensures.all,
+      c.deref.ensures.value,
+      c.deref-2.ensures.value,
+    ) at c.in_ok-next.ensures.same))

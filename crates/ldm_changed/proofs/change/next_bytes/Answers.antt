@@ -78,9 +78,14 @@ returns-clause-next c =
     c.in_ok-blocks.blocks c.in_ok-blocks.numbers c.in_ok-blocks.table.items
     tabled.body.is.size tabled.body.low (omega (arith, last, c.requires.last)) c.requires.high
     c.as_slice-records.ensures.rising (omega (arith, c.write_header.auto.out))
-    (rw (header, c.counts_of.ensures,
-    c.as_slice-records.ensures.all) at c.write_header.ensures.bytes)
+    (rw (
+      header,
+      c.counts_of.ensures,
+      c.as_slice-records.ensures.all,
+    ) at c.write_header.ensures.bytes)
     (rw header at c.write_header.ensures.reads_back) (rw header at c.write_header.ensures.no_fault)
     (blocks.size ∙ ap (λ (n : ℕ). 128 * n) c.room-room.ensures) blocks.store
-    (rw (take_rest c.as_slice-bytes.result.now 512,
-    c.as_slice-bytes.ensures.value) at blocks.changed) blocks.one_each blocks.holds)
+    (rw (
+      take_rest c.as_slice-bytes.result.now 512,
+      c.as_slice-bytes.ensures.value,
+    ) at blocks.changed) blocks.one_each blocks.holds)

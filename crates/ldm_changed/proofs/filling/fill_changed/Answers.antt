@@ -15,10 +15,12 @@ parts : (inside_body inside_numbers body numbers : List ℕ) (change : Changed)
     → IsChangedBody inside_body inside_numbers
     → body ≡ inside_body → numbers ≡ inside_numbers
     → (record { body = body; numbers = numbers } ≡ change) × IsChangedBody body numbers
-parts inside_body inside_numbers body numbers change view is e f =
-    ((λ i. record { body = e i; numbers = f i })
-    ∙ view, subst (λ (l : List ℕ). IsChangedBody body l) (sym f)
-    (subst (λ (l : List ℕ). IsChangedBody l inside_numbers) (sym e) is))
+parts inside_body inside_numbers body numbers change view is e f = (
+  (λ i. record { body = e i; numbers = f i })
+      ∙ view,
+  subst (λ (l : List ℕ). IsChangedBody body l) (sym f)
+      (subst (λ (l : List ℕ). IsChangedBody l inside_numbers) (sym e) is),
+)
 
 pub write_part-requires-clause-small : goal.write_part-requires-clause-small
 write_part-requires-clause-small g c =

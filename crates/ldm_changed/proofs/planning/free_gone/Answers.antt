@@ -27,14 +27,21 @@ loop-i-preserved c =
 pub returns : goal.returns
 returns c =
     let S = stored_at c.args.records.now c.args.table.now in
-    let le : length S ≤ c.loop-i.i = omega (arith, stored_length c.args.records.now c.args.table.now
-    c.requires.one_each, c.loop-i-test.false) in
+    let le : length S ≤ c.loop-i.i = omega (
+      arith,
+      stored_length c.args.records.now c.args.table.now
+          c.requires.one_each,
+      c.loop-i-test.false,
+    ) in
     let all = take_all c.loop-i.i S le in
     let w = c.loop-i.invariant in
     record {
       kept = rw all at w.kept_is;
-      holds = rw (all, drop_all c.loop-i.i S le,
-          append-nil (filter (record_stays c.args.new.now.records) S)) at w.holds;
+      holds = rw (
+        all,
+        drop_all c.loop-i.i S le,
+        append-nil (filter (record_stays c.args.new.now.records) S),
+      ) at w.holds;
       others = rw all at w.others;
       there = rw all at w.there;
     }

@@ -16,10 +16,13 @@ refill_changed-requires-clause-closed g c =
 
 pub refill_changed-requires-clause-before : goal.refill_changed-requires-clause-before
 refill_changed-requires-clause-before g c tells =
-    let before = c.requires.before tells in
-    (before.0, before.1, body_stays c.args.label.now
-    (some_sectors c.args.label.now _ c.requires.fits) before.0 _ _ before.2
-    c.close.ensures.writes.content.here)
+    let before = c.requires.before tells in (
+      before.0,
+      before.1,
+      body_stays c.args.label.now
+          (some_sectors c.args.label.now _ c.requires.fits) before.0 _ _ before.2
+          c.close.ensures.writes.content.here,
+    )
 
 pub returns : goal.returns
 returns g c =

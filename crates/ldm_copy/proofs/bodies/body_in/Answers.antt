@@ -23,21 +23,33 @@ pub new-requires : goal.new-requires
 new-requires c =
     let read = rw (c.first_sector-sector.ensures, c.header.ensures) at (c.in_ok-reads_as.ensures.yes
     c.if-not-branch.false) in
-    let held = rw (c.in-Some.is, take_rest c.args.bytes.now 512,
-    c.as_slice.ensures.all) at c.in_ok-table.ensures.held in
+    let held = rw (
+      c.in-Some.is,
+      take_rest c.args.bytes.now 512,
+      c.as_slice.ensures.all,
+    ) at c.in_ok-table.ensures.held in
     subst (λ (l : List ℕ). IsTabled l c.in-Some.table.items) (sym c.in_ok-bytes.ensures)
     (read_tabled c.args.db.now read.0 c.args.bytes.now c.args.area_sectors c.in-Some.table.items
-    c.requires.size c.requires.low c.requires.high c.as_slice.ensures.rising (read.1, read.2,
-    read.3) held).0
+    c.requires.size c.requires.low c.requires.high c.as_slice.ensures.rising (
+      read.1,
+      read.2,
+      read.3,
+    ) held).0
 
 pub returns-clause-core : goal.returns-clause-core
 returns-clause-core c =
     let read = rw (c.first_sector-sector.ensures, c.header.ensures) at (c.in_ok-reads_as.ensures.yes
     c.if-not-branch.false) in
-    let held = rw (c.in-Some.is, take_rest c.args.bytes.now 512,
-    c.as_slice.ensures.all) at c.in_ok-table.ensures.held in
+    let held = rw (
+      c.in-Some.is,
+      take_rest c.args.bytes.now 512,
+      c.as_slice.ensures.all,
+    ) at c.in_ok-table.ensures.held in
     let it = read_tabled c.args.db.now read.0 c.args.bytes.now c.args.area_sectors
     c.in-Some.table.items c.requires.size c.requires.low c.requires.high c.as_slice.ensures.rising
-    (read.1, read.2, read.3) held in
-    (it.0.db, it.1, subst (λ (l : List ℕ). IsBodyOf it.0.db l)
-    (sym (c.new.ensures ∙ c.in_ok-bytes.ensures)) it.0.body)
+    (read.1, read.2, read.3) held in (
+      it.0.db,
+      it.1,
+      subst (λ (l : List ℕ). IsBodyOf it.0.db l)
+          (sym (c.new.ensures ∙ c.in_ok-bytes.ensures)) it.0.body,
+    )

@@ -19,9 +19,13 @@ unseal-requires-clause-closed g c =
 pub unseal-requires-clause-filled : goal.unseal-requires-clause-filled
 unseal-requires-clause-filled g c tells =
     let lt = subst (λ (l : List ℕ). c.args.disk < length l) (sym c.fill.ensures.writes.later.sizes)
-    c.requires.disk in
-    (c.requires.body.0, c.args.body.now, c.requires.body.1, c.in_ok-fill.ensures.filled tells _
-    (g.met.H.Host.may_stay tells c.fill.new.host c.args.disk lt))
+    c.requires.disk in (
+      c.requires.body.0,
+      c.args.body.now,
+      c.requires.body.1,
+      c.in_ok-fill.ensures.filled tells _
+          (g.met.H.Host.may_stay tells c.fill.new.host c.args.disk lt),
+    )
 
 pub returns : goal.returns
 returns g c =

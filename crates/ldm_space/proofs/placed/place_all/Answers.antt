@@ -1,5 +1,5 @@
 use Rattle.std.proofs.Common.{◌++◌, ◌-◌, ◌^◌, sym, ◌∙◌, refl, subst, arith, get_or, List}
-use Rattle.ldm_space.specs.declared.taken.Taken.{Taken}
+use Rattle.ldm_made.specs.declared.taken.Taken.{Taken}
 use Rattle.ldm_space.specs.declared.placed.Wanted.{Wanted}
 use Rattle.ldm_space.specs.Free.{taken_in}
 use Rattle.ldm_space.specs.Gaps.{AreGaps}

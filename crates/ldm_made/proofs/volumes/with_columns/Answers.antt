@@ -1,5 +1,5 @@
-use Rattle.ldm_volumes.proofs.PartWalk.{columns_more}
-use Rattle.ldm_volumes.proofs.volumes.with_columns.Goals as goal
+use Rattle.ldm_made.proofs.PartWalk.{columns_more}
+use Rattle.ldm_made.proofs.volumes.with_columns.Goals as goal
 
 pub loop-at-preserved : goal.loop-at-preserved
 loop-at-preserved c =

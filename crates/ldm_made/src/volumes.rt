@@ -1,12 +1,12 @@
 //! The records of a new volume of each shape, and of a longer span.
 ghost use Rattle.std.specs.Prelude.{◌≡◌, ◌+◌, ◌-◌, ◌*◌, ◌^◌, ◌<◌, ◌≤◌, ◌++◌, length, sum_by, IfOk};
-ghost use Rattle.ldm_volumes.specs.Volumes.{there, span_parts, column_parts, mirror_parts};
-ghost use Rattle.ldm_volumes.specs.Volumes.{span_made, stripe_made, raid5_made, mirror_made};
+ghost use Rattle.ldm_made.specs.Volumes.{there, span_parts, column_parts, mirror_parts};
+ghost use Rattle.ldm_made.specs.Volumes.{span_made, stripe_made, raid5_made, mirror_made};
 
+use crate::made::{new_component, new_partition, new_volume};
+use crate::taken::Taken;
 use ldm_bytes::NoMemory;
-use ldm_made::{new_component, new_partition, new_volume};
 use ldm_records::{Record, Striping};
-use ldm_space::Taken;
 use std::alloc::Global;
 
 /// The sectors that are taken, and so many more.

@@ -7,8 +7,8 @@ use Rattle.std.proofs.lemmas.List.Sums.{sum_by-cons}
 use Rattle.std.proofs.lemmas.List.Elements.{filter_map-append}
 use Rattle.ldm_records.specs.declared.types.Record.{Record}
 use Rattle.ldm_made.specs.Made.{new_partition}
-use Rattle.ldm_space.specs.declared.taken.Taken.{Taken}
-use Rattle.ldm_volumes.specs.Volumes.{span_parts, column_parts, there}
+use Rattle.ldm_made.specs.declared.taken.Taken.{Taken}
+use Rattle.ldm_made.specs.Volumes.{span_parts, column_parts, there}
 
 abbrev sizes : List Taken → ℕ
 sizes ts = sum_by (λ t. t.size) ts

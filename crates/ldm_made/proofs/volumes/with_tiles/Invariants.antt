@@ -1,7 +1,7 @@
 use Rattle.std.proofs.Common.{◌≡◌, ◌+◌, ◌++◌, take}
 use Rattle.std.specs.Prelude.{sum_by}
-use Rattle.ldm_volumes.specs.Volumes.{span_parts, there}
-use Rattle.ldm_volumes.proofs.volumes.with_tiles.Given as goal
+use Rattle.ldm_made.specs.Volumes.{span_parts, there}
+use Rattle.ldm_made.proofs.volumes.with_tiles.Given as goal
 
 abbrev pub invariant-loop-at : goal.invariant-loop-at
 invariant-loop-at l = record {

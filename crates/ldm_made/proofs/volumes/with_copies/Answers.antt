@@ -1,5 +1,5 @@
-use Rattle.ldm_volumes.proofs.CopyWalk.{copies_more}
-use Rattle.ldm_volumes.proofs.volumes.with_copies.Goals as goal
+use Rattle.ldm_made.proofs.CopyWalk.{copies_more}
+use Rattle.ldm_made.proofs.volumes.with_copies.Goals as goal
 
 pub loop-at-preserved : goal.loop-at-preserved
 loop-at-preserved c =

@@ -3,7 +3,7 @@ use Rattle.std.specs.Prelude.{ℕ, ◌+◌, ◌-◌, ◌*◌, true, false, List,
 use Rattle.std.specs.List.{filter_map}
 use Rattle.ldm_records.specs.declared.types.Record.{Record}
 use Rattle.ldm_made.specs.Made.{new_volume, new_component, new_partition}
-use Rattle.ldm_space.specs.declared.taken.Taken.{Taken}
+use Rattle.ldm_made.specs.declared.taken.Taken.{Taken}
 
 -- the partitions of a span's component, from an offset on: their offsets follow one another
 abbrev pub span_parts : ℕ → ℕ → ℕ → List Taken → List (Option Record)

@@ -1,8 +1,8 @@
 use Rattle.std.proofs.Common.{◌+◌, arith}
 use Rattle.std.proofs.lemmas.List.Sums.{sum_by_more, sum_by-take-le}
-use Rattle.ldm_space.specs.declared.taken.Taken.{Taken}
-use Rattle.ldm_volumes.proofs.PartWalk.{tiles_more}
-use Rattle.ldm_volumes.proofs.volumes.with_tiles.Goals as goal
+use Rattle.ldm_made.specs.declared.taken.Taken.{Taken}
+use Rattle.ldm_made.proofs.PartWalk.{tiles_more}
+use Rattle.ldm_made.proofs.volumes.with_tiles.Goals as goal
 
 pub overflow_add-offset : goal.overflow_add-offset
 overflow_add-offset c =

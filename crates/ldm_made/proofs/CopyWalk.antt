@@ -5,8 +5,8 @@ use Rattle.std.proofs.lemmas.List.{take_more, length-take-le}
 use Rattle.std.proofs.lemmas.List.Elements.{filter_map-append}
 use Rattle.ldm_records.specs.declared.types.Record.{Record}
 use Rattle.ldm_made.specs.Made.{new_partition, new_component}
-use Rattle.ldm_space.specs.declared.taken.Taken.{Taken}
-use Rattle.ldm_volumes.specs.Volumes.{mirror_parts, there}
+use Rattle.ldm_made.specs.declared.taken.Taken.{Taken}
+use Rattle.ldm_made.specs.Volumes.{mirror_parts, there}
 
 copy_push : (id v : ℕ) (ts : List Taken) (t : Taken)
     → mirror_parts id v (ts ++ t ∷ []) ≡ mirror_parts id v ts ++ (new_component (id + 2 * length ts) v 2 1 None ∷ (new_partition (id + 2 * length ts + 1) t.start 0 t.size (id + 2 * length ts) t.disk None ∷ []))

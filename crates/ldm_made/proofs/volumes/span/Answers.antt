@@ -1,10 +1,10 @@
 use Rattle.std.proofs.Common.{◌≡◌, ◌∙◌, ◌+◌, ap, arith, length, None, false}
 use Rattle.std.specs.Prelude.{sum_by}
 use Rattle.ldm_made.specs.Made.{new_volume, new_component}
-use Rattle.ldm_space.specs.declared.taken.Taken.{Taken}
-use Rattle.ldm_volumes.specs.Volumes.{span_parts}
-use Rattle.ldm_volumes.proofs.PartWalk.{in_each, two_first}
-use Rattle.ldm_volumes.proofs.volumes.span.Goals as goal
+use Rattle.ldm_made.specs.declared.taken.Taken.{Taken}
+use Rattle.ldm_made.specs.Volumes.{span_parts}
+use Rattle.ldm_made.proofs.PartWalk.{in_each, two_first}
+use Rattle.ldm_made.proofs.volumes.span.Goals as goal
 
 pub returns : goal.returns
 returns c =

@@ -1,2 +1,0 @@
-pub mod PartWalk
-pub mod CopyWalk
