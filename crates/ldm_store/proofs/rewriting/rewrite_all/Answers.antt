@@ -7,7 +7,9 @@ use Rattle.ldm_label.specs.declared.Label.{Label}
 use Rattle.ldm_label.specs.LabelOf.{Fits}
 use Rattle.ldm_copy.specs.Body.{HasBody}
 use Rattle.ldm_found.specs.Facts.{LieOn}
-use Rattle.ldm_store.proofs.CopyLaws.{current_open, settled_step, body_step, outside_step, turned_none, turning_always, turned_step, wrote_below, wrote_above}
+use Rattle.ldm_store.proofs.HasLaws.{current_open}
+use Rattle.ldm_store.proofs.Stepping.{settled_step, body_step, outside_step}
+use Rattle.ldm_store.proofs.TurnLaws.{turned_none, turning_always, turned_step, wrote_below, wrote_above}
 use Rattle.ldm_changed.specs.Nexts.{bytes_in, most_in}
 use Rattle.ldm_store.proofs.rewriting.rewrite_all.Goals as goal
 

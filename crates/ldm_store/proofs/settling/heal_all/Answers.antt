@@ -9,7 +9,9 @@ use Rattle.ldm_found.specs.declared.notes.Note.{Note}
 use Rattle.ldm_found.specs.declared.notes.Note.TheVariants as notes
 use Rattle.ldm_store.specs.Healing.{is_behind}
 use Rattle.ldm_found.proofs.FoundLaws.{holds_group}
-use Rattle.ldm_store.proofs.CopyLaws.{settled_step, body_step, outside_step, healed_none, note_next, healed_skip, healing_always, healed_step, spared_step, other_disk, stays_step, wrote_below, wrote_above, wrote_each, wrote_all, passed_below}
+use Rattle.ldm_store.proofs.Stepping.{settled_step, body_step, outside_step}
+use Rattle.ldm_store.proofs.HealLaws.{healed_none, note_next, healed_skip, healing_always, healed_step, spared_step, other_disk, stays_step}
+use Rattle.ldm_store.proofs.TurnLaws.{wrote_below, wrote_above, wrote_each, wrote_all, passed_below}
 use Rattle.ldm_store.proofs.settling.heal_all.Goals as goal
 use Rattle.ldm_store.proofs.settling.heal_all.Goals.{then-is_behind+in_ok-heal, else-is_behind}
 
