@@ -128,8 +128,3 @@ module _ (images : List (List ℕ)) (found : Found) (held : HoldsGroup images fo
       let lt : held.at < length found.labels = omega (arith, slice_get_within held.copies held.at (Valid found.db) there, copies_length found.labels images held.copies one_image held.copies_are) in
       let has = copy_at found.labels images held.copies one_image held.copies_are held.at lt in
       (held.at, lt, (has.0, has.1, (has.2.0, has.2.1, (let e : Some has.2.0 ≡ Some (Valid found.db) = sym has.2.2 ∙ there in cc))))
-
--- where there is no newest, no copy is open
-pub none_newest : (copies : List CopyState) → newest copies ≡ None → (k : ℕ) (e : Database) → slice_get copies k ≡ Some (Valid e) → ⊥
-unfolding IsNewestOf
-none_newest copies is = subst (λ (o : Option (ℕ × Database)). IsNewestOf copies o) is (newest_of copies)
