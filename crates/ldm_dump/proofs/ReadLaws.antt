@@ -1,4 +1,5 @@
--- What is read of the sources of a sector: it lies on the images, and reads the same without one of them.
+-- What is read of the sources of a sector: it lies on the images, and reads the same without one of
+-- them.
 use Rattle.std.proofs.Common.{◌≡◌, ℕ, ◌+◌, ◌-◌, ◌*◌, ◌<◌, ◌≤◌, ◌==◌, if◌then◌else◌, Bool, true, false, List, [], ◌∷◌, ◌++◌, map, fold, bit_xor, slice_index, refl, ap, sym, subst, ◌∙◌, arith, add-one, Option, Some, None, is_some, is_none, Result, Ok, Err, OnOk, filter_map, inl, inr, length, get_or, slice_get, option_and_then, unwrap_or, zero, suc, cond, ltb}
 use Rattle.std.specs.List.{range_with_len, position_or_len, cons_option}
 use Rattle.std.specs.Option.{option_map, option_to_list}
@@ -67,7 +68,10 @@ copy_there found l x c is = (let all = found_in (λ copy. is_here found (place_i
 pub here_is : (found : Found) (p : Option Place) → is_here found p ≡ is_some (spot_at found p)
 here_is found None = refl
 here_is found (Some place) = elim (image_of place.disk found.db.records found.labels) as
-    (λ o. is_some o ≡ is_some (option_map {U = Spot} (λ image. record { image = image; sector = data_start found.labels image + place.sector }) o)) [ None ↦ refl | Some image ↦ refl ]
+    (λ o. is_some o ≡ is_some
+    (option_map {U = Spot}
+    (λ image. record { image = image; sector = data_start found.labels image + place.sector }) o))
+    [ None ↦ refl | Some image ↦ refl ]
 
 some_there : {A : Type 0} (o : Option A) → is_some o ≡ true → (x : A) × (o ≡ Some x)
 some_there None h = absurd cc
@@ -77,7 +81,8 @@ pub there_is : (found : Found) (p : Option Place) → is_here found p ≡ true �
 there_is found p here = some_there (spot_at found p) (sym (here_is found p) ∙ here)
 
 pub here_spot : (found : Found) (place : Place) → is_here found (Some place) ≡ true → spot_of found place ≡ None → ⊥
-here_spot found place here none = false≢true (ap is_some (sym none) ∙ sym (here_is found (Some place)) ∙ here)
+here_spot found place here none =
+    false≢true (ap is_some (sym none) ∙ sym (here_is found (Some place)) ∙ here)
 
 -- ---- sources
 

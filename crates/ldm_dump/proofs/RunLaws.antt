@@ -89,24 +89,10 @@ pub sources_moved : (found : Found) (l : Layout) (x i : ℕ) (o : Option ℕ) (r
     → sources_of found l (x + i) ≡ option_map (map (behind i)) (sources_of found l x)
 unfolding sources_of
 sources_moved found l x i (Some c) r a b spots p q others =
-    ap (λ (o : Option ℕ). sources_by found l (x + i) o (can_rebuild found l (x + i))) a
-    ∙ (ap (λ (s : Option Spot). some_list (option_to_list s)) (spots c refl)
-    ∙ (ap some_list (list_moved i (copy_spot found l x c))
-    ∙ sym (ap (λ (o : Option ℕ). option_map (map (behind i)) (sources_by found l x o (can_rebuild found l x))) b)))
-  where
-    some_list : List Spot → Option (List Spot)
-    some_list spots = Some spots
+    rw (a, b, spots c refl) (ap (λ (s : List Spot). Some s) (list_moved i (copy_spot found l x c)))
 sources_moved found l x i None true a b spots p q others =
-    ap (λ (o : Option ℕ). sources_by found l (x + i) o (can_rebuild found l (x + i))) a
-    ∙ (ap (λ (t : Bool). sources_by found l (x + i) None t) p
-    ∙ (ap (λ (s : List Spot). Some s) (others refl)
-    ∙ (sym (ap (λ (t : Bool). option_map (map (behind i)) (sources_by found l x None t)) q)
-    ∙ sym (ap (λ (o : Option ℕ). option_map (map (behind i)) (sources_by found l x o (can_rebuild found l x))) b))))
-sources_moved found l x i None false a b spots p q others =
-    ap (λ (o : Option ℕ). sources_by found l (x + i) o (can_rebuild found l (x + i))) a
-    ∙ (ap (λ (t : Bool). sources_by found l (x + i) None t) p
-    ∙ (sym (ap (λ (t : Bool). option_map (map (behind i)) (sources_by found l x None t)) q)
-    ∙ sym (ap (λ (o : Option ℕ). option_map (map (behind i)) (sources_by found l x o (can_rebuild found l x))) b)))
+    rw (a, b, p, q) (ap (λ (s : List Spot). Some s) (others refl))
+sources_moved found l x i None false a b spots p q others = rw (a, b, p, q) refl
 
 -- a sector that is read from a copy isn't lost
 pub copy_kept : (found : Found) (l : Layout) (x c : ℕ) → Some c ≡ first_copy found l x → is_lost found l x ≡ false

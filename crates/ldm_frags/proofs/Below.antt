@@ -22,12 +22,18 @@ flat_map_below f n =
     ap (flat_map f) (numbers_push 0 n ∙ ap (λ (m : ℕ). numbers_from 0 n ++ m ∷ []) (omega arith)) ∙ sym (flat_map_more f [] (numbers_from 0 n) n)
 
 -- what agrees below a number adds the same
-pub flat_map_same : {X : Type 0} (f g : ℕ → List X) (n : ℕ) → ((k : ℕ) → k < n → f k ≡ g k) → flat_map f (numbers_from 0 n) ≡ flat_map g (numbers_from 0 n)
+pub flat_map_same : {X : Type 0} (f g : ℕ → List X) (n : ℕ) → ((k : ℕ) → k < n → f k ≡ g k)
+    → flat_map f (numbers_from 0 n) ≡ flat_map g (numbers_from 0 n)
 flat_map_same {X} f g n same = go 0 n (λ k low lt. same k (omega arith))
   where
-    go : (a n : ℕ) → ((k : ℕ) → a ≤ k → k < a + n → f k ≡ g k) → flat_map f (numbers_from a n) ≡ flat_map g (numbers_from a n)
+    go : (a n : ℕ) → ((k : ℕ) → a ≤ k → k < a + n → f k ≡ g k)
+        → flat_map f (numbers_from a n) ≡ flat_map g (numbers_from a n)
     go a zero same = refl
-    go a (suc n) same = rw (same a (omega arith) (omega arith), go (a + 1) n (λ k low lt. same k (omega arith) (omega arith))) refl
+    go a (suc n) same =
+        rw (
+          same a (omega arith) (omega arith),
+          go (a + 1) n (λ k low lt. same k (omega arith) (omega arith)),
+        ) refl
 
 last : (k n : ℕ) → k < suc n → (k < n) ⊎ (k ≡ n)
 last k n lt = elim (cases_lt k n) [ inl below ↦ inl below | inr above ↦ inr (omega arith) ]
@@ -46,7 +52,8 @@ none_there n k p lt e = false_from_ne_true (p k) (λ is. false≢true (sym e ∙
 
 pub none_from : (n : ℕ) (p : ℕ → Bool) → ((k : ℕ) → k < n → p k ≡ false) → some_below n p ≡ false
 none_from zero p h = refl
-none_from (suc n) p h = or_from (some_below n p) (p n) (none_from n p (λ k lt. h k (omega arith))) (h n (omega arith))
+none_from (suc n) p h =
+    or_from (some_below n p) (p n) (none_from n p (λ k lt. h k (omega arith))) (h n (omega arith))
 
 pub all_there : (n k : ℕ) (p : ℕ → Bool) → k < n → all_below n p ≡ true → p k ≡ true
 all_there zero k p lt e = absurd (omega arith)
@@ -56,17 +63,23 @@ all_there (suc n) k p lt e = let both = and_parts (all_below n p) (p n) e in eli
 ]
 
 pub not_all : (n k : ℕ) (p : ℕ → Bool) → k < n → p k ≡ false → all_below n p ≡ false
-not_all n k p lt e = false_from_ne_true (all_below n p) (λ all. false≢true (sym e ∙ all_there n k p lt all))
+not_all n k p lt e =
+    false_from_ne_true (all_below n p) (λ all. false≢true (sym e ∙ all_there n k p lt all))
 
 pub all_from : (n : ℕ) (p : ℕ → Bool) → ((k : ℕ) → k < n → p k ≡ true) → all_below n p ≡ true
 all_from zero p h = refl
-all_from (suc n) p h = and_from (all_below n p) (p n) (all_from n p (λ k lt. h k (omega arith))) (h n (omega arith))
+all_from (suc n) p h =
+    and_from (all_below n p) (p n) (all_from n p (λ k lt. h k (omega arith))) (h n (omega arith))
 
 pub all_more : (n : ℕ) (p : ℕ → Bool) → all_below n p ≡ true → p n ≡ true → all_below (n + 1) p ≡ true
 all_more n p before here = rw (add-one, before, here) refl
 
 pub some_more : (n : ℕ) (p : ℕ → Bool) → p n ≡ false → some_below (n + 1) p ≡ some_below n p
-some_more n p e = elim (cases_Bool (some_below n p)) [ inl some ↦ rw (add-one, some) | inr none ↦ rw (add-one, none, e) ]
+some_more n p e =
+    elim (cases_Bool (some_below n p)) [
+      | inl some ↦ rw (add-one, some)
+      | inr none ↦ rw (add-one, none, e)
+    ]
 
 -- ---- the least that passes, if one does
 
@@ -90,7 +103,11 @@ least_passes (suc n) p e = elim (cases_Bool (some_below n p)) [
 ]
 
 pub passing_skip : (n : ℕ) (p : ℕ → Bool) → p n ≡ false → first_passing (n + 1) p ≡ first_passing n p
-passing_skip n p e = elim (cases_Bool (some_below n p)) [ inl some ↦ rw (add-one, some) | inr none ↦ rw (add-one, none, e) ]
+passing_skip n p e =
+    elim (cases_Bool (some_below n p)) [
+      | inl some ↦ rw (add-one, some)
+      | inr none ↦ rw (add-one, none, e)
+    ]
 
 pub passing_here : (n : ℕ) (p : ℕ → Bool) → p n ≡ true → some_below n p ≡ false → first_passing (n + 1) p ≡ Some n
 passing_here n p e none = rw (add-one, none, e) refl
@@ -118,14 +135,17 @@ or_none (Some f) b e = absurd cc
 
 pub faultless_below : (n k : ℕ) (fault : ℕ → Option FragFault) → first_below n fault ≡ None → k < n → fault k ≡ None
 faultless_below zero k fault e lt = absurd (omega arith)
-faultless_below (suc n) k fault e lt = let both = or_none (first_below n fault) (fault n) e in elim (last k n lt) [
-  | inl below ↦ faultless_below n k fault both.0 below
-  | inr same ↦ ap fault same ∙ both.1
-]
+faultless_below (suc n) k fault e lt =
+    let both = or_none (first_below n fault) (fault n) e in
+    elim (last k n lt) [
+      | inl below ↦ faultless_below n k fault both.0 below
+      | inr same ↦ ap fault same ∙ both.1
+    ]
 
 pub faultless_from : (n : ℕ) (fault : ℕ → Option FragFault) → ((k : ℕ) → k < n → fault k ≡ None) → first_below n fault ≡ None
 faultless_from zero fault h = refl
-faultless_from (suc n) fault h = rw (faultless_from n fault (λ k lt. h k (omega arith)), h n (omega arith)) refl
+faultless_from (suc n) fault h =
+    rw (faultless_from n fault (λ k lt. h k (omega arith)), h n (omega arith)) refl
 
 -- the first of the numbers below n with a fault
 pub first_there : (n k : ℕ) (fault : ℕ → Option FragFault) (f : FragFault) → k < n → first_below k fault ≡ None → fault k ≡ Some f → first_below n fault ≡ Some f
@@ -147,8 +167,11 @@ all_same (suc n) p q h = rw (all_same n p q (λ j lt. h j (omega arith)), h n (o
 
 pub least_same : (n : ℕ) (p q : ℕ → Bool) → ((j : ℕ) → j < n → p j ≡ q j) → least_below n p ≡ least_below n q
 least_same zero p q h = refl
-least_same (suc n) p q h = let before = λ (j : ℕ) (lt : j < n). h j (omega arith) in rw (some_same n p q before, least_same n p q before, h n (omega arith)) refl
+least_same (suc n) p q h =
+    let before = λ (j : ℕ) (lt : j < n). h j (omega arith) in
+    rw (some_same n p q before, least_same n p q before, h n (omega arith)) refl
 
-pub first_same : (n : ℕ) (f g : ℕ → Option FragFault) → ((j : ℕ) → j < n → f j ≡ g j) → first_below n f ≡ first_below n g
+pub first_same : (n : ℕ) (f g : ℕ → Option FragFault) → ((j : ℕ) → j < n → f j ≡ g j)
+    → first_below n f ≡ first_below n g
 first_same zero f g h = refl
 first_same (suc n) f g h = rw (first_same n f g (λ j lt. h j (omega arith)), h n (omega arith)) refl

@@ -1,5 +1,6 @@
--- Blocks that lose a record or take one more, their records in another order, and how many are unused.
-use Rattle.std.proofs.Common.{◌≡◌, ◌≢◌, inl, inr, ℕ, suc, ◌+◌, ◌-◌, ◌*◌, ◌<◌, ◌≤◌, List, ◌∷◌, ◌++◌, length, take, drop, get_or, All, sym, ap, subst, ◌∙◌, arith, ◌⊎◌, zero, not, Bool, true, false, [], replicate, AllPairs, Contains, refl, add-one, set}
+-- Blocks that lose a record or take one more, their records in another order, and how many are
+-- unused.
+use Rattle.std.proofs.Common.{◌≡◌, ◌≢◌, inl, inr, ℕ, suc, ◌+◌, ◌-◌, ◌*◌, ◌<◌, ◌≤◌, List, ◌∷◌, ◌++◌, length, take, drop, get_or, All, sym, ap, subst, ◌∙◌, arith, ◌⊎◌, zero, not, Bool, true, false, [], replicate, AllPairs, Contains, refl, set}
 use Rattle.std.proofs.lemmas.Bool.{cases_lt, eq-eqb, cases_eq, not-true}
 use Rattle.std.proofs.lemmas.List.{get_or_default, take-append-le, drop-append-le, length-drop, length-append, get_or-set_same, get_or-set_other, length-set}
 use Rattle.std.proofs.lemmas.List.Elements.{All-cons, All-nil, Contains-append_left, Contains-append_right, Contains-get_or, filter-append, All-filter, filter_passes}
@@ -201,7 +202,8 @@ enough_free blocks records small holds =
     let within = numbers_within 4 (count blocks) i e li in
     let high = within.1 in
     used_there blocks records (get_or all i e) small holds within.0 (omega (arith, high)) in_use) k d lt
-    (not-true (is_free blocks (get_or used k d)) (filter_passes (λ b. not (is_free blocks b)) all k d lt))) in
+    (not-true (is_free blocks (get_or used k d))
+    (filter_passes (λ b. not (is_free blocks b)) all k d lt))) in
     omega (arith, size, sum, parts_sum, le)
 
 -- ---- numbers that pass, one after the other
@@ -212,7 +214,8 @@ pass_more p n before after b x is test at more =
     let m : ℕ = n + 4 in
     let place : 4 + n ≡ m = omega arith in
     let whole : filter p (numbers_from 4 (n + 1)) ≡ filter p (numbers_from 4 n) ++ filter p (m ∷ []) =
-    ap (filter p) (numbers_push 4 n ∙ ap (λ (k : ℕ). numbers_from 4 n ++ k ∷ []) place) ∙ filter-append p (numbers_from 4 n) (m ∷ []) in
+    ap (filter p) (numbers_push 4 n ∙ ap (λ (k : ℕ). numbers_from 4 n ++ k ∷ []) place)
+    ∙ filter-append p (numbers_from 4 n) (m ∷ []) in
     more ∙ ap (λ (l : List ℕ). l ++ (if b then x ∷ [] else [])) is
     ∙ ap (λ (k : ℕ). filter p (numbers_from 4 n) ++ (if b then k ∷ [] else [])) at
     ∙ ap (λ (c : Bool). filter p (numbers_from 4 n) ++ (if c then m ∷ [] else [])) test

@@ -1,15 +1,14 @@
 -- Blocks that hold records join to these records, wherever the parts stand; in order they rise.
-use Rattle.std.proofs.Common.{◌≡◌, ◌≢◌, ◌⊎◌, ◌==◌, ℕ, zero, suc, ◌+◌, ◌-◌, ◌*◌, ◌<◌, ◌≤◌, Bool, true, false, eqb, List, [], ◌∷◌, ◌++◌, length, take, drop, map, filter, replicate, get_or, slice_index, All, AllPairs, refl, sym, ap, subst, ◌∙◌, arith, inl, inr, add-one}
+use Rattle.std.proofs.Common.{◌≡◌, ◌≢◌, ◌⊎◌, ◌==◌, ℕ, zero, suc, ◌+◌, ◌-◌, ◌*◌, ◌<◌, ◌≤◌, true, false, eqb, List, [], ◌∷◌, ◌++◌, length, take, drop, map, filter, replicate, get_or, slice_index, All, AllPairs, refl, sym, ap, subst, ◌∙◌, arith, inl, inr, add-one}
 use Rattle.std.proofs.Math.Seq.{take-add}
-use Rattle.std.proofs.lemmas.Bool.{cases_lt, eqb-true, eq-eqb, leb-true, le-leb, ne_eqb, cases_eq, cases_Bool, and_parts}
+use Rattle.std.proofs.lemmas.Bool.{cases_lt, eqb-true, eq-eqb, leb-true, ne_eqb, cases_eq, cases_Bool, and_parts}
 use Rattle.std.proofs.lemmas.List.{length-append, length-replicate, length-drop, length-take-le, take_all, take_more}
-use Rattle.std.specs.Prelude.{◌&&◌}
 use Rattle.ldm_frags.specs.declared.faults.Joined.{Joined}
 use Rattle.ldm_frags.specs.Blocks.{count, has_magic, group, part, parts, payload, is_fragment, is_of, is_part, least_below, numbers_from}
 use Rattle.ldm_frags.specs.Joins.{gathered, entry, entries, Joins}
 use Rattle.ldm_frags.specs.Written.{parts_of, filled, part_bytes, Placed, slot, IsPlaced, Holds, joined_of, joined_below, blocks_needed, IsSized, block_at, unused_block, written_block, laid_in_order}
 use Rattle.ldm_frags.proofs.Below.{flat_map_below, none_from, least_is, flat_map_same}
-use Rattle.ldm_frags.proofs.JoinLaws.{gathered_none, gathered_more, entries_none, entries_more, frag_is, entry_none, entry_later, entry_whole, entry_first, one_entry}
+use Rattle.ldm_frags.proofs.JoinLaws.{gathered_none, gathered_more, frag_is, entry_none, entry_later, entry_whole, entry_first, one_entry}
 use Rattle.ldm_frags.proofs.WriteLaws.{HasFields, fields_of}
 use Rattle.std.proofs.lemmas.List.Sums.{sum_by-cons, sum_by_push, sum_by-take-le}
 use Rattle.std.proofs.lemmas.List.Elements.{All-append, All-cons, All-tail}
@@ -309,9 +308,13 @@ joined_more : (records : List Placed) (k : ℕ) → joined_below records (suc k)
 unfolding joined_below
 joined_more records k = sym (ap (joined_below records) (add-one k)) ∙ flat_map_below (λ (j : ℕ). map joined_of (begin_at records (j + 4))) k
 
-entries_held : (blocks : List ℕ) (records : List Placed) → length blocks ≤ 1048576 → Holds blocks records → joined_below records (count blocks) ≡ entries blocks (count blocks)
+entries_held : (blocks : List ℕ) (records : List Placed) → length blocks ≤ 1048576
+    → Holds blocks records → joined_below records (count blocks) ≡ entries blocks (count blocks)
 unfolding joined_below entries
-entries_held blocks records small holds = flat_map_same _ (entry blocks) (count blocks) (λ k lt. sym (entry_held blocks records k small holds lt (stands blocks records small holds k lt)))
+entries_held blocks records small holds =
+    flat_map_same _ (entry blocks) (count blocks)
+    (λ k lt. sym (entry_held blocks records k small holds lt
+    (stands blocks records small holds k lt)))
 
 -- Blocks that hold records, wherever their parts stand, join to these records in rising number of part 0.
 pub holds_joins : (blocks : List ℕ) (records : List Placed) → length blocks ≤ 1048576 → Holds blocks records → Joins blocks (joined_below records (count blocks))

@@ -1,6 +1,7 @@
--- Lists of blocks with no fault are joined, and those with one are not; blocks that read alike join alike.
-use Rattle.std.proofs.Common.{◌≡◌, ℕ, ◌+◌, ◌<◌, ◌≤◌, Bool, true, false, not, cond, eqb, ltb, leb, List, [], ◌++◌, Option, Some, None, refl, sym, ap, subst, ◌∙◌, arith, inl, inr, zero, suc, ◌*◌, ◌∷◌, take, drop, add-one}
-use Rattle.std.specs.Prelude.{◌&&◌, ◌⊎◌, ◌↔◌, Result, Ok, Err, IsErrAnd, ◌||◌}
+-- Lists of blocks with no fault are joined, and those with one are not; blocks that read alike join
+-- alike.
+use Rattle.std.proofs.Common.{◌≡◌, ℕ, ◌+◌, ◌<◌, ◌≤◌, Bool, true, false, not, cond, eqb, ltb, leb, List, [], ◌++◌, Option, Some, None, refl, sym, ap, subst, ◌∙◌, arith, inl, inr, ◌*◌, ◌∷◌, take, drop}
+use Rattle.std.specs.Prelude.{◌&&◌, ◌↔◌, Result, Ok, Err, IsErrAnd}
 use Rattle.std.proofs.lemmas.Bool.{cases_lt, ltb-false, le-ltb, leb-false, lt-leb, le-leb, eqb-true, eq-eqb, false≢true, leb-true, cases_Bool, and_parts, not-false, cases_order, cases_eq, ne_eqb}
 use Rattle.ldm_frags.specs.declared.faults.FragFault.{FragFault}
 use Rattle.ldm_frags.specs.declared.faults.FragFault.TheVariants.{NoMagic, Parts, Part, Mixed, Repeated, Missing}
@@ -47,7 +48,10 @@ cond_none false x y e = (refl, e)
 
 pub has_all_of : (blocks : List ℕ) (k : ℕ) → missing_fault blocks k ≡ None → is_fragment blocks k ≡ true → has_all blocks k ≡ true
 unfolding missing_fault
-has_all_of blocks k e h = not-false (has_all blocks k) (rw h at (cond_none (is_fragment blocks k && not (has_all blocks k)) (Missing (k + 4)) None e).0)
+has_all_of blocks k e h =
+    not-false (has_all blocks k)
+    (rw h at (cond_none (is_fragment blocks k && not (has_all blocks k))
+    (Missing (k + 4)) None e).0)
 
 pub part_there : (blocks : List ℕ) (g n p : ℕ) → has_parts blocks g n ≡ true → p < n → some_below (count blocks) (is_part blocks g p) ≡ true
 unfolding has_parts
@@ -76,7 +80,8 @@ sound_of blocks k e =
     let tail_1 : Option FragFault = cond (leb (parts blocks k) (part blocks k)) (Some (Part (k + 4))) tail_2 in
     let a = cond_none (not (has_magic blocks k)) (NoMagic (k + 4)) _ e in
     let b = cond_none (ltb 4 (parts blocks k)) (Parts (k + 4)) (cond (not (is_fragment blocks k)) None tail_1) a.1 in
-    let c = λ (h : is_fragment blocks k ≡ true). cond_none (leb (parts blocks k) (part blocks k)) (Part (k + 4)) tail_2 (rw h at b.1) in
+    let c = λ (h : is_fragment blocks k ≡ true). cond_none (leb (parts blocks k) (part blocks k))
+    (Part (k + 4)) tail_2 (rw h at b.1) in
     let d = λ (h : is_fragment blocks k ≡ true). cond_none mixed (Mixed (k + 4)) tail_3 (c h).1 in
     let f = λ (h : is_fragment blocks k ≡ true). cond_none again (Repeated (k + 4)) None (d h).1 in
     record {
@@ -398,7 +403,9 @@ unfolding gathered
 gathered_same a b g n many same there = flat_map_same _ _ n (λ p lt.
     let passes = least_passes (count b) (is_part b g p) (there p lt) in
     ap (λ (m : ℕ). payload a (least_below m (is_part a g p))) many
-    ∙ ap (payload a) (least_same (count b) (is_part a g p) (is_part b g p) (λ j lj. part_same a b j (same j lj) refl refl)) ∙ payload_same p (least_below (count b) (is_part b g p)) passes.0 passes.1)
+    ∙ ap (payload a) (least_same (count b) (is_part a g p) (is_part b g p)
+    (λ j lj. part_same a b j (same j lj) refl refl))
+    ∙ payload_same p (least_below (count b) (is_part b g p)) passes.0 passes.1)
   where
     payload_same : (p j : ℕ) → j < count b → is_part b g p j ≡ true → payload a j ≡ payload b j
     payload_same p j lt is =
@@ -440,24 +447,34 @@ one_entry a b x y e f = λ i. joined (e i) (f i) ∷ []
 
 -- what a block adds, that of one that reads alike adds
 entry_same : (a b : List ℕ) (k : ℕ) → count a ≡ count b → AreSame (count b) a b → k < count b → missing_fault b k ≡ None → entry a k ≡ entry b k
-entry_same a b k many same lt full = let s = same k lt in let n = s.parts in let p = s.part in elim (cases_order (parts b k) 1) [
-  | inl one ↦ entry_whole a k (omega arith) ∙ one_entry _ _ _ _ refl (s.payload (omega arith)) ∙ sym (entry_whole b k one)
-  | inr off ↦ elim off [
-    | inl none ↦ entry_none a k (omega arith) ∙ sym (entry_none b k (omega arith))
-    | inr two ↦ elim (cases_eq (part b k) 0) [
-      | inl first ↦ entry_first a k (omega arith) (omega arith)
-          ∙ one_entry _ _ _ _ refl ((λ i. gathered a (s.group i) (s.parts i))
-          ∙ gathered_same a b (group b k) (parts b k) many same (λ p below. part_there b (group b k) (parts b k) p (has_all_of b k full (le-leb _ _ two)) below))
-          ∙ sym (entry_first b k two first)
-      | inr later ↦ entry_later a k (omega arith) (omega arith) ∙ sym (entry_later b k two (omega arith))
+entry_same a b k many same lt full =
+    let s = same k lt in
+    let n = s.parts in
+    let p = s.part in
+    let there = λ (two : 2 ≤ parts b k) (p : ℕ) (below : p < parts b k).
+    part_there b (group b k) (parts b k) p (has_all_of b k full (le-leb _ _ two)) below in
+    elim (cases_order (parts b k) 1) [
+      | inl one ↦ entry_whole a k (omega arith)
+          ∙ one_entry _ _ _ _ refl (s.payload (omega arith)) ∙ sym (entry_whole b k one)
+      | inr off ↦ elim off [
+        | inl none ↦ entry_none a k (omega arith) ∙ sym (entry_none b k (omega arith))
+        | inr two ↦ elim (cases_eq (part b k) 0) [
+          | inl first ↦ entry_first a k (omega arith) (omega arith)
+              ∙ one_entry _ _ _ _ refl ((λ i. gathered a (s.group i) (s.parts i))
+              ∙ gathered_same a b (group b k) (parts b k) many same (there two))
+              ∙ sym (entry_first b k two first)
+          | inr later ↦ entry_later a k (omega arith) (omega arith)
+              ∙ sym (entry_later b k two (omega arith))
+        ]
+      ]
     ]
-  ]
-]
 
 entries_same : (a b : List ℕ) (n : ℕ) → count a ≡ count b → AreSame (count b) a b → n ≤ count b → first_below (count b) (missing_fault b) ≡ None → entries a n ≡ entries b n
 unfolding entries
 entries_same a b n many same le full =
-    flat_map_same (entry a) (entry b) n (λ k lt. entry_same a b k many same (omega arith) (faultless_below (count b) k (missing_fault b) full (omega arith)))
+    flat_map_same (entry a) (entry b) n
+    (λ k lt. entry_same a b k many same (omega arith)
+    (faultless_below (count b) k (missing_fault b) full (omega arith)))
 
 joins_same : (a b : List ℕ) (list : List Joined) → count a ≡ count b → AreSame (count b) a b → Joins a list → Joins b list
 unfolding first_block_fault

@@ -44,10 +44,11 @@ mixed_none blocks k g n none = none_from k (is_mixed blocks g n) (λ j lt. let o
 
 pub mixed_some : (blocks : List ℕ) (k g n : ℕ) (found : Group) → Knows blocks k g (Some found) → not (eqb found.parts n) ≡ some_below k (is_mixed blocks g n)
 mixed_some blocks k g n found met = elim (cases_Bool (eqb found.parts n)) [
-  | inl e ↦ rw e (sym (none_from k (is_mixed blocks g n) (λ j lt. elim (cases_Bool (is_of blocks g j)) [
-    | inl of ↦ rw (of, eq-eqb _ _ (met.one_count j lt of ∙ eqb-true _ _ e)) refl
-    | inr other ↦ rw other refl
-  ])))
+  | inl e ↦ rw e (sym (none_from k (is_mixed blocks g n) (λ j lt.
+      elim (cases_Bool (is_of blocks g j)) [
+        | inl of ↦ rw (of, eq-eqb _ _ (met.one_count j lt of ∙ eqb-true _ _ e)) refl
+        | inr other ↦ rw other refl
+      ])))
   | inr e ↦
       let least = least_passes k (is_of blocks g) met.some in
       let differs = ap (λ (m : ℕ). eqb m n) (met.one_count _ least.0 least.1) ∙ e in
@@ -115,7 +116,8 @@ pub known_kept : (blocks : List ℕ) (k g : ℕ) (found : Option Group) → is_o
 known_kept blocks k g None other none = some_more k (is_of blocks g) other ∙ none
 known_kept blocks k g (Some group) other met = record {
   some = some_more k (is_of blocks g) other ∙ met.some;
-  one_count = below_more (λ j. is_of blocks g j ≡ true → parts blocks j ≡ group.parts) k met.one_count (λ of. absurd (false≢true (sym other ∙ of)));
+  one_count = below_more (λ j. is_of blocks g j ≡ true → parts blocks j ≡ group.parts) k
+      met.one_count (λ of. absurd (false≢true (sym other ∙ of)));
   places = met.places;
 }
 
@@ -142,14 +144,20 @@ known_more blocks k g found places e sound frag of len known = record {
     -- block k has as many parts as those before
     counted : (s : Group) → IsMet blocks k g s → parts blocks k ≡ s.parts
     counted s met =
-        let unmixed : some_below k (is_mixed blocks g (parts blocks k)) ≡ false = rw e (sound.unmixed frag) in
-        sym (eqb-true _ _ (not-false (eqb s.parts (parts blocks k)) (mixed_some blocks k g (parts blocks k) s met ∙ unmixed)))
+        let unmixed : some_below k (is_mixed blocks g (parts blocks k)) ≡ false =
+        rw e (sound.unmixed frag) in
+        sym (eqb-true _ _ (not-false (eqb s.parts (parts blocks k))
+        (mixed_some blocks k g (parts blocks k) s met ∙ unmixed)))
 
     Counts : ℕ → ℕ → Type 0
     Counts n j = is_of blocks g j ≡ true → parts blocks j ≡ n
 
-    counts : (f : Option Group) → Knows blocks k g f → (j : ℕ) → j < k + 1 → Counts (unwrap_or f (empty_group (parts blocks k))).parts j
-    counts None none = below_more (Counts (parts blocks k)) k (λ j below is. absurd (false≢true (sym (none_there k j (is_of blocks g) below none) ∙ is))) (λ is. refl)
+    counts : (f : Option Group) → Knows blocks k g f → (j : ℕ) → j < k + 1
+        → Counts (unwrap_or f (empty_group (parts blocks k))).parts j
+    counts None none =
+        below_more (Counts (parts blocks k)) k
+        (λ j below is. absurd (false≢true (sym (none_there k j (is_of blocks g) below none) ∙ is)))
+        (λ is. refl)
     counts (Some s) met = below_more (Counts s.parts) k met.one_count (λ is. counted s met)
 
 four : (blocks : List ℕ) (k g : ℕ) (f : Option Group) → Knows blocks k g f → length (unwrap_or f (empty_group (parts blocks k))).places ≡ 4
@@ -387,9 +395,12 @@ kept_more pieces piece block old new kept next noted = record {
     head = next.is.head ∙ same_head (sym last.group) (sym last.part) (sym last.parts)
 
     sound_at : (k : ℕ) → k < count (blocks_of (pieces ++ piece ∷ [])) → block_fault (blocks_of (pieces ++ piece ∷ [])) k ≡ None
-    sound_at k lt = below_more (λ j. block_fault (blocks_of (pieces ++ piece ∷ [])) j ≡ None) (length pieces) (λ j below.
+    sound_at k lt =
+        below_more (λ j. block_fault (blocks_of (pieces ++ piece ∷ [])) j ≡ None) (length pieces)
+        (λ j below.
         fault_same (blocks_of (pieces ++ piece ∷ [])) (blocks_of pieces) j (λ i li. before_same pieces piece i (omega arith)) (before_same pieces piece j below)
-        ∙ faultless_below (count (blocks_of pieces)) j (block_fault (blocks_of pieces)) kept.sound (omega (arith, many))) clean k (omega (arith, many_all))
+        ∙ faultless_below (count (blocks_of pieces)) j (block_fault (blocks_of pieces)) kept.sound
+        (omega (arith, many))) clean k (omega (arith, many_all))
 
 no_group : (groups : BTreeMap ℕ Group) (g : ℕ) → groups.entries ≡ [] → get nat_cmp groups g ≡ None
 no_group groups g none = rw none refl
@@ -445,13 +456,18 @@ pub fed_more : (old new : Fed) (pieces : List Piece) (piece : Piece) (blocks blo
 fed_more old new pieces piece blocks block e f going next fed = record {
   whole = let whole = fed.whole in omega (arith, length-append blocks block, next.len);
   many = ap count f ∙ count_of (pieces ++ piece ∷ []) ∙ length_push pieces piece ∙ ap (λ (m : ℕ). m + 1) many ∙ sym longer;
-  same = λ k lt. subst (λ (x : List ℕ). IsSameBlock x k (blocks ++ block) k) (sym f) (below_more (λ j. IsSameBlock (blocks_of (pieces ++ piece ∷ [])) j (blocks ++ block) j) (count blocks) (λ j below.
-      same_through (blocks_of (pieces ++ piece ∷ [])) j (blocks_of pieces) j (blocks ++ block) j (before_same pieces piece j (omega (arith, many)))
+  same = λ k lt. subst (λ (x : List ℕ). IsSameBlock x k (blocks ++ block) k) (sym f)
+      (below_more (λ j. IsSameBlock (blocks_of (pieces ++ piece ∷ [])) j (blocks ++ block) j)
+      (count blocks) (λ j below.
+      same_through (blocks_of (pieces ++ piece ∷ [])) j (blocks_of pieces) j (blocks ++ block) j
+      (before_same pieces piece j (omega (arith, many)))
       (same_through (blocks_of pieces) j blocks j (blocks ++ block) j (subst (λ (x : List ℕ). IsSameBlock x j blocks j) e (fed.same j below))
       (same_turned (blocks ++ block) j blocks j (same_before blocks block j below))))
-      (same_through (blocks_of (pieces ++ piece ∷ [])) (count blocks) block 0 (blocks ++ block) (count blocks)
+      (same_through (blocks_of (pieces ++ piece ∷ [])) (count blocks) block 0 (blocks ++ block)
+      (count blocks)
       (subst (λ (m : ℕ). IsSameBlock (blocks_of (pieces ++ piece ∷ [])) m block 0) many (next_last pieces piece block next))
-      (same_turned (blocks ++ block) (count blocks) block 0 (end_same blocks block (count blocks) fed.whole next.len)))
+      (same_turned (blocks ++ block) (count blocks) block 0
+      (end_same blocks block (count blocks) fed.whole next.len)))
       k (omega (arith, longer)));
   sound = faultless_from (count (blocks ++ block)) (block_fault (blocks ++ block)) sound_at;
   going = going;
@@ -465,8 +481,10 @@ fed_more old new pieces piece blocks block e f going next fed = record {
 
     sound_at : (k : ℕ) → k < count (blocks ++ block) → block_fault (blocks ++ block) k ≡ None
     sound_at k lt = below_more (λ j. block_fault (blocks ++ block) j ≡ None) (count blocks)
-        (λ j below. fault_before blocks block j below ∙ faultless_below (count blocks) j (block_fault blocks) fed.sound below)
-        (sym (fed_fault old pieces blocks block e next.len fed) ∙ next.clean) k (omega (arith, longer))
+        (λ j below. fault_before blocks block j below
+        ∙ faultless_below (count blocks) j (block_fault blocks) fed.sound below)
+        (sym (fed_fault old pieces blocks block e next.len fed) ∙ next.clean)
+        k (omega (arith, longer))
 
 -- ---- what pieces say
 

@@ -1,7 +1,7 @@
 -- A block that is written: what it says, what is compared with it, and what its write leaves.
-use Rattle.std.proofs.Common.{◌≡◌, ℕ, ◌+◌, ◌-◌, ◌*◌, ◌^◌, ◌<◌, ◌≤◌, true, List, ◌++◌, take, drop, sym, ap, subst, ◌∙◌, arith, eq-eqb, suc, length, replicate, min, append_assoc, inl, inr, ◌↔◌, Bool, false, IsTrue}
+use Rattle.std.proofs.Common.{◌≡◌, ℕ, ◌+◌, ◌-◌, ◌*◌, ◌^◌, ◌<◌, ◌≤◌, true, List, ◌++◌, take, drop, sym, ap, subst, ◌∙◌, arith, eq-eqb, suc, length, replicate, min, inl, inr, ◌↔◌, Bool, false, IsTrue}
 use Rattle.std.proofs.Math.Nat.{mod-eq_of_lt}
-use Rattle.std.proofs.lemmas.List.{drop-drop, drop-take, append-nil, drop_at, take_at, take-append-le, take-take, take_all, take_rest, drop-append-le, drop-replicate, length-append, length-take-le, length-drop, length-replicate}
+use Rattle.std.proofs.lemmas.List.{drop-drop, drop-take, append-nil, take_at, take-append-le, take-take, take_all, take_rest, drop-append-le, drop-replicate, length-append, length-take-le, length-drop, length-replicate}
 use Rattle.byteorder.specs.Endian.{big_number, big_bytes}
 use Rattle.byteorder.specs.Numbers.{big_from-take, big_from-bytes}
 use Rattle.ldm_frags.specs.Blocks.{has_magic, group, part, parts, payload, count}
@@ -72,7 +72,10 @@ module _ (old new : List ℕ) (number : ℕ) (x : List ℕ) (w : Writes old new 
   fits = (let from = w.from in let within = w.within in let block = w.block in omega arith)
 
   pub written_here : block_at new number ≡ x
-  written_here = ap (λ (b : List ℕ). block_at b number) w.put ∙ ap (take 128) (drop-put old (128 * (number - 4)) x fits) ∙ take_at x (drop (128 * (number - 4) + length x) old) 128 w.block
+  written_here =
+      ap (λ (b : List ℕ). block_at b number) w.put
+      ∙ ap (take 128) (drop-put old (128 * (number - 4)) x fits)
+      ∙ take_at x (drop (128 * (number - 4) + length x) old) 128 w.block
 
   pub written_other : (b : ℕ) → 4 ≤ b → (b ≡ number → ⊥) → block_at new b ≡ block_at old b
   written_other b from_b apart =
@@ -80,9 +83,15 @@ module _ (old new : List ℕ) (number : ℕ) (x : List ℕ) (w : Writes old new 
       let span : 128 ≡ at + 128 - at = omega arith in
       let from = w.from in
       let block = w.block in
-      ap (λ (y : List ℕ). block_at y b) w.put ∙ ap (λ (n : ℕ). take n (drop at (put old (128 * (number - 4)) x))) span
-      ∙ same_range (put old (128 * (number - 4)) x) old at (at + 128) (length-put old (128 * (number - 4)) x fits) (λ k low high.
-      get_or-put_outside old (128 * (number - 4)) x k fits (elim (cases_lt k (128 * (number - 4))) [ inl before ↦ inl before | inr behind ↦ inr (omega arith) ]))
+      ap (λ (y : List ℕ). block_at y b) w.put
+      ∙ ap (λ (n : ℕ). take n (drop at (put old (128 * (number - 4)) x))) span
+      ∙ same_range (put old (128 * (number - 4)) x) old at (at + 128)
+      (length-put old (128 * (number - 4)) x fits) (λ k low high.
+      get_or-put_outside old (128 * (number - 4)) x k fits
+      (elim (cases_lt k (128 * (number - 4))) [
+        | inl before ↦ inl before
+        | inr behind ↦ inr (omega arith)
+      ]))
       ∙ ap (λ (n : ℕ). take n (drop at old)) (sym span)
 
 -- bytes with zeros behind them

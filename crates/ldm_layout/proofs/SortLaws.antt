@@ -1,4 +1,5 @@
--- Lists of parts in their order: sorts by a number, the part of a list with one number, and the least of some numbers.
+-- Lists of parts in their order: sorts by a number, the part of a list with one number, and the
+-- least of some numbers.
 use Rattle.std.proofs.Common.{◌≡◌, ℕ, ◌≤◌, min, List, [], ◌∷◌, length, get_or, take, drop, ◌-◌, refl, ap, ◌∙◌, arith, map, fold, zero, suc, ◌<◌, ◌==◌, ◌&&◌, not, inl, inr, Bool, true, false, cond, sym, subst, leb, ltb}
 use Rattle.std.proofs.lemmas.List.{take_rest}
 use Rattle.ldm_layout.specs.Parts.{least, insert_by, in_rising}
@@ -209,7 +210,8 @@ range_order n q xs d i j r = elim (cases_lt j i) [
   | inr le ↦ le
 ]
 
-tail_range : {X : Type 0} (n : X → ℕ) (q : ℕ) (x : X) (xs : List X) (i j a b : ℕ) → a ≡ i - 1 → b ≡ j - 1 → IsRange n q (x ∷ xs) i j → IsRange n q xs a b
+tail_range : {X : Type 0} (n : X → ℕ) (q : ℕ) (x : X) (xs : List X) (i j a b : ℕ) → a ≡ i - 1
+    → b ≡ j - 1 → IsRange n q (x ∷ xs) i j → IsRange n q xs a b
 tail_range n q x xs i j a b e f r = let starts = r.starts in let ends = r.ends in record {
   ends = omega arith;
   starts = omega arith;
@@ -228,14 +230,20 @@ range_is n q [] i j r = (let hi : i ≤ 0 = r.starts in let hj : j ≤ 0 = r.end
     ap (λ a. take (j - a) (drop a [])) zi ∙ ap (λ b. take (b - 0) []) zj)
 range_is n q (x ∷ xs) zero zero r =
     let above : q < n x = r.high 0 x (omega arith) (omega arith) in
-    range_is n q xs 0 0 (tail_range n q x xs 0 0 0 0 (omega arith) (omega arith) r) ∙ sym (number_no n q x xs (λ e. omega arith))
+    range_is n q xs 0 0 (tail_range n q x xs 0 0 0 0 (omega arith) (omega arith) r)
+    ∙ sym (number_no n q x xs (λ e. omega arith))
 range_is n q (x ∷ xs) (suc i) zero r =
     absurd (let below : n x < q = r.low 0 x (omega arith) in let above : q < n x = r.high 0 x (omega arith) (omega arith) in omega arith)
 range_is n q (x ∷ xs) zero (suc j) r =
     let here : n x ≡ q = (let ge : q ≤ n x = r.not_low 0 x (omega arith) (omega arith) in let le : n x ≤ q = r.not_high 0 x (omega arith) in omega arith) in
     let more : suc j - 0 ≡ suc (j - 0) = omega arith in
-    take_by (suc j - 0) (suc (j - 0)) (x ∷ xs) more ∙ (ap (λ ys. x ∷ ys) (range_is n q xs 0 j (tail_range n q x xs 0 (suc j) 0 j (omega arith) (omega arith) r)) ∙ sym (number_yes n q x xs here))
+    take_by (suc j - 0) (suc (j - 0)) (x ∷ xs) more
+    ∙ (ap (λ ys. x ∷ ys)
+    (range_is n q xs 0 j (tail_range n q x xs 0 (suc j) 0 j (omega arith) (omega arith) r))
+    ∙ sym (number_yes n q x xs here))
 range_is n q (x ∷ xs) (suc i) (suc j) r =
     let below : n x < q = r.low 0 x (omega arith) in
     let gap : suc j - suc i ≡ j - i = omega arith in
-    take_by (suc j - suc i) (j - i) (drop i xs) gap ∙ (range_is n q xs i j (tail_range n q x xs (suc i) (suc j) i j (omega arith) (omega arith) r) ∙ sym (number_no n q x xs (λ e. omega arith)))
+    take_by (suc j - suc i) (j - i) (drop i xs) gap
+    ∙ (range_is n q xs i j (tail_range n q x xs (suc i) (suc j) i j (omega arith) (omega arith) r)
+    ∙ sym (number_no n q x xs (λ e. omega arith)))

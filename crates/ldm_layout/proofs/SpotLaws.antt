@@ -1,5 +1,6 @@
--- Where the sectors of a layout without faults lie: each at a spot of its own in each copy, inside a partition, and side by side with the next.
-use Rattle.std.proofs.Common.{◌≡◌, ℕ, zero, suc, ◌+◌, ◌^◌, ◌<◌, ◌≤◌, List, [], ◌∷◌, length, get_or, map, refl, ap, arith, Option, Some, slice_get, ◌==◌, ◌&&◌, not, Bool, true, false, sym, subst, nat_le, None, inl, inr, drop, ◌∙◌, nat_lt, find, sum_by, ◌-◌, ◌*◌, ◌/◌, ◌%◌, min, cond, add_assoc}
+-- Where the sectors of a layout without faults lie: each at a spot of its own in each copy, inside
+-- a partition, and side by side with the next.
+use Rattle.std.proofs.Common.{◌≡◌, ℕ, zero, suc, ◌+◌, ◌^◌, ◌<◌, ◌≤◌, List, [], ◌∷◌, length, get_or, map, refl, ap, arith, Option, Some, slice_get, ◌==◌, ◌&&◌, Bool, true, false, sym, subst, nat_le, None, inl, inr, drop, ◌∙◌, nat_lt, find, sum_by, ◌-◌, ◌*◌, ◌/◌, ◌%◌, min, cond, add_assoc}
 use Rattle.std.specs.Option.{option_map}
 use Rattle.ldm_layout.specs.Answers.{AllEnd, IsPlan, IsPlexOf}
 use Rattle.ldm_layout.specs.Layouts.{place_at, Layout, is_tiled, has_gap, lacks_chunk, lacks_columns, has_columns, is_short, fewest, plex_capacity, capacity_of, layout_fault, covers, tile_spot, stripe_spot, raid5_spot, parity_spot, plex_spot, parity_at, place_in}
@@ -20,7 +21,7 @@ use Rattle.ldm_layout.specs.declared.shape.Shape.{Shape}
 use Rattle.ldm_layout.specs.declared.shape.Shape.TheVariants.{Span, Stripe, Mirror, Raid5}
 use Rattle.std.specs.Prelude.{option_and_then}
 use Rattle.std.proofs.lemmas.Nat.{div-add-mod', div-mul-add, mod-mul-add}
-use Rattle.ldm_layout.specs.Columns.{columns_of, own_column, column_spot, column_in, moved, IsStretch}
+use Rattle.ldm_layout.specs.Columns.{columns_of, column_spot, moved, IsStretch}
 use Rattle.std.proofs.lemmas.Option.{slice_get-get_or}
 
 -- ---- Columns: none is smaller than the least, and the sectors of a volume lie inside them.
@@ -97,9 +98,12 @@ plex_facts l k d sound h =
     let none = has_none l sound in
     let es = get_or l.plexes k d in
     let columned : is_tiled l.shape ≡ false → ((fewest l.shape ≤ length es) × (rises_from 0 es ≡ true)) = λ e. columns_parts l es
-    (AllPass-from_list_all (has_columns l) l.plexes (not-false (list_all (has_columns l) l.plexes) (rw (not_from_false (is_tiled l.shape) e) at none.columns)) k d h) in
+    (AllPass-from_list_all (has_columns l) l.plexes
+    (not-false (list_all (has_columns l) l.plexes)
+    (rw (not_from_false (is_tiled l.shape) e) at none.columns)) k d h) in
     record {
-      tiled = λ e. AllPass-from_list_all tiles l.plexes (not-false (list_all tiles l.plexes) (rw e at none.gap)) k d h;
+      tiled = λ e. AllPass-from_list_all tiles l.plexes
+          (not-false (list_all tiles l.plexes) (rw e at none.gap)) k d h;
       chunked = λ e. (let some = eqb-false l.chunk 0 (rw e at none.chunk) in omega arith);
       columned = λ e. (columned e).0;
       rises = λ e. (columned e).1;
@@ -150,7 +154,9 @@ begins_behind at (e ∷ es) (suc k) d tiled h =
     omega arith
 
 -- so they rise by what doesn't fall from a tile to one behind it
-pub tiles_rise : (n : Extent → ℕ) (at : ℕ) (es : List Extent) → ((e f : Extent) → e.offset + e.size ≤ f.offset → n e ≤ n f) → tiles_from at es ≡ true → IsNonDecreasingBy n es
+pub tiles_rise : (n : Extent → ℕ) (at : ℕ) (es : List Extent)
+    → ((e f : Extent) → e.offset + e.size ≤ f.offset → n e ≤ n f) → tiles_from at es ≡ true
+    → IsNonDecreasingBy n es
 tiles_rise n at [] next tiled i j d le h = absurd (omega arith)
 tiles_rise n at (e ∷ es) next tiled zero zero d le h = omega arith
 tiles_rise n at (e ∷ es) next tiled (suc i) zero d le h = absurd (omega arith)
@@ -463,7 +469,9 @@ spot_at e o = Some (e, o)
 abbrev pub along : ℕ → Option (Extent × ℕ) → Option (Extent × ℕ)
 along i spot = option_map (λ s. (s.0, s.1 + i)) spot
 
-pub spot_along : (g : Option Extent) (o p i : ℕ) → o ≡ p + i → option_map {U = Extent × ℕ} (λ (f : Extent). (f, o)) g ≡ along i (option_map {U = Extent × ℕ} (λ (f : Extent). (f, p)) g)
+pub spot_along : (g : Option Extent) (o p i : ℕ) → o ≡ p + i
+    → option_map {U = Extent × ℕ} (λ (f : Extent). (f, o)) g
+    ≡ along i (option_map {U = Extent × ℕ} (λ (f : Extent). (f, p)) g)
 spot_along None o p i e = refl
 spot_along (Some f) o p i e = ap (λ (n : ℕ). spot_at f n) e
 

@@ -1,9 +1,9 @@
 -- What a layout is made of: the components and partitions of a volume, and drafts of them.
-use Rattle.std.proofs.Common.{◌≡◌, ℕ, suc, ◌<◌, ◌==◌, List, [], ◌∷◌, length, get_or, refl, sym, ap, ◌∙◌, arith, Bool, true, false, Option, Some, None, zero, ◌+◌, ◌*◌, ◌^◌, inl, inr, subst, slice_get, cond, map, IfSome, Result, Ok, Err, IfOk, nat_le, ◌≤◌, ◌&&◌, ◌||◌, not, ◌++◌, sum_by}
+use Rattle.std.proofs.Common.{◌≡◌, ℕ, suc, ◌<◌, ◌==◌, List, [], ◌∷◌, length, get_or, refl, sym, ap, ◌∙◌, arith, Bool, true, false, Option, Some, None, ◌+◌, ◌*◌, ◌^◌, inl, inr, subst, slice_get, cond, map, IfSome, Result, Ok, Err, IfOk, nat_le, ◌≤◌, ◌||◌, ◌++◌, sum_by}
 use Rattle.std.specs.Prelude.{filter, if◌then◌else◌}
 use Rattle.std.specs.List.{filter_map, All, AllPairs, Contains, cons_option, list_all, list_any}
 use Rattle.std.specs.Option.{option_map}
-use Rattle.std.proofs.lemmas.Bool.{eq-eqb, cases_lt, eqb-true, and_from, le-ltb}
+use Rattle.std.proofs.lemmas.Bool.{eq-eqb, cases_lt, eqb-true, and_from}
 use Rattle.ldm_records.specs.declared.types.Record.{Record}
 use Rattle.ldm_records.specs.declared.types.Record.TheVariants as kinds
 use Rattle.ldm_records.specs.declared.types.Volume.{Volume}
@@ -13,16 +13,16 @@ use Rattle.ldm_group.proofs.KinLaws.{filter_keeps, named_there}
 use Rattle.ldm_layout.specs.declared.shape.Shape.{Shape}
 use Rattle.ldm_layout.specs.declared.parts.Plex.{Plex}
 use Rattle.ldm_layout.specs.declared.parts.Extent.{Extent}
-use Rattle.ldm_layout.specs.Parts.{plex_of, extent_of, plex_in, plexes_of, extent_in, extents_of, plexes_at, extents_at, insert_by, in_rising, by_offset, by_index, tile_key, is_partition_of, tiles, tiles_from, least}
-use Rattle.ldm_layout.specs.Layouts.{Layout, is_tiled, layout_fault, copies_by, is_short, has_gap, plex_capacity, capacity_of}
+use Rattle.ldm_layout.specs.Parts.{plex_of, extent_of, plex_in, plexes_of, extent_in, extents_of, plexes_at, extents_at, insert_by, in_rising, by_offset, by_index, tile_key, is_partition_of, tiles, tiles_from}
+use Rattle.ldm_layout.specs.Layouts.{Layout, is_tiled, layout_fault, copies_by}
 use Rattle.ldm_layout.specs.Volumes.{layout_of, shape_of, draft_of, checked, laid_out, striping_of, fault_of, fault_at, is_basic}
 use Rattle.std.proofs.lemmas.List.Kept.{AllPairs-filter, AllPairs-cons}
 use Rattle.ldm_group.specs.Order.{Rising, place_of}
 use Rattle.ldm_group.proofs.LookLaws.{one_record}
-use Rattle.std.proofs.lemmas.List.{get_or_default, length-map}
+use Rattle.std.proofs.lemmas.List.{length-map}
 use Rattle.std.proofs.lemmas.List.Elements.{All-cons, All-filter, filter_passes, All-tail, filter-append, Contains-get_or}
 use Rattle.ldm_records.specs.declared.types.Partition.{Partition}
-use Rattle.ldm_layout.proofs.SpotLaws.{some_same, PlexFacts, plex_facts, first_tile, begins_behind, tiles_rise}
+use Rattle.ldm_layout.proofs.SpotLaws.{some_same, first_tile, tiles_rise}
 use Rattle.ldm_layout.specs.Answers.{AllEnd, PlansAs, IsPlan}
 use Rattle.ldm_layout.specs.Grouped.{Lists, IsListsOf}
 use Rattle.ldm_layout.specs.declared.shape.LayoutFault.{LayoutFault}
@@ -32,7 +32,6 @@ use Rattle.ldm_bytes.specs.Tables.{unless}
 use Rattle.ldm_group.specs.Partitions.{EndsInRange}
 use Rattle.ldm_layout.specs.declared.shape.LayoutError.{LayoutError}
 use Rattle.ldm_layout.specs.declared.shape.Shape.TheVariants.{Span, Stripe, Mirror, Raid5}
-use Rattle.std.specs.List.Sorted.{IsNonDecreasingBy}
 use Rattle.std.proofs.lemmas.List.Sums.{sum_by-cons}
 use Rattle.ldm_layout.proofs.SortLaws.{rising_numbers, stable_is}
 use Rattle.std.proofs.lemmas.Option.{slice_get_within, get_or_from_slice_get, same_Some}
@@ -190,7 +189,10 @@ plexes_rise (r ∷ rs) up = go (plex_in r) refl (plexes_rise rs (λ i j d lt le.
     go : (o : Option Plex) → plex_in r ≡ o → AllPairs Above (filter_map plex_in rs) → AllPairs Above (cons_option (plex_in r) (filter_map plex_in rs))
     go None e rest = subst (λ (o : Option Plex). AllPairs Above (cons_option o (filter_map plex_in rs))) (sym e) rest
     go (Some p) e rest = subst (λ (o : Option Plex). AllPairs Above (cons_option o (filter_map plex_in rs))) (sym e)
-        (AllPairs-cons Above p (filter_map plex_in rs) (named plex_in (Above p) rs (λ k d h q is. ids_rise r (get_or rs k d) p q (up 0 (suc k) d (omega arith) (omega arith)) e is)) rest)
+        (AllPairs-cons Above p (filter_map plex_in rs)
+        (named plex_in (Above p) rs
+        (λ k d h q is. ids_rise r (get_or rs k d) p q
+        (up 0 (suc k) d (omega arith) (omega arith)) e is)) rest)
 
 once : (ps : List Plex) (i j : ℕ) (p : Plex) → AllPairs Above ps → slice_get ps i ≡ Some p → slice_get ps j ≡ Some p → i ≡ j
 once ps i j p up f g =
@@ -332,12 +334,22 @@ pub record IsDraft (ps : List Plex) (extents : ℕ → List Extent) (l : Layout)
 
 -- the draft of a shape
 abbrev drafted : ℕ → List Plex → (ℕ → List Extent) → Shape → Layout
-drafted size ps extents s = record { shape = s; size = size; chunk = (striping_of ps).chunk; columns = (striping_of ps).columns; plexes = map (λ p. laid_out s (extents p.id)) ps }
+drafted size ps extents s =
+    record {
+      shape = s;
+      size = size;
+      chunk = (striping_of ps).chunk;
+      columns = (striping_of ps).columns;
+      plexes = map (λ p. laid_out s (extents p.id)) ps;
+    }
 
-draft_shape : (size : ℕ) (ps : List Plex) (extents : ℕ → List Extent) (l : Layout) → draft_of size ps extents ≡ Some l → (s : Shape) × (shape_of ps ≡ Some s) × (drafted size ps extents s ≡ l)
+draft_shape : (size : ℕ) (ps : List Plex) (extents : ℕ → List Extent) (l : Layout)
+    → draft_of size ps extents ≡ Some l
+    → (s : Shape) × (shape_of ps ≡ Some s) × (drafted size ps extents s ≡ l)
 draft_shape size ps extents l h = go (shape_of ps) refl h
   where
-    go : (o : Option Shape) → shape_of ps ≡ o → option_map (drafted size ps extents) o ≡ Some l → (s : Shape) × (shape_of ps ≡ Some s) × (drafted size ps extents s ≡ l)
+    go : (o : Option Shape) → shape_of ps ≡ o → option_map (drafted size ps extents) o ≡ Some l
+        → (s : Shape) × (shape_of ps ≡ Some s) × (drafted size ps extents s ≡ l)
     go None is e = absurd cc
     go (Some s) is e = (s, is, same_Some (drafted size ps extents s) l e)
 
@@ -346,7 +358,8 @@ draft_parts size ps extents l h =
     let of = draft_shape size ps extents l h in
     record {
       shape = of.1 ∙ ap (λ (x : Layout). Some x.shape) of.2;
-      plexes = sym (ap (λ (x : Layout). x.plexes) of.2) ∙ ap (λ (x : Layout). map (λ p. laid_out x.shape (extents p.id)) ps) of.2;
+      plexes = sym (ap (λ (x : Layout). x.plexes) of.2)
+          ∙ ap (λ (x : Layout). map (λ p. laid_out x.shape (extents p.id)) ps) of.2;
     }
 
 -- a draft without faults is a plan
@@ -382,7 +395,9 @@ laid_out_volume records v l h =
     let both = checked_ok (draft_of v.size (plexes_of v.head.id records) (λ c. extents_of c records)) l h in
     record {
       sound = both.1;
-      size = sym (ap (λ (x : Layout). x.size) (draft_shape v.size (plexes_of v.head.id records) (λ c. extents_of c records) l both.0).2);
+      size = sym (ap (λ (x : Layout). x.size)
+          (draft_shape v.size (plexes_of v.head.id records)
+          (λ c. extents_of c records) l both.0).2);
       parts = draft_parts v.size (plexes_of v.head.id records) (λ c. extents_of c records) l both.0;
     }
 
@@ -405,7 +420,8 @@ tiles_append at (x ∷ xs) ys here behind =
 -- tiles that follow those that are there stay behind them in the sort
 pub by_offset_more : (es more : List Extent) → tiles_from 0 (by_offset es ++ more) ≡ true → by_offset (es ++ more) ≡ by_offset es ++ more
 by_offset_more es more tiled =
-    sym (stable_is tile_key (es ++ more) (by_offset es ++ more) (tiles_rise tile_key 0 (by_offset es ++ more) (λ e f le. omega arith) tiled) (λ k.
+    sym (stable_is tile_key (es ++ more) (by_offset es ++ more)
+    (tiles_rise tile_key 0 (by_offset es ++ more) (λ e f le. omega arith) tiled) (λ k.
     filter-append (λ e. tile_key e == k) (by_offset es) more ∙ ap (λ (l : List Extent). l ++ filter (λ e. tile_key e == k) more) (rising_numbers tile_key k es) ∙ sym (filter-append (λ e. tile_key e == k) es more)))
 
 pub some_tiles : (xs ys : List Extent) → tiles xs ≡ true → tiles_from 0 (xs ++ ys) ≡ true → tiles (xs ++ ys) ≡ true

@@ -1,4 +1,5 @@
--- What makes the next group sound: a change that carries the rules over, or records that are all new.
+-- What makes the next group sound: a change that carries the rules over, or records that are all
+-- new.
 use Rattle.std.proofs.Common.{◌≡◌, ◌⊎◌, inl, inr, ℕ, ◌≤◌, ◌==◌, not, List, get_or, refl, sym, ap, subst, ◌∙◌, arith, true, false, None, Ok, Contains, count_by, zero, suc, ◌+◌, ◌<◌, Bool, cond, [], ◌∷◌, length, slice_get, Some, find, position}
 use Rattle.std.specs.Prelude.{filter, is_none, map, nat_le, nat_lt}
 use Rattle.std.proofs.lemmas.Bool.{not-false, eqb-true, eq-eqb, cases_lt, false≢true}
@@ -112,7 +113,8 @@ pub record Carries (old next : List Record) : Type 0 where
 
 -- ---- what rules say of one record
 
-pub at_disk : (id : ℕ) (r : Record) → is_at 2 id r ≡ true → (d : Disk) × (r ≡ kinds.Disk d) × (d.head.id ≡ id)
+pub at_disk : (id : ℕ) (r : Record) → is_at 2 id r ≡ true
+    → (d : Disk) × (r ≡ kinds.Disk d) × (d.head.id ≡ id)
 at_disk id (kinds.Disk d) h = (d, refl, eqb-true d.head.id id h)
 at_disk id r h = absurd cc
 

@@ -1,5 +1,6 @@
--- How the tests find the first broken rule: walks over records, layouts and sorted spans, and the table of all.
-use Rattle.std.proofs.Common.{◌≡◌, ℕ, List, [], ◌∷◌, ◌++◌, refl, Option, Some, None, Err, ◌+◌, ◌<◌, ◌==◌, inl, inr, Bool, true, false, cond, length, get_or, ap, sym, subst, ◌∙◌, arith, count_by, find, Bor, not, option_copied, take, drop, Result, Ok, ◌≢◌, ◌≤◌, ◌&&◌, max, min, zero-add, eq-eqb, nat_lt}
+-- How the tests find the first broken rule: walks over records, layouts and sorted spans, and the
+-- table of all.
+use Rattle.std.proofs.Common.{◌≡◌, ℕ, List, [], ◌∷◌, ◌++◌, refl, Option, Some, None, Err, ◌+◌, ◌<◌, ◌==◌, inl, inr, Bool, true, false, cond, length, get_or, ap, sym, subst, ◌∙◌, arith, count_by, find, Bor, not, option_copied, take, drop, Result, Ok, ◌≢◌, ◌≤◌, max, min, zero-add, eq-eqb, nat_lt}
 use Rattle.ldm_bytes.specs.Tables.{first_of}
 use Rattle.ldm_rules.specs.Table.{ChecksAs}
 use Rattle.ldm_rules.specs.declared.fault.RuleError.{RuleError}
@@ -169,9 +170,11 @@ pub count-filter_map : {X Y : Type 0} (f : X → Option Y) (test : Y → Bool) (
 count-filter_map f test [] = refl
 count-filter_map f test (x ∷ xs) =
     let rest = count-filter_map f test xs in
-    (elim (f x) as (λ o. count_by test (cons_option o (filter_map f xs)) ≡ cond (passes test o) 1 0 + count_by (λ z. passes test (f z)) xs) [
+    (elim (f x) as (λ o. count_by test (cons_option o (filter_map f xs))
+    ≡ cond (passes test o) 1 0 + count_by (λ z. passes test (f z)) xs) [
       | None ↦ rest ∙ sym (zero-add _)
-      | Some y ↦ sum_by-cons (λ z. cond (test z) 1 0) y (filter_map f xs) ∙ ap (λ n. cond (test y) 1 0 + n) rest
+      | Some y ↦ sum_by-cons (λ z. cond (test z) 1 0) y (filter_map f xs)
+          ∙ ap (λ n. cond (test y) 1 0 + n) rest
     ]) ∙ sym (sum_by-cons (λ z. cond (passes test (f z)) 1 0) x xs)
 
 abbrev pub overlaps : Span → Span → Bool
@@ -198,8 +201,11 @@ apart_once xs x apart there twice =
 -- where two partitions of the list meet, and both are of one disk
 pub overlap_of : (p q : Partition) → meets p q ≡ true → (overlaps (span p) (span q) ≡ true) × (overlaps (span p) (span p) ≡ true)
 overlap_of p q h =
-    let both = and_parts (p.disk == q.disk) (nat_lt (max p.start q.start) (min (p.start + p.size) (q.start + q.size))) h in
-    let lt : max p.start q.start < min (p.start + p.size) (q.start + q.size) = ltb-true _ _ both.1 in
+    let both = and_parts (p.disk == q.disk)
+    (nat_lt (max p.start q.start) (min (p.start + p.size) (q.start + q.size))) h in
+    let disk : p.disk ≡ q.disk = eqb-true p.disk q.disk both.0 in
+    let lt : max p.start q.start < min (p.start + p.size) (q.start + q.size) =
+    ltb-true _ _ both.1 in
     (lt-ltb _ _ (omega arith), lt-ltb _ _ (omega arith))
 
 pub two_met : (records : List Record) (sorted : List Span) (d : Record) (p q : Partition) (k j : ℕ) → Apart sorted → IsPermutation (filter_map span_of records) sorted
@@ -226,7 +232,9 @@ pub meets_none : (records : List Record) (sorted : List Span) → Apart sorted �
 meets_none records sorted apart perm = ap (λ o. option_map id_of o) (find_none (meets_another records) records (λ k d h. at (get_or records k d) k d h refl))
   where
     met : (r : Record) (p : Partition) (k : ℕ) (d : Record) → k < length records → get_or records k d ≡ kinds.Partition p → (j : ℕ) → j < length records → get_or records j d ≡ r → is_other_meeting p r ≡ true → ⊥
-    met (kinds.Partition q) p k d hk at_k j hj at_j t = two_met records sorted d p q k j apart perm hk hj at_k at_j (and_parts _ _ t).0 (and_parts _ _ t).1
+    met (kinds.Partition q) p k d hk at_k j hj at_j t =
+        two_met records sorted d p q k j apart perm hk hj at_k at_j (and_parts _ _ t).0
+        (and_parts _ _ t).1
     met r p k d hk at_k j hj at_j t = cc
 
     at : (r : Record) (k : ℕ) (d : Record) → k < length records → get_or records k d ≡ r → meets_another records (get_or records k d) ≡ false

@@ -1,5 +1,5 @@
 -- What a sound group has: each rule is kept, its volumes have layouts, no two sectors have one place, and its partitions end in range.
-use Rattle.std.proofs.Common.{◌≡◌, ℕ, zero, suc, ◌<◌, ◌≤◌, ◌==◌, ◌&&◌, not, Bool, true, false, List, [], ◌∷◌, length, get_or, refl, ap, sym, subst, ◌∙◌, arith, Option, Some, None, Result, nat_le, Contains, ◌+◌, ◌-◌, ◌*◌, ◌/◌, Ok, ◌^◌, Err, OnOk, IfOk, IfSome}
+use Rattle.std.proofs.Common.{◌≡◌, ℕ, ◌<◌, ◌≤◌, ◌==◌, ◌&&◌, not, Bool, true, false, List, [], ◌∷◌, length, get_or, refl, ap, sym, subst, ◌∙◌, arith, Option, Some, None, Result, nat_le, Contains, ◌+◌, ◌-◌, ◌*◌, ◌/◌, Ok, ◌^◌, Err, OnOk, IfOk, IfSome}
 use Rattle.std.specs.List.{All, list_all, filter_map}
 use Rattle.std.specs.Option.{option_map, option_and_then, IsSomeAnd}
 use Rattle.std.specs.Result.{result_ok}
@@ -91,7 +91,9 @@ copy_facts records v l copy has h =
     }
 
 pub raid5_copy : (records : List Record) (v : Volume) (l : Layout) (x : ℕ) → IsRaid5Sector records v l x → IsCopy records v l 0
-raid5_copy records v l x s = copy_facts records v l 0 s.volume (subst (λ (t : Shape). 0 < copies_by t (length l.plexes)) (sym s.raid5) (omega arith))
+raid5_copy records v l x s =
+    copy_facts records v l 0 s.volume
+    (subst (λ (t : Shape). 0 < copies_by t (length l.plexes)) (sym s.raid5) (omega arith))
 
 -- ---- spots
 
@@ -166,8 +168,10 @@ spot_in_own records v copy spot s =
 pub columns_are : (l : Layout) → l.shape ≡ Raid5 → HasNone l → 0 < length l.plexes → l.columns ≡ length (parts_at l 0)
 columns_are l raid5 has h =
     let all : list_all (has_columns l) l.plexes ≡ true =
-    not-false (list_all (has_columns l) l.plexes) (rw (not_from_false (is_tiled l.shape) (ap is_tiled raid5)) at has.columns) in
-    let one : has_columns l (parts_at l 0) ≡ true = AllPass-from_list_all (has_columns l) l.plexes all 0 [] h in
+    not-false (list_all (has_columns l) l.plexes)
+    (rw (not_from_false (is_tiled l.shape) (ap is_tiled raid5)) at has.columns) in
+    let one : has_columns l (parts_at l 0) ≡ true =
+    AllPass-from_list_all (has_columns l) l.plexes all 0 [] h in
     eqb-true l.columns (length (parts_at l 0))
     (and_parts (l.columns == length (parts_at l 0)) (nat_le (fewest l.shape) (length (parts_at l 0)) && rises_from 0 (parts_at l 0)) one).0
 
@@ -254,7 +258,8 @@ places_beside records v w l m x y d up apart at_x at_y e =
 -- the parity of a sector, by the columns of its volume
 parity_by : (records : List Record) (v : Volume) (l : Layout) (x y : ℕ) → IsRaid5Sector records v l x → parity_spot_in l y ≡ parity_spot (parts_at l 0) l.chunk y
 parity_by records v l x y s =
-    parity_spot_is l y (raid5_copy records v l x s).listed ∙ ap (λ (t : Shape). parity_at t l.chunk (parts_at l 0) y) s.raid5
+    parity_spot_is l y (raid5_copy records v l x s).listed
+    ∙ ap (λ (t : Shape). parity_at t l.chunk (parts_at l 0) y) s.raid5
 
 columns_of : (records : List Record) (v : Volume) (l : Layout) (x : ℕ) → IsRaid5Sector records v l x → l.columns ≡ length (parts_at l 0)
 columns_of records v l x s = columns_are l s.raid5 (has_none l (laid_out_volume records v l s.volume.layout).sound) (raid5_copy records v l x s).listed
@@ -432,7 +437,8 @@ planned records v result plan plans is = subst (λ (r : Result Layout LayoutErro
 
 -- where all volumes have layouts, no plan is a fault
 pub no_fault : (records : List Record) (v : Volume) (result : Result Layout LayoutError) (error : LayoutError) (fault : LayoutFault) → AllLaidOut records → Contains records (kinds.Volume v)
-    → PlansAs result (layout_of records v) → result ≡ Err error → error ≡ layout_errors.Fault fault → ⊥
+    → PlansAs result (layout_of records v) → result ≡ Err error
+    → error ≡ layout_errors.Fault fault → ⊥
 no_fault records v result error fault laid_out there plans is fault_is =
     let faulty : layout_of records v ≡ Err fault = subst (λ (r : Result Layout LayoutError). PlansAs r (layout_of records v)) (is ∙ ap (λ (e : LayoutError). Err e) fault_is) plans in
     let good = laid_out v there in

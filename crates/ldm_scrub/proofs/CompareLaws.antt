@@ -1,5 +1,6 @@
--- Places of a volume: where they lie, how many there are, what is compared at each, and what is said of those that are bad.
-use Rattle.std.proofs.Common.{◌≡◌, ℕ, ◌+◌, ◌-◌, ◌*◌, ◌/◌, ◌%◌, ◌<◌, ◌≤◌, Bool, false, length, refl, ap, sym, ◌∙◌, arith, add_assoc, Option, Some, None, if◌then◌else◌, slice_get, List, true, not, ◌||◌, [], ◌∷◌, ◌++◌, map, take, drop, slice_index, add-one, zero, suc, ◌==◌, get_or, replicate, filter_map, inl, inr, min, cond, nat_lt, filter, flat_map, count_by, subst, append_assoc, zero-add}
+-- Places of a volume: where they lie, how many there are, what is compared at each, and what is
+-- said of those that are bad.
+use Rattle.std.proofs.Common.{◌≡◌, ℕ, ◌+◌, ◌-◌, ◌*◌, ◌/◌, ◌%◌, ◌<◌, ◌≤◌, Bool, false, length, refl, ap, sym, ◌∙◌, arith, Option, Some, if◌then◌else◌, slice_get, List, true, not, ◌||◌, [], ◌∷◌, ◌++◌, map, take, drop, slice_index, add-one, zero, suc, ◌==◌, get_or, replicate, filter_map, inl, inr, min, cond, nat_lt, filter, flat_map, count_by, subst, append_assoc, zero-add}
 use Rattle.std.specs.Option.{option_map, option_to_list}
 use Rattle.std.proofs.lemmas.Nat.{div-add-mod', div-mul-add, mod-mul-add, mod_below, mul-le}
 use Rattle.ldm_layout.specs.Places.{raid5_offset}
@@ -18,7 +19,7 @@ use Rattle.ldm_scrub.specs.Compare.{place_sector, copy_sector, copy_differs, row
 use Rattle.std.proofs.lemmas.List.Folds.{list_any-append, list_any_at}
 use Rattle.std.specs.List.{list_any, range_with_len}
 use Rattle.std.proofs.lemmas.List.{ext_get_or, get_or-take, get_or-drop, length-take-le, length-drop, get_or-replicate, append-nil}
-use Rattle.std.proofs.lemmas.List.FromFn.{length-map-range_with_len, get_or-map-range_with_len, length-range_with_len, get_or-range_with_len}
+use Rattle.std.proofs.lemmas.List.FromFn.{length-map-range_with_len, get_or-map-range_with_len, length-range_with_len}
 use Rattle.ldm_dump.specs.Bytes.{joined_byte, joined_sector}
 use Rattle.ldm_dump.proofs.ByteLaws.{joined_behind}
 use Rattle.ldm_dump.specs.Redundant.{row_spots, IsRedundant}
@@ -85,7 +86,9 @@ place_of_row k u x some first =
 -- ---- the columns
 
 at_offset : (o : Option Extent) (p i : ℕ) → option_map place_at (option_map {U = Extent × ℕ} (λ e. (e, p + i)) o) ≡ option_map (moved i) (option_map place_at (option_map {U = Extent × ℕ} (λ e. (e, p)) o))
-at_offset o p i = ap (λ (s : Option (Extent × ℕ)). option_map place_at s) (spot_along o (p + i) p i refl) ∙ place_along (option_map {U = Extent × ℕ} (λ e. (e, p)) o) i
+at_offset o p i =
+    ap (λ (s : Option (Extent × ℕ)). option_map place_at s) (spot_along o (p + i) p i refl)
+    ∙ place_along (option_map {U = Extent × ℕ} (λ e. (e, p)) o) i
 
 -- what is in a column at a place
 column_at : (l : Layout) (p column : ℕ) → l.shape ≡ Raid5 → IsColumned l
@@ -173,8 +176,8 @@ row_part images found l p i n out raid5 columned size lt bytes =
     (λ column. ap (λ (q : Option Place). spot_at found q) (column_moved l p i column raid5 columned) ∙ spot_moved found i (column_in l (place_sector l p) column))))
 
 pub marked_once : (same : Bool) (m new : ℕ) → m ≡ 0 → new ≡ marked same m → new ≡ mark (not same)
-marked_once true m new zero is = is ∙ zero
-marked_once false m new zero is = is
+marked_once true m new none is = is ∙ none
+marked_once false m new none is = is
 
 -- ---- what is bad
 
@@ -203,7 +206,9 @@ copy_bytes sizes found l x copy n bytes s lies run copied few is =
 none_passes : (t : ℕ → Bool) (a n c : ℕ) → list_any t (range_with_len a n) ≡ false → a ≤ c → c < a + n → t c ≡ false
 none_passes t a n c h low lt =
     let at = at_number a n c 0 low lt in
-    false_from_ne_true (t c) (λ yes. true≢false (sym (list_any_at t (range_with_len a n) (c - a) 0 at.0 (ap t at.1 ∙ yes)) ∙ h))
+    false_from_ne_true (t c)
+    (λ yes. true≢false (sym (list_any_at t (range_with_len a n) (c - a) 0 at.0 (ap t at.1 ∙ yes))
+    ∙ h))
 
 byte_in : (images : List (List ℕ)) (spots : List Spot) (j : ℕ) → j < 512 → get_or (joined_sector images spots) j 0 ≡ joined_byte images spots j
 byte_in images spots j lt = get_or-map-range_with_len (joined_byte images spots) 0 512 j j 0 lt (omega arith)
@@ -269,7 +274,8 @@ module _ (images : List (List ℕ)) (found : Found) (l : Layout) (columned : l.s
         let many = (columned raid5).many in
         let chunk : first / u ≡ at / u * (k - 1) + 0 = omega (arith, parts.chunk) in
         ap (λ (s : Shape). if is_raid5 s then (first / u % (k - 1)) == 0 else true) raid5
-        ∙ eq-eqb (first / u % (k - 1)) 0 (ap (λ n. n % (k - 1)) chunk ∙ mod-mul-add (at / u) (k - 1) 0 (omega (arith, many)))
+        ∙ eq-eqb (first / u % (k - 1)) 0 (ap (λ n. n % (k - 1)) chunk
+        ∙ mod-mul-add (at / u) (k - 1) 0 (omega (arith, many)))
 
     first_low : first ≤ x
     first_low =
@@ -279,7 +285,8 @@ module _ (images : List (List ℕ)) (found : Found) (l : Layout) (columned : l.s
         let whole : x / u * u + x % u ≡ x = div-add-mod' x u in
         let chunks : x / u / (k - 1) * (k - 1) + x / u % (k - 1) ≡ x / u = div-add-mod' (x / u) (k - 1) in
         let few : x / u / (k - 1) * (k - 1) ≤ x / u = omega (arith, chunks) in
-        let less : x / u / (k - 1) * (k - 1) * u ≤ x / u * u = mul-le (x / u / (k - 1) * (k - 1)) u (x / u) u few (omega arith) in
+        let less : x / u / (k - 1) * (k - 1) * u ≤ x / u * u = mul-le (x / u / (k - 1) * (k - 1)) u
+        (x / u) u few (omega arith) in
         omega (arith, whole, less, row, rest)
 
   row_zero : (x j : ℕ) → x < l.size → l.shape ≡ Raid5 → j < 512 → joined_byte images (row_spots found l x) j ≡ 0
@@ -321,11 +328,15 @@ clean_redundant images found l columned clean =
 
 filter_all : (t : ℕ → Bool) (a n : ℕ) → ((p : ℕ) → a ≤ p → p < a + n → t p ≡ true) → filter t (range_with_len a n) ≡ range_with_len a n
 filter_all t a zero all = refl
-filter_all t a (suc n) all = rw (all a (omega arith) (omega arith), filter_all t (a + 1) n (λ p low lt. all p (omega (arith, low)) (omega (arith, lt)))) refl
+filter_all t a (suc n) all =
+    let rest = filter_all t (a + 1) n (λ p low lt. all p (omega (arith, low)) (omega (arith, lt))) in
+    rw (all a (omega arith) (omega arith), rest) refl
 
 filter_none : (t : ℕ → Bool) (a n : ℕ) → ((p : ℕ) → a ≤ p → p < a + n → t p ≡ false) → filter t (range_with_len a n) ≡ []
 filter_none t a zero none = refl
-filter_none t a (suc n) none = rw (none a (omega arith) (omega arith)) (filter_none t (a + 1) n (λ p low lt. none p (omega (arith, low)) (omega (arith, lt))))
+filter_none t a (suc n) none =
+    rw (none a (omega arith) (omega arith))
+    (filter_none t (a + 1) n (λ p low lt. none p (omega (arith, low)) (omega (arith, lt))))
 
 -- those that pass a test stand in front
 filter_front : (t : ℕ → Bool) (size n : ℕ) → n ≤ size → ((p : ℕ) → p < n → t p ≡ true) → ((p : ℕ) → n ≤ p → t p ≡ false) → filter t (range_with_len 0 size) ≡ range_with_len 0 n

@@ -1,5 +1,5 @@
 -- Which disks of a volume are missing, and that all are there where none is.
-use Rattle.std.proofs.Common.{◌≡◌, ℕ, ◌==◌, Bool, true, false, List, refl, ap, sym, subst, ◌∙◌, Option, Some, None, get_or, ◌<◌, ◌&&◌, [], length, arith, find, is_some, is_none, count_by, option_and_then, if◌then◌else◌}
+use Rattle.std.proofs.Common.{◌≡◌, ℕ, ◌==◌, Bool, true, false, List, refl, ap, sym, subst, ◌∙◌, Option, Some, None, get_or, ◌<◌, ◌&&◌, [], length, arith, is_some, is_none, count_by, option_and_then, if◌then◌else◌}
 use Rattle.std.specs.List.{list_any, Contains}
 use Rattle.std.proofs.lemmas.Bool.{and_parts, eqb-true, eq-eqb, ne_eqb}
 use Rattle.std.proofs.lemmas.List.Folds.{list_any_none, list_any_at}
@@ -88,10 +88,6 @@ owner_test records volume parent up = go (by_id 4 parent records) refl
 
 -- ---- Where no disk of a volume is missing, all of them are there.
 
--- what a search that finds nothing passes over
-passed : (t : Record → Bool) (records : List Record) (r : Record) → find t records ≡ None → Contains records r → t r ≡ false
-passed t records r e there = ap t (sym there.2) ∙ none_found t records there.0 r e there.1
-
 module _ (found : Found) (v : Volume) (l : Layout) (sound : IsSoundGroup found) (has : HasLayout found.db.records v l) (complete : missing_of found v.head.id ≡ None) where
   -- a disk with a partition of the volume
   disk_here : (p : Partition) (copy : ℕ) → copy < length (plexes_of v.head.id found.db.records) → Contains found.db.records (kinds.Partition p)
@@ -121,7 +117,8 @@ module _ (found : Found) (v : Volume) (l : Layout) (sound : IsSoundGroup found) 
           let kept : lacks_disk (λ id. count_by (is_at 2 id) found.db.records) (kinds.Partition p) ≡ false =
           not_broken (lacks_disk (λ id. count_by (is_at 2 id) found.db.records)) found.db.records (kinds.Partition p) (sound_parts found.db.records found.labels sound.group.sound).disks there in
           let some = counted_there (is_at 2 p.disk) found.db.records (kinds.Partition p) kept in
-          let other : is_at 2 p.disk some.0 ≡ false = passed (is_at 2 p.disk) found.db.records some.0 e some.1 in
+          let other : is_at 2 p.disk some.0 ≡ false = ap (is_at 2 p.disk) (sym some.1.2)
+          ∙ none_found (is_at 2 p.disk) found.db.records some.1.0 some.0 e some.1.1 in
           absurd (let both : true ≡ false = sym some.2 ∙ other in cc)
       look (Some r) e =
           let at = find_there (is_at 2 p.disk) found.db.records r e in

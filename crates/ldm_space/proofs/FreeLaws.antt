@@ -1,4 +1,5 @@
--- Free sectors: the first fit is exactly the least free start, and what is placed one after the other lies apart.
+-- Free sectors: the first fit is exactly the least free start, and what is placed one after the
+-- other lies apart.
 use Rattle.std.proofs.Common.{◌≡◌, inl, inr, ℕ, zero, suc, ◌+◌, ◌-◌, ◌<◌, ◌≤◌, ◌==◌, max, min, not, List, [], ◌∷◌, length, get_or, refl, sym, ap, ◌∙◌, arith, Bool, true, false, cond, ltb, Option, Some, None, ◌||◌, ◌++◌, drop, append_assoc, Result, Ok, Err, drop-cons, ◌&&◌, subst, nat_lt}
 use Rattle.std.specs.List.{Contains, list_any, cons_option}
 use Rattle.std.proofs.lemmas.Bool.{cases_order, not-true, not-false, ltb-true, ltb-false, lt-ltb, le-ltb, cond-false, false_from_ne_true, false≢true, and_parts, and_from, ne_eqb, eq-eqb, cases_eq}
@@ -10,12 +11,10 @@ use Rattle.std.specs.Prelude.{take}
 use Rattle.ldm_records.specs.declared.types.Record.{Record}
 use Rattle.ldm_group.proofs.KinLaws.{named_there}
 use Rattle.ldm_space.specs.declared.taken.Taken.{Taken}
-use Rattle.ldm_space.specs.Free.{taken_by, taken_in, takes_one, is_taken, first_from, first_free_start, past, IsFirstFree, HasNoFree, taken_of, clash}
+use Rattle.ldm_space.specs.Free.{taken_by, taken_in, takes_one, is_taken, first_from, first_free_start, past, IsFirstFree, HasNoFree, clash}
 use Rattle.std.specs.Option.{option_map}
 use Rattle.ldm_space.specs.declared.placed.Wanted.{Wanted}
 use Rattle.ldm_space.specs.Wanted.{placing, first_fit, in_front, place_rest, placed}
-use Rattle.ldm_records.specs.declared.types.Partition.{Partition}
-use Rattle.ldm_group.specs.Partitions.{meets}
 use Rattle.ldm_space.specs.Placed.{AreFirstFits, AreDisjoint, AllEndWithin, AllLimited}
 
 -- ---- The first fit is exactly the least free start.

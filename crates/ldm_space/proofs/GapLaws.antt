@@ -1,4 +1,5 @@
--- Gaps between what is taken: the first that is long enough begins at the first fit, and what a taking leaves.
+-- Gaps between what is taken: the first that is long enough begins at the first fit, and what a
+-- taking leaves.
 use Rattle.std.proofs.Common.{◌≡◌, ◌≢◌, ◌⊎◌, inl, inr, ℕ, zero, suc, ◌+◌, ◌<◌, ◌≤◌, ◌==◌, max, min, List, [], ◌∷◌, length, get_or, sym, ap, subst, ◌∙◌, arith, Bool, true, false, cond, Some, None, find, eq-eqb, ◌-◌, ◌^◌, ◌&&◌, ◌||◌, ◌++◌, take, refl, nat_lt, set, get_or-set_same, get_or-set_other, ltb, Option, MatchOption}
 use Rattle.std.specs.List.{All, AllPairs, Contains, filter_map, list_any, cons_option, remove, position, position_or_len, slice_get}
 use Rattle.std.proofs.lemmas.Bool.{cases_order, and_parts, and_from, ltb-true, lt-ltb, leb-true, le-leb, eqb-true, false_from_ne_true, true_from_ne_false, false≢true, cases_lt, le-ltb, or_from, or_parts, cases_eq, ltb-false, ne_eqb}
@@ -114,7 +115,10 @@ first_behind len x gaps at f = record {
 pub found_first : (len : ℕ) (gaps : List Gap) (at : ℕ) (d : Gap) → IsFirstLong len gaps at → find (has_length len) gaps ≡ Some (get_or gaps at d)
 found_first len gaps at d f =
     let within = f.within in
-    find_at (has_length len) gaps ∙ ap (slice_get gaps) (position_or_len_is (has_length len) gaps at d (omega arith) (λ k lt. f.before k d lt) (λ lt. f.long d)) ∙ slice_get-get_or gaps at d within
+    find_at (has_length len) gaps
+    ∙ ap (slice_get gaps)
+    (position_or_len_is (has_length len) gaps at d (omega arith) (λ k lt. f.before k d lt)
+    (λ lt. f.long d)) ∙ slice_get-get_or gaps at d within
 
 -- ---- the law
 

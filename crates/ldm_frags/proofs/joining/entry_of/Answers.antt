@@ -4,7 +4,7 @@ use Rattle.ldm_frags.specs.Blocks.{has_parts}
 use Rattle.ldm_frags.specs.Joins.{gathered}
 use Rattle.ldm_frags.specs.Kept.{blocks_of}
 use Rattle.ldm_frags.proofs.JoinLaws.{has_all_of, frag_is, one_entry, entry_none, entry_later, entry_whole, entry_first}
-use Rattle.ldm_frags.proofs.KeptLaws.{count_of, kept_few}
+use Rattle.ldm_frags.proofs.KeptLaws.{kept_few}
 use Rattle.ldm_frags.proofs.joining.entry_of.Goals as goal
 use Rattle.ldm_frags.proofs.joining.entry_of.Goals.{else-head-ge2-via-then-head-ge2+else-head-eq0, else-head-ge2-via-else-head-ge2}
 

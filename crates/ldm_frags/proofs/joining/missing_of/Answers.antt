@@ -1,7 +1,7 @@
 use Rattle.std.proofs.Common.{◌≡◌, ◌∙◌, true, false, sym, ap, arith}
 use Rattle.ldm_frags.specs.declared.blocks.Head.{Head}
 use Rattle.ldm_frags.specs.Kept.{blocks_of}
-use Rattle.ldm_frags.proofs.KeptLaws.{count_of, kept_few, kept_all, missing_none, missing_is}
+use Rattle.ldm_frags.proofs.KeptLaws.{kept_few, kept_all, missing_none, missing_is}
 use Rattle.ldm_frags.proofs.joining.missing_of.Goals as goal
 use Rattle.ldm_frags.proofs.joining.missing_of.Goals.{else-head-ge2-via-then-head-ge2+else-not-has_all, else-head-ge2-via-else-head-ge2}
 

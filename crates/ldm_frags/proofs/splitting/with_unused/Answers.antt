@@ -1,6 +1,5 @@
-use Rattle.std.proofs.Common.{◌≡◌, ◌+◌, ◌*◌, ◌≤◌, ◌++◌, ◌∙◌, ℕ, List, length, take, sym, ap, subst, arith}
+use Rattle.std.proofs.Common.{◌≡◌, ◌*◌, ◌≤◌, ◌++◌, ◌∙◌, ℕ, List, length, take, sym, ap, subst}
 use Rattle.std.proofs.lemmas.List.{with_items_is, take_all}
-use Rattle.ldm_frags.specs.Blocks.{count}
 use Rattle.ldm_frags.specs.Written.{IsInUse, AddsUnused, block_at}
 use Rattle.ldm_frags.proofs.HoldEdits.{block_before}
 use Rattle.ldm_frags.proofs.splitting.with_unused.Goals as goal

@@ -1,4 +1,4 @@
-use Rattle.std.proofs.Common.{◌+◌, ◌-◌, ◌*◌, ◌++◌, ◌∙◌, List, ℕ, ap, length, replicate, refl, arith}
+use Rattle.std.proofs.Common.{◌+◌, ◌-◌, ◌*◌, ◌++◌, ◌∙◌, List, ℕ, ap, length, replicate, arith}
 use Rattle.ldm_bytes.specs.Places.{put}
 use Rattle.ldm_frags.specs.Written.{head, written_block}
 use Rattle.ldm_bytes.proofs.PlaceLaws.{put-put}

@@ -6,7 +6,8 @@ use Rattle.ldm_layout.proofs.tiles.tile_at.Goals as goal
 pub overflow_sub-result : goal.overflow_sub-result
 overflow_sub-result c =
     let es = c.args.extents.now in
-    let rises = IsPartitionedBy-leb (λ e. e.offset) es c.args.sector (tiles_rise (λ e. e.offset) 0 es (λ e f le. omega arith) (tiles_zero es c.requires.tiled)) in
+    let rises = IsPartitionedBy-leb (λ e. e.offset) es c.args.sector
+    (tiles_rise (λ e. e.offset) 0 es (λ e f le. omega arith) (tiles_zero es c.requires.tiled)) in
     let points = IsPartitionPoint-from_clause (λ e. leb e.offset c.args.sector) es c.partition_point-next.result c.partition_point-next.ensures.partitioned rises (λ a r q k. search rules) in
     let hit = tile_of_points es c.args.sector c.partition_point-next.result none c.requires.tiled c.requires.within c.partition_point-next.ensures.bound points in
     omega (arith, hit.next)
@@ -14,7 +15,8 @@ overflow_sub-result c =
 pub returns : goal.returns
 returns c =
     let es = c.args.extents.now in
-    let rises = IsPartitionedBy-leb (λ e. e.offset) es c.args.sector (tiles_rise (λ e. e.offset) 0 es (λ e f le. omega arith) (tiles_zero es c.requires.tiled)) in
+    let rises = IsPartitionedBy-leb (λ e. e.offset) es c.args.sector
+    (tiles_rise (λ e. e.offset) 0 es (λ e f le. omega arith) (tiles_zero es c.requires.tiled)) in
     let points = IsPartitionPoint-from_clause (λ e. leb e.offset c.args.sector) es c.partition_point-next.result c.partition_point-next.ensures.partitioned rises (λ a r q k. search rules) in
     let hit = tile_of_points es c.args.sector c.partition_point-next.result none c.requires.tiled c.requires.within c.partition_point-next.ensures.bound points in
     let at : c.partition_point-next.result - 1 ≡ hit.place = omega (arith, hit.next) in

@@ -1,4 +1,4 @@
-use Rattle.std.proofs.Common.{◌≡◌, arith, rules, length}
+use Rattle.std.proofs.Common.{◌≡◌, arith, rules}
 use Rattle.ldm_layout.proofs.SpotLaws.{some_plex}
 use Rattle.ldm_layout.specs.Answers.{IsPlan}
 use Rattle.ldm_layout.specs.Layouts.{copies_of}
