@@ -176,8 +176,8 @@ row_part images found l p i n out raid5 columned size lt bytes =
     (λ column. ap (λ (q : Option Place). spot_at found q) (column_moved l p i column raid5 columned) ∙ spot_moved found i (column_in l (place_sector l p) column))))
 
 pub marked_once : (same : Bool) (m new : ℕ) → m ≡ 0 → new ≡ marked same m → new ≡ mark (not same)
-marked_once true m new zero is = is ∙ zero
-marked_once false m new zero is = is
+marked_once true m new none is = is ∙ none
+marked_once false m new none is = is
 
 -- ---- what is bad
 
