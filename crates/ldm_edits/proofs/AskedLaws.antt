@@ -1,5 +1,5 @@
 -- What a command asks of the disks that its words name, and where it is placed.
-use Rattle.std.proofs.Common.{◌≡◌, ℕ, suc, ◌+◌, ◌<◌, ◌==◌, ◌||◌, Bool, false, List, length, get_or, drop, ap, ◌∙◌, arith, drop-cons, ◌^◌, ◌≤◌, [], ◌∷◌, ◌++◌, map, refl, sym, subst, Option, Some, None, Result, Ok, Err, find, zero, ◌*◌, sum, ◌≢◌, ◌-◌, Bor}
+use Rattle.std.proofs.Common.{◌≡◌, ℕ, suc, ◌+◌, ◌<◌, ◌==◌, ◌||◌, Bool, false, List, length, get_or, drop, ap, ◌∙◌, arith, drop-cons, ◌^◌, ◌≤◌, [], ◌∷◌, ◌++◌, map, refl, sym, subst, Option, Some, None, Result, Ok, Err, find, zero, ◌*◌, sum, ◌-◌, Bor}
 use Rattle.std.specs.List.{list_any, All, Contains}
 use Rattle.ldm_space.specs.declared.placed.Wanted.{Wanted}
 use Rattle.ldm_edits.specs.Asked.{has_twins, ask, asked_for, is_much, words_by}
@@ -37,8 +37,6 @@ use Rattle.ldm_group.proofs.InOrder.{max_above}
 use Rattle.ldm_edits.proofs.Shares.{all_from_map, map_map}
 use Rattle.ldm_rules.proofs.CarryLaws.{HasDisk}
 use Rattle.ldm_edits.proofs.LimitLaws.{two_open}
-
--- ---- What a command asks of the disks that its words name, and what is taken for it.
 
 -- ---- A walk that looks for two that are asked of one disk.
 
@@ -80,9 +78,9 @@ pub asks_first : (sectors : ℕ → ℕ) (records : List Record) (words : List (
     → done ≡ [] → AreAsked sectors records words 0 done
 asks_first sectors records words done none = subst (AreAsked sectors records words 0) (sym none)
     (record {
-  asked = ahead_none (asked_for sectors records 0 words);
-  low = All-nil (λ (w : Wanted). w.limit < 2 ^ 64);
-})
+      asked = ahead_none (asked_for sectors records 0 words);
+      low = All-nil (λ (w : Wanted). w.limit < 2 ^ 64);
+    })
 
 -- words that are made of other values
 module _ {X : Type 0} (f : X → List ℕ × ℕ) (xs : List X) (sectors : ℕ → ℕ) (records : List Record) (at : ℕ)
@@ -92,32 +90,32 @@ module _ {X : Type 0} (f : X → List ℕ × ℕ) (xs : List X) (sectors : ℕ �
 
   next_word : (x : X) {name : List ℕ} → at < length xs → x ≡ get_or xs at x → name ≡ (f x).0
       → asked_for sectors records at (drop at (map f xs)) ≡ ask sectors at (f x).1
-          (disk_named name records) rest
+      (disk_named name records) rest
   next_word x {name} lt is named =
       let one : suc at ≡ at + 1 = omega arith in
       let word : get_or (map f xs) at (f x) ≡ f x = get_or-map f xs at x ∙ ap f (sym is) in
       ap (asked_for sectors records at) (drop-cons (map f xs) at (f x)
-          (omega (arith, length-map xs f)))
+      (omega (arith, length-map xs f)))
       ∙ (λ i. asked_for sectors records at (word i ∷ drop (one i) (map f xs)))
       ∙ ap (λ (n : List ℕ). ask sectors at (f x).1 (disk_named n records) rest) (sym named)
 
   pub asks_more : (items : List Wanted) (x : X) (w : Wanted) {name : List ℕ} → at < length xs
       → x ≡ get_or xs at x
       → name ≡ (f x).0 → Some w ≡ asked_of sectors (f x).1 (disk_named name records)
-          → w.limit < 2 ^ 64
+      → w.limit < 2 ^ 64
       → items ≡ done ++ w ∷ [] → AreAsked sectors records (map f xs) at done
       → AreAsked sectors records (map f xs) (at + 1) items
   asks_more items x w {name} lt is named found low pushed so_far =
       subst (AreAsked sectors records (map f xs) (at + 1)) (sym pushed) (record {
         asked = so_far.asked ∙ ap (ahead done) (next_word x lt is named
             ∙ ask_some sectors at (f x).1 (disk_named name records) rest w found)
-                ∙ ahead_front done w rest;
+            ∙ ahead_front done w rest;
         low = All-push (λ (v : Wanted). v.limit < 2 ^ 64) done w so_far.low low;
       })
 
   pub asks_none : (x : X) {name : List ℕ} → at < length xs → x ≡ get_or xs at x → name ≡ (f x).0
       → None ≡ asked_of sectors (f x).1 (disk_named name records)
-          → AreAsked sectors records (map f xs) at done
+      → AreAsked sectors records (map f xs) at done
       → by_place refusals.NoDisk (asked_for sectors records 0 (map f xs)) ≡ Err (refusals.NoDisk at)
   asks_none x {name} lt is named missing so_far = ap (by_place refusals.NoDisk)
       (so_far.asked ∙ ap (ahead done) (next_word x lt is named
@@ -214,9 +212,9 @@ pub bad_pieces : (pieces : List Piece) (wanted : List Wanted) → map (λ w. w.s
 bad_pieces pieces wanted same =
     let empty : list_any (λ w. w.size == 0) wanted ≡ list_any (λ p. p.len == 0) pieces =
     any_empty (λ (w : Wanted). w.size) wanted
-        ∙ ap (list_any (λ (n : ℕ). n == 0)) (same
-        ∙ map_map (λ (word : List ℕ × ℕ). word.1) (λ (p : Piece). (p.disk, p.len)) pieces)
-        ∙ sym (any_empty (λ (p : Piece). p.len) pieces) in
+    ∙ ap (list_any (λ (n : ℕ). n == 0)) (same
+    ∙ map_map (λ (word : List ℕ × ℕ). word.1) (λ (p : Piece). (p.disk, p.len)) pieces)
+    ∙ sym (any_empty (λ (p : Piece). p.len) pieces) in
     let whole : 0 + sum_by (λ w. w.size) wanted ≡ sum_by (λ p. p.len) pieces = (let e = sizes_sum (λ (w : Wanted). w.size) wanted pieces same in omega arith) in
     λ i. empty i || is_much (whole i)
 
@@ -304,7 +302,7 @@ module _ {db : Database} {labels : List Label} {words : List (List ℕ × ℕ)} 
   on_disks = found_all (λ w. (size : ℕ) × IsFound (data_size labels db.records) db.records size w)
       (λ n. Unit {0})
       (data_size labels db.records) db.records words wanted (λ size w on h. (size, on)) asked_found
-          (λ k d lt. tt)
+      (λ k d lt. tt)
 
   -- what is taken ends within its disk, and lies apart from all that was,
   pub ends_within : AllEndWithin (data_size labels db.records) spots
@@ -322,8 +320,13 @@ module _ {db : Database} {labels : List Label} {words : List (List ℕ × ℕ)} 
       let on = (on_disks k d lt).1 in
       let low = max_above db.records (kinds.Disk on.disk) on.there in
       let same = on.disk_is in
-      record { low = omega arith; small = (sizes k d lt).1; some = (sizes k d lt).0; disk =
-          (on.disk, on.there, sym same) })
+      record {
+        low = omega arith;
+        small = (sizes k d lt).1;
+        some = (sizes k d lt).0;
+        disk =
+            (on.disk, on.there, sym same);
+      })
 
 -- ---- What the stages of create and extend had, where they make a group.
 
@@ -406,10 +409,10 @@ good_size layout wanted free = (two_open (is_same_disk layout wanted) (is_bad_si
 
 -- and where it is placed these are the sectors that its partitions take
 pub record IsTakenFor (records : List Record) (layout : NewLayout) (taken : List Taken) : Type 0
-    where
-  pub good : is_bad_size layout ≡ false
-  pub sizes : AreFor layout taken
-  pub each : All (IsTaken records) taken
+  where
+    pub good : is_bad_size layout ≡ false
+    pub sizes : AreFor layout taken
+    pub each : All (IsTaken records) taken
 
 pub placed_taken : (layout : NewLayout) {db : Database} {labels : List Label} {wanted : List Wanted} {ts : List Taken} → IsNewLayout layout
     → ArePlaced db labels (words_of layout) (against_layout layout) wanted ts → max_id db.records < 2 ^ 64 → IsTakenFor db.records layout ts
@@ -458,5 +461,5 @@ pub layout_some : (db : Database) (labels : List Label) (layout : NewLayout) (wa
 layout_some db labels layout wanted grammar good asked =
     let sectors = data_size labels db.records in
     let sizes = sizes_asked layout sectors db.records wanted grammar good
-        (found db labels (words_of layout) wanted asked) in
+    (found db labels (words_of layout) wanted asked) in
     λ k d lt. (let some = eqb-false (get_or wanted k d).size 0 (sizes k d lt).0 in omega arith)

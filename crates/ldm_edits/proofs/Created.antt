@@ -1,11 +1,10 @@
--- A new volume with its components and their partitions, whose ids follow one another: the next
--- group has its order, and keeps the rules.
-use Rattle.std.proofs.Common.{◌≡◌, ◌≢◌, ◌∙◌, inl, inr, ap, sym, refl, subst, ℕ, suc, ◌+◌, ◌*◌, ◌≤◌, ◌<◌, ◌^◌, ◌==◌, [], ◌∷◌, ◌++◌, length, get_or, map, arith, Some, None, List, Option, Bool, true, false, Ok, bytes_eq}
+-- A new volume whose records have ids one after the other: the order and rules of the next group.
+use Rattle.std.proofs.Common.{◌≡◌, ◌≢◌, ◌∙◌, inl, inr, ap, sym, refl, subst, ℕ, suc, ◌+◌, ◌*◌, ◌≤◌, ◌<◌, ◌^◌, ◌==◌, [], ◌∷◌, ◌++◌, length, get_or, map, arith, Some, None, List, Option, Bool, false, Ok, bytes_eq}
 use Rattle.std.specs.Prelude.{filter}
 use Rattle.std.specs.List.{All, AllPairs, cons_option, filter_map, flat_map, Contains}
 use Rattle.std.proofs.lemmas.Bool.{eq-eqb, ne_eqb, false≢true}
 use Rattle.std.proofs.lemmas.List.{length-map, length-append, append-nil, map-append}
-use Rattle.std.proofs.lemmas.List.Elements.{All-contains, All-cons, All-nil, All-tail, Contains-get_or, Contains-append_right, filter_map-append}
+use Rattle.std.proofs.lemmas.List.Elements.{All-contains, All-cons, All-nil, All-tail, Contains-get_or, filter_map-append}
 use Rattle.std.proofs.lemmas.List.Kept.{AllPairs-cons}
 use Rattle.std.proofs.lemmas.List.Sums.{length-filter, sum_by-cons}
 use Rattle.ldm_records.specs.declared.pieces.Head.{Head}
@@ -126,10 +125,10 @@ blocks_rise id (s ∷ ss) h =
     let rest = (follow_split (id + 1) (records_of s.parts) (blocks ss) h.1).1 in
     AllPairs-cons Below (kinds.Component s.d) (news ss)
     (λ k d lt. each_mapped (Below (kinds.Component s.d)) new_of ss (λ t at.
-        let above : rest.0 ≤ t.d.head.id = follow_above rest.0 (blocks ss) (kinds.Component t.d)
-            rest.2 (flat_there block ss t (kinds.Component t.d) at (0, omega arith, refl)) in
-        let low = rest.1 in
-        omega arith) (get_or (news ss) k d) (Contains-get_or (news ss) k d lt))
+    let above : rest.0 ≤ t.d.head.id = follow_above rest.0 (blocks ss) (kinds.Component t.d)
+    rest.2 (flat_there block ss t (kinds.Component t.d) at (0, omega arith, refl)) in
+    let low = rest.1 in
+    omega arith) (get_or (news ss) k d) (Contains-get_or (news ss) k d lt))
     (blocks_rise rest.0 ss rest.2)
 
 block_rises : (id : ℕ) (ss : List Share) → IdsFollow id (blocks ss) → (s : Share) → Contains ss s
@@ -138,7 +137,7 @@ block_rises id [] h s (k, lt, is) = absurd (omega arith)
 block_rises id (s ∷ ss) h q at =
     let parts = follow_split (id + 1) (records_of s.parts) (blocks ss) h.1 in
     each_more (λ (t : Share). Rising (records_of t.parts)) s ss
-        (parts_rise (id + 1) s.parts parts.0) (block_rises parts.1.0 ss parts.1.2) q at
+    (parts_rise (id + 1) s.parts parts.0) (block_rises parts.1.0 ss parts.1.2) q at
 
 -- what is listed is what is made
 listed : (v : Volume) (ss : List Share) (r : Record) → Contains (kinds.Volume v ∷ blocks ss) r → IsMade v ss r
@@ -158,7 +157,7 @@ lists v ss (kinds.Partition x) (s, at, in') =
     behind (kinds.Volume v) (blocks ss) (kinds.Partition x)
     (flat_there block ss s (kinds.Partition x) at
     (behind (kinds.Component s.d) (records_of s.parts) (kinds.Partition x)
-        (map_there kinds.Partition s.parts x in')))
+    (map_there kinds.Partition s.parts x in')))
 
 -- ---- the next group
 
@@ -199,12 +198,12 @@ module _ {old made : List Record} {labels : List Label} {name : List ℕ} {ts : 
   none_before s at = kin_are (is_child 4 s.c.head.id) old [] up
       (λ i j d lt within. absurd (omega arith)) (λ r h. absurd (let lt = h.1 in omega arith))
       (of_partition s.c.head.id (λ (y : Record). Contains old y → Contains [] y)
-          (λ p parent there. absurd (
-          let c = (partition_kept old labels each p there).parent in
-          let low = max_above old (kinds.Component c.0) c.1 in
-          let id = c.2 in
-          let high = c_above s at in
-          omega arith)))
+      (λ p parent there. absurd (
+      let c = (partition_kept old labels each p there).parent in
+      let low = max_above old (kinds.Component c.0) c.1 in
+      let id = c.2 in
+      let high = c_above s at in
+      omega arith)))
 
   takes : (s : Share) (p : Partition) → Contains new.ss s → Contains s.parts p → IsTaken old (taken_of p)
   takes s p at in' = All-contains (IsTaken old) ts (taken_of p) on
@@ -214,9 +213,11 @@ module _ {old made : List Record} {labels : List Label} {name : List ℕ} {ts : 
   remade = record {
     up = up;
     vp = created_rises old made up new;
-    back = λ r at. elim (member_next old made r at)
-        [ inl was ↦ inl (was, others r was) | inr m ↦ inr
-        (listed new.volume new.ss r (moved new.made_are r m)) ];
+    back = λ r at. elim (member_next old made r at) [
+      | inl was ↦ inl (was, others r was)
+      | inr m ↦ inr
+          (listed new.volume new.ss r (moved new.made_are r m))
+    ];
     there = λ r at other. stays_next old made r at;
     made = λ r m. made_next old made r (moved (sym new.made_are) r (lists new.volume new.ss r m));
     id = new.first;
@@ -247,9 +248,9 @@ module _ {old made : List Record} {labels : List Label} {name : List ℕ} {ts : 
   keeps : KeepsVolume next new.volume
   keeps = volume_keeps remade new.count new.some (new.laid next (read_plexes remade) (λ s at.
       ap (λ (c : Component). extents_of c.head.id next) (sym (new.are.each s at).same)
-          ∙ read_extents remade s at
+      ∙ read_extents remade s at
       ∙ ap (λ (l : List Extent). l ++ map extent_of s.parts) (extents_by s.c.head.id old
-          ∙ ap (filter_map extent_in) (none_before s at))))
+      ∙ ap (filter_map extent_in) (none_before s at))))
 
   pub created_carries : Carries old next
   created_carries = remade_carries remade keeps
@@ -259,8 +260,8 @@ module _ {old made : List Record} {labels : List Label} {name : List ℕ} {ts : 
       → AreDisjoint (taken_in old) ts → AllEndWithin (data_size labels old) ts → EachRule next labels
   created_each free apart within =
       remade_each remade keeps labels each (subst (AllEndWithin (data_size labels old))
-          (sym new.are.taken_are) within) (subst (AreDisjoint (taken_in old)) (sym new.are.taken_are)
-          apart)
+      (sym new.are.taken_are) within) (subst (AreDisjoint (taken_in old)) (sym new.are.taken_are)
+      apart)
       (names_next old next (Some new.volume.head) remade.vp (record {
         from = λ v at. elim (remade.back (kinds.Volume v) at) [ inl was ↦ inl (v, was.0, refl) | inr m ↦ inr (ap (λ (x : Volume). Some x.head) (sym m)) ];
         free = λ head is w at. (let same : new.volume.head ≡ head = cc in
@@ -274,27 +275,35 @@ abbrev share_of : Component → List Partition → Share
 share_of c parts = record { c = c; d = c; parts = parts }
 
 no_blocks : (volume id : ℕ) → AreBlocks volume id [] []
-no_blocks volume id = record { follow = tt; each = λ s at. absurd (let lt = at.1 in
-    omega arith); taken_are = refl; many = refl }
+no_blocks volume id = record {
+  follow = tt;
+  each = λ s at. absurd (let lt = at.1 in
+      omega arith);
+  taken_are = refl;
+  many = refl;
+}
 
 -- one component more in front, with its partitions
 one_block : {volume id layout first after : ℕ} {striping : Option Striping} {made : List
     (Option Record)} {es : List Extent} {ts more : List Taken} {ss : List Share}
     → (c : MakesComponent id volume layout (length ts) striping) (p : MakesParts first made es)
-        → AreExtentsOf id es ts → first ≡ id + 1 → after ≡ first + length ts
+    → AreExtentsOf id es ts → first ≡ id + 1 → after ≡ first + length ts
     → AreBlocks volume after ss more → AreBlocks volume id (share_of c.component p.parts ∷ ss)
-        (ts ++ more)
+    (ts ++ more)
 one_block {volume} {id} {layout} {first} {after} {striping} {made} {es} {ts} {more} {ss} c p are
     first_is after_is rest = record {
-  follow = (c.id_is, follow_join (id + 1) after (records_of p.parts) (blocks ss) (let many = long in
-      omega arith) (subst (λ (n : ℕ). IdsFollow n (records_of p.parts)) first_is p.ids)
-      rest.follow);
-  each = each_more (IsNewShare volume) (share_of c.component p.parts) ss new rest.each;
-  taken_are = map-append taken_of p.parts (parts_of ss) ∙ (λ i. takes i ++ rest.taken_are i);
-  many = (let here = long in let count = rest.many in
-      let split = length-append (records_of p.parts) (blocks ss) in
-      let all = length-append ts more in omega arith);
-}
+      follow = (
+        c.id_is,
+        follow_join (id + 1) after (records_of p.parts) (blocks ss) (let many = long in
+            omega arith) (subst (λ (n : ℕ). IdsFollow n (records_of p.parts)) first_is p.ids)
+            rest.follow,
+      );
+      each = each_more (IsNewShare volume) (share_of c.component p.parts) ss new rest.each;
+      taken_are = map-append taken_of p.parts (parts_of ss) ∙ (λ i. takes i ++ rest.taken_are i);
+      many = (let here = long in let count = rest.many in
+          let split = length-append (records_of p.parts) (blocks ss) in
+          let all = length-append ts more in omega arith);
+    }
   where
     takes : map taken_of p.parts ≡ ts
     takes = parts_taken id es ts p.parts are p.extents_are
@@ -327,12 +336,12 @@ single_new id name guid raid size layout striping parts es ts few short low some
     let mc : MakesComponent (id + 1) id layout (length ts) striping = makes_component (id + 1) id layout (length ts) striping (omega arith) (omega arith) (omega arith) fits in
     let s : Share = share_of mc.component has.parts in
     let are : AreBlocks id (id + 1) (s ∷ []) (ts ++ []) =
-        one_block mc has extents (omega arith) refl (no_blocks id (id + 2 + length ts)) in
+    one_block mc has extents (omega arith) refl (no_blocks id (id + 2 + length ts)) in
     let made : List Record = there (new_volume id name guid raid 1 size ∷ (new_component (id + 1) id layout (length ts) striping ∷ parts)) in
     let made_are : made ≡ kinds.Volume mv.volume ∷ blocks (s ∷ []) =
-        (λ i. cons_option (mv.made i) (cons_option (mc.made i) (has.made_are i)))
+    (λ i. cons_option (mv.made i) (cons_option (mc.made i) (has.made_are i)))
     ∙ ap (λ (l : List Record). kinds.Volume mv.volume ∷ (kinds.Component mc.component ∷ l))
-        (sym (append-nil (records_of has.parts))) in
+    (sym (append-nil (records_of has.parts))) in
     record {
       volume = mv.volume;
       ss = s ∷ [];
@@ -347,7 +356,7 @@ single_new id name guid raid size layout striping parts es ts few short low some
       laid = λ next plexes read. lay next mv.volume mv.size_is
           (plexes ∙ ap (λ (x : Plex). x ∷ []) (plex_is mc ∙ ap (λ k. record { volume = k; id = id + 1; layout = layout; striping = striping }) (sym mv.id_is)))
           (ap (λ k. extents_of k next) (sym mc.id_is) ∙ read s (0, omega arith, refl)
-              ∙ has.extents_are);
+          ∙ has.extents_are);
     }
 
 -- the components of a mirror, each followed by its partition
@@ -360,15 +369,20 @@ record MakesCopies (volume id len : ℕ) (ts : List Taken) : Type 0 where
 
 makes_copies : (volume id len : ℕ) (ts : List Taken) → volume < 2 ^ 64 → id + 2 * length ts ≤ 2 ^ 64
     → AreNumbers ts → AllSized len ts → MakesCopies volume id len ts
-makes_copies volume id len [] low few fits same = record { ss = []; made_are = refl; many = refl;
-    are = no_blocks volume id; each = λ s at. absurd (let lt = at.1 in omega arith) }
+makes_copies volume id len [] low few fits same = record {
+  ss = [];
+  made_are = refl;
+  many = refl;
+  are = no_blocks volume id;
+  each = λ s at. absurd (let lt = at.1 in omega arith);
+}
 makes_copies volume id len (t ∷ ts) low few fits same =
     let here : AreNumbers (t ∷ []) = All-cons (λ (u : Taken). (u.disk < 2 ^ 64) × (u.size < 2 ^ 64))
-        t [] (numbers_head t ts fits) (All-nil (λ (u : Taken). (u.disk < 2 ^ 64)
-        × (u.size < 2 ^ 64))) in
+    t [] (numbers_head t ts fits) (All-nil (λ (u : Taken). (u.disk < 2 ^ 64)
+    × (u.size < 2 ^ 64))) in
     let c : MakesComponent id volume 2 1 None = makes_component id volume 2 1 None (omega arith) low (omega arith) tt in
     let p : MakesParts (id + 1) (span_parts (id + 1) id 0 (t ∷ [])) (tile_extents id 0 (t ∷ [])) =
-        makes_span_parts (id + 1) id 0 (t ∷ []) (omega arith) (omega arith) here in
+    makes_span_parts (id + 1) id 0 (t ∷ []) (omega arith) (omega arith) here in
     let rest : MakesCopies volume (id + 2) len ts = makes_copies volume (id + 2) len ts low (omega arith) (numbers_tail t ts fits) (All-tail (λ (u : Taken). u.size ≡ len) t ts same) in
     record {
       ss = share_of c.component p.parts ∷ rest.ss;

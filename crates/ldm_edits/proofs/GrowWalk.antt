@@ -1,5 +1,5 @@
 -- What is made of a mirror that grows, one after the other.
-use Rattle.std.proofs.Common.{◌≡◌, ℕ, ◌+◌, ◌<◌, ◌≤◌, ◌||◌, Bool, true, false, List, [], ◌∷◌, ◌++◌, length, get_or, take, map, refl, sym, ap, ◌∙◌, append_assoc, arith, Option, Some, None, Result, Ok, Err, Vec, Global}
+use Rattle.std.proofs.Common.{◌≡◌, ℕ, ◌+◌, ◌<◌, ◌≤◌, ◌||◌, Bool, true, false, List, [], ◌∷◌, ◌++◌, length, get_or, take, map, sym, ap, ◌∙◌, append_assoc, arith, Option, Some, None, Result, Ok, Err, Vec, Global}
 use Rattle.std.specs.Prelude.{filter}
 use Rattle.std.specs.Borrow.{Bor}
 use Rattle.std.specs.List.{cons_option, filter_map}
@@ -33,7 +33,7 @@ pub component_more : (rs : List Record) (at q : ℕ) (r : Record) (c : Component
 component_more rs at q r c found pushed b lt is kind parent so_far push same =
     let passes : is_child 3 q r ≡ true = ap (is_child 3 q) kind ∙ eq-eqb c.parent q parent in
     ap (map (λ (x : Bor Component). x.now)) push
-        ∙ map-append (λ (x : Bor Component). x.now) found (b ∷ [])
+    ∙ map-append (λ (x : Bor Component). x.now) found (b ∷ [])
     ∙ (λ i. so_far i ++ same i ∷ [])
     ∙ ap (λ (s : Record). filter_map component_in_record (filter (is_child 3 q) (take at rs)) ++ filter_map component_in_record (s ∷ [])) (sym kind)
     ∙ sym (filter_map-append component_in_record (filter (is_child 3 q) (take at rs)) (r ∷ []))

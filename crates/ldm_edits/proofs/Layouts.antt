@@ -1,11 +1,10 @@
--- The partitions that are made, as a layout reads them, and the layouts of volumes: spans, stripes,
--- mirrors and RAID-5.
-use Rattle.std.proofs.Common.{◌≡◌, ℕ, suc, ◌+◌, ◌≤◌, ◌==◌, List, [], ◌∷◌, length, map, refl, sym, ap, ◌∙◌, arith, true, leb, zero, ◌*◌, ◌<◌, ◌^◌, get_or, Some, None, Option, subst, sum, ◌&&◌, not, Bool, false, Ok, min, ◌≢◌, ◌-◌, ◌/◌, ◌%◌}
+-- New partitions as a layout reads them, and the layouts of spans, stripes, mirrors and RAID-5.
+use Rattle.std.proofs.Common.{◌≡◌, ℕ, suc, ◌+◌, ◌≤◌, ◌==◌, List, [], ◌∷◌, length, map, refl, sym, ap, ◌∙◌, arith, true, leb, zero, ◌*◌, ◌<◌, ◌^◌, get_or, Some, None, Option, sum, ◌&&◌, not, Bool, false, Ok, min, ◌≢◌, ◌-◌, ◌/◌, ◌%◌}
 use Rattle.std.specs.Prelude.{sum_by, unwrap_or, if◌then◌else◌, nat_le}
 use Rattle.std.specs.List.{All, cons_option, Contains, list_all}
 use Rattle.std.proofs.lemmas.List.Sums.{sum-map, AllPass-from_list_all, list_all-from_AllPass}
-use Rattle.std.proofs.lemmas.List.Elements.{All-cons, All-nil, All-tail, All-contains, All-map, Contains-get_or, Contains-append_right}
-use Rattle.std.proofs.lemmas.Bool.{and_from, eq-eqb, le-leb, and_parts, le-ltb, ltb-false, ne_eqb}
+use Rattle.std.proofs.lemmas.List.Elements.{All-cons, All-nil, All-tail, All-contains, All-map, Contains-get_or}
+use Rattle.std.proofs.lemmas.Bool.{and_from, eq-eqb, le-leb, le-ltb, ltb-false, ne_eqb}
 use Rattle.ldm_records.specs.declared.types.Partition.{Partition}
 use Rattle.ldm_layout.specs.declared.parts.Extent.{Extent}
 use Rattle.ldm_layout.specs.Parts.{extent_of, tiles, tiles_from, rises_from, by_offset, by_index, least, plexes_of, extents_of, plex_of, in_rising}
@@ -35,8 +34,6 @@ use Rattle.ldm_edits.specs.Mirroring.{held_in}
 use Rattle.std.proofs.Math.Nat.{mul_assoc}
 use Rattle.ldm_layout.specs.Places.{stripe_capacity, raid5_capacity}
 use Rattle.ldm_layout.proofs.SortLaws.{AtLeast, Climbs, climbs_rises, stable_is}
-
--- ---- The partitions that are made of the sectors that they take, and how a layout reads them.
 
 -- ---- The partitions that take given sectors, as a layout reads them: tiles one after the other, or columns side by side.
 
@@ -116,7 +113,7 @@ parts_taken c extents ts parts are read = sym (map_map sectors_of extent_of part
 pub parts_own : (c : ℕ) (extents : List Extent) (ts : List Taken) (parts : List Partition) → AreExtentsOf c extents ts → map extent_of parts ≡ extents → (p : Partition) → Contains parts p → p.parent ≡ c
 parts_own c extents ts parts are read p at =
     All-contains (λ (e : Extent). e.component ≡ c) extents (extent_of p) are.own
-        (moved read (extent_of p) (map_there extent_of parts p at))
+    (moved read (extent_of p) (map_there extent_of parts p at))
 
 -- ---- The partitions that are made: records with ids one after the other, which a layout reads as they are placed.
 
@@ -207,9 +204,6 @@ parts_rise id ps ids i j d low within =
     let a = place_at id ps i d ids (omega arith) in
     let b = place_at id ps j d ids (omega arith) in
     omega arith
-
--- ---- The layouts of volumes: of a span or mirror from what its components hold, and of new
--- volumes as they are made.
 
 -- ---- The layout of a span or mirror: what its components hold, and that it has one where each is tiled and the least of them holds the volume.
 
@@ -349,7 +343,7 @@ columns_least : (c i len : ℕ) (ts : List Taken) → 1 ≤ length ts → AllSiz
     → least (map (λ (e : Extent). e.size) (column_extents c i ts)) ≡ len
 columns_least c i len ts some same = ap least (extent_sizes (columns_of c i ts))
     ∙ least_one (map (λ (t : Taken). t.size) ts) len
-        (omega (arith, length-map ts (λ (t : Taken). t.size)))
+    (omega (arith, length-map ts (λ (t : Taken). t.size)))
     (All-map (λ n. n ≡ len) (λ (t : Taken). t.size) ts same)
 
 -- ---- layouts without a fault
@@ -382,9 +376,9 @@ columned_laid records v s c u layout ts untiled plexes shape extents enough some
     let es : List Extent = column_extents c 0 ts in
     let many : length (column_extents c 0 ts) ≡ length ts = extents_count (columns_of c 0 ts) in
     let whole : has_columns (lay es) es ≡ true =
-        and_from (length ts == length es) _ (eq-eqb (length ts) (length es) (sym many))
-        (and_from (nat_le (fewest s) (length es)) _ (le-leb (fewest s) _ (omega arith))
-            (columns_rise c 0 ts)) in
+    and_from (length ts == length es) _ (eq-eqb (length ts) (length es) (sym many))
+    (and_from (nat_le (fewest s) (length es)) _ (le-leb (fewest s) _ (omega arith))
+    (columns_rise c 0 ts)) in
     let gap : has_gap (lay es) ≡ false = ap (λ (b : Bool). b && not (tiles es && true)) untiled in
     let chunk : lacks_chunk (lay es) ≡ false = (λ i. not (untiled i) && ne_eqb u 0 some i) in
     let columns : lacks_columns (lay es) ≡ false = (λ i. not (untiled i) && not (whole i && true)) in (

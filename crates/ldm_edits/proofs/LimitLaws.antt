@@ -1,5 +1,4 @@
--- What stands against a change that all commands have in common, and what a change within these
--- limits makes and keeps.
+-- What stands against a change that all commands have in common, and what one within it keeps.
 use Rattle.std.proofs.Common.{◌≡◌, ℕ, ◌+◌, ◌-◌, ◌^◌, ◌<◌, ◌≤◌, ◌==◌, ◌++◌, List, [], ◌∷◌, refl, sym, ap, ◌∙◌, arith, Bool, true, false, Option, Some, None, Err, length, get_or, take, map, min, cond, inl, inr, subst, Ok, Contains, not}
 use Rattle.std.specs.Prelude.{nat_lt, filter, unwrap_or}
 use Rattle.std.specs.Option.{option_map}
@@ -39,9 +38,6 @@ use Rattle.ldm_edits.specs.declared.leaving.Leaving.TheVariants as leavings
 use Rattle.ldm_edits.specs.Staying.{staying}
 use Rattle.ldm_vmdb.specs.declared.header.Header.{Header}
 use Rattle.ldm_vmdb.specs.Headers.{grown_to}
-
--- ---- What stands against a change that all commands have in common, and what a change within
--- these limits keeps of a group.
 
 -- ---- The table of the limits, row by row.
 
@@ -212,7 +208,7 @@ pub record IsGiven (db : Database) (labels : List Label) : Type 0 where
 -- where no limit refuses a change, and the rules are carried over
 pub carried_keeps : (db : Database) (labels : List Label) (fresh : ℕ) (change : Change) → IsGiven db labels → All IsFitting change.stay → first_of (limits db labels fresh change) ≡ None
     → Carries db.records (changed db change).records → EachRule (changed db change).records labels
-        → Keeps labels db (changed db change)
+    → Keeps labels db (changed db change)
 carried_keeps db labels fresh change given stay open' carries each =
     let next : List Record = (changed db change).records in
     let within = within_limits db labels fresh change open' in

@@ -1,7 +1,6 @@
--- A span or mirror whose components have more partitions: what extend makes, the layout of the
--- volume, and what the group keeps.
+-- A span or mirror with more partitions: what extend makes, its layout, and what the group keeps.
 use Rattle.std.proofs.Common.{◌≡◌, ◌≢◌, ℕ, zero, suc, ◌+◌, ◌*◌, ◌^◌, ◌<◌, ◌≤◌, ◌==◌, not, List, [], ◌∷◌, ◌++◌, length, get_or, map, refl, sym, ap, subst, ◌∙◌, inl, inr, arith, Bool, true, false, Some, None, Ok, Contains, zero-add, ◌-◌, ◌||◌, Option, sum_by, find}
-use Rattle.std.specs.Prelude.{filter, filter_map, if◌then◌else◌, is_some}
+use Rattle.std.specs.Prelude.{filter, filter_map, if◌then◌else◌}
 use Rattle.std.specs.List.{All, list_all, list_any, cons_option}
 use Rattle.std.proofs.lemmas.Bool.{not-true, eqb-true, eq-eqb, eqb-false, or_parts, ltb-false}
 use Rattle.std.proofs.lemmas.List.{length-map, append-nil}
@@ -113,10 +112,10 @@ pub record Lengthens (labels : List Label) (old : List Record) (change : Change)
 listed_made : (w : Volume) (ss : List Share) (r : Record) → Contains (longer_records w ss) r → IsMade w ss r
 listed_made w ss = each_more (IsMade w ss) (kinds.Volume w) (news ss ++ records_of (parts_of ss))
     refl (λ r at. elim (Contains-append_cases (news ss) (records_of (parts_of ss)) r at) [
-  | inl h ↦ each_mapped (IsMade w ss) new_of ss (λ s here. (s, here, refl)) r h
-  | inr h ↦ each_mapped (IsMade w ss) kinds.Partition (parts_of ss)
-      (λ p here. flat_from (λ (s : Share). s.parts) ss p here) r h
-])
+      | inl h ↦ each_mapped (IsMade w ss) new_of ss (λ s here. (s, here, refl)) r h
+      | inr h ↦ each_mapped (IsMade w ss) kinds.Partition (parts_of ss)
+          (λ p here. flat_from (λ (s : Share). s.parts) ss p here) r h
+    ])
 
 made_listed : (w : Volume) (ss : List Share) (r : Record) → IsMade w ss r → Contains (longer_records w ss) r
 made_listed w ss (kinds.Group g) is = absurd is
@@ -129,8 +128,8 @@ made_listed w ss (kinds.Component x) (s, at, is) =
     (subst (λ (y : Component). Contains (news ss) (kinds.Component y)) (sym is) (map_there new_of ss s at)))
 made_listed w ss (kinds.Partition x) (s, at, in') = Contains-append_right (kinds.Volume w ∷ []) (news ss ++ records_of (parts_of ss)) (kinds.Partition x)
     (Contains-append_right (news ss) (records_of (parts_of ss)) (kinds.Partition x)
-        (map_there kinds.Partition (parts_of ss) x
-        (flat_there (λ (t : Share). t.parts) ss s x at in')))
+    (map_there kinds.Partition (parts_of ss) x
+    (flat_there (λ (t : Share). t.parts) ss s x at in')))
 
 -- the changed components stand as those that they were
 place_same : (ss : List Share) → ((s : Share) → Contains ss s → s.d.head.id ≡ s.c.head.id) → (k : ℕ) (d : Record)
@@ -158,7 +157,7 @@ old_plexes : (old : List Record) (q : ℕ) (ss : List Share) → filter (is_chil
     → plexes_of q old ≡ plexes_in ss
 old_plexes old q ss are =
     plexes_by q old ∙ ap (filter_map plex_in) are
-        ∙ named_all plex_in old_of (λ (s : Share). plex_of s.c) (λ s. refl) ss
+    ∙ named_all plex_in old_of (λ (s : Share). plex_of s.c) (λ s. refl) ss
 
 copies_are : (ss : List Share) (records : List Record) → copies_in records (plexes_in ss) ≡ map (tiles_in records) ss
 copies_are ss records = map_map (λ (p : Plex). by_offset (extents_of p.id records)) (λ (s : Share). plex_of s.c) ss
@@ -239,7 +238,7 @@ module _ {labels : List Label} {old : List Record} {change : Change} {v w : Volu
         | inr p ↦ (let above = last (get_or rest k e) p in omega arith)
       ])
       (pairs_append Below (news ss) (records_of (parts_of ss)) d_rise
-          (parts_rise (max_id old + 1) (parts_of ss) is.ids)
+      (parts_rise (max_id old + 1) (parts_of ss) is.ids)
       (λ r q at_r at_q. let a = (between r at_r).1 in let b = last q at_q in omega arith))
 
   -- no record that stays stands at the place of one that changes
@@ -379,9 +378,9 @@ module _ {labels : List Label} {old : List Record} {change : Change} {v w : Volu
     longer_each : EachRule next labels
     longer_each = remade_each remade keeps labels each is.wider.within is.wider.free
         (names_kept old next longer_rises (λ x at. elim (remade.back (kinds.Volume x) at) [
-      | inl was ↦ (x, was.0, refl)
-      | inr e ↦ (v, is.wider.volume, sym is.wider.same_head ∙ ap (λ (y : Volume). y.head) (sym e))
-    ]) each.names)
+          | inl was ↦ (x, was.0, refl)
+          | inr e ↦ (v, is.wider.volume, sym is.wider.same_head ∙ ap (λ (y : Volume). y.head) (sym e))
+        ]) each.names)
 
 -- a group whose span or mirror is longer is as sound
 pub longer_keeps : {db : Database} {labels : List Label} {change : Change} {v w : Volume} {len : ℕ} {ss : List Share}
@@ -391,7 +390,7 @@ longer_keeps {db} {labels} {change} given fresh is within =
     let rules = sound_parts db.records labels given.sound.sound in
     carried_keeps db labels fresh change given (subst (All IsFitting) (sym is.stay) (All-filter (λ r. not (is.t r)) IsFitting db.records given.sound.room.each))
     within (remade_carries (remade given.up is rules) (keeps given.up is rules))
-        (longer_each given.up is rules)
+    (longer_each given.up is rules)
 
 -- ---- Extend: the longer span, its component and the new partitions are made where no word refuses them.
 
@@ -417,7 +416,7 @@ one_span [] h = absurd cc
 one_span (p ∷ []) h = (p, refl)
 one_span (p ∷ (q ∷ ps)) h = absurd (elim (list_all is_basic (p ∷ (q ∷ ps)))
     as (λ (b : Bool). (if b then Some Mirror else None) ≡ Some Span → ⊥)
-        [ true ↦ λ e. cc | false ↦ λ e. cc ] h)
+    [ true ↦ λ e. cc | false ↦ λ e. cc ] h)
 
 -- a span's component is its only one
 own_plex : (records : List Record) (v : Volume) (c : Component) → shape_of (plexes_of v.head.id records) ≡ Some Span
@@ -477,10 +476,10 @@ module _ {db : Database} {labels : List Label} {v : Volume} {c : Component} {wan
   components : filter (is_child 3 v.head.id) db.records ≡ kinds.Component c ∷ []
   components = kin_are (is_child 3 v.head.id) db.records (kinds.Component c ∷ []) up (alone_rises (kinds.Component c))
       (λ r at. subst (λ (y : Record). Contains db.records y × (is_child 3 v.head.id y ≡ true))
-          (only_one (kinds.Component c) r at) (own.0, eq-eqb c.parent v.head.id own.1))
+      (only_one (kinds.Component c) r at) (own.0, eq-eqb c.parent v.head.id own.1))
       (of_component v.head.id (λ (y : Record). Contains db.records y
-          → Contains (kinds.Component c ∷ []) y)
-          (λ x parent at. (0, omega arith, ap kinds.Component (sym (only_c x at parent)))))
+      → Contains (kinds.Component c ∷ []) y)
+      (λ x parent at. (0, omega arith, ap kinds.Component (sym (only_c x at parent)))))
 
   -- what the partitions hold that the component has
   capacity_is : capacity ≡ sum_by (λ (e : Extent). e.size) (by_offset (extents_of c.head.id db.records))
@@ -493,8 +492,10 @@ module _ {db : Database} {labels : List Label} {v : Volume} {c : Component} {wan
       let parts = or_parts (list_any (λ (w : Wanted). w.size == 0) wanted) (is_much (capacity + sum_by (λ (w : Wanted). w.size) wanted)) may.sizes in
       let most : capacity + sum_by (λ (w : Wanted). w.size) wanted ≤ 2 ^ 64 - 1 = ltb-false (2 ^ 64 - 1) _ parts.1 in
       let sum : sum_by (λ (t : Taken). t.size) spots ≡ sum_by (λ (w : Wanted). w.size) wanted = taken_sum wanted (taken_in db.records) spots (first_fits are) in (
-        λ k d lt. (none_any (λ (x : Wanted). x.size == 0) wanted parts.0 k d lt,
-            (let part = get_or-le-sum_by (λ (x : Wanted). x.size) wanted k d lt in omega arith)),
+        λ k d lt. (
+          none_any (λ (x : Wanted). x.size == 0) wanted parts.0 k d lt,
+          (let part = get_or-le-sum_by (λ (x : Wanted). x.size) wanted k d lt in omega arith),
+        ),
         omega arith,
       )
 
@@ -532,7 +533,7 @@ module _ {db : Database} {labels : List Label} {v : Volume} {c : Component} {wan
   new_part : (p : Partition) → Contains parts p → IsNewPart db.records c p
   new_part p at =
       let t = All-contains (IsTaken db.records) spots (taken_of p) takes
-          (moved taken_are (taken_of p) (map_there taken_of parts p at)) in
+      (moved taken_are (taken_of p) (map_there taken_of parts p at)) in
       record {
         above = (let least = follow_above (max_id db.records + 1) (records_of parts)
             (kinds.Partition p) makes_longer.parts.ids (map_there kinds.Partition parts p at) in

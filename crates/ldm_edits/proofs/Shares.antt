@@ -1,5 +1,4 @@
--- One volume of a group is new or changed, and its components have new partitions: which records
--- the next group has, and its rules.
+-- A volume is new or changed, and its components have new partitions: the rules of the next group.
 use Rattle.std.proofs.Common.{◌≡◌, ◌⊎◌, inl, inr, ℕ, zero, suc, ◌+◌, ◌*◌, ◌^◌, ◌<◌, ◌≤◌, ◌==◌, ◌||◌, List, [], ◌∷◌, ◌++◌, length, get_or, map, refl, sym, ap, subst, ◌∙◌, arith, Bool, true, false, None, Ok, count_by, Contains, Option, Some}
 use Rattle.std.specs.Prelude.{filter}
 use Rattle.std.specs.List.{All, filter_map, flat_map, cons_option}
@@ -22,7 +21,6 @@ use Rattle.ldm_group.proofs.KindLaws.{child_component, child_partition}
 use Rattle.ldm_group.proofs.Rise.{tested}
 use Rattle.ldm_label.specs.declared.Label.{Label}
 use Rattle.ldm_layout.specs.declared.parts.Plex.{Plex}
-use Rattle.ldm_layout.specs.declared.parts.Extent.{Extent}
 use Rattle.ldm_layout.specs.Layouts.{Layout}
 use Rattle.ldm_layout.specs.Parts.{plex_of, plex_in, plexes_of, extent_of, extent_in, extents_of}
 use Rattle.ldm_layout.specs.Volumes.{layout_of}
@@ -117,7 +115,7 @@ ends_next sectors old next new sound members within = none_by (passes_end sector
       | inl was ↦ not_broken (passes_end sectors) old (kinds.Partition p) sound was
       | inr at ↦ le-ltb (sectors p.disk) (p.start + p.size)
           (All-contains (λ (t : Taken). t.start + t.size ≤ sectors t.disk) (map taken_of new)
-              (taken_of p) within (map_there taken_of new p at))
+          (taken_of p) within (map_there taken_of new p at))
     ])
 
 -- what a partition takes is taken
@@ -202,9 +200,9 @@ unfolding place_of
 one_share ss up s t (i, lt_i, is_i) (j, lt_j, is_j) same =
     let r : Record = kinds.Component s.d in
     let a : place_of (get_or (news ss) i r) ≡ 4 * 2 ^ 64 + s.d.head.id =
-        ap place_of (map_at new_of ss i s r lt_i is_i) in
+    ap place_of (map_at new_of ss i s r lt_i is_i) in
     let b : place_of (get_or (news ss) j r) ≡ 4 * 2 ^ 64 + t.d.head.id =
-        ap place_of (map_at new_of ss j t r lt_j is_j) in
+    ap place_of (map_at new_of ss j t r lt_j is_j) in
     let long : length (news ss) ≡ length ss = length-map ss new_of in
     elim (cases_order i j) [
       | inl e ↦ sym is_i ∙ get_or_default ss i s t lt_i ∙ ap (λ (k : ℕ). get_or ss k t) e ∙ is_j
@@ -286,9 +284,9 @@ module _ {old next : List Record} {q : ℕ} {w : Volume} {ss : List Share}
   components_are : filter (is_child 3 q) next ≡ news ss
   components_are = kin_are (is_child 3 q) next (news ss) is.vp is.rise
       (each_mapped (λ (y : Record). Contains next y × (is_child 3 q y ≡ true)) new_of ss
-          (λ s at. (d_there s at, eq-eqb s.d.parent q (d_parent s at))))
+      (λ s at. (d_there s at, eq-eqb s.d.parent q (d_parent s at))))
       (of_component q (λ (y : Record). Contains next y → Contains (news ss) y)
-          (λ x parent at. elim (is.back (kinds.Component x) at) [
+      (λ x parent at. elim (is.back (kinds.Component x) at) [
         | inl was ↦ absurd (let own = eq-eqb x.parent q parent in
             let other : (x.parent == q) ≡ false = was.1 in cc)
         | inr s ↦ subst (λ (y : Component). Contains (news ss) (kinds.Component y)) (sym s.2)
@@ -300,27 +298,32 @@ module _ {old next : List Record} {q : ℕ} {w : Volume} {ss : List Share}
   unfolding place_of
   partitions_are s here = kin_are t next (filter t old ++ records_of s.parts) is.vp
       (pairs_append Below (filter t old) (records_of s.parts) (AllPairs-filter Below t old is.up)
-          (is.each s here).rise
+      (is.each s here).rise
       (λ r e at_r at_e. let has = filter_has t old r at_r in
-          each_mapped (Below r) kinds.Partition s.parts (below r has.0 has.1) e at_e))
+      each_mapped (Below r) kinds.Partition s.parts (below r has.0 has.1) e at_e))
       (λ r at. elim (Contains-append_cases (filter t old) (records_of s.parts) r at) [
-        | inl h ↦ (let has = filter_has t old r h in
-            (of_partition s.c.head.id (λ (y : Record). Contains old y → Contains next y)
-                (λ x parent was. is.there (kinds.Partition x) was tt) r has.1 has.0, has.1))
+        | inl h ↦ (let has = filter_has t old r h in (
+          of_partition s.c.head.id (λ (y : Record). Contains old y → Contains next y)
+              (λ x parent was. is.there (kinds.Partition x) was tt) r has.1 has.0,
+          has.1,
+        ))
         | inr h ↦ each_mapped (λ (y : Record). Contains next y × (t y ≡ true)) kinds.Partition
             s.parts
-            (λ x new. (is.made (kinds.Partition x) (s, here, new), part_of s.c.head.id x
-                ((is.each s here).each x new).parent)) r h
+            (λ x new. (
+              is.made (kinds.Partition x) (s, here, new),
+              part_of s.c.head.id x
+                  ((is.each s here).each x new).parent,
+            )) r h
       ])
       (of_partition s.c.head.id (λ (y : Record). Contains next y
-          → Contains (filter t old ++ records_of s.parts) y)
-          (λ x parent at. elim (is.back (kinds.Partition x) at) [
+      → Contains (filter t old ++ records_of s.parts) y)
+      (λ x parent at. elim (is.back (kinds.Partition x) at) [
         | inl was ↦ Contains-append_left (filter t old) (records_of s.parts) (kinds.Partition x)
             (filter_keeps t old (kinds.Partition x) was.0 (part_of s.c.head.id x parent))
         | inr new ↦ (let same : new.0 ≡ s = one_share ss is.rise new.0 s new.1 here (d_id new.0 new.1 ∙ sym ((is.each new.0 new.1).each x new.2).parent ∙ parent ∙ sym (d_id s here)) in
             Contains-append_right (filter t old) (records_of s.parts) (kinds.Partition x)
-                (map_there kinds.Partition s.parts x
-                (subst (λ (y : Share). Contains y.parts x) same new.2)))
+            (map_there kinds.Partition s.parts x
+            (subst (λ (y : Share). Contains y.parts x) same new.2)))
       ]))
     where
       t : Record → Bool
@@ -348,7 +351,7 @@ module _ {old next : List Record} {q : ℕ} {w : Volume} {ss : List Share}
       extents_by s.c.head.id next ∙ ap (filter_map extent_in) (partitions_are s at)
       ∙ filter_map-append extent_in (filter (is_child 4 s.c.head.id) old) (records_of s.parts)
       ∙ (λ i. sym (extents_by s.c.head.id old) i ++ named_all extent_in kinds.Partition extent_of
-          (λ p. refl) s.parts i)
+      (λ p. refl) s.parts i)
 
   -- ---- what is made keeps the rules
 
@@ -456,7 +459,7 @@ module _ {old next : List Record} {q : ℕ} {w : Volume} {ss : List Share}
         → first_broken (has_namesake (λ name. count_by (is_volume_named name) next)) next ≡ None → EachRule next labels
     remade_each labels each within free names =
         placed_carried labels old next (parts_of ss) remade_carries each (record {
-      members = λ p at. elim (is.back (kinds.Partition p) at) [ inl was ↦ inl was.0 | inr s ↦ inr (flat_there (λ (t : Share). t.parts) ss s.0 p s.1 s.2) ];
-      within = within;
-      free = free;
-    }) names
+          members = λ p at. elim (is.back (kinds.Partition p) at) [ inl was ↦ inl was.0 | inr s ↦ inr (flat_there (λ (t : Share). t.parts) ss s.0 p s.1 s.2) ];
+          within = within;
+          free = free;
+        }) names

@@ -1,4 +1,4 @@
-use Rattle.std.proofs.Common.{◌≡◌, ◌∙◌, ap, sym, subst, arith, All, List, Option, Ok}
+use Rattle.std.proofs.Common.{◌∙◌, ap, sym, subst, arith, All, List, Option, Ok}
 use Rattle.ldm_bytes.specs.Tables.{unless}
 use Rattle.ldm_records.specs.declared.types.Record.{Record}
 use Rattle.ldm_group.specs.Database.{Database}
@@ -13,13 +13,13 @@ use Rattle.ldm_edits.proofs.changing.change.Goals as goal
 pub changed-requires-clause-seq : goal.changed-requires-clause-seq
 changed-requires-clause-seq c =
     (within_limits _ _ _ _ (sym (rw c.as_slice.ensures.value at c.first_limit.ensures)
-        ∙ c.in_default.is)).seq
+    ∙ c.in_default.is)).seq
 
 pub need_after-need-requires-clause-made : goal.need_after-need-requires-clause-made
 need_after-need-requires-clause-made c =
     subst (λ (l : List Record). All IsFitting l) (sym c.as_slice-2.ensures.value)
     (within_limits _ _ _ _ (sym (rw c.as_slice.ensures.value at c.first_limit.ensures)
-        ∙ c.in_default.is)).each
+    ∙ c.in_default.is)).each
 
 pub last_for-last-requires : goal.last_for-last-requires
 last_for-last-requires c =
@@ -43,4 +43,4 @@ pub returns : goal.returns
 returns c =
     ap (λ (o : Option Refusal). unless o (changed c.args.db.now (change_of c.args.leaving c.args.db.now.records c.args.made.items)))
     (sym (rw c.as_slice.ensures.value at c.first_limit.ensures) ∙ c.in_default.is)
-        ∙ ap (λ (d : Database). Ok d) (sym c.in_ok-changed.ensures)
+    ∙ ap (λ (d : Database). Ok d) (sym c.in_ok-changed.ensures)
