@@ -373,8 +373,6 @@ spotted db labels words against next made h =
 
 -- ---- What the partitions of a new volume take is what its words ask for, in numbers of the format.
 
--- ---- the sizes of the words
-
 abbrev pub word_size : List ℕ × ℕ → ℕ
 word_size word = word.1
 

@@ -313,8 +313,6 @@ least_more f n (x ∷ (y ∷ xs)) some =
 
 -- ---- New volumes are laid out as they are made.
 
--- ---- orders
-
 -- a list that rises is in its order
 
 laid_as_is : (n : Extent → ℕ) (es : List Extent) → Climbs n es → in_rising n es ≡ es

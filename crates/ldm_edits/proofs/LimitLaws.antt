@@ -111,8 +111,6 @@ long_same rs at d lt short =
 
 -- ---- What the limits say that all commands have in common, and what a command that none refuses makes.
 
--- ---- tables of refusals
-
 -- no reason of a table holds
 pub first_parts : (o : Option Refusal) (rest : List (Option Refusal)) → first_of (o ∷ rest) ≡ None → (o ≡ None) × (first_of rest ≡ None)
 first_parts None rest h = (refl, h)

@@ -394,8 +394,6 @@ longer_keeps {db} {labels} {change} given fresh is within =
 
 -- ---- Extend: the longer span, its component and the new partitions are made where no word refuses them.
 
--- ---- the component
-
 component_is : (o : Option Record) (c : Component) → component_in o ≡ Some c → o ≡ Some (kinds.Component c)
 component_is (Some (kinds.Component x)) c e = (let same : x ≡ c = cc in ap (λ (y : Component). Some (kinds.Component y)) same)
 component_is (Some (kinds.Group x)) c e = absurd cc
