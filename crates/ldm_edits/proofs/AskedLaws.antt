@@ -1,5 +1,5 @@
 -- What a command asks of the disks that its words name, and where it is placed.
-use Rattle.std.proofs.Common.{◌≡◌, ℕ, suc, ◌+◌, ◌<◌, ◌==◌, ◌||◌, Bool, false, List, length, get_or, drop, ap, ◌∙◌, arith, drop-cons, ◌^◌, ◌≤◌, [], ◌∷◌, ◌++◌, map, refl, sym, subst, Option, Some, None, Result, Ok, Err, find, zero, ◌*◌, sum, ◌≢◌, ◌-◌, Bor}
+use Rattle.std.proofs.Common.{◌≡◌, ℕ, suc, ◌+◌, ◌<◌, ◌==◌, ◌||◌, Bool, false, List, length, get_or, drop, ap, ◌∙◌, arith, drop-cons, ◌^◌, ◌≤◌, [], ◌∷◌, ◌++◌, map, refl, sym, subst, Option, Some, None, Result, Ok, Err, find, zero, ◌*◌, sum, ◌-◌, Bor}
 use Rattle.std.specs.List.{list_any, All, Contains}
 use Rattle.ldm_space.specs.declared.placed.Wanted.{Wanted}
 use Rattle.ldm_edits.specs.Asked.{has_twins, ask, asked_for, is_much, words_by}
@@ -37,8 +37,6 @@ use Rattle.ldm_group.proofs.InOrder.{max_above}
 use Rattle.ldm_edits.proofs.Shares.{all_from_map, map_map}
 use Rattle.ldm_rules.proofs.CarryLaws.{HasDisk}
 use Rattle.ldm_edits.proofs.LimitLaws.{two_open}
-
--- ---- What a command asks of the disks that its words name, and what is taken for it.
 
 -- ---- A walk that looks for two that are asked of one disk.
 
@@ -374,8 +372,6 @@ spotted db labels words against next made h =
     }
 
 -- ---- What the partitions of a new volume take is what its words ask for, in numbers of the format.
-
--- ---- the sizes of the words
 
 abbrev pub word_size : List ℕ × ℕ → ℕ
 word_size word = word.1

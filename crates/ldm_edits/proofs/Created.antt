@@ -1,11 +1,10 @@
--- A new volume with its components and their partitions, whose ids follow one another: the next
--- group has its order, and keeps the rules.
-use Rattle.std.proofs.Common.{◌≡◌, ◌≢◌, ◌∙◌, inl, inr, ap, sym, refl, subst, ℕ, suc, ◌+◌, ◌*◌, ◌≤◌, ◌<◌, ◌^◌, ◌==◌, [], ◌∷◌, ◌++◌, length, get_or, map, arith, Some, None, List, Option, Bool, true, false, Ok, bytes_eq}
+-- A new volume whose records have ids one after the other: the order and rules of the next group.
+use Rattle.std.proofs.Common.{◌≡◌, ◌≢◌, ◌∙◌, inl, inr, ap, sym, refl, subst, ℕ, suc, ◌+◌, ◌*◌, ◌≤◌, ◌<◌, ◌^◌, ◌==◌, [], ◌∷◌, ◌++◌, length, get_or, map, arith, Some, None, List, Option, Bool, false, Ok, bytes_eq}
 use Rattle.std.specs.Prelude.{filter}
 use Rattle.std.specs.List.{All, AllPairs, cons_option, filter_map, flat_map, Contains}
 use Rattle.std.proofs.lemmas.Bool.{eq-eqb, ne_eqb, false≢true}
 use Rattle.std.proofs.lemmas.List.{length-map, length-append, append-nil, map-append}
-use Rattle.std.proofs.lemmas.List.Elements.{All-contains, All-cons, All-nil, All-tail, Contains-get_or, Contains-append_right, filter_map-append}
+use Rattle.std.proofs.lemmas.List.Elements.{All-contains, All-cons, All-nil, All-tail, Contains-get_or, filter_map-append}
 use Rattle.std.proofs.lemmas.List.Kept.{AllPairs-cons}
 use Rattle.std.proofs.lemmas.List.Sums.{length-filter, sum_by-cons}
 use Rattle.ldm_records.specs.declared.pieces.Head.{Head}

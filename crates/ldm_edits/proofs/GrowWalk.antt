@@ -1,5 +1,5 @@
 -- What is made of a mirror that grows, one after the other.
-use Rattle.std.proofs.Common.{◌≡◌, ℕ, ◌+◌, ◌<◌, ◌≤◌, ◌||◌, Bool, true, false, List, [], ◌∷◌, ◌++◌, length, get_or, take, map, refl, sym, ap, ◌∙◌, append_assoc, arith, Option, Some, None, Result, Ok, Err, Vec, Global}
+use Rattle.std.proofs.Common.{◌≡◌, ℕ, ◌+◌, ◌<◌, ◌≤◌, ◌||◌, Bool, true, false, List, [], ◌∷◌, ◌++◌, length, get_or, take, map, sym, ap, ◌∙◌, append_assoc, arith, Option, Some, None, Result, Ok, Err, Vec, Global}
 use Rattle.std.specs.Prelude.{filter}
 use Rattle.std.specs.Borrow.{Bor}
 use Rattle.std.specs.List.{cons_option, filter_map}

@@ -1,11 +1,10 @@
--- The partitions that are made, as a layout reads them, and the layouts of volumes: spans, stripes,
--- mirrors and RAID-5.
-use Rattle.std.proofs.Common.{◌≡◌, ℕ, suc, ◌+◌, ◌≤◌, ◌==◌, List, [], ◌∷◌, length, map, refl, sym, ap, ◌∙◌, arith, true, leb, zero, ◌*◌, ◌<◌, ◌^◌, get_or, Some, None, Option, subst, sum, ◌&&◌, not, Bool, false, Ok, min, ◌≢◌, ◌-◌, ◌/◌, ◌%◌}
+-- New partitions as a layout reads them, and the layouts of spans, stripes, mirrors and RAID-5.
+use Rattle.std.proofs.Common.{◌≡◌, ℕ, suc, ◌+◌, ◌≤◌, ◌==◌, List, [], ◌∷◌, length, map, refl, sym, ap, ◌∙◌, arith, true, leb, zero, ◌*◌, ◌<◌, ◌^◌, get_or, Some, None, Option, sum, ◌&&◌, not, Bool, false, Ok, min, ◌≢◌, ◌-◌, ◌/◌, ◌%◌}
 use Rattle.std.specs.Prelude.{sum_by, unwrap_or, if◌then◌else◌, nat_le}
 use Rattle.std.specs.List.{All, cons_option, Contains, list_all}
 use Rattle.std.proofs.lemmas.List.Sums.{sum-map, AllPass-from_list_all, list_all-from_AllPass}
-use Rattle.std.proofs.lemmas.List.Elements.{All-cons, All-nil, All-tail, All-contains, All-map, Contains-get_or, Contains-append_right}
-use Rattle.std.proofs.lemmas.Bool.{and_from, eq-eqb, le-leb, and_parts, le-ltb, ltb-false, ne_eqb}
+use Rattle.std.proofs.lemmas.List.Elements.{All-cons, All-nil, All-tail, All-contains, All-map, Contains-get_or}
+use Rattle.std.proofs.lemmas.Bool.{and_from, eq-eqb, le-leb, le-ltb, ltb-false, ne_eqb}
 use Rattle.ldm_records.specs.declared.types.Partition.{Partition}
 use Rattle.ldm_layout.specs.declared.parts.Extent.{Extent}
 use Rattle.ldm_layout.specs.Parts.{extent_of, tiles, tiles_from, rises_from, by_offset, by_index, least, plexes_of, extents_of, plex_of, in_rising}
@@ -35,8 +34,6 @@ use Rattle.ldm_edits.specs.Mirroring.{held_in}
 use Rattle.std.proofs.Math.Nat.{mul_assoc}
 use Rattle.ldm_layout.specs.Places.{stripe_capacity, raid5_capacity}
 use Rattle.ldm_layout.proofs.SortLaws.{AtLeast, Climbs, climbs_rises, stable_is}
-
--- ---- The partitions that are made of the sectors that they take, and how a layout reads them.
 
 -- ---- The partitions that take given sectors, as a layout reads them: tiles one after the other, or columns side by side.
 
@@ -208,9 +205,6 @@ parts_rise id ps ids i j d low within =
     let b = place_at id ps j d ids (omega arith) in
     omega arith
 
--- ---- The layouts of volumes: of a span or mirror from what its components hold, and of new
--- volumes as they are made.
-
 -- ---- The layout of a span or mirror: what its components hold, and that it has one where each is tiled and the least of them holds the volume.
 
 -- the partitions of each component, in the order of the volume's sectors
@@ -318,8 +312,6 @@ least_more f n (x ∷ (y ∷ xs)) some =
     min_more a b n = omega arith
 
 -- ---- New volumes are laid out as they are made.
-
--- ---- orders
 
 -- a list that rises is in its order
 

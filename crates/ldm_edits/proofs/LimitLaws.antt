@@ -1,5 +1,4 @@
--- What stands against a change that all commands have in common, and what a change within these
--- limits makes and keeps.
+-- What stands against a change that all commands have in common, and what one within it keeps.
 use Rattle.std.proofs.Common.{◌≡◌, ℕ, ◌+◌, ◌-◌, ◌^◌, ◌<◌, ◌≤◌, ◌==◌, ◌++◌, List, [], ◌∷◌, refl, sym, ap, ◌∙◌, arith, Bool, true, false, Option, Some, None, Err, length, get_or, take, map, min, cond, inl, inr, subst, Ok, Contains, not}
 use Rattle.std.specs.Prelude.{nat_lt, filter, unwrap_or}
 use Rattle.std.specs.Option.{option_map}
@@ -39,9 +38,6 @@ use Rattle.ldm_edits.specs.declared.leaving.Leaving.TheVariants as leavings
 use Rattle.ldm_edits.specs.Staying.{staying}
 use Rattle.ldm_vmdb.specs.declared.header.Header.{Header}
 use Rattle.ldm_vmdb.specs.Headers.{grown_to}
-
--- ---- What stands against a change that all commands have in common, and what a change within
--- these limits keeps of a group.
 
 -- ---- The table of the limits, row by row.
 
@@ -114,8 +110,6 @@ long_same rs at d lt short =
     ap (λ (l : List Record). least_in (map id_of l)) (filter_more is_long rs at d lt ∙ ap (λ (b : Bool). filter is_long (take at rs) ++ cond b (get_or rs at d ∷ []) []) short ∙ append-nil (filter is_long (take at rs)))
 
 -- ---- What the limits say that all commands have in common, and what a command that none refuses makes.
-
--- ---- tables of refusals
 
 -- no reason of a table holds
 pub first_parts : (o : Option Refusal) (rest : List (Option Refusal)) → first_of (o ∷ rest) ≡ None → (o ≡ None) × (first_of rest ≡ None)

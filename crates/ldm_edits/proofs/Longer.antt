@@ -1,7 +1,6 @@
--- A span or mirror whose components have more partitions: what extend makes, the layout of the
--- volume, and what the group keeps.
+-- A span or mirror with more partitions: what extend makes, its layout, and what the group keeps.
 use Rattle.std.proofs.Common.{◌≡◌, ◌≢◌, ℕ, zero, suc, ◌+◌, ◌*◌, ◌^◌, ◌<◌, ◌≤◌, ◌==◌, not, List, [], ◌∷◌, ◌++◌, length, get_or, map, refl, sym, ap, subst, ◌∙◌, inl, inr, arith, Bool, true, false, Some, None, Ok, Contains, zero-add, ◌-◌, ◌||◌, Option, sum_by, find}
-use Rattle.std.specs.Prelude.{filter, filter_map, if◌then◌else◌, is_some}
+use Rattle.std.specs.Prelude.{filter, filter_map, if◌then◌else◌}
 use Rattle.std.specs.List.{All, list_all, list_any, cons_option}
 use Rattle.std.proofs.lemmas.Bool.{not-true, eqb-true, eq-eqb, eqb-false, or_parts, ltb-false}
 use Rattle.std.proofs.lemmas.List.{length-map, append-nil}
@@ -394,8 +393,6 @@ longer_keeps {db} {labels} {change} given fresh is within =
     (longer_each given.up is rules)
 
 -- ---- Extend: the longer span, its component and the new partitions are made where no word refuses them.
-
--- ---- the component
 
 component_is : (o : Option Record) (c : Component) → component_in o ≡ Some c → o ≡ Some (kinds.Component c)
 component_is (Some (kinds.Component x)) c e = (let same : x ≡ c = cc in ap (λ (y : Component). Some (kinds.Component y)) same)

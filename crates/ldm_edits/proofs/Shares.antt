@@ -1,5 +1,4 @@
--- One volume of a group is new or changed, and its components have new partitions: which records
--- the next group has, and its rules.
+-- A volume is new or changed, and its components have new partitions: the rules of the next group.
 use Rattle.std.proofs.Common.{◌≡◌, ◌⊎◌, inl, inr, ℕ, zero, suc, ◌+◌, ◌*◌, ◌^◌, ◌<◌, ◌≤◌, ◌==◌, ◌||◌, List, [], ◌∷◌, ◌++◌, length, get_or, map, refl, sym, ap, subst, ◌∙◌, arith, Bool, true, false, None, Ok, count_by, Contains, Option, Some}
 use Rattle.std.specs.Prelude.{filter}
 use Rattle.std.specs.List.{All, filter_map, flat_map, cons_option}
@@ -22,7 +21,6 @@ use Rattle.ldm_group.proofs.KindLaws.{child_component, child_partition}
 use Rattle.ldm_group.proofs.Rise.{tested}
 use Rattle.ldm_label.specs.declared.Label.{Label}
 use Rattle.ldm_layout.specs.declared.parts.Plex.{Plex}
-use Rattle.ldm_layout.specs.declared.parts.Extent.{Extent}
 use Rattle.ldm_layout.specs.Layouts.{Layout}
 use Rattle.ldm_layout.specs.Parts.{plex_of, plex_in, plexes_of, extent_of, extent_in, extents_of}
 use Rattle.ldm_layout.specs.Volumes.{layout_of}

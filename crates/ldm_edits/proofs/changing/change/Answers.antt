@@ -1,4 +1,4 @@
-use Rattle.std.proofs.Common.{◌≡◌, ◌∙◌, ap, sym, subst, arith, All, List, Option, Ok}
+use Rattle.std.proofs.Common.{◌∙◌, ap, sym, subst, arith, All, List, Option, Ok}
 use Rattle.ldm_bytes.specs.Tables.{unless}
 use Rattle.ldm_records.specs.declared.types.Record.{Record}
 use Rattle.ldm_group.specs.Database.{Database}
