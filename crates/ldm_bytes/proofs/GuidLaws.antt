@@ -5,11 +5,10 @@ use Rattle.byteorder.specs.Endian.{big_number, big_bytes}
 use Rattle.byteorder.specs.Numbers.{big_number-reads_back, big_from-lt}
 use Rattle.std.proofs.lemmas.List.{append-nil, get_or_append_left, get_or-append_right}
 use Rattle.std.proofs.lemmas.List.Elements.{All-from_recursion}
-use Rattle.std.specs.List.{AllByRecursion}
+use Rattle.std.specs.List.{AllByRecursion, list_all}
 use Rattle.std.proofs.lemmas.Bool.{ne_eqb, cases_lt}
 use Rattle.std.proofs.lemmas.Bool.Decides.{nat_tests}
 use Rattle.std.specs.Prelude.{◌&&◌, ◌==◌, slice_index}
-use Rattle.std.specs.List.{list_all}
 use Rattle.uuid.specs.Text.{parsed, parsed_hyphenated, hyphenated_text, lower, parsed_simple, is_hex_digit, value_of, by_index, byte_of_digits, digits_of, has_hyphens}
 use Rattle.uuid.proofs.TextLemmas.{by_index_length}
 use Rattle.uuid.proofs.RoundTrips.{parses_hyphenated_text}

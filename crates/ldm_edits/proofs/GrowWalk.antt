@@ -22,8 +22,7 @@ use Rattle.ldm_layout.proofs.VolumeLaws.{extents_by, rising_sum}
 use Rattle.ldm_made.specs.declared.taken.Taken.{Taken}
 use Rattle.ldm_made.specs.Volumes.{there}
 use Rattle.ldm_edits.proofs.CommandLaws.{walk_more}
-use Rattle.ldm_edits.specs.Mirroring.{held_in}
-use Rattle.ldm_edits.specs.Mirroring.{component_in_record, component_holds, grown_components, grown_parts}
+use Rattle.ldm_edits.specs.Mirroring.{held_in, component_in_record, component_holds, grown_components, grown_parts}
 
 -- ---- a walk over the records
 

@@ -1,6 +1,5 @@
 use Rattle.std.proofs.Common.{◌≡◌, drop}
-use Rattle.ldm_words.specs.Commands.{piece_of}
-use Rattle.ldm_words.specs.Commands.{token_bytes, each}
+use Rattle.ldm_words.specs.Commands.{piece_of, token_bytes, each}
 use Rattle.ldm_words.proofs.CommandLaws.{behind}
 use Rattle.ldm_words.proofs.reading.read_pieces.Given as goal
 
