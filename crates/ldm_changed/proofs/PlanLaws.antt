@@ -1,5 +1,5 @@
 -- Which records stay, go or are added, and what of the blocks changes.
-use Rattle.std.proofs.Common.{◌≡◌, ◌↔◌, Bool, true, false, List, [], ◌++◌, ℕ, IsTrue, refl, sym, ap, subst, ◌+◌, ◌-◌, ◌*◌, ◌<◌, length, take, drop, slice_range, ◌∙◌, arith, ◌≤◌, not, ◌∷◌, get_or, map, All, Contains, append_assoc, ◌≢◌, slice_index, AllPairs, inl, inr, Option}
+use Rattle.std.proofs.Common.{◌≡◌, ◌↔◌, Bool, true, false, List, [], ◌++◌, ℕ, IsTrue, refl, sym, ap, subst, ◌+◌, ◌-◌, ◌*◌, ◌<◌, length, take, drop, slice_range, ◌∙◌, arith, ◌≤◌, not, ◌∷◌, get_or, map, All, Contains, append_assoc, ◌≢◌, slice_index, AllPairs, inl, inr, zero, suc, Option}
 use Rattle.std.specs.Prelude.{bytes_eq, filter, if◌then◌else◌}
 use Rattle.std.proofs.lemmas.Bool.{false_from_ne_true, not_from_false, cases_lt, not-true}
 use Rattle.std.proofs.lemmas.Slice.Eq.{bytes_eq-Decides}
@@ -8,7 +8,7 @@ use Rattle.ldm_records.specs.Plain.{IsRecord, Spells, own_spelling}
 use Rattle.ldm_records.specs.Views.{plain_of}
 use Rattle.ldm_records.proofs.PlainLaws.{own_spells}
 use Rattle.ldm_payloads.proofs.WholeLaws.{is_one}
-use Rattle.std.proofs.lemmas.List.{length-take, length-drop, append-nil, drop_more, map_push, get_or_default, take-append-drop, get_or-take, get_or-drop, length_push, map-append, length-append}
+use Rattle.std.proofs.lemmas.List.{length-take, length-drop, append-nil, drop_more, map_push, get_or_default, take-append-drop, take_all, get_or-take, get_or-drop, length_push, map-append, length-append}
 use Rattle.ldm_frags.specs.Blocks.{count, parts, numbers_from}
 use Rattle.ldm_frags.specs.Written.{block_at, Holds, IsPlaced, IsInUse, parts_of, AddsUnused}
 use Rattle.ldm_group.specs.Room.{own_len, need_of}
