@@ -27,8 +27,7 @@ These write, to all images of the group. No other program may write to them mean
 
   edit on IMAGE...                       does the lines of a script on standard input
   COMMAND on IMAGE...                    does one line, whose words these are
-  init NAME GUID DISKGUID... on IMAGE... makes a new group of empty disks, 2 to 64: a
-      DISKGUID for each image
+  init NAME GUID DISKGUID... on IMAGE... makes a new group of empty disks, 2 to 64: a DISKGUID for each image
 
 A line of a script is a COMMAND, or a word of a batch:
 
@@ -42,8 +41,7 @@ A line of a script is a COMMAND, or a word of a batch:
   commit                                                  they are done as one change, all or none
   cancel                                                  they are given up
 
-SECTORS and CHUNK are counted in sectors of 512 bytes.
-NAME and DISK are written as show says them. Each new
+SECTORS and CHUNK are counted in sectors of 512 bytes. NAME and DISK are written as show says them. Each new
 volume, group and disk has a GUID of its own: uuidgen makes one.
 
   ldm --help, ldm -h     this text
