@@ -1,9 +1,11 @@
 -- Free sectors: the first fit is exactly the least free start, and what is placed one after the
 -- other lies apart.
 use Rattle.std.proofs.Common.{◌≡◌, inl, inr, ℕ, zero, suc, ◌+◌, ◌-◌, ◌<◌, ◌≤◌, ◌==◌, max, min, not, List, [], ◌∷◌, length, get_or, refl, sym, ap, ◌∙◌, arith, Bool, true, false, cond, ltb, Option, Some, None, ◌||◌, ◌++◌, drop, append_assoc, Result, Ok, Err, drop-cons, ◌&&◌, subst, nat_lt}
-use Rattle.std.specs.List.{Contains, list_any, cons_option}
+use Rattle.std.specs.List.{Contains, list_any, cons_option, filter_map}
 use Rattle.std.proofs.lemmas.Bool.{cases_order, not-true, not-false, ltb-true, ltb-false, lt-ltb, le-ltb, cond-false, false_from_ne_true, false≢true, and_parts, and_from, ne_eqb, eq-eqb, cases_eq}
 use Rattle.std.proofs.lemmas.List.Folds.{list_any_at, list_any-append}
+use Rattle.std.specs.List.Sorted.{IsPermutation}
+use Rattle.std.proofs.lemmas.List.Sorted.{list_any-IsPermutation, IsPermutation-middle, IsPermutation-append_comm}
 use Rattle.ldm_bytes.proofs.NumberLaws.{some_is}
 use Rattle.std.proofs.lemmas.List.Elements.{filter_map-append, All-cons, All-tail, All-nil, Contains-get_or}
 use Rattle.std.proofs.lemmas.List.{take_more, drop_all, append-nil}
@@ -184,30 +186,41 @@ ahead_front done x (Err place) = refl
 
 -- ---- what is taken, in another order
 
-or_swap : (s t u : Bool) → (s || (t || u)) ≡ (t || (s || u))
-or_swap true true u = refl
-or_swap true false u = refl
-or_swap false true u = refl
-or_swap false false u = refl
-
-taken_moves : (x : Taken) (a b : List Taken) (disk len p : ℕ) → is_taken (x ∷ (a ++ b)) disk len p ≡ is_taken (a ++ (x ∷ b)) disk len p
+pub taken_moved : (a b : List Taken) (disk len p : ℕ) → IsPermutation a b → is_taken a disk len p ≡ is_taken b disk len p
 unfolding is_taken
-taken_moves x [] b disk len p = refl
-taken_moves x (y ∷ a) b disk len p = or_swap (takes_one disk len p x) (takes_one disk len p y) (is_taken (a ++ b) disk len p) ∙ ap (λ (t : Bool). takes_one disk len p y || t) (taken_moves x a b disk len p)
+taken_moved a b disk len p moved = list_any-IsPermutation (takes_one disk len p) a b moved
+
+-- a test of what records take, by each record
+pub any_by_each : (h : Record → Option Taken) (test : Taken → Bool) (records : List Record) → list_any test (filter_map h records) ≡ list_any (λ r. list_any test (filter_map h (r ∷ []))) records
+any_by_each h test [] = refl
+any_by_each h test (r ∷ records) =
+    ap (list_any test) (filter_map-append h (r ∷ []) records) ∙ list_any-append test (filter_map h (r ∷ [])) (filter_map h records) ∙ ap (λ (b : Bool). list_any test (filter_map h (r ∷ [])) || b) (any_by_each h test records)
+
+-- by the records in another order
+pub taken_permuted : (xs ys : List Record) → IsPermutation xs ys → (disk len p : ℕ) → is_taken (taken_in xs) disk len p ≡ is_taken (taken_in ys) disk len p
+unfolding is_taken
+taken_permuted xs ys moved disk len p =
+    let test : Taken → Bool = takes_one disk len p in
+    any_by_each taken_by test xs ∙ list_any-IsPermutation (λ r. list_any test (taken_in (r ∷ []))) xs ys moved ∙ sym (any_by_each taken_by test ys)
+
+-- by records that are made of what was placed, behind those that were there
+pub taken_behind : (records more made : List Record) (spots : List Taken) → taken_in made ≡ spots → (disk len p : ℕ) → is_taken (spots ++ taken_in (records ++ more)) disk len p ≡ is_taken (taken_in (records ++ (more ++ made))) disk len p
+taken_behind records more made spots is disk len p =
+    let taken : List Taken = taken_in (records ++ more) in
+    taken_moved (spots ++ taken) (taken ++ spots) disk len p (IsPermutation-append_comm spots taken)
+    ∙ ap (λ (l : List Taken). is_taken l disk len p) (ap (λ (l : List Taken). taken ++ l) (sym is) ∙ sym (filter_map-append taken_by (records ++ more) made) ∙ ap taken_in (append_assoc records more made))
 
 -- what is placed last, before or behind what is placed so far
 pub put_last : (t : Taken) (spots taken : List Taken) (disk len p : ℕ) → is_taken (t ∷ (spots ++ taken)) disk len p ≡ is_taken ((spots ++ t ∷ []) ++ taken) disk len p
-put_last t spots taken disk len p = taken_moves t spots taken disk len p ∙ ap (λ (l : List Taken). is_taken l disk len p) (sym (append_assoc spots (t ∷ []) taken))
+put_last t spots taken disk len p = sym (taken_moved (spots ++ t ∷ taken) (t ∷ (spots ++ taken)) disk len p (IsPermutation-middle spots t taken)) ∙ ap (λ (l : List Taken). is_taken l disk len p) (sym (append_assoc spots (t ∷ []) taken))
 
-taken_behind : (t : Taken) (a b : List Taken) (disk len p : ℕ) → is_taken a disk len p ≡ is_taken b disk len p → is_taken (t ∷ a) disk len p ≡ is_taken (t ∷ b) disk len p
+-- lists that take the same sectors have the same placed beside them
+pub placed_same : (a b : List Taken) (at : ℕ) (wanted : List Wanted) → ((disk len p : ℕ) → is_taken a disk len p ≡ is_taken b disk len p) → placed a at wanted ≡ placed b at wanted
 unfolding is_taken
-taken_behind t a b disk len p same = ap (λ (x : Bool). takes_one disk len p t || x) same
-
-placed_same : (wanted : List Wanted) (a b : List Taken) (at : ℕ) → ((disk len p : ℕ) → is_taken a disk len p ≡ is_taken b disk len p) → placed a at wanted ≡ placed b at wanted
-placed_same [] a b at same = refl
-placed_same (w ∷ more) a b at same =
+placed_same a b at [] same = refl
+placed_same a b at (w ∷ more) same =
     let first : first_fit a w ≡ first_fit b w = ap (λ (o : Option ℕ). option_map (placing w) o) (first_same a b w.disk w.limit w.size (λ p. same w.disk w.size p)) in
-    λ i. place_rest at (λ spot. placed_same more (spot ∷ a) (spot ∷ b) (at + 1) (λ disk len p. taken_behind spot a b disk len p (same disk len p)) i) (first i)
+    λ i. place_rest at (λ spot. placed_same (spot ∷ a) (spot ∷ b) (at + 1) more (λ disk len p. ap (λ (x : Bool). takes_one disk len p spot || x) (same disk len p)) i) (first i)
 
 -- ---- the walk
 
@@ -229,7 +242,7 @@ placed_more taken wanted at spots items w d start lt is found pushed so_far =
     let t : Taken = placing w start in
     let rest : List Wanted = drop (at + 1) wanted in
     next_wanted taken wanted at spots w d (Some start) lt is found so_far ∙ ahead_front spots t (placed (t ∷ (spots ++ taken)) (at + 1) rest)
-    ∙ ap (ahead (spots ++ t ∷ [])) (placed_same rest (t ∷ (spots ++ taken)) ((spots ++ t ∷ []) ++ taken) (at + 1) (put_last t spots taken))
+    ∙ ap (ahead (spots ++ t ∷ [])) (placed_same (t ∷ (spots ++ taken)) ((spots ++ t ∷ []) ++ taken) (at + 1) rest (put_last t spots taken))
     ∙ ap (λ (l : List Taken). ahead l (placed (l ++ taken) (at + 1) rest)) (sym pushed)
 
 -- one that finds no fit

@@ -6,12 +6,13 @@ use Rattle.std.proofs.lemmas.Bool.{cases_order, and_parts, and_from, ltb-true, l
 use Rattle.std.proofs.lemmas.List.{get_or_default, take_more, take_all}
 use Rattle.std.proofs.lemmas.List.Elements.{All-contains, All-nil, All-cons, All-push, All-tail, All-head, All-weaker, Contains-append_left, Contains-push, Contains-push_cases, Contains-get_or}
 use Rattle.std.proofs.lemmas.List.Folds.{list_any_at, Any-from_list_any, list_any-append, list_any_none, find_at}
-use Rattle.ldm_space.specs.Free.{Taken, takes_one, is_taken, first_free_start, taken_of, taken_in}
+use Rattle.ldm_space.specs.Free.{Taken, takes_one, is_taken, first_free_start, taken_of, taken_by, taken_in}
 use Rattle.ldm_space.specs.Gaps.{Gap, IsIn, AreGaps, has_length, taken_on, with_gap, TakesFirst, first_gap, shorter, rest_of, without_first}
-use Rattle.ldm_space.proofs.FreeLaws.{is_first, is_none, first_is, none_is, taken_both, put_last}
+use Rattle.ldm_space.specs.declared.placed.FreeMaps.{FreeMaps}
+use Rattle.ldm_space.specs.Placed.{AreMapsOf}
+use Rattle.ldm_space.proofs.FreeLaws.{is_first, is_none, first_is, none_is, taken_both, put_last, taken_moved, any_by_each}
 use Rattle.std.specs.List.Sorted.{IsNonDecreasingBy, IsPermutation}
 use Rattle.std.proofs.lemmas.List.Quantifiers.{all_pairs_push, all_pairs_remove, position-Some}
-use Rattle.std.proofs.lemmas.List.Sorted.{list_any-IsPermutation}
 use Rattle.ldm_records.specs.declared.types.Record.{Record}
 use Rattle.ldm_records.specs.declared.types.Record.TheVariants as kinds
 use Rattle.ldm_records.specs.declared.types.Partition.{Partition}
@@ -21,8 +22,7 @@ use Rattle.std.proofs.Math.ListN.{length-set}
 use Rattle.std.proofs.lemmas.List.Edits.{length-remove, get_or-remove_below, get_or-remove_above}
 use Rattle.std.proofs.lemmas.List.Sums.{fails_before_first, position_or_len_is}
 use Rattle.std.specs.Ordering.{nat_cmp}
-use Rattle.std.specs.BTreeMap.{BTreeMap, get, Updates, IsEmpty, is_at}
-use Rattle.std.specs.Map.{lookup}
+use Rattle.std.specs.BTreeMap.{BTreeMap, get, Updates, is_at}
 use Rattle.std.specs.Cmp.{unsigned_tied}
 use Rattle.std.proofs.lemmas.Option.{slice_get-get_or}
 
@@ -180,23 +180,19 @@ off_disk p disk s off = false_from_ne_true _ (λ met.
 
 on_disk : (records : List Record) (disk s : ℕ) → is_taken (filter_map (taken_on disk) records) disk 1 s ≡ is_taken (taken_in records) disk 1 s
 unfolding is_taken
-on_disk [] disk s = refl
-on_disk (kinds.Partition p ∷ records) disk s = go ((p.disk == disk) && nat_lt 0 p.size) refl (on_disk records disk s)
+on_disk records disk s = any_by_each (taken_on disk) (takes_one disk 1 s) records ∙ (λ i. list_any (λ r. one r i) records) ∙ sym (any_by_each taken_by (takes_one disk 1 s) records)
   where
-    go : (b : Bool) → ((p.disk == disk) && nat_lt 0 p.size) ≡ b → is_taken (filter_map (taken_on disk) records) disk 1 s ≡ is_taken (taken_in records) disk 1 s
-        → is_taken (filter_map (taken_on disk) (kinds.Partition p ∷ records)) disk 1 s ≡ is_taken (taken_in (kinds.Partition p ∷ records)) disk 1 s
-    go true is rest =
-        ap (λ (b : Bool). list_any (takes_one disk 1 s) (cons_option (cond b (Some (taken_of p)) None) (filter_map (taken_on disk) records))) is
-        ∙ ap (λ (b : Bool). takes_one disk 1 s (taken_of p) || b) rest
-    go false is rest =
-        ap (λ (b : Bool). list_any (takes_one disk 1 s) (cons_option (cond b (Some (taken_of p)) None) (filter_map (taken_on disk) records))) is
-        ∙ (rest ∙ sym (ap (λ (b : Bool). b || list_any (takes_one disk 1 s) (taken_in records)) (off_disk p disk s is)))
-on_disk (r ∷ records) disk s = on_disk records disk s
+    part : (p : Partition) (b : Bool) → ((p.disk == disk) && nat_lt 0 p.size) ≡ b → list_any (takes_one disk 1 s) (filter_map (taken_on disk) (kinds.Partition p ∷ [])) ≡ list_any (takes_one disk 1 s) (taken_in (kinds.Partition p ∷ []))
+    part p true is = ap (λ (b : Bool). list_any (takes_one disk 1 s) (cons_option (cond b (Some (taken_of p)) None) [])) is
+    part p false is = ap (λ (b : Bool). list_any (takes_one disk 1 s) (cons_option (cond b (Some (taken_of p)) None) [])) is ∙ sym (ap (λ (b : Bool). b || false) (off_disk p disk s is))
+
+    one : (r : Record) → list_any (takes_one disk 1 s) (filter_map (taken_on disk) (r ∷ [])) ≡ list_any (takes_one disk 1 s) (taken_in (r ∷ []))
+    one (kinds.Partition p) = part p _ refl
+    one r = refl
 
 -- in any order
 pub sorted_same : (records : List Record) (taken : List Taken) (disk s : ℕ) → IsPermutation (filter_map (taken_on disk) records) taken → is_taken taken disk 1 s ≡ is_taken (taken_in records) disk 1 s
-unfolding is_taken
-sorted_same records taken disk s moved = sym (list_any-IsPermutation (takes_one disk 1 s) (filter_map (taken_on disk) records) taken moved) ∙ on_disk records disk s
+sorted_same records taken disk s moved = sym (taken_moved (filter_map (taken_on disk) records) taken disk 1 s moved) ∙ on_disk records disk s
 
 -- and each of these is one of its sectors or more
 pub record IsOn (disk : ℕ) (t : Taken) : Type 0 where
@@ -572,9 +568,22 @@ IsMapOf taken spots disk (Some map) = AreGaps map (spots ++ taken) disk (2 ^ 64 
 pub record AreMaps (taken spots : List Taken) (maps : BTreeMap ℕ (List Gap)) : Type 0 where
   pub each : (disk : ℕ) → IsMapOf taken spots disk (get nat_cmp maps disk)
 
-pub no_maps : (taken : List Taken) (maps : BTreeMap ℕ (List Gap)) → IsEmpty maps → AreMaps taken [] maps
+-- maps that were handed over, before anything is placed,
+pub maps_begun : (taken : List Taken) (maps : FreeMaps) → AreMapsOf maps taken → AreMaps taken [] maps.maps
 unfolding is_taken
-no_maps taken maps empty = record { each = λ disk. subst (IsMapOf taken [] disk) (sym (ap (lookup (is_at (nat_cmp disk))) empty)) (λ s. refl) }
+maps_begun taken maps are = record { each = λ disk. go disk (get nat_cmp maps.maps disk) refl }
+  where
+    go : (disk : ℕ) (o : Option (List Gap)) → get nat_cmp maps.maps disk ≡ o → IsMapOf taken [] disk o
+    go disk None e = λ s. refl
+    go disk (Some gaps) e = are.each disk gaps e
+
+-- and those that are handed on
+pub maps_ended : (taken spots : List Taken) (maps : FreeMaps) → AreMaps taken spots maps.maps → AreMapsOf maps (spots ++ taken)
+maps_ended taken spots maps are = record { each = λ disk gaps e. subst (IsMapOf taken spots disk) e (are.each disk) }
+
+-- lists that take the same sectors have the same maps
+pub maps_same : (maps : FreeMaps) (a b : List Taken) → ((disk s : ℕ) → is_taken a disk 1 s ≡ is_taken b disk 1 s) → AreMapsOf maps a → AreMapsOf maps b
+maps_same maps a b same are = record { each = λ disk gaps e. gaps_same gaps a b disk (2 ^ 64 - 1) (same disk) (are.each disk gaps e) }
 
 -- the map of a disk, as it was kept or made of what was taken before
 pub map_there : (taken spots : List Taken) (maps : BTreeMap ℕ (List Gap)) (disk : ℕ) (kept : Option (List Gap)) (map : List Gap) → AreMaps taken spots maps → kept ≡ get nat_cmp maps disk

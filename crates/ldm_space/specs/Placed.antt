@@ -1,8 +1,12 @@
 -- What the partitions of a command take, and that each is free of all that was taken before it.
-use Rattle.std.specs.Prelude.{◌≡◌, ℕ, ◌+◌, ◌≤◌, false, List, [], ◌∷◌, All, Result, Ok, Err}
+use Rattle.std.specs.Prelude.{◌≡◌, ℕ, ◌+◌, ◌-◌, ◌^◌, ◌≤◌, ◌++◌, false, List, [], ◌∷◌, All, Some, Result, Ok, Err}
+use Rattle.std.specs.BTreeMap.{get}
 use Rattle.std.specs.Global.{Vec}
+use Rattle.std.specs.Ordering.{nat_cmp}
 use Rattle.ldm_made.specs.declared.taken.Taken.{Taken}
 use Rattle.ldm_space.specs.Free.{is_taken, IsFirstFree}
+use Rattle.ldm_space.specs.Gaps.{Gap, AreGaps}
+use Rattle.ldm_space.specs.declared.placed.FreeMaps.{FreeMaps}
 use Rattle.ldm_space.specs.declared.placed.Wanted.{Wanted}
 
 -- the first fit of what is asked for
@@ -34,3 +38,13 @@ AllLimited sectors wanted = All (λ w. w.limit ≡ sectors w.disk) wanted
 abbrev pub ListsAs : {T : Type 0} → Result (List T) ℕ → Result (Vec T) ℕ → Type 0
 ListsAs answer (Ok list) = answer ≡ Ok list.items
 ListsAs answer (Err place) = answer ≡ Err place
+
+-- each map is that of the gaps of its disk, which has no limit, beside what is taken
+pub record AreMapsOf (maps : FreeMaps) (taken : List Taken) : Type 0 where
+  pub each : (disk : ℕ) (gaps : List Gap) → get nat_cmp maps.maps disk ≡ Some gaps → AreGaps gaps taken disk (2 ^ 64 - 1)
+
+-- exactly that list, with the maps beside what it takes too, or that place
+abbrev pub PlacesAs : Result (FreeMaps × Vec Taken) ℕ → List Taken → Result (List Taken) ℕ → Type 0
+PlacesAs (Ok placed) taken (Ok spots) = (placed.1.items ≡ spots) × AreMapsOf placed.0 (spots ++ taken)
+PlacesAs (Err place) taken (Err other) = place ≡ other
+PlacesAs _ taken _ = ⊥

@@ -1,6 +1,6 @@
 //! The gaps of a disk, from which runs of sectors are taken.
-ghost use Rattle.std.specs.Prelude.{◌≡◌, ◌+◌, ◌-◌, ◌^◌, ◌<◌, ℕ, List, All, IfOk, OnOk, IfNone};
-ghost use Rattle.std.specs.Prelude.{IsPermutation};
+ghost use Rattle.std.specs.Prelude.{◌≡◌, ◌+◌, ◌-◌, ◌^◌, ◌<◌, ◌++◌, ℕ, List, All, IfOk, OnOk};
+ghost use Rattle.std.specs.Prelude.{IfNone, IsPermutation};
 ghost use Rattle.std.specs.List.{filter_map, position};
 ghost use Rattle.std.specs.List.Sorted.{IsNonDecreasingBy};
 ghost use Rattle.ldm_group.specs.Partitions.{EndsInRange};
@@ -53,18 +53,33 @@ fn taken_on(disk: u64, r: &Record) -> Option<Taken>
     }
 }
 
-// What is taken of the disk, in rising start.
-fn all_taken_on(alloc: Global, records: &[Record], disk: u64) -> Result<Vec<Taken>, NoMemory>
-    ensures same { IfOk result (λ v. IsPermutation
-        (filter_map (taken_on disk) records.now) v.items) }
-    ensures rising { IfOk result (λ v. IsNonDecreasingBy (λ t. t.start) v.items) }
+// What is taken of the disk behind what was found before.
+fn push_taken_on(taken: &mut Vec<Taken>, records: &[Record], disk: u64) -> Result<(), NoMemory>
+    ensures { OnOk result (taken.new.items
+        ≡ taken.old.items ++ filter_map (taken_on disk) records.now) }
 {
-    let mut taken = Vec::new(alloc);
     for r in records {
         if let Some(t) = taken_on(disk, r) {
             taken.push(t)?;
         }
     }
+    Ok(())
+}
+
+// What is taken of the disk, in rising start.
+fn all_taken_on(
+    alloc: Global,
+    records: &[Record],
+    more: &[Record],
+    disk: u64,
+) -> Result<Vec<Taken>, NoMemory>
+    ensures same { IfOk result (λ v. IsPermutation
+        (filter_map (taken_on disk) (records.now ++ more.now)) v.items) }
+    ensures rising { IfOk result (λ v. IsNonDecreasingBy (λ t. t.start) v.items) }
+{
+    let mut taken = Vec::new(alloc);
+    push_taken_on(&mut taken, records, disk)?;
+    push_taken_on(&mut taken, more, disk)?;
     taken.sort_unstable_by_key(|t| t.start);
     Ok(taken)
 }
@@ -96,21 +111,23 @@ impl FreeMap {
         requires ends { All EndsInRange db.now.records }
         ensures { IfOk result (λ map. AreGaps map (taken_in db.now.records) disk data_size) }
     {
-        FreeMap::beside(alloc, db.as_slice(), disk, data_size)
+        FreeMap::beside(alloc, db.as_slice(), &[], disk, data_size)
     }
 
-    /// The same beside the partitions among the records. One walk over what is taken in rising
-    /// start, past the end of all before.
+    /// The same beside the partitions among two lists of records. One walk over what is taken in
+    /// rising start, past the end of all before.
     pub(crate) fn beside(
         alloc: Global,
         records: &[Record],
+        more: &[Record],
         disk: u64,
         data_size: u64,
     ) -> Result<FreeMap, NoMemory>
-        requires ends { All EndsInRange records.now }
-        ensures { IfOk result (λ map. AreGaps map (taken_in records.now) disk data_size) }
+        requires ends { All EndsInRange (records.now ++ more.now) }
+        ensures { IfOk result (λ map. AreGaps map (taken_in (records.now ++ more.now))
+            disk data_size) }
     {
-        let taken = all_taken_on(alloc, records, disk)?;
+        let taken = all_taken_on(alloc, records, more, disk)?;
         let mut gaps = Vec::new(alloc);
         let mut at = 0;
         for t in &taken {

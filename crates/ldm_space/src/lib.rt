@@ -7,4 +7,4 @@ mod placed;
 
 pub use free::first_fit;
 pub use gaps::{FreeMap, Gap};
-pub use placed::{Wanted, place_all};
+pub use placed::{FreeMaps, Wanted, place_all};

@@ -1,5 +1,6 @@
 //! Where the new partitions of one command lie.
-ghost use Rattle.std.specs.Prelude.{◌≡◌, ◌-◌, ◌^◌, ◌<◌, ◌∷◌, List, All, IfOk, IfSome, MatchOption};
+ghost use Rattle.std.specs.Prelude.{◌≡◌, ◌-◌, ◌^◌, ◌<◌, ◌∷◌, ◌++◌, List, All, IfOk, IfSome};
+ghost use Rattle.std.specs.Prelude.{MatchOption};
 ghost use Rattle.ldm_group.specs.Partitions.{EndsInRange};
 ghost use Rattle.ldm_space.specs.Free.{Taken, taken_in, first_free_start};
 ghost use Rattle.ldm_space.specs.Gaps.{AreGaps};
@@ -26,16 +27,17 @@ pub struct Wanted {
 fn opened(
     alloc: Global,
     records: &[Record],
+    more: &[Record],
     disk: u64,
     kept: Option<FreeMap>,
 ) -> Result<FreeMap, NoMemory>
-    requires ends { All EndsInRange records.now }
+    requires ends { All EndsInRange (records.now ++ more.now) }
     ensures { IfOk result (λ map. MatchOption kept
-        (AreGaps map (taken_in records.now) disk (2 ^ 64 - 1)) (λ old. map ≡ old)) }
+        (AreGaps map (taken_in (records.now ++ more.now)) disk (2 ^ 64 - 1)) (λ old. map ≡ old)) }
 {
     match kept {
         Some(map) => Ok(map),
-        None => FreeMap::beside(alloc, records, disk, u64::MAX),
+        None => FreeMap::beside(alloc, records, more, disk, u64::MAX),
     }
 }
 
@@ -54,6 +56,67 @@ fn fit(map: &mut FreeMap, asked: Wanted) -> Option<u64>
     if start <= last { Some(start) } else { None }
 }
 
+/// The gaps of the disks on which partitions were placed.
+#[derive(Drop)]
+pub struct FreeMaps {
+    maps: BTreeMap<u64, FreeMap>,
+}
+
+impl FreeMaps {
+    ghost use Rattle.std.specs.Prelude.{◌≡◌, ◌++◌, ◌<◌, ◌^◌, List, All, IfOk};
+    ghost use Rattle.ldm_group.specs.Partitions.{EndsInRange};
+    ghost use Rattle.ldm_space.specs.Free.{Taken, taken_in};
+    ghost use Rattle.ldm_space.specs.Wanted.{placed};
+    ghost use Rattle.ldm_space.specs.Placed.{AreMapsOf, PlacesAs};
+
+    /// No disk yet. It takes no memory.
+    pub fn new(alloc: Global) -> FreeMaps
+        ensures { (taken : List Taken) → AreMapsOf result taken }
+    {
+        FreeMaps {
+            maps: BTreeMap::new(alloc),
+        }
+    }
+
+    /// What the partitions that are asked for take beside those among two lists of records, each at
+    /// its first fit beside those before it, and the maps with that; or the place of the first that
+    /// finds none.
+    ///
+    /// It walks over the records once for each disk that is asked and has no map.
+    pub fn place(
+        self,
+        alloc: Global,
+        records: &[Record],
+        more: &[Record],
+        wanted: &[Wanted],
+    ) -> Result<Result<(FreeMaps, Vec<Taken>), usize>, NoMemory>
+        requires maps { AreMapsOf self (taken_in (records.now ++ more.now)) }
+        requires ends { All EndsInRange (records.now ++ more.now) }
+        requires some { All (λ w. 0 < w.size) wanted.now }
+        requires limits { All (λ w. w.limit < 2 ^ 64) wanted.now }
+        ensures { IfOk result (λ answer. PlacesAs answer (taken_in (records.now ++ more.now))
+            (placed (taken_in (records.now ++ more.now)) 0 wanted.now)) }
+    {
+        let FreeMaps { mut maps } = self;
+        let mut spots = Vec::new(alloc);
+        for at in 0..wanted.len() {
+            let asked = wanted[at];
+            let kept = maps.remove(&asked.disk);
+            let mut map = opened(alloc, records, more, asked.disk, kept)?;
+            let Some(start) = fit(&mut map, asked) else {
+                return Ok(Err(at));
+            };
+            maps.insert(asked.disk, map)?;
+            spots.push(Taken {
+                disk: asked.disk,
+                start,
+                size: asked.size,
+            })?;
+        }
+        Ok(Ok((FreeMaps { maps }, spots)))
+    }
+}
+
 /// What the partitions that are asked for take, each at its first fit beside those before it; or
 /// the place of the first that finds none.
 ///
@@ -68,21 +131,8 @@ pub fn place_all(
     requires limits { All (λ w. w.limit < 2 ^ 64) wanted.now }
     ensures { IfOk result (ListsAs (placed (taken_in records.now) 0 wanted.now)) }
 {
-    let mut maps = BTreeMap::new(alloc);
-    let mut spots = Vec::new(alloc);
-    for at in 0..wanted.len() {
-        let asked = wanted[at];
-        let kept = maps.remove(&asked.disk);
-        let mut map = opened(alloc, records, asked.disk, kept)?;
-        let Some(start) = fit(&mut map, asked) else {
-            return Ok(Err(at));
-        };
-        maps.insert(asked.disk, map)?;
-        spots.push(Taken {
-            disk: asked.disk,
-            start,
-            size: asked.size,
-        })?;
+    match FreeMaps::new(alloc).place(alloc, records, &[], wanted)? {
+        Ok((_, spots)) => Ok(Ok(spots)),
+        Err(place) => Ok(Err(place)),
     }
-    Ok(Ok(spots))
 }

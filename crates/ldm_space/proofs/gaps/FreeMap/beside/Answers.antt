@@ -1,4 +1,4 @@
-use Rattle.std.proofs.Common.{◌≡◌, ◌+◌, ◌<◌, ◌≤◌, ◌^◌, max, min, List, get_or, length, sym, ap, subst, ◌∙◌, arith, ℕ}
+use Rattle.std.proofs.Common.{◌≡◌, ◌+◌, ◌++◌, ◌<◌, ◌≤◌, ◌^◌, max, min, List, get_or, length, sym, ap, subst, ◌∙◌, arith, ℕ}
 use Rattle.std.specs.List.{All, filter_map}
 use Rattle.std.specs.List.Sorted.{IsPermutation, IsNonDecreasingBy}
 use Rattle.std.proofs.lemmas.List.{get_or_default}
@@ -19,7 +19,7 @@ loop-t-init c = subst (λ (l : List Gap). IsWalked c.deref-t-items.result.now c.
 
 pub overflow_add-t : goal.overflow_add-t
 overflow_add-t c =
-    let on = slice_on c.args.records.now c.in_ok-taken.taken.items c.deref-t-items.result.now c.args.disk c.deref-t-items.ensures.value c.in_ok-taken.ensures.same c.requires.ends in
+    let on = slice_on (c.args.records.now ++ c.args.more.now) c.in_ok-taken.taken.items c.deref-t-items.result.now c.args.disk c.deref-t-items.ensures.value c.in_ok-taken.ensures.same c.requires.ends in
     let d : Taken = record { disk = 0; start = 0; size = 0 } in
     let t : Taken = get_or c.deref-t-items.result.now c.loop-t.t-index d in
     let ends : t.start + t.size < 2 ^ 64 = (on c.loop-t.t-index d c.loop-t-test.true).ends in
@@ -33,7 +33,7 @@ loop-t-preserved c =
     let k : ℕ = c.loop-t.t-index in
     let d : Taken = record { disk = 0; start = 0; size = 0 } in
     let t : Taken = get_or slice k d in
-    let on = slice_on c.args.records.now c.in_ok-taken.taken.items slice disk c.deref-t-items.ensures.value c.in_ok-taken.ensures.same c.requires.ends in
+    let on = slice_on (c.args.records.now ++ c.args.more.now) c.in_ok-taken.taken.items slice disk c.deref-t-items.ensures.value c.in_ok-taken.ensures.same c.requires.ends in
     let rising : IsNonDecreasingBy (λ t. t.start) slice = subst (λ (l : List Taken). IsNonDecreasingBy (λ t. t.start) l) (sym c.deref-t-items.ensures.value) c.in_ok-taken.ensures.rising in
     let more = walk_more slice disk size k c.loop-t.at c.loop-t.gaps.items t rising on c.loop-t-test.true (get_or_default slice k t d c.loop-t-test.true) c.loop-t.invariant in
     let gaps : c.push_gap.new.gaps.items ≡ with_gap c.loop-t.gaps.items c.loop-t.at (min t.start size) = c.in_ok-push_gap.ensures ∙ ap (with_gap c.loop-t.gaps.items c.loop-t.at) c.min.ensures in
@@ -50,11 +50,11 @@ whole records items slice gaps now disk size k at same moved past walked is =
 
 pub invariant_of-result : goal.invariant_of-result
 invariant_of-result c =
-    let are = whole c.args.records.now c.in_ok-taken.taken.items c.deref-t-items.result.now c.loop-t.gaps.items c.push_gap-2.new.gaps.items c.args.disk c.args.data_size c.loop-t.t-index c.loop-t.at
+    let are = whole (c.args.records.now ++ c.args.more.now) c.in_ok-taken.taken.items c.deref-t-items.result.now c.loop-t.gaps.items c.push_gap-2.new.gaps.items c.args.disk c.args.data_size c.loop-t.t-index c.loop-t.at
     c.deref-t-items.ensures.value c.in_ok-taken.ensures.same (omega arith) c.loop-t.invariant c.in_ok-push_gap-2.ensures in
     All-weaker (λ (g : Gap). g.start + g.len ≤ c.args.data_size) (λ (g : Gap). g.start + g.len < 2 ^ 64) (λ g e. omega arith) c.push_gap-2.new.gaps.items are.within
 
 pub returns : goal.returns
 returns c =
-    whole c.args.records.now c.in_ok-taken.taken.items c.deref-t-items.result.now c.loop-t.gaps.items c.push_gap-2.new.gaps.items c.args.disk c.args.data_size c.loop-t.t-index c.loop-t.at
+    whole (c.args.records.now ++ c.args.more.now) c.in_ok-taken.taken.items c.deref-t-items.result.now c.loop-t.gaps.items c.push_gap-2.new.gaps.items c.args.disk c.args.data_size c.loop-t.t-index c.loop-t.at
     c.deref-t-items.ensures.value c.in_ok-taken.ensures.same (omega arith) c.loop-t.invariant c.in_ok-push_gap-2.ensures
