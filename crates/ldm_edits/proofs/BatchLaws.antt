@@ -1,7 +1,11 @@
 -- What is kept of a group by what a line comes to, where a batch may be open.
-use Rattle.std.proofs.Common.{◌≡◌, ℕ, ◌+◌, ◌^◌, ◌<◌, List, refl, sym, ap, subst, ◌∙◌, arith, Bool, true, false, Option, Some, None, Result, Ok, Err, IfOk}
+use Rattle.std.proofs.Common.{◌≡◌, ◌≢◌, ℕ, ◌+◌, ◌-◌, ◌++◌, ◌^◌, ◌<◌, List, [], get_or, refl, sym, ap, subst, ◌∙◌, arith, Bool, true, false, Option, Some, None, Result, Ok, Err, IfOk, IfErr}
 use Rattle.std.specs.Prelude.{if◌then◌else◌}
+use Rattle.std.specs.List.{AllPairs}
 use Rattle.std.specs.Option.{ForSome}
+use Rattle.std.proofs.lemmas.List.{append-nil}
+use Rattle.std.proofs.lemmas.List.Sorted.{IsPermutation-refl}
+use Rattle.ldm_records.specs.declared.types.Record.{Record}
 use Rattle.ldm_vmdb.specs.declared.header.Header.{Header}
 use Rattle.ldm_vmdb.specs.Headers.{grown_to, with_seq}
 use Rattle.ldm_label.specs.declared.Label.{Label}
@@ -9,14 +13,43 @@ use Rattle.ldm_group.specs.Database.{Database, at_seq}
 use Rattle.ldm_rules.specs.Facts.{IsSoundOn}
 use Rattle.ldm_words.specs.declared.command.Command.{Command}
 use Rattle.ldm_words.specs.declared.command.Command.TheVariants.{Create, Extend, Delete, Begin, Commit, Cancel}
-use Rattle.ldm_edits.specs.declared.batch.Draft.{Draft}
+use Rattle.ldm_group.specs.Order.{Rising, in_order, place_of}
+use Rattle.ldm_group.proofs.InOrder.{one_next, in_order_rises}
+use Rattle.ldm_edits.specs.Drafts.{Drafted}
+use Rattle.ldm_edits.specs.Additions.{with_added}
+use Rattle.ldm_words.specs.declared.command.NewLayout.{NewLayout}
+use Rattle.ldm_words.specs.Limits.{IsCreate}
+use Rattle.ldm_edits.specs.Creating.{created}
+use Rattle.ldm_edits.specs.declared.batch.Answer.{Answer}
+use Rattle.ldm_edits.specs.declared.batch.Answer.TheVariants as answers
+use Rattle.ldm_edits.proofs.LimitLaws.{IsGiven}
+use Rattle.ldm_edits.proofs.CommandLaws.{created_done}
 use Rattle.ldm_edits.specs.declared.batch.Turn.{Turn as Verdict}
 use Rattle.ldm_edits.specs.declared.batch.Turn.TheVariants as verdicts
 use Rattle.ldm_edits.specs.declared.reply.Refusal.{Refusal}
 use Rattle.ldm_edits.specs.declared.reply.Refusal.TheVariants as refusals
 use Rattle.ldm_edits.specs.declared.stepping.Outcome.{Outcome}
 use Rattle.ldm_edits.specs.declared.stepping.Outcome.TheVariants as outcomes
-use Rattle.ldm_edits.specs.Steps.{StepsAs, FitsAsBefore, Keeps, State, IsGood, IsDraftOf, VerdictKeeps, held_at, change_in, begun, committed, verdict_of, state_by}
+use Rattle.ldm_edits.specs.Steps.{StepsAs, FitsAsBefore, Keeps, State, IsGood, IsDraftOf, VerdictKeeps, AnswersTo, next_of, held_at, change_in, begun, committed, verdict_of, state_by}
+
+-- ---- what a batch holds as one database
+
+-- records that rise are in their order
+rising_order : (records : List Record) → Rising records → in_order records ≡ records
+rising_order records up = sym (one_next records records (IsPermutation-refl records) up (in_order_rises records apart))
+  where
+    apart : AllPairs (λ a b. place_of a ≢ place_of b) records
+    apart i j d lt within = λ e.
+        (let below : place_of (get_or records i d) < place_of (get_or records j d) = up i j d lt within in omega arith)
+
+-- a group to which nothing is added is itself
+pub with_none : (db : Database) (last : ℕ) (added : List Record) → Rising db.records → added ≡ [] → last ≡ db.header.last
+    → with_added db last added ≡ db
+with_none db last added up none same =
+    let records : in_order (db.records ++ added) ≡ db.records =
+    ap (λ (l : List Record). in_order (db.records ++ l)) none
+    ∙ ap in_order (append-nil db.records) ∙ rising_order db.records up in
+    λ i. record { header = grown_to db.header (same i) db.header.seq; records = records i }
 
 -- ---- the sequence put back
 
@@ -31,7 +64,7 @@ fits_on : (labels : List Label) (a b c : ℕ) → FitsAsBefore labels a b → Fi
 fits_on labels a b c first second k d lt fits = second k d lt (first k d lt fits)
 
 -- a draft that is one change further
-further : (labels : List Label) (db : Database) (draft : Draft) (next : Database) → IsDraftOf labels db draft → Keeps labels draft.db next → next.header.seq < 2 ^ 64
+further : (labels : List Label) (db : Database) (draft : Drafted) (next : Database) → IsDraftOf labels db draft → Keeps labels draft.db next → next.header.seq < 2 ^ 64
     → IsDraftOf labels db (record { db = at_seq db.header.seq next; filled = true })
 further labels db draft next is keeps low = record {
   sound = sound_at db.header.seq next labels keeps.sound;
@@ -42,14 +75,14 @@ further labels db draft next is keeps low = record {
   unspent = λ filled. (let up = keeps.seq in let same = ap (λ (h : Header). h.seq) is.header in omega arith);
 }
 
-pub kept_held : (labels : List Label) (db : Database) (draft : Draft) (outcome : Outcome) (step : Result Database Refusal) → IsDraftOf labels db draft → StepsAs outcome step
+pub kept_held : (labels : List Label) (db : Database) (draft : Drafted) (outcome : Outcome) (step : Result Database Refusal) → IsDraftOf labels db draft → StepsAs outcome step
     → ((next : Database) → outcome ≡ outcomes.Next next → Keeps labels draft.db next) → ((next : Database) → outcome ≡ outcomes.Next next → next.header.seq < 2 ^ 64)
     → VerdictKeeps labels db (held_at db.header.seq step)
 kept_held labels db draft (outcomes.Next next) step of is keeps low =
     subst (λ (r : Result Database Refusal). VerdictKeeps labels db (held_at db.header.seq r)) (sym is) (further labels db draft next of (keeps next refl) (low next refl))
 kept_held labels db draft (outcomes.Refused refusal) step of is keeps low = subst (λ (r : Result Database Refusal). VerdictKeeps labels db (held_at db.header.seq r)) (sym is) tt
 
-pub kept_begun : (labels : List Label) (db : Database) (draft : Option Draft) → IsSoundOn db labels → VerdictKeeps labels db (begun db draft)
+pub kept_begun : (labels : List Label) (db : Database) (draft : Option Drafted) → IsSoundOn db labels → VerdictKeeps labels db (begun db draft)
 kept_begun labels db None sound = record {
   sound = sound;
   disks = refl;
@@ -61,7 +94,7 @@ kept_begun labels db None sound = record {
 kept_begun labels db (Some draft) sound = tt
 
 -- a draft with the next sequence
-pub next_draft : (labels : List Label) (db : Database) (draft : Draft) → IsDraftOf labels db draft → Keeps labels db (at_seq (db.header.seq + 1) draft.db)
+pub next_draft : (labels : List Label) (db : Database) (draft : Drafted) → IsDraftOf labels db draft → Keeps labels db (at_seq (db.header.seq + 1) draft.db)
 next_draft labels db draft is = record {
   sound = sound_at (db.header.seq + 1) draft.db labels is.sound;
   disks = is.disks;
@@ -71,7 +104,7 @@ next_draft labels db draft is = record {
   seq = refl;
 }
 
-pub kept_committed : (labels : List Label) (db : Database) (draft : Option Draft) → ForSome draft (IsDraftOf labels db) → VerdictKeeps labels db (committed db.header.seq draft)
+pub kept_committed : (labels : List Label) (db : Database) (draft : Option Drafted) → ForSome draft (IsDraftOf labels db) → VerdictKeeps labels db (committed db.header.seq draft)
 kept_committed labels db None of = tt
 kept_committed labels db (Some draft) of =
     elim draft.filled as (λ (b : Bool). VerdictKeeps labels db (if b then verdicts.Next (at_seq (db.header.seq + 1) draft.db) else verdicts.Refused refusals.EmptyBatch))
@@ -83,24 +116,24 @@ pub if_ok_as : {E : Type 0} (result : Result Verdict E) (a b : Verdict) → a �
 if_ok_as (Err e) a b same is = tt
 if_ok_as (Ok turn) a b same is = is ∙ same
 
-pub held_kept : (labels : List Label) (db : Database) (draft : Draft) (outcome : Outcome) (step : Result Database Refusal) (seq : ℕ) (turn : Verdict) → IsDraftOf labels db draft
+pub held_kept : (labels : List Label) (db : Database) (draft : Drafted) (outcome : Outcome) (step : Result Database Refusal) (seq : ℕ) (turn : Verdict) → IsDraftOf labels db draft
     → StepsAs outcome step → ((next : Database) → outcome ≡ outcomes.Next next → Keeps labels draft.db next) → ((next : Database) → outcome ≡ outcomes.Next next → next.header.seq < 2 ^ 64)
     → seq ≡ db.header.seq → ((r : Result Database Refusal) → StepsAs outcome r → turn ≡ held_at seq r) → VerdictKeeps labels db turn
 held_kept labels db draft outcome step seq turn of is keeps low same held =
     subst (VerdictKeeps labels db) (sym (held step is ∙ ap (λ (n : ℕ). held_at n step) same)) (kept_held labels db draft outcome step of is keeps low)
 
-pub begun_kept : {E : Type 0} (labels : List Label) (db : Database) (draft : Option Draft) (result : Result Verdict E) → IsSoundOn db labels
+pub begun_kept : {E : Type 0} (labels : List Label) (db : Database) (draft : Option Drafted) (result : Result Verdict E) → IsSoundOn db labels
     → IfOk result (λ turn. turn ≡ begun db draft) → IfOk result (VerdictKeeps labels db)
 begun_kept labels db draft (Err e) sound is = tt
 begun_kept labels db draft (Ok turn) sound is = subst (VerdictKeeps labels db) (sym is) (kept_begun labels db draft sound)
 
-pub committed_kept : {E : Type 0} (labels : List Label) (db : Database) (draft : Option Draft) (seq : ℕ) (result : Result Verdict E) → ForSome draft (IsDraftOf labels db)
+pub committed_kept : {E : Type 0} (labels : List Label) (db : Database) (draft : Option Drafted) (seq : ℕ) (result : Result Verdict E) → ForSome draft (IsDraftOf labels db)
     → seq ≡ db.header.seq → IfOk result (λ turn. turn ≡ committed seq draft) → IfOk result (VerdictKeeps labels db)
 committed_kept labels db draft seq (Err e) of same is = tt
 committed_kept labels db draft seq (Ok turn) of same is = subst (VerdictKeeps labels db) (sym (is ∙ ap (λ (n : ℕ). committed n draft) same)) (kept_committed labels db draft of)
 
 -- what is no word of a batch is a change
-pub change_verdict : (labels : List Label) (db : Database) (draft : Option Draft) (command : Command) → (command ≡ Begin → ⊥) → (command ≡ Commit → ⊥) → (command ≡ Cancel → ⊥)
+pub change_verdict : (labels : List Label) (db : Database) (draft : Option Drafted) (command : Command) → (command ≡ Begin → ⊥) → (command ≡ Commit → ⊥) → (command ≡ Cancel → ⊥)
     → change_in labels db command draft ≡ verdict_of labels db draft command
 unfolding verdict_of
 change_verdict labels db draft (Create name guid layout) b c d = refl
@@ -110,10 +143,102 @@ change_verdict labels db draft Begin b c d = absurd (b refl)
 change_verdict labels db draft Commit b c d = absurd (c refl)
 change_verdict labels db draft Cancel b c d = absurd (d refl)
 
--- ---- from line to line
+-- ---- what calls answer where the batch is handed over
 
-no_draft : (labels : List Label) (db : Database) (d : Draft) → None ≡ Some d → IsDraftOf labels db d
+-- what is held of a create is what it comes to,
+pub create_verdict : (labels : List Label) (db : Database) (draft : Drafted) (name : List ℕ) (guid : ℕ) (layout : NewLayout)
+    → IsDraftOf labels db draft
+    → held_at draft.db.header.seq (created draft.db labels name guid layout) ≡ verdict_of labels db (Some draft) (Create name guid layout)
+unfolding verdict_of next_of
+create_verdict labels db draft name guid layout is =
+    ap (λ (n : ℕ). held_at n (created draft.db labels name guid layout)) (ap (λ (h : Header). h.seq) is.header)
+
+-- and a draft as before
+pub create_kept : (labels : List Label) (db : Database) (draft : Drafted) (name : List ℕ) (guid : ℕ) (layout : NewLayout)
+    → IsDraftOf labels db draft → IsGiven draft.db labels
+    → IsCreate name layout → draft.db.header.seq < 2 ^ 64 - 1
+    → VerdictKeeps labels db (held_at draft.db.header.seq (created draft.db labels name guid layout))
+create_kept labels db draft name guid layout is given grammar low = go (created draft.db labels name guid layout) refl
+  where
+    go : (step : Result Database Refusal) → created draft.db labels name guid layout ≡ step
+        → VerdictKeeps labels db (held_at draft.db.header.seq step)
+    go (Err refusal) made = tt
+    go (Ok next) made =
+        let keeps : Keeps labels draft.db next = (created_done draft.db labels name guid layout next made).keeps given grammar in
+        let up = keeps.seq in
+        subst (λ (n : ℕ). IsDraftOf labels db (record { db = at_seq n next; filled = true }))
+        (sym (ap (λ (h : Header). h.seq) is.header)) (further labels db draft next is keeps (omega arith))
+
+-- the batch that is open, if any, is a draft of the group
+abbrev AreDrafts : List Label → Database → Option Drafted → Type 0
+AreDrafts labels db open' = ForSome open' (IsDraftOf labels db)
+
+pub no_draft : (labels : List Label) (db : Database) (d : Drafted) → None ≡ Some d → IsDraftOf labels db d
 no_draft labels db d is = absurd cc
+
+some_draft : (labels : List Label) (db : Database) (draft : Drafted) → IsDraftOf labels db draft
+    → AreDrafts labels db (Some draft)
+some_draft labels db draft is d same = (let one : draft ≡ d = cc in subst (IsDraftOf labels db) one is)
+
+-- so is the one that is open then, where what the line comes to keeps what it should if it is held,
+then_draft : (labels : List Label) (db : Database) (verdict : Verdict) (old : Option Drafted) (answer : Answer) (new : Option Drafted) → AreDrafts labels db old
+    → (answer ≡ answers.Held → VerdictKeeps labels db verdict) → AnswersTo verdict old answer new → AreDrafts labels db new
+then_draft labels db verdict old (answers.Next next) new of keeps is = subst (AreDrafts labels db) (sym is.1) of
+then_draft labels db verdict old answers.Held new of keeps is =
+    subst (AreDrafts labels db) (sym is.2) (some_draft labels db is.0 (subst (VerdictKeeps labels db) is.1 (keeps refl)))
+then_draft labels db verdict old answers.Dropped new of keeps is = subst (AreDrafts labels db) (sym is.1) (no_draft labels db)
+then_draft labels db verdict old (answers.Refused refusal) new of keeps is = subst (AreDrafts labels db) (sym is.1) of
+
+-- and a next group keeps what it should
+then_next : (labels : List Label) (db : Database) (verdict : Verdict) (old : Option Drafted) (answer : Answer) (new : Option Drafted) → VerdictKeeps labels db verdict
+    → AnswersTo verdict old answer new → (next : Database) → answer ≡ answers.Next next → Keeps labels db next
+then_next labels db verdict old (answers.Next made) new keeps is next same =
+    (let one : made ≡ next = cc in subst (Keeps labels db) one (subst (VerdictKeeps labels db) is.0 keeps))
+then_next labels db verdict old answers.Held new keeps is next same = absurd cc
+then_next labels db verdict old answers.Dropped new keeps is next same = absurd cc
+then_next labels db verdict old (answers.Refused refusal) new keeps is next same = absurd cc
+
+-- a create
+pub create_drafted : {E : Type 0} (labels : List Label) (db : Database) (draft : Drafted) (name : List ℕ) (guid : ℕ) (layout : NewLayout) (result : Result Answer E) (new : Option Drafted)
+    → IsDraftOf labels db draft → IsGiven draft.db labels → IsCreate name layout
+    → IfOk result (λ answer. AnswersTo (held_at draft.db.header.seq (created draft.db labels name guid layout)) (Some draft) answer new)
+    → IfErr result (λ _. new ≡ Some draft) → IfOk result (λ answer. answer ≡ answers.Held → draft.db.header.seq < 2 ^ 64 - 1)
+    → ForSome new (IsDraftOf labels db)
+create_drafted labels db draft name guid layout (Err e) new of given grammar is unchanged unspent =
+    subst (AreDrafts labels db) (sym unchanged) (some_draft labels db draft of)
+create_drafted labels db draft name guid layout (Ok answer) new of given grammar is unchanged unspent =
+    then_draft labels db (held_at draft.db.header.seq (created draft.db labels name guid layout)) (Some draft) answer new
+    (some_draft labels db draft of)
+    (λ held. create_kept labels db draft name guid layout of given grammar (unspent held)) is
+
+module _ {E : Type 0} (labels : List Label) (db : Database) (old : Option Drafted) (new : Option Drafted) where
+  -- what is answered of each verdict that it may be
+  abbrev IsAnswered : Result Verdict E → Result Answer E → Type 0
+  IsAnswered turned result = (verdict : Verdict) → IfOk turned (λ turn. turn ≡ verdict)
+      → IfOk result (λ answer. AnswersTo verdict old answer new)
+
+  -- one of them keeps what it should: where there is none, one that gives the batch up would do
+  kept_one : (turned : Result Verdict E) (result : Result Answer E) → IfOk turned (VerdictKeeps labels db)
+      → IsAnswered turned result
+      → (verdict : Verdict) × VerdictKeeps labels db verdict × IfOk result (λ answer. AnswersTo verdict old answer new)
+  kept_one (Ok turn) result keeps is = (turn, keeps, is turn refl)
+  kept_one (Err e) result keeps is = (verdicts.GiveUp, tt, is verdicts.GiveUp tt)
+
+  pub answered_kept : (turned : Result Verdict E) (result : Result Answer E) → IfOk turned (VerdictKeeps labels db)
+      → IsAnswered turned result
+      → IfOk result (λ answer. (next : Database) → answer ≡ answers.Next next → Keeps labels db next)
+  answered_kept turned (Err e) keeps is = tt
+  answered_kept turned (Ok answer) keeps is =
+      (let one = kept_one turned (Ok answer) keeps is in then_next labels db one.0 old answer new one.1 one.2)
+
+  pub answered_draft : (turned : Result Verdict E) (result : Result Answer E) → ForSome old (IsDraftOf labels db)
+      → IfOk turned (VerdictKeeps labels db) → IsAnswered turned result
+      → IfErr result (λ _. new ≡ old) → ForSome new (IsDraftOf labels db)
+  answered_draft turned (Err e) of keeps is unchanged = subst (AreDrafts labels db) (sym unchanged) of
+  answered_draft turned (Ok answer) of keeps is unchanged =
+      (let one = kept_one turned (Ok answer) keeps is in then_draft labels db one.0 old answer new of (λ held. one.1) one.2)
+
+-- ---- from line to line
 
 -- what a line comes to leaves a good state good
 pub stays_good : (labels : List Label) (state : State) (verdict : Verdict) → IsGood labels state → VerdictKeeps labels state.db verdict → IsGood labels (state_by state verdict)
@@ -121,7 +246,7 @@ stays_good labels state (verdicts.Next next) good keeps = record { sound = keeps
 stays_good labels state (verdicts.Hold draft) good keeps = record {
   sound = good.sound;
   areas = good.areas;
-  draft = λ d is. (let same : draft ≡ d = cc in subst (λ (x : Draft). IsDraftOf labels state.db x) same keeps);
+  draft = some_draft labels state.db draft keeps;
 }
 stays_good labels state verdicts.GiveUp good keeps = record { sound = good.sound; areas = good.areas; draft = no_draft labels state.db }
 stays_good labels state (verdicts.Refused refusal) good keeps = good

@@ -1,5 +1,5 @@
 -- What stands against a change that all commands have in common, and what one within it keeps.
-use Rattle.std.proofs.Common.{◌≡◌, ℕ, ◌+◌, ◌-◌, ◌^◌, ◌<◌, ◌≤◌, ◌==◌, ◌++◌, List, [], ◌∷◌, refl, sym, ap, ◌∙◌, arith, Bool, true, false, Option, Some, None, Err, length, get_or, take, map, min, cond, inl, inr, subst, Ok, Contains, not}
+use Rattle.std.proofs.Common.{◌≡◌, ℕ, ◌+◌, ◌-◌, ◌^◌, ◌<◌, ◌≤◌, ◌==◌, ◌++◌, List, [], ◌∷◌, refl, sym, ap, ◌∙◌, arith, Bool, true, false, Option, Some, None, Err, length, get_or, take, map, min, cond, inl, inr, subst, Ok, Contains}
 use Rattle.std.specs.Prelude.{nat_lt, filter, unwrap_or}
 use Rattle.std.specs.Option.{option_map}
 use Rattle.std.proofs.lemmas.Bool.{lt-ltb, le-ltb, eq-eqb, ne_eqb, ltb-false, eqb-false}
@@ -34,10 +34,7 @@ use Rattle.ldm_rules.proofs.GroupLaws.{same_disks}
 use Rattle.ldm_rules.proofs.SoundLaws.{EachRule, sound_from, layout_there, ends_in_range}
 use Rattle.ldm_edits.specs.Steps.{FitsAsBefore, Keeps}
 use Rattle.ldm_edits.proofs.AreaLaws.{least_of}
-use Rattle.ldm_edits.specs.declared.leaving.Leaving.TheVariants as leavings
-use Rattle.ldm_edits.specs.Staying.{staying}
 use Rattle.ldm_vmdb.specs.declared.header.Header.{Header}
-use Rattle.ldm_vmdb.specs.Headers.{grown_to}
 
 -- ---- The table of the limits, row by row.
 
@@ -247,21 +244,13 @@ done_by db labels fresh change next h keeps =
       keeps = λ given grammar. subst (λ (d : Database). Keeps labels db d) made.1 (keeps made.0 given grammar);
     }
 
--- ---- The records that stay where none leaves the group.
+-- ---- The database that is made of records is the one of their order.
 
-stays_all : {X : Type 0} (xs : List X) → filter (λ x. not false) xs ≡ xs
-stays_all [] = refl
-stays_all (x ∷ xs) = ap (λ l. x ∷ l) (stays_all xs)
-
-pub all_stay : (records : List Record) → staying leavings.Nothing records ≡ records
-all_stay records = stays_all records
-
--- ---- The database that is made of the records that stay and of those that are made is the next one.
-
-pub next_is : (db next : Database) (change : Change) (items : List Record) (header : Header) → Rising (in_order (change.stay ++ change.made)) → items ≡ change.stay ++ change.made
-    → header ≡ grown_to db.header (last_for db.header.last (need_in change)) (db.header.seq + 1) → IsDatabaseOf next header items → next ≡ changed db change
-next_is db next change items header up all seq is =
-    let records : next.records ≡ in_order (change.stay ++ change.made) =
-    one_next items next.records is.same is.rising (subst (λ (l : List Record). Rising (in_order l)) (sym all) up) ∙ ap in_order all in
-    let headers : next.header ≡ grown_to db.header (last_for db.header.last (need_in change)) (db.header.seq + 1) = is.header_is ∙ seq in
+pub next_is : (next : Database) (items all : List Record) (header wanted : Header) → Rising (in_order all) → items ≡ all
+    → header ≡ wanted → IsDatabaseOf next header items
+    → next ≡ record { header = wanted; records = in_order all }
+next_is next items all header wanted up same head is =
+    let records : next.records ≡ in_order all = one_next items next.records is.same is.rising
+    (subst (λ (l : List Record). Rising (in_order l)) (sym same) up) ∙ ap in_order same in
+    let headers : next.header ≡ wanted = is.header_is ∙ head in
     λ i. record { header = headers i; records = records i }

@@ -6,6 +6,8 @@ pub mod Extending
 pub mod Deleting
 pub mod Staying
 pub mod Answers
+pub mod Drafts
+pub mod Additions
 pub mod Steps
 pub mod Counting
 pub mod Mirroring

@@ -14,13 +14,15 @@ use Rattle.ldm_edits.specs.declared.reply.Reply.{Reply}
 use Rattle.ldm_edits.specs.declared.reply.Reply.TheVariants as replies
 use Rattle.ldm_edits.specs.declared.stepping.Outcome.{Outcome}
 use Rattle.ldm_edits.specs.declared.stepping.Outcome.TheVariants as outcomes
-use Rattle.ldm_edits.specs.declared.batch.Draft.{Draft}
+use Rattle.ldm_edits.specs.declared.batch.Answer.{Answer}
+use Rattle.ldm_edits.specs.declared.batch.Answer.TheVariants as answers
 use Rattle.ldm_edits.specs.declared.batch.Turn.{Turn as Verdict}
 use Rattle.ldm_edits.specs.declared.batch.Turn.TheVariants as verdicts
 use Rattle.ldm_edits.specs.Changes.{AreasFit}
 use Rattle.ldm_edits.specs.Creating.{created}
 use Rattle.ldm_edits.specs.Extended.{extended}
 use Rattle.ldm_edits.specs.Deleting.{deleted}
+use Rattle.ldm_edits.specs.Drafts.{Drafted}
 
 -- the group after a change, or the first reason that it is refused; a word of a batch is no change
 unfoldable pub next_of : Database → List Label → Command → Result Database Refusal
@@ -63,27 +65,27 @@ abbrev pub held_at : ℕ → Result Database Refusal → Verdict
 held_at seq (Ok next) = verdicts.Hold (record { db = at_seq seq next; filled = true })
 held_at seq (Err refusal) = verdicts.Refused refusal
 
-abbrev pub change_in : List Label → Database → Command → Option Draft → Verdict
+abbrev pub change_in : List Label → Database → Command → Option Drafted → Verdict
 change_in labels db command None = at_once (next_of db labels command)
 change_in labels db command (Some draft) = held_at db.header.seq (next_of draft.db labels command)
 
 -- begin opens a batch
-abbrev pub begun : Database → Option Draft → Verdict
+abbrev pub begun : Database → Option Drafted → Verdict
 begun db None = verdicts.Hold (record { db = db; filled = false })
 begun db (Some draft) = verdicts.Refused BatchOpen
 
 -- commit makes the draft the group, which goes one further
-abbrev pub committed : ℕ → Option Draft → Verdict
+abbrev pub committed : ℕ → Option Drafted → Verdict
 committed seq None = verdicts.Refused NoBatch
 committed seq (Some draft) = if draft.filled then verdicts.Next (at_seq (seq + 1) draft.db) else verdicts.Refused EmptyBatch
 
 -- cancel gives the batch up
-abbrev pub cancelled : Option Draft → Verdict
+abbrev pub cancelled : Option Drafted → Verdict
 cancelled None = verdicts.Refused NoBatch
 cancelled (Some draft) = verdicts.GiveUp
 
 -- what a change or a word of a batch comes to, where this batch is open
-unfoldable pub verdict_of : List Label → Database → Option Draft → Command → Verdict
+unfoldable pub verdict_of : List Label → Database → Option Drafted → Command → Verdict
 verdict_of labels db draft Begin = begun db draft
 verdict_of labels db draft Commit = committed db.header.seq draft
 verdict_of labels db draft Cancel = cancelled draft
@@ -93,7 +95,7 @@ verdict_of labels db draft (Delete name) = change_in labels db (Delete name) dra
 
 -- A draft of a group is as sound, on the same disks, with the same header but for the last VBLK sequence, which is no less and fits
 -- each area that the group's fits. Where it has held a command, there is a next sequence.
-pub record IsDraftOf (labels : List Label) (db : Database) (draft : Draft) : Type 0 where
+pub record IsDraftOf (labels : List Label) (db : Database) (draft : Drafted) : Type 0 where
   pub sound : IsSoundOn draft.db labels
   pub disks : HasSameDisks db.records draft.db.records
   pub rises : db.header.last ≤ draft.db.header.last
@@ -108,12 +110,19 @@ VerdictKeeps labels db (verdicts.Hold draft) = IsDraftOf labels db draft
 VerdictKeeps labels db verdicts.GiveUp = Unit {0}
 VerdictKeeps labels db (verdicts.Refused refusal) = Unit {0}
 
+-- the same where the batch is handed over: what is answered, and the batch that is open then
+abbrev pub AnswersTo : Verdict → Option Drafted → Answer → Option Drafted → Type 0
+AnswersTo verdict old (answers.Next next) new = (verdict ≡ verdicts.Next next) × (new ≡ old)
+AnswersTo verdict old answers.Held new = (draft : Drafted) × (verdict ≡ verdicts.Hold draft) × (new ≡ Some draft)
+AnswersTo verdict old answers.Dropped new = (verdict ≡ verdicts.GiveUp) × (new ≡ None)
+AnswersTo verdict old (answers.Refused refusal) new = (verdict ≡ verdicts.Refused refusal) × (new ≡ old)
+
 -- ---- scripts
 
 -- what is kept of a group from line to line: where a batch is open, its draft too
 pub record State : Type 0 where
   pub db : Database
-  pub draft : Option Draft
+  pub draft : Option Drafted
 
 -- what lines do: the state after them, and the reply to each
 pub record Turns : Type 0 where

@@ -1,23 +1,31 @@
 //! What a line comes to, where a batch may be open.
-ghost use Rattle.std.specs.Prelude.{◌≡◌, ◌+◌, ◌-◌, ◌^◌, ◌<◌, true, ℕ, Result, IfOk, option_copied};
+ghost use Rattle.std.specs.Prelude.{◌≡◌, ◌+◌, ◌-◌, ◌^◌, ◌<◌, true, ℕ, All, Result, Some};
+ghost use Rattle.std.specs.Prelude.{IfOk, IfErr, option_copied};
 ghost use Rattle.std.specs.Option.{ForSome};
 ghost use Rattle.ldm_group.specs.Database.{Database};
+ghost use Rattle.ldm_group.specs.Room.{IsFitting};
 ghost use Rattle.ldm_label.specs.declared.Label.{Label as DiskLabel};
 ghost use Rattle.ldm_rules.specs.Facts.{IsSoundOn};
-ghost use Rattle.ldm_words.specs.Limits.{IsCommand, IsChange};
+ghost use Rattle.ldm_words.specs.Limits.{IsCommand, IsChange, IsCreate};
+ghost use Rattle.ldm_edits.specs.declared.batch.Answer.TheVariants as answers;
+ghost use Rattle.ldm_edits.specs.declared.batch.Turn.{Turn as Verdict};
 ghost use Rattle.ldm_edits.specs.declared.reply.Refusal.{Refusal as Reason};
 ghost use Rattle.ldm_edits.specs.declared.stepping.Outcome.TheVariants.{Next};
 ghost use Rattle.ldm_edits.specs.Changes.{AreasFit};
-ghost use Rattle.ldm_edits.specs.Steps.{StepsAs, Keeps, IsDraftOf, VerdictKeeps, at_once, held_at};
-ghost use Rattle.ldm_edits.specs.Steps.{change_in, begun, committed, cancelled, verdict_of};
+ghost use Rattle.ldm_edits.specs.Creating.{created};
+ghost use Rattle.ldm_edits.specs.Steps.{next_of, StepsAs, Keeps, IsDraftOf};
+ghost use Rattle.ldm_edits.specs.Steps.{held_at, change_in, begun, committed, cancelled};
+ghost use Rattle.ldm_edits.specs.Steps.{verdict_of};
+ghost use Rattle.ldm_edits.specs.Steps.{AnswersTo, VerdictKeeps, at_once};
 
-use crate::batch::{Draft, Turn};
+use crate::batch::{Answer, Draft, Turn};
+use crate::error::StepError;
 use crate::reply::Refusal;
-use crate::stepping::{Outcome, step};
+use crate::stepping::{Outcome, step, types_hold};
 use ldm_bytes::NoMemory;
 use ldm_group::Db;
 use ldm_label::Labels;
-use ldm_words::Command;
+use ldm_words::{Command, NewLayout};
 use std::alloc::Global;
 
 // The sequence of a group, which is a number of the format.
@@ -30,14 +38,12 @@ fn seq_of(db: &Db) -> u64
 
 // begin
 fn begin(alloc: Global, db: &Db, draft: Option<&Draft>) -> Result<Turn, NoMemory>
+    requires { All IsFitting db.now.records }
     ensures { IfOk result (λ turn. turn ≡ begun db.now (option_copied draft.entry)) }
 {
     match draft {
         Some(_) => Ok(Turn::Refused(Refusal::BatchOpen)),
-        None => Ok(Turn::Hold(Draft {
-            db: db.clone_in(alloc)?,
-            filled: false,
-        })),
+        None => Ok(Turn::Hold(Draft::of(alloc, db.clone_in(alloc)?, false))),
     }
 }
 
@@ -49,11 +55,10 @@ fn commit(alloc: Global, seq: u64, draft: Option<&Draft>) -> Result<Turn, NoMemo
     let Some(draft) = draft else {
         return Ok(Turn::Refused(Refusal::NoBatch));
     };
-    if !draft.filled {
+    if !draft.filled() {
         return Ok(Turn::Refused(Refusal::EmptyBatch));
     }
-    let next = draft.db.clone_in(alloc)?;
-    Ok(Turn::Next(next.with_seq(seq + 1)))
+    Ok(Turn::Next(draft.db(alloc)?.with_seq(seq + 1)))
 }
 
 // cancel
@@ -77,7 +82,8 @@ fn at_once(outcome: Outcome) -> Turn
 }
 
 // And one in a batch, where the group has this sequence.
-fn hold(seq: u64, outcome: Outcome) -> Turn
+fn hold(alloc: Global, seq: u64, outcome: Outcome) -> Turn
+    requires { (next : Database) → outcome ≡ Next next → All IsFitting next.records }
     ensures is { (step : Result Database Reason) → StepsAs outcome step
         → result ≡ held_at seq step }
     ensures low { (next : Database) → outcome ≡ Next next → next.header.seq < 2 ^ 64 }
@@ -85,11 +91,33 @@ fn hold(seq: u64, outcome: Outcome) -> Turn
     match outcome {
         Outcome::Next(next) => {
             let _seq = seq_of(&next);
-            let db = next.with_seq(seq);
-            Turn::Hold(Draft { db, filled: true })
+            Turn::Hold(Draft::of(alloc, next.with_seq(seq), true))
         }
         Outcome::Refused(refusal) => Turn::Refused(refusal),
     }
+}
+
+// What a create, an extend or a delete makes of the group of a batch.
+fn step_from(
+    alloc: Global,
+    draft: &Draft,
+    labels: &Labels,
+    command: &Command,
+) -> Result<Outcome, NoMemory>
+    requires sound { IsSoundOn draft.now.db labels.now }
+    requires areas { AreasFit labels.now }
+    requires limits { IsCommand command.now }
+    requires change { IsChange command.now }
+    ensures is { IfOk result (λ outcome. StepsAs outcome
+        (next_of draft.now.db labels.now command.now)) }
+    ensures keeps { IfOk result (λ outcome. (next : Database) → outcome ≡ Next next
+        → Keeps labels.now draft.now.db next) }
+{
+    if let Some(db) = draft.whole() {
+        return step(alloc, db, labels, command);
+    }
+    let db = draft.db(alloc)?;
+    step(alloc, &db, labels, command)
 }
 
 // A create, an extend or a delete.
@@ -112,8 +140,8 @@ fn change(
     match draft {
         None => Ok(at_once(step(alloc, db, labels, command)?)),
         Some(draft) => {
-            let outcome = step(alloc, &draft.db, labels, command)?;
-            Ok(hold(seq_of(db), outcome))
+            let outcome = step_from(alloc, draft, labels, command)?;
+            Ok(hold(alloc, seq_of(db), outcome))
         }
     }
 }
@@ -140,5 +168,86 @@ pub fn turn(
         Command::Commit => commit(alloc, seq_of(db), draft),
         Command::Cancel => Ok(cancel(draft)),
         _ => change(alloc, db, draft, labels, command),
+    }
+}
+
+// What is answered where the batch was handed over, by what the line comes to.
+fn answered(
+    draft: Option<Draft>,
+    turned: Result<Turn, NoMemory>,
+) -> (Option<Draft>, Result<Answer, NoMemory>)
+    ensures is { (verdict : Verdict) → IfOk turned (λ turn. turn ≡ verdict)
+        → IfOk result.1 (λ answer. AnswersTo verdict draft answer result.0) }
+    ensures unchanged { IfErr result.1 (λ _. result.0 ≡ draft) }
+{
+    match turned {
+        Ok(Turn::Next(next)) => (draft, Ok(Answer::Next(next))),
+        Ok(Turn::Hold(held)) => (Some(held), Ok(Answer::Held)),
+        Ok(Turn::GiveUp) => (None, Ok(Answer::Dropped)),
+        Ok(Turn::Refused(refusal)) => (draft, Ok(Answer::Refused(refusal))),
+        Err(NoMemory) => (draft, Err(NoMemory)),
+    }
+}
+
+// A create where a batch is open.
+fn hold_create(
+    alloc: Global,
+    draft: Draft,
+    labels: &Labels,
+    name: &[u8],
+    guid: u128,
+    layout: &NewLayout,
+) -> (Option<Draft>, Result<Answer, NoMemory>)
+    requires sound { IsSoundOn draft.db labels.now }
+    requires areas { AreasFit labels.now }
+    requires limits { IsCreate name.now layout.now }
+    ensures is { IfOk result.1 (λ answer. AnswersTo (held_at draft.db.header.seq
+        (created draft.db labels.now name.now guid layout.now)) (Some draft) answer result.0) }
+    ensures unchanged { IfErr result.1 (λ _. result.0 ≡ Some draft) }
+    ensures unspent { IfOk result.1 (λ answer. answer ≡ answers.Held
+        → draft.db.header.seq < 2 ^ 64 - 1) }
+{
+    let (draft, held) = draft.create(alloc, labels, name, guid, layout);
+    match held {
+        Ok(()) => (Some(draft), Ok(Answer::Held)),
+        Err(StepError::Refused(refusal)) => (Some(draft), Ok(Answer::Refused(refusal))),
+        Err(StepError::NoMemory) => (Some(draft), Err(NoMemory)),
+    }
+}
+
+/// What `turn` says of a line, where the batch is handed over and comes back. A create in a batch
+/// takes no copy of the group.
+pub fn take_turn(
+    alloc: Global,
+    db: &Db,
+    draft: Option<Draft>,
+    labels: &Labels,
+    command: &Command,
+) -> (Option<Draft>, Result<Answer, NoMemory>)
+    requires sound { IsSoundOn db.now labels.now }
+    requires areas { AreasFit labels.now }
+    requires draft { ForSome draft (IsDraftOf labels.now db.now) }
+    requires limits { IsCommand command.now }
+    ensures is { IfOk result.1 (λ answer. AnswersTo (verdict_of labels.now db.now draft
+        command.now) draft answer result.0) }
+    ensures keeps { IfOk result.1 (λ answer. (next : Database) → answer ≡ answers.Next next
+        → Keeps labels.now db.now next) }
+    ensures drafted { ForSome result.0 (IsDraftOf labels.now db.now) }
+    // Where memory ran out the batch comes back as it was.
+    ensures unchanged { IfErr result.1 (λ _. result.0 ≡ draft) }
+{
+    let Some(draft) = draft else {
+        return answered(None, turn(alloc, db, None, labels, command));
+    };
+    match command {
+        Command::Create { name, guid, layout } => {
+            types_hold(db, labels);
+            draft.types_hold();
+            hold_create(alloc, draft, labels, name.as_slice(), *guid, layout)
+        }
+        _ => {
+            let turned = turn(alloc, db, Some(&draft), labels, command);
+            answered(Some(draft), turned)
+        }
     }
 }

@@ -4,19 +4,16 @@ ghost use Rattle.ldm_rules.specs.Facts.{IsSoundOn};
 ghost use Rattle.ldm_words.specs.Limits.{IsNewLayout, IsCreate};
 ghost use Rattle.ldm_space.specs.declared.placed.Wanted.{Wanted};
 ghost use Rattle.ldm_edits.specs.Answers.{FindsAs, StepsTo};
-ghost use Rattle.ldm_edits.specs.Changes.{AreasFit, change_to};
-ghost use Rattle.ldm_edits.specs.Spots.{wanted_by, open_wanted, CanBePlaced, ArePlaced};
+ghost use Rattle.ldm_edits.specs.Changes.{AreasFit};
+ghost use Rattle.ldm_edits.specs.Spots.{wanted_by, open_wanted, CanBePlaced};
 ghost use Rattle.ldm_edits.specs.Creating.{words_of, is_same_disk, is_bad_column, is_bad_size};
-ghost use Rattle.ldm_edits.specs.Creating.{made_for, fresh_for, change_for, against_layout};
-ghost use Rattle.ldm_edits.specs.Creating.{created_new, created};
+ghost use Rattle.ldm_edits.specs.Creating.{made_for, fresh_for, against_layout, created};
 
+use crate::additions::Additions;
 use crate::asked::{asked_disks, asked_pieces, has_twins, is_bad_length};
-use crate::changing::change;
 use crate::error::StepError;
-use crate::leaving::Leaving;
-use crate::limits::first_new_id;
 use crate::reply::Refusal;
-use crate::spots::spots_for;
+use crate::stepping::types_hold;
 use ldm_bytes::NoMemory;
 use ldm_group::Db;
 use ldm_label::Labels;
@@ -96,8 +93,8 @@ fn is_bad_size(layout: &NewLayout, wanted: &[Wanted]) -> bool
     }
 }
 
-// How many records are new.
-fn fresh_for(layout: &NewLayout) -> u64
+/// How many records are new.
+pub fn fresh_for(layout: &NewLayout) -> u64
     requires { IsNewLayout layout.now }
     ensures { result ≡ fresh_for layout.now }
 {
@@ -109,8 +106,8 @@ fn fresh_for(layout: &NewLayout) -> u64
     }
 }
 
-// The new records, from an id on, where the partitions take these sectors.
-fn made_for(
+/// The new records, from an id on, where the partitions take these sectors.
+pub fn made_for(
     alloc: Global,
     layout: &NewLayout,
     id: u64,
@@ -133,8 +130,8 @@ fn made_for(
     }
 }
 
-// What the layout asks of its disks, where nothing stands against it.
-fn open_wanted(
+/// What the layout asks of its disks, where nothing stands against it.
+pub fn open_wanted(
     alloc: Global,
     db: &Db,
     labels: &Labels,
@@ -155,52 +152,6 @@ fn open_wanted(
     Ok(wanted)
 }
 
-// The group with a new volume whose partitions take these sectors.
-fn create_at(
-    alloc: Global,
-    db: &Db,
-    labels: &Labels,
-    name: &[u8],
-    guid: u128,
-    layout: &NewLayout,
-    spots: &[Taken],
-) -> Result<Db, StepError>
-    requires sound { IsSoundOn db.now labels.now }
-    requires areas { AreasFit labels.now }
-    requires limits { IsCreate name.now layout.now }
-    requires placed { (wanted : List Wanted)
-        × ArePlaced db.now labels.now (words_of layout.now)
-        (against_layout layout.now) wanted spots.now }
-    ensures { StepsTo result (change_to db.now labels.now (fresh_for layout.now)
-        (change_for db.now name.now guid layout.now spots.now)) }
-{
-    let fresh = fresh_for(layout);
-    let Some(id) = first_new_id(db, fresh) else {
-        return Err(StepError::Refused(Refusal::IdsSpent));
-    };
-    let made = made_for(alloc, layout, id, name, guid, spots)?;
-    change(alloc, db, labels, fresh, Leaving::Nothing, made)
-}
-
-// The group with a new volume whose name no other has.
-fn create_new(
-    alloc: Global,
-    db: &Db,
-    labels: &Labels,
-    name: &[u8],
-    guid: u128,
-    layout: &NewLayout,
-) -> Result<Db, StepError>
-    requires sound { IsSoundOn db.now labels.now }
-    requires areas { AreasFit labels.now }
-    requires limits { IsCreate name.now layout.now }
-    ensures { StepsTo result (created_new db.now labels.now name.now guid layout.now) }
-{
-    let wanted = open_wanted(alloc, db, labels, layout)?;
-    let spots = spots_for(alloc, db, wanted.as_slice())?;
-    create_at(alloc, db, labels, name, guid, layout, spots.as_slice())
-}
-
 /// The group with a new volume.
 pub fn create(
     alloc: Global,
@@ -215,8 +166,8 @@ pub fn create(
     requires limits { IsCreate name.now layout.now }
     ensures { StepsTo result (created db.now labels.now name.now guid layout.now) }
 {
-    if db.volume_named(name).is_some() {
-        return Err(StepError::Refused(Refusal::NameTaken));
-    }
-    create_new(alloc, db, labels, name, guid, layout)
+    types_hold(db, labels);
+    let mut added = Additions::none(alloc, db);
+    let last = added.create(alloc, db, db.header().last, labels, name, guid, layout)?;
+    Ok(added.joined(alloc, db, last, db.header().seq + 1)?)
 }

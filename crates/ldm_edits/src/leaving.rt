@@ -13,7 +13,6 @@ use std::alloc::Global;
 /// Which records of a group don't stay as they are. Objects are named by their ids.
 #[derive(Clone, Copy)]
 pub enum Leaving {
-    Nothing,
     /// A volume and a component, for changed ones in their places.
     Changed { volume: u64, component: u64 },
     /// A volume and its components, for changed ones in their places.
@@ -68,7 +67,6 @@ impl Leaving {
         ensures { result ≡ leaves self db.now.records r.now }
     {
         match self {
-            Leaving::Nothing => false,
             Leaving::Changed { volume, component } => is_at(r, 3, volume) || is_at(r, 4, component),
             Leaving::Grown { volume } => is_at(r, 3, volume) || is_in(r, volume),
             Leaving::Deleted { volume } => goes(db, volume, r),

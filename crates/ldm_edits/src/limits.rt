@@ -5,7 +5,8 @@ ghost use Rattle.std.specs.Option.{option_map};
 ghost use Rattle.ldm_bytes.specs.Tables.{first_of};
 ghost use Rattle.ldm_group.specs.Looks.{max_id};
 ghost use Rattle.ldm_group.specs.Room.{IsFitting, need_of};
-ghost use Rattle.ldm_edits.specs.Changes.{long_id, need_in, AreasFit, later_limits, limits};
+ghost use Rattle.ldm_group.specs.Database.{Database};
+ghost use Rattle.ldm_edits.specs.Changes.{Change, long_id, need_in, AreasFit, later_limits, limits};
 ghost use Rattle.ldm_edits.specs.Staying.{staying, change_of};
 
 use crate::areas::most_blocks;
@@ -75,8 +76,8 @@ fn need_staying(db: &Db, leaving: Leaving) -> u64
     need
 }
 
-// And those that are made.
-fn need_made(made: &[Record]) -> u64
+/// And those that are made.
+pub fn need_made(made: &[Record]) -> u64
     requires { All IsFitting made.now }
     ensures is { result ≡ need_of made.now }
     ensures few { result < 2 ^ 63 }
@@ -97,22 +98,24 @@ pub fn need_after(db: &Db, leaving: Leaving, made: &[Record]) -> u64
     need_staying(db, leaving) + need_made(made)
 }
 
-// The first of the limits but for the ids.
-fn later_limit(db: &Db, labels: &Labels, leaving: Leaving, made: &[Record]) -> Option<Refusal>
-    requires fits { All IsFitting db.now.records }
+/// The first of the limits but for the ids, where the records that stay take so many blocks and the
+/// group has this sequence.
+pub fn later_limit(labels: &Labels, seq: u64, staying: u64, made: &[Record]) -> Option<Refusal>
     requires areas { AreasFit labels.now }
-    ensures { result ≡ first_of (later_limits db.now labels.now
-        (change_of leaving db.now.records made.now)) }
+    requires few { staying < 2 ^ 63 }
+    ensures { (db : Database) (change : Change) → seq ≡ db.header.seq
+        → staying ≡ need_of change.stay → made.now ≡ change.made
+        → result ≡ first_of (later_limits db labels.now change) }
 {
     if let Some(id) = long_id(made) {
         return Some(Refusal::TooLong(id));
     }
-    let need = need_after(db, leaving, made);
+    let need = staying + need_made(made);
     let have = most_blocks(labels.as_slice());
     if have < need {
         return Some(Refusal::NoRoom { need, have });
     }
-    if db.header().seq == u64::MAX {
+    if seq == u64::MAX {
         return Some(Refusal::SequenceSpent);
     }
     None
@@ -133,7 +136,7 @@ pub fn first_limit(
         (change_of leaving db.now.records made.now)) }
 {
     if has_ids(db, fresh) {
-        later_limit(db, labels, leaving, made)
+        later_limit(labels, db.header().seq, need_staying(db, leaving), made)
     } else {
         Some(Refusal::IdsSpent)
     }

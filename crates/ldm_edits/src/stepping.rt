@@ -35,14 +35,16 @@ fn largest(labels: &[Label]) -> u64
     labels.iter().map(|l| l.data_size).max().unwrap_or(0)
 }
 
-// A law of the types: the records rise, and the sizes that the labels say and the last VBLK
-// sequence are numbers of the format.
-fn types_hold(db: &Db, labels: &Labels)
+/// A law of the types: the records rise, and the sizes that the labels say, the last VBLK sequence
+/// and the committed sequence are numbers of the format.
+pub(crate) fn types_hold(db: &Db, labels: &Labels)
     ensures rising { Rising db.now.records }
     ensures low { All (λ l. l.data_size < 2 ^ 64) labels.now }
     ensures last { db.now.header.last < 2 ^ 32 }
+    ensures seq { db.now.header.seq < 2 ^ 64 }
 {
     let _last = db.header().last;
+    let _seq = db.header().seq;
     let _records = db.as_slice();
     let _largest = largest(labels.as_slice());
 }

@@ -3,8 +3,11 @@ use Rattle.ldm_edits.specs.Steps.{IsDraftOf, next_of}
 use Rattle.ldm_edits.proofs.BatchLaws.{held_kept}
 use Rattle.ldm_edits.proofs.batching.change.Goals as goal
 
-pub step-requires-in-Some-clause-sound : goal.step-requires-in-Some-clause-sound
-step-requires-in-Some-clause-sound c = (c.requires.draft c.in-Some.draft.now (ap option_copied c.in-Some.is)).sound
+pub step_from-requires-clause-sound : goal.step_from-requires-clause-sound
+step_from-requires-clause-sound c = (c.requires.draft c.in-Some.draft.now (ap option_copied c.in-Some.is)).sound
+
+pub hold-requires : goal.hold-requires
+hold-requires c next is = (c.in_ok-outcome-in-Some.ensures.keeps next is).sound.room.each
 
 pub returns-in_ok-outcome-in-Some-clause-keeps : goal.returns-in_ok-outcome-in-Some-clause-keeps
 returns-in_ok-outcome-in-Some-clause-keeps c =

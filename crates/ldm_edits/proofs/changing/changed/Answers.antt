@@ -21,4 +21,5 @@ returns-in-Ok c =
     let change : Change = change_of c.args.leaving c.args.db.now.records c.args.made.items in
     let header : c.in_ok-header.header ≡ grown_to c.args.db.now.header (last_for c.args.db.now.header.last (need_in change)) (c.args.db.now.header.seq + 1) =
     c.in_ok-header.ensures ∙ (λ i. grown_to (c.header.ensures i) (c.requires.last i) ((c.header-2.ensures i).seq + 1)) in
-    next_is c.args.db.now c.in-Ok.next (change_of c.args.leaving c.args.db.now.records c.args.made.items) c.append.new.self.items c.in_ok-header.header (c.requires.rising c.stay.ensures.rising) all header c.in-Ok.ensures
+    next_is c.in-Ok.next c.append.new.self.items (change.stay ++ change.made) c.in_ok-header.header _
+    (c.requires.rising c.stay.ensures.rising) all header c.in-Ok.ensures

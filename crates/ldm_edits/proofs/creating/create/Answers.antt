@@ -1,19 +1,26 @@
-use Rattle.std.proofs.Common.{◌∙◌, ap, sym, subst, Bool, Err}
-use Rattle.std.specs.Prelude.{is_some, if◌then◌else◌}
-use Rattle.ldm_edits.specs.declared.reply.Refusal.TheVariants as refusals
-use Rattle.ldm_edits.specs.Answers.{StepsTo}
-use Rattle.ldm_edits.specs.Creating.{created_new, created}
-use Rattle.ldm_edits.proofs.AskedLaws.{copied_some}
+use Rattle.std.proofs.Common.{◌∙◌, ◌+◌, ap, sym, subst, Ok}
+use Rattle.ldm_vmdb.specs.declared.header.Header.{Header}
+use Rattle.ldm_group.specs.Database.{Database}
+use Rattle.ldm_rules.specs.Facts.{IsSoundOn}
+use Rattle.ldm_edits.specs.Answers.{RefusesAs}
+use Rattle.ldm_edits.specs.Creating.{created}
+use Rattle.ldm_edits.proofs.AdditionLaws.{created_next, steps_refused}
+use Rattle.ldm_edits.proofs.BatchLaws.{with_none}
 use Rattle.ldm_edits.proofs.creating.create.Goals as goal
 
-pub returns-then-is_some : goal.returns-then-is_some
-unfolding created
-returns-then-is_some c =
-    ap (λ (b : Bool). if b then Err refusals.NameTaken else created_new c.args.db.now c.args.labels.now c.args.name.now c.args.guid c.args.layout.now)
-    (ap is_some (sym c.volume_named.ensures.is) ∙ sym (copied_some c.volume_named.result) ∙ sym c.is_some.ensures ∙ c.if-is_some.true)
+pub create-requires-clause-sound : goal.create-requires-clause-sound
+create-requires-clause-sound c =
+    subst (λ (d : Database). IsSoundOn d c.args.labels.now)
+    (sym (with_none c.args.db.now c.header.result.now.last _ c.types_hold.ensures.rising c.none-added.ensures.none (ap (λ (h : Header). h.last) c.header.ensures))) c.requires.sound
+
+pub returns-in_err-last : goal.returns-in_err-last
+returns-in_err-last c =
+    steps_refused c.from_residual.result c.in_err-last.field-0.0 _ c.from_residual.ensures.1
+    (subst (λ (d : Database). RefusesAs c.in_err-last.field-0.0 (created d c.args.labels.now c.args.name.now c.args.guid c.args.layout.now))
+    (with_none c.args.db.now c.header.result.now.last _ c.types_hold.ensures.rising c.none-added.ensures.none (ap (λ (h : Header). h.last) c.header.ensures)) c.in_err-last.ensures.is.0)
 
 pub returns : goal.returns
-unfolding created
 returns c =
-    subst (λ (b : Bool). StepsTo c.create_new.result (if b then Err refusals.NameTaken else created_new c.args.db.now c.args.labels.now c.args.name.now c.args.guid c.args.layout.now))
-    (sym (ap is_some (sym c.volume_named.ensures.is) ∙ sym (copied_some c.volume_named.result) ∙ sym c.is_some.ensures ∙ c.if-is_some.false)) c.create_new.ensures
+    created_next c.args.db.now c.args.labels.now c.args.name.now c.args.guid c.args.layout.now c.header.result.now.last c.in_ok-last.last _ c.none-added.result.records.items c.create.new.self.records.items
+    (with_none c.args.db.now c.header.result.now.last _ c.types_hold.ensures.rising c.none-added.ensures.none (ap (λ (h : Header). h.last) c.header.ensures)) c.in_ok-last.ensures.is (ap (λ (h : Header). h.seq + 1) c.header-2.ensures)
+    ∙ ap (λ (d : Database). Ok d) (sym c.in_ok-joined.ensures)

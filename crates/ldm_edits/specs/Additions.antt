@@ -1,0 +1,71 @@
+-- The records that the creates of a batch add to a group, and what is kept beside them.
+use Rattle.std.specs.Prelude.{◌≡◌, ℕ, ◌+◌, ◌||◌, fold, max, ◌-◌, ◌^◌, ◌<◌, ◌++◌, true, List, Result, Ok, Err, bytes_eq}
+use Rattle.std.specs.Global.{Vec}
+use Rattle.std.specs.List.{list_any}
+use Rattle.indexmap.specs.IndexSet.{contains_by}
+use Rattle.ldm_records.specs.declared.types.Record.{Record}
+use Rattle.ldm_vmdb.specs.Headers.{grown_to}
+use Rattle.ldm_group.specs.Database.{Database, at_seq}
+use Rattle.ldm_group.specs.Looks.{is_volume_named, max_id, HasSameDisks}
+use Rattle.ldm_group.specs.Order.{Rising, id_of, in_order}
+use Rattle.ldm_group.specs.Room.{need_of}
+use Rattle.ldm_space.specs.Free.{taken_in}
+use Rattle.ldm_made.specs.declared.taken.Taken.{Taken}
+use Rattle.ldm_space.specs.declared.placed.FreeMaps.{FreeMaps}
+use Rattle.ldm_space.specs.Placed.{AreMapsOf}
+use Rattle.ldm_edits.specs.declared.additions.Additions.{Additions}
+use Rattle.ldm_edits.specs.declared.error.StepError.{StepError}
+use Rattle.ldm_edits.specs.declared.reply.Refusal.{Refusal}
+use Rattle.ldm_edits.specs.Answers.{RefusesAs}
+use Rattle.ldm_edits.specs.Drafts.{Drafted}
+
+-- the group with these records more, and with this last VBLK sequence
+abbrev pub with_added : Database → ℕ → List Record → Database
+with_added db last added = record {
+  header = grown_to db.header last db.header.seq;
+  records = in_order (db.records ++ added);
+}
+
+-- The records that are added to these are volumes, components and partitions that aren't there, and what is kept beside them is of both:
+-- the names of the volumes that are added, the free sectors of some disks, the blocks that all records take, and the greatest id.
+pub record AreAdditions (records : List Record) (a : Additions) : Type 0 where
+  pub rising : Rising (in_order (records ++ a.records.items))
+  pub disks : HasSameDisks records (in_order (records ++ a.records.items))
+  pub names : (name : List ℕ) → contains_by (λ key. bytes_eq name key.items) a.names ≡ list_any (is_volume_named name) a.records.items
+  pub maps : AreMapsOf a.maps (taken_in (records ++ a.records.items))
+  pub need : a.need ≡ need_of (records ++ a.records.items)
+  pub max_id : a.max_id ≡ max_id (records ++ a.records.items)
+
+-- One more volume of this name is added: these records, with the maps beside them.
+pub record AddsVolume (old new : Additions) (name : List ℕ) (made : List Record) (maps : FreeMaps) : Type 0 where
+  pub records : new.records.items ≡ old.records.items ++ made
+  pub names : (q : List ℕ) → contains_by (λ key. bytes_eq q key.items) new.names ≡ (bytes_eq name q || contains_by (λ key. bytes_eq q key.items) old.names)
+  pub maps_are : new.maps ≡ maps
+  pub need : new.need ≡ old.need + need_of made
+  pub max_id : new.max_id ≡ fold (λ top r. max top (id_of r)) old.max_id made
+
+-- nothing is
+pub record AddsNone (old new : Additions) : Type 0 where
+  pub records : new.records.items ≡ old.records.items
+  pub names : (q : List ℕ) → contains_by (λ key. bytes_eq q key.items) new.names ≡ contains_by (λ key. bytes_eq q key.items) old.names
+  pub maps : (taken : List Taken) → AreMapsOf old.maps taken → AreMapsOf new.maps taken
+  pub need : new.need ≡ old.need
+  pub max_id : new.max_id ≡ old.max_id
+
+-- exactly what the partitions take and the maps with that, or the refusal of the first that finds no place, or want of memory
+abbrev pub PlacesBeside : Result (FreeMaps × Vec Taken) StepError → List Taken → Result (List Taken) Refusal → Type 0
+PlacesBeside (Ok placed) taken step = (step ≡ Ok placed.1.items) × AreMapsOf placed.0 (placed.1.items ++ taken)
+PlacesBeside (Err error) taken step = RefusesAs error step
+
+-- Exactly the next group but for its sequence, by its last VBLK sequence and by what is added to the group then; or the reason why there
+-- is none, or want of memory, and nothing is added.
+abbrev pub AddsTo : Database → List Record → List Record → Result ℕ StepError → Result Database Refusal → Type 0
+AddsTo db old new (Ok last) step = (next : Database) × (step ≡ Ok next) × (at_seq db.header.seq next ≡ with_added db last new)
+AddsTo db old new (Err error) step = RefusesAs error step × (new ≡ old)
+
+-- The next group but for its sequence, which is that of the batch, is what it holds then; else exactly the reason why there is none, or
+-- want of memory, and it holds what it did.
+abbrev pub HoldsAs : Drafted → Drafted × Result Unit StepError → Result Database Refusal → Type 0
+HoldsAs old (new, Ok done) step = (next : Database) × (step ≡ Ok next) × (old.db.header.seq < 2 ^ 64 - 1)
+    × (new ≡ record { db = at_seq old.db.header.seq next; filled = true })
+HoldsAs old (new, Err error) step = RefusesAs error step × (new ≡ old)
