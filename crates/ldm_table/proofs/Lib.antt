@@ -1,9 +1,2 @@
-pub mod StretchLaws
-pub mod RangeLaws
 pub mod LineLaws
-pub mod RowLaws
-pub mod CopyLaws
-pub mod FaultLaws
-pub mod TargetLaws
 pub mod VolumeLaws
-pub mod TextLaws

@@ -1,7 +1,7 @@
 use Rattle.std.proofs.Common.{◌-◌, ℕ, sym, ◌∙◌, ap, arith, Option, is_none}
 use Rattle.ldm_dump.proofs.RangeLaws.{find_first, find_nothing}
 use Rattle.ldm_table.specs.Faults.{is_rebuilt}
-use Rattle.ldm_table.proofs.CopyLaws.{copied_more}
+use Rattle.ldm_table.proofs.VolumeLaws.{copied_more}
 use Rattle.ldm_table.proofs.faults.first_rebuilt.Goals as goal
 
 pub returns-in_default : goal.returns-in_default

@@ -4,7 +4,7 @@ use Rattle.ldm_layout.specs.declared.shape.Shape.{Shape}
 use Rattle.ldm_table.specs.declared.faults.TableFault.{TableFault}
 use Rattle.ldm_table.specs.declared.faults.TableFault.TheVariants.{Chunk, Columns}
 use Rattle.ldm_table.specs.Faults.{is_bad_chunk, has_many_columns, is_rebuilt}
-use Rattle.ldm_table.proofs.FaultLaws.{by_least, bad_chunk, many_columns, last_fault}
+use Rattle.ldm_table.proofs.VolumeLaws.{by_least, bad_chunk, many_columns, last_fault}
 use Rattle.ldm_table.proofs.faults.volume_fault.Goals as goal
 
 pub returns-in-Some : goal.returns-in-Some

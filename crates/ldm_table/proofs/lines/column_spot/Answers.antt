@@ -2,8 +2,9 @@ use Rattle.std.proofs.Common.{◌≡◌, ◌*◌, sym, ap, ◌∙◌, Option, fa
 use Rattle.ldm_layout.specs.Layouts.{is_tiled, place_in}
 use Rattle.ldm_layout.specs.declared.shape.Place.{Place}
 use Rattle.ldm_dump.specs.Sources.{spot_at}
-use Rattle.ldm_table.proofs.RowLaws.{chunk_is, stripe_first, one_copy}
+use Rattle.ldm_table.proofs.VolumeLaws.{stripe_first, one_copy}
 use Rattle.ldm_table.proofs.lines.column_spot.Goals as goal
+use Rattle.ldm_dump.proofs.RunLaws.{chunk_is}
 
 pub spot_of-requires : goal.spot_of-requires
 spot_of-requires g c = λ s is.

@@ -1,5 +1,5 @@
 use Rattle.ldm_table.specs.Tables.{column_begin}
-use Rattle.ldm_table.proofs.TextLaws.{more_made}
+use Rattle.ldm_table.proofs.LineLaws.{more_made}
 use Rattle.ldm_table.proofs.lines.column_spots.Goals as goal
 
 pub columns-preserved : goal.columns-preserved

@@ -1,7 +1,7 @@
 use Rattle.std.proofs.Common.{◌++◌, codes, decimal, length, flat_map}
 use Rattle.ldm_dump.proofs.ReadLaws.{on_ok}
 use Rattle.ldm_table.specs.Spelling.{text_of_target, text_of_member}
-use Rattle.ldm_table.proofs.TextLaws.{three_parts}
+use Rattle.ldm_table.proofs.LineLaws.{three_parts}
 use Rattle.ldm_table.proofs.lines.push_array.Goals as goal
 
 pub returns : goal.returns

@@ -3,7 +3,7 @@ use Rattle.std.proofs.lemmas.List.{append-nil}
 use Rattle.ldm_table.specs.declared.stretch.Stretch.{Stretch}
 use Rattle.ldm_table.specs.Tables.{in_rows, table_line}
 use Rattle.ldm_table.specs.Spelling.{text_of_line}
-use Rattle.ldm_table.proofs.StretchLaws.{no_stretches}
+use Rattle.ldm_table.proofs.LineLaws.{no_stretches}
 use Rattle.ldm_table.proofs.lines.push_rest.Goals as goal
 
 pub returns-else-first-size : goal.returns-else-first-size

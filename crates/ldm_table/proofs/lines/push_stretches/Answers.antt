@@ -1,7 +1,6 @@
 use Rattle.std.proofs.Common.{◌-◌, sym, ◌∙◌, arith}
 use Rattle.ldm_dump.proofs.ReadLaws.{on_ok}
-use Rattle.ldm_table.proofs.TextLaws.{text_joined, text_apart, text_begun, text_ended}
-use Rattle.ldm_table.proofs.StretchLaws.{no_stretches}
+use Rattle.ldm_table.proofs.LineLaws.{text_joined, text_apart, text_begun, text_ended, no_stretches}
 use Rattle.ldm_table.proofs.lines.push_stretches.Goals as goal
 
 pub stretches-init : goal.stretches-init

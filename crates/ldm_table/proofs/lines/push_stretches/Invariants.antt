@@ -1,6 +1,6 @@
 use Rattle.std.proofs.Common.{◌≡◌, ◌-◌, ◌≤◌, ◌++◌}
 use Rattle.ldm_table.specs.Tables.{before, stretches_of}
-use Rattle.ldm_table.proofs.TextLaws.{lines_text}
+use Rattle.ldm_table.proofs.LineLaws.{lines_text}
 use Rattle.ldm_table.proofs.lines.push_stretches.Given as goal
 
 abbrev pub invariant-stretches : goal.invariant-stretches

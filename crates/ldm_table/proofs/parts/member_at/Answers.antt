@@ -1,7 +1,7 @@
 use Rattle.std.proofs.Common.{ap, ◌∙◌, Option}
 use Rattle.ldm_layout.specs.declared.shape.Place.{Place}
 use Rattle.ldm_dump.specs.Sources.{spot_at}
-use Rattle.ldm_table.proofs.RowLaws.{some_sector}
+use Rattle.ldm_table.proofs.VolumeLaws.{some_sector}
 use Rattle.ldm_table.proofs.parts.member_at.Goals as goal
 
 pub member_from-requires : goal.member_from-requires

@@ -1,5 +1,5 @@
 use Rattle.ldm_table.specs.Tables.{member_at}
-use Rattle.ldm_table.proofs.TextLaws.{more_made}
+use Rattle.ldm_table.proofs.LineLaws.{more_made}
 use Rattle.ldm_table.proofs.parts.members_of.Goals as goal
 
 pub columns-preserved : goal.columns-preserved

@@ -1,5 +1,5 @@
 use Rattle.std.proofs.Common.{ℕ, ◌-◌, ◌%◌, ap, sym, ◌∙◌}
-use Rattle.ldm_table.proofs.RowLaws.{no_rows, whole_of}
+use Rattle.ldm_table.proofs.VolumeLaws.{no_rows, whole_of}
 use Rattle.ldm_table.proofs.rows.in_rows.Goals as goal
 
 pub returns-then-row-eq0-clause-is : goal.returns-then-row-eq0-clause-is

@@ -1,7 +1,7 @@
 use Rattle.std.proofs.Common.{◌≡◌, ◌*◌, ◌≤◌, ◌∙◌, ℕ, ap, arith}
 use Rattle.ldm_layout.specs.Columns.{chunk_of}
 use Rattle.ldm_table.specs.Tables.{whole_rows}
-use Rattle.ldm_table.proofs.RowLaws.{rows_in_one}
+use Rattle.ldm_table.proofs.VolumeLaws.{rows_in_one}
 use Rattle.ldm_table.proofs.rows.rows_in_column.Goals as goal
 
 pub prove-unreachable-requires : goal.prove-unreachable-requires

@@ -2,7 +2,7 @@ use Rattle.std.proofs.Common.{◌≡◌, sym, ap, ◌∙◌, Option, Some}
 use Rattle.ldm_layout.specs.declared.shape.Place.{Place}
 use Rattle.ldm_dump.specs.Sources.{is_here, spot_at, copy_spot}
 use Rattle.ldm_dump.proofs.ReadLaws.{copy_there, here_spot}
-use Rattle.ldm_table.proofs.CopyLaws.{run_stretch}
+use Rattle.ldm_table.proofs.VolumeLaws.{run_stretch}
 use Rattle.ldm_table.proofs.stretch.stretch_at.Goals as goal
 
 pub place-requires-clause-copied : goal.place-requires-clause-copied

@@ -1,5 +1,5 @@
 use Rattle.std.proofs.Common.{◌∙◌, sym}
-use Rattle.ldm_table.proofs.FaultLaws.{rest_copied, copied_some}
+use Rattle.ldm_table.proofs.VolumeLaws.{rest_copied, copied_some}
 use Rattle.ldm_table.proofs.table.table_text.Goals as goal
 
 pub text_of-requires-clause-copied : goal.text_of-requires-clause-copied
