@@ -1,5 +1,5 @@
 -- What the calls leave that write a copy anew behind its closed gate.
-use Rattle.std.specs.Prelude.{◌≡◌, ℕ, ◌+◌, ◌-◌, ◌*◌, ◌≤◌, List, length, slice_index, Result, OnOk, IsErr}
+use Rattle.std.specs.Prelude.{◌≡◌, ℕ, ◌+◌, ◌*◌, ◌≤◌, List, slice_index, Result, OnOk, IsErr}
 use Rattle.ldm_host.specs.Seen.{Seen, image}
 use Rattle.ldm_host.specs.Moves.{DiskFailed, AtEachMoment, Settled, Writes, Changes}
 use Rattle.ldm_host.specs.declared.host.Failed.{Failed}
@@ -13,14 +13,6 @@ pub record PutsGate (tells : Type 0) (result : Result (Unit {0}) Failed) (disk :
   pub gate : tells → OnOk result ((c : List ℕ) → new.may_leave disk c → slice_index c (gate_at label) ≡ byte)
   pub settled : OnOk result (Settled new disk)
   pub writes : Writes disk (gate_at label) 1 old new
-  pub cause : IsErr result → DiskFailed old new
-
--- A body is put behind the closed gate of a copy, and synced. So many bytes are handed to the disk at most.
-pub record Fills (tells : Type 0) (result : Result (Unit {0}) Failed) (disk : ℕ) (label : Label) (body : List ℕ) (most : ℕ) (old new : Seen) : Type 0 where
-  pub filled : tells → OnOk result ((c : List ℕ) → new.may_leave disk c → HasBody label body c)
-  pub settled : OnOk result (Settled new disk)
-  pub changes : Changes disk (gate_at label + 1) (length body - 1) old new
-  pub wrote : slice_index new.wrote disk ≤ slice_index old.wrote disk + most
   pub cause : IsErr result → DiskFailed old new
 
 -- The copy on a disk becomes that of a body. So many bytes are handed to the disk at most.
