@@ -1,19 +1,23 @@
--- What was said, and how a run goes on.
-use Rattle.std.proofs.Common.{◌≡◌, ◌≢◌, inl, inr, ⊎_elim, ℕ, List, ◌++◌, take, drop, refl, sym, ◌∙◌, ap, subst, append_assoc}
-use Rattle.std.proofs.lemmas.List.{take-append-drop}
+-- What was heard and said, and how a run goes on.
+use Rattle.std.proofs.Common.{[], ◌≡◌, ◌≢◌, inl, inr, ⊎_elim, ℕ, List, ◌++◌, take, drop, refl, sym, ◌∙◌, ap, subst, append_assoc, Bool, true, false, ◌||◌, if◌then◌else◌, ◌⊎◌, ◌+◌, ◌<◌, ◌≤◌, length, arith}
+use Rattle.std.proofs.lemmas.List.{take-append-drop, append-nil, nil_from_length, length-append, length-take-le}
 use Rattle.ldm_host.specs.Seen.{Seen}
-use Rattle.ldm_host.specs.Moves.{Begins, Later, Looks, Rose, Still}
+use Rattle.ldm_host.specs.Moves.{Begins, Later, Looks, Rose, Still, Quiet}
 use Rattle.ldm_host.specs.StoryLaws.{begins_itself}
 use Rattle.ldm_host.proofs.Relations.{rose_sooner, still_trans}
 use Rattle.ldm_edits.specs.declared.reply.Reply.{Reply}
-use Rattle.ldm_group_text.specs.Reply.{text_of_reply}
+use Rattle.ldm_group_text.specs.Reply.{text_of_reply, text_of_replies}
 use Rattle.ldm_run.specs.declared.running.Status.{Status}
 use Rattle.ldm_run.specs.declared.running.Status.TheVariants.{Done, Refused, Usage, DiskFault, NoMemory, TalkFault}
 use Rattle.ldm_run.specs.Said.{Answer, HasAnswer, SaysNothing, SaysReply}
-use Rattle.ldm_run.specs.Heard.{TalkFails}
+use Rattle.ldm_run.specs.Heard.{TalkFails, Takes, Hears, HearsScript}
 use Rattle.ldm_run.specs.Kinds.{SameInput}
 use Rattle.ldm_run.specs.Editing.{EditFails}
-use Rattle.ldm_run.specs.Runs.{Answers, Completes, Causes, Ends, NoFault, OnlyReads, Says}
+use Rattle.ldm_run.specs.Runs.{Answers, Completes, Causes, Ends, NoFault, OnlyReads, Says, Replies}
+use Rattle.std.specs.List.{list_any}
+use Rattle.ldm_run.specs.Scripts.{is_refused, status_of, replies_from}
+
+-- ---- What was said, and how a run goes on.
 
 -- a fault since a later state is one since the old
 pub causes_since : (old mid new : Seen) (status : Status) → Later old mid → Causes mid new status → Causes old new status
@@ -38,9 +42,7 @@ pub failing : (old new : Seen) (status : Status) → EditFails old new status �
 failing old new DiskFault rose = record { none = λ has. has; no_usage = λ is. cc; causes = record { disk = λ is. rose; talk = λ is. absurd cc } }
 failing old new TalkFault rose = record { none = λ has. has; no_usage = λ is. cc; causes = record { disk = λ is. absurd cc; talk = λ is. rose } }
 failing old new NoMemory free = record { none = λ has. has; no_usage = λ is. cc; causes = record { disk = λ is. absurd cc; talk = λ is. absurd cc } }
-failing old new Done never = absurd never
-failing old new Refused never = absurd never
-failing old new Usage never = absurd never
+failing old new other never = absurd never
 
 -- so it is since a sooner state
 pub failing_since : {old mid new : Seen} {status : Status} → Later old mid → Failing mid new status → Failing old new status
@@ -50,19 +52,13 @@ failing_since {old} {mid} {new} {status} later fails = record { none = fails.non
 pub talk_failing : (old new : Seen) (status : Status) → TalkFails old new status → Failing old new status × (status ≢ DiskFault)
 talk_failing old new TalkFault rose = (failing old new TalkFault rose, λ is. cc)
 talk_failing old new NoMemory free = (failing old new NoMemory free, λ is. cc)
-talk_failing old new Done never = absurd never
-talk_failing old new Refused never = absurd never
-talk_failing old new Usage never = absurd never
-talk_failing old new DiskFault never = absurd never
+talk_failing old new other never = absurd never
 
 -- a fault of the talk since a later state
 pub talk_edits : (old mid new : Seen) → Later old mid → (status : Status) → TalkFails mid new status → EditFails old new status
 talk_edits old mid new later TalkFault rose = rose_sooner old.talk_faults mid.talk_faults new.talk_faults later.talk_faults rose
 talk_edits old mid new later NoMemory free = tt
-talk_edits old mid new later Done never = absurd never
-talk_edits old mid new later Refused never = absurd never
-talk_edits old mid new later Usage never = absurd never
-talk_edits old mid new later DiskFault never = absurd never
+talk_edits old mid new later other never = absurd never
 
 -- ---- how a job ends
 
@@ -203,3 +199,87 @@ pub talk_failed : {tells : Type 0} {old new : Seen} {text : List ℕ} {wanted : 
     → SameInput old new → OnlyReads tells old new (λ answer. answer ≡ (text, wanted)) TalkFault
 talk_failed {tells} {old} {new} {text} {wanted} n said rose still input =
     says_part (λ silent. silent) (failing old new TalkFault rose) (λ told. part_begins old.said text new.said n said) still input
+
+-- ---- How replies to the lines of a script end.
+
+-- ---- statuses
+
+pub has_answer : (refused : Bool) → HasAnswer (if refused then Refused else Done)
+has_answer true = tt
+has_answer false = tt
+
+pub or_false : (b : Bool) → (b || false) ≡ b
+or_false true = refl
+or_false false = refl
+
+-- no line is left
+pub all_replied : {tells : Type 0} {old new : Seen} (all left : List Reply) (number : ℕ) (refused : Bool) → left ≡ [] → (refused || list_any is_refused left) ≡ list_any is_refused all
+    → (tells → new.said ++ text_of_replies number left ≡ old.said ++ text_of_replies 1 all) → Still old new → SameInput old new
+    → Replies tells old new (λ answer. answer ≡ replies_from 1 all) (if refused then Refused else Done)
+all_replied {tells} {old} {new} all left number refused none is so_far still input =
+    let any : list_any is_refused all ≡ refused = sym is ∙ ap (λ (rs : List Reply). refused || list_any is_refused rs) none ∙ or_false refused in
+    let status : status_of all ≡ (if refused then Refused else Done) = ap (λ (b : Bool). if b then Refused else Done) any in
+    says_all (λ no. no) (has_answer refused) (λ told. sym status)
+    (λ told. sym (append-nil new.said) ∙ ap (λ (rs : List Reply). new.said ++ text_of_replies number rs) (sym none) ∙ so_far told) still input
+
+-- memory or the talk failed
+pub stopped : {tells : Type 0} {old new : Seen} {answer : Answer} {status : Status} → TalkFails old new status → (tells → Begins new.said (old.said ++ answer.0)) → Still old new
+    → SameInput old new → Replies tells old new (λ a. a ≡ answer) status
+stopped {old = old} {new = new} {status = status} failed front still input = (let end = talk_failing old new status failed in says_part end.1 end.0 front still input)
+
+-- ---- What is heard piece by piece.
+
+-- so many bytes more were heard
+pub takes_more : (old mid new : Seen) (taken bytes : List ℕ) (n : ℕ) → Takes old mid taken → n ≤ length bytes → mid.input ≡ take n bytes ++ new.input → new.heard ≡ mid.heard ++ take n bytes
+    → length taken + n ≤ 1048577 → Takes old new (taken ++ take n bytes)
+takes_more old mid new taken bytes n first within input heard few = record {
+  input = first.input ∙ ap (λ (l : List ℕ). taken ++ l) input ∙ sym (append_assoc taken (take n bytes) new.input);
+  heard = heard ∙ ap (λ (l : List ℕ). l ++ take n bytes) first.heard ∙ append_assoc old.heard taken (take n bytes);
+  few = omega (arith, few, length-append taken (take n bytes), length-take-le n bytes within);
+}
+
+-- they were heard by a call of the host
+pub hears_more : {talks : Type 0} {old mid new : Seen} {taken : List ℕ} (bytes : List ℕ) (n : ℕ) → Hears talks old mid taken → n ≤ length bytes → length taken + n ≤ 1048577
+    → (talks → (mid.input ≡ take n bytes ++ new.input) × (new.heard ≡ mid.heard ++ take n bytes) × (n ≡ 0 → length mid.input ≡ 0)) → new.said ≡ mid.said → Still mid new → Hears talks old new (taken ++ take n bytes)
+hears_more {talks} {old} {mid} {new} {taken} bytes n first within few heard silent still = record {
+  takes = λ told. takes_more old mid new taken bytes n (first.takes told) within (heard told).0 (heard told).1 few;
+  silent = silent ∙ first.silent;
+  still = still_trans old mid new first.still still;
+}
+
+-- a call that hears nothing changes nothing of it
+pub takes_on : {old mid new : Seen} {taken : List ℕ} → Takes old mid taken → SameInput mid new → Takes old new taken
+takes_on {taken = taken} first same = record {
+  input = first.input ∙ ap (λ (l : List ℕ). taken ++ l) (sym same.input);
+  heard = same.heard ∙ first.heard;
+  few = first.few;
+}
+
+pub hears_on : {talks : Type 0} {old mid new : Seen} {taken : List ℕ} → Hears talks old mid taken → Quiet mid new → Still mid new → Hears talks old new taken
+hears_on {talks} {old} {mid} {new} first quiet still = record {
+  takes = λ told. takes_on (first.takes told) (record { input = quiet.input; heard = quiet.heard });
+  silent = quiet.said ∙ first.silent;
+  still = still_trans old mid new first.still still;
+}
+
+-- the input is too long where so much of it was heard
+pub too_long : (old new : Seen) (taken : List ℕ) → Takes old new taken → 1048576 < length taken → 1048576 < length old.input
+too_long old new taken takes long = omega (arith, long, ap length takes.input, length-append taken new.input)
+
+-- what was heard is all where nothing is left
+pub at_end : (old mid new : Seen) (script piece : List ℕ) → Takes old mid script → mid.input ≡ piece ++ new.input → length mid.input ≡ 0 → (script ≡ old.input) × (new.input ≡ [])
+at_end old mid new script piece takes input none = (
+  sym (takes.input ∙ ap (λ (l : List ℕ). script ++ l) (nil_from_length mid.input none) ∙ append-nil script),
+  nil_from_length new.input (omega (arith, none, ap length input, length-append piece new.input)),
+)
+
+-- ---- all of it
+
+-- after the script was heard nothing more is
+pub heard_script : {old mid new : Seen} {taken : List ℕ} {status : Status} → Takes old mid taken → SameInput mid new → (HasAnswer status → (new.input ≡ []) ⊎ (1048576 < length old.input))
+    → (1048576 < length old.input → status ≢ DiskFault) → ((1048576 < length old.input) ⊎ (new.input ≢ []) → new.wrote ≡ old.wrote) → HearsScript old new status
+heard_script {taken = taken} takes same whole no_disk unwritten = record { taken = taken; takes = takes_on takes same; whole = whole; no_disk = no_disk; unwritten = unwritten }
+
+-- it was not heard whole
+pub unheard_script : {old new : Seen} {taken : List ℕ} {status : Status} → Takes old new taken → (HasAnswer status → ⊥) → status ≢ DiskFault → new.wrote ≡ old.wrote → HearsScript old new status
+unheard_script {taken = taken} takes none no_disk wrote = record { taken = taken; takes = takes; whole = λ has. absurd (none has); no_disk = λ long. no_disk; unwritten = λ some. wrote }

@@ -326,7 +326,7 @@ fn do_words<H: Host>(alloc: Global, words: &[String], host: &mut H) -> Status
 }
 
 /// Runs a command line over the images that it names: the disks of the host, in their order.
-#[tactic(auto, using(crate::proofs::OneAnswer::one_answer))]
+#[tactic(auto, using(crate::proofs::AnswerLaws::one_answer))]
 pub fn run<H: Host>(alloc: Global, words: &[String], host: &mut H) -> Status
     requires { HasImages (job_of (texts words.now)) (H.seen host.old) }
     // Usage comes exactly where the words have no reading.

@@ -1,10 +1,4 @@
-pub mod EditLaws
-pub mod Recover
 pub mod OpensLaws
-pub mod HasLaws
-pub mod Stepping
-pub mod TurnLaws
-pub mod HealLaws
-pub mod TidyLaws
-pub mod ApplyLaws
+pub mod CopyLaws
 pub mod SettleLaws
+pub mod ApplyLaws

@@ -10,7 +10,7 @@ use crate::rewriting::rewrite_all;
 use ldm_bytes::NoMemory;
 use ldm_changed::{Next, next_body};
 use ldm_copy::{Body, body_of};
-use ldm_edits::{Draft, Reply, Turn, turn};
+use ldm_edits::{Answer, Draft, Reply, take_turn};
 use ldm_found::Found;
 use ldm_group::Db;
 use ldm_host::Host;
@@ -35,7 +35,10 @@ impl Model for Session {
 
     ghost Value = { Edited };
 
-    ghost view = { λ s. record { group = record { db = s.db; labels = s.labels; draft = s.draft }; body = s.body } };
+    ghost view = { λ s. record {
+      group = record { db = s.db; labels = s.labels; draft = s.draft };
+      body = s.body;
+    } };
 
     ghost invariant = { λ s. IsSession s.db s.labels s.draft s.body };
 }
@@ -48,6 +51,15 @@ pub enum ApplyError {
     Disk,
     /// Memory ran out: nothing was written, and the session comes back as it was.
     NoMemory(Session),
+}
+
+// What a command comes to, before anything is written.
+#[derive(Drop)]
+enum Turned {
+    // The next group.
+    Next(Db),
+    // The reply, where the group stays as it is.
+    Replied(Reply),
 }
 
 // What takes the place of each copy: what changes in the body that all begin with, or the whole
@@ -72,17 +84,18 @@ fn next_of(alloc: Global, body: &Option<Body>, older: &Db, newer: &Db) -> Result
 
 impl Session {
     ghost use Rattle.std.specs.Prelude.{◌≡◌, ◌+◌, ◌*◌, ◌/◌, ◌<◌, ◌≤◌, ℕ, List, slice_index, Option};
-    ghost use Rattle.std.specs.Prelude.{IfOk, IfSome, IsErrOf, Some, None, option_copied};
+    ghost use Rattle.std.specs.Prelude.{IfOk, IfErr, IfSome, IsErrOf, Some, None, option_copied};
     ghost use Rattle.std.specs.Option.{ForSome};
     ghost use Rattle.ldm_host.specs.Moves.{Still, Works};
     ghost use Rattle.ldm_copy.specs.Table.{IsCoreBody};
+    ghost use Rattle.ldm_edits.specs.Changes.{AreasFit};
     ghost use Rattle.ldm_edits.specs.Steps.{IsDraftOf};
     ghost use Rattle.ldm_words.specs.Limits.{IsCommand};
     ghost use Rattle.ldm_found.specs.Facts.{IsSoundGroup};
     ghost use Rattle.ldm_store.specs.Bodies.{changed_blocks};
     ghost use Rattle.ldm_store.specs.Kept.{AlwaysKept};
     ghost use Rattle.ldm_store.specs.Sessions.{IsEditable, IsNextFor, RestsOn, HoldsSession};
-    ghost use Rattle.ldm_store.specs.Sessions.{IsApplied, turn_in};
+    ghost use Rattle.ldm_store.specs.Sessions.{ComesTo, IsApplied, turn_in};
 
     // The session of a group that was found and that nothing blocks, with the body that its copies
     // begin with.
@@ -111,32 +124,6 @@ impl Session {
         &self.db
     }
 
-    // The same group, with this batch open.
-    fn with_draft(self, draft: Option<Draft>) -> Session
-        requires { ForSome draft (IsDraftOf self.group.labels self.group.db) }
-        ensures { result ≡ record {
-          group = record {
-            db = self.group.db;
-            labels = self.group.labels;
-            draft = draft;
-          };
-          body = self.body;
-        } }
-    {
-        let Session {
-            db,
-            labels,
-            draft: _,
-            body,
-        } = self;
-        Session {
-            db,
-            labels,
-            draft,
-            body,
-        }
-    }
-
     // Another group on the same disks, whose copies begin with this body, with no batch open.
     fn with_group(self, db: Db, body: Body) -> Session
         requires editable { IsEditable db self.group.labels }
@@ -161,6 +148,36 @@ impl Session {
             labels,
             draft: None,
             body: Some(body),
+        }
+    }
+
+    // What a command comes to, and the session with the batch that is open then.
+    fn turned(self, alloc: Global, command: &Command) -> (Session, Result<Turned, NoMemory>)
+        requires areas { AreasFit self.group.labels }
+        requires command { IsCommand command.now }
+        ensures editable { IsEditable self.group.db self.group.labels }
+        ensures is { IfOk result.1 (λ turned. ComesTo self command.now turned result.0) }
+        ensures unchanged { IfErr result.1 (λ _. result.0 ≡ self) }
+    {
+        let Session {
+            db,
+            labels,
+            draft,
+            body,
+        } = self;
+        let (draft, answer) = take_turn(alloc, &db, draft, &labels, command);
+        let session = Session {
+            db,
+            labels,
+            draft,
+            body,
+        };
+        match answer {
+            Err(NoMemory) => (session, Err(NoMemory)),
+            Ok(Answer::Next(next)) => (session, Ok(Turned::Next(next))),
+            Ok(Answer::Held) => (session, Ok(Turned::Replied(Reply::Held))),
+            Ok(Answer::Dropped) => (session, Ok(Turned::Replied(Reply::Dropped))),
+            Ok(Answer::Refused(reason)) => (session, Ok(Turned::Replied(Reply::Refused(reason)))),
         }
     }
 
@@ -214,22 +231,22 @@ impl Session {
             (turn_in self.group command.now).state.db + 513) }
         ensures works { Works (H.seen host.old) (H.seen host.new) (IsErrOf result ApplyError.Disk) }
     {
-        let Ok(turned) = turn(alloc, &self.db, self.draft.as_ref(), &self.labels, command) else {
-            return Err(ApplyError::NoMemory(self));
-        };
+        let (session, turned) = self.turned(alloc, command);
         let newer = match turned {
-            Turn::Refused(refusal) => return Ok((self, Reply::Refused(refusal))),
-            Turn::Hold(draft) => return Ok((self.with_draft(Some(draft)), Reply::Held)),
-            Turn::GiveUp => return Ok((self.with_draft(None), Reply::Dropped)),
-            Turn::Next(newer) => newer,
+            Err(NoMemory) => return Err(ApplyError::NoMemory(session)),
+            Ok(Turned::Replied(reply)) => return Ok((session, reply)),
+            Ok(Turned::Next(newer)) => newer,
         };
-        let Ok(next) = next_of(alloc, &self.body, &self.db, &newer) else {
-            return Err(ApplyError::NoMemory(self));
+        let Ok(next) = next_of(alloc, &session.body, &session.db, &newer) else {
+            return Err(ApplyError::NoMemory(session));
         };
-        let Ok(()) = rewrite_all(host, self.labels.as_slice(), &next) else {
+        let Ok(()) = rewrite_all(host, session.labels.as_slice(), &next) else {
             return Err(ApplyError::Disk);
         };
         let seq = newer.header().seq;
-        Ok((self.with_group(newer, next.into_body()), Reply::Done(seq)))
+        Ok((
+            session.with_group(newer, next.into_body()),
+            Reply::Done(seq),
+        ))
     }
 }

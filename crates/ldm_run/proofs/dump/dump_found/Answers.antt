@@ -1,6 +1,6 @@
 use Rattle.std.proofs.Common.{codes, decimal, ◌++◌, Some, None, sym, ◌∙◌}
 use Rattle.ldm_text.specs.Texts.{text_of_refusal}
-use Rattle.ldm_run.proofs.StreamLaws.{no_dump, dump_of}
+use Rattle.ldm_run.proofs.AnswerLaws.{no_dump, dump_of}
 use Rattle.ldm_run.proofs.Saying.{says_as, says_at_once}
 use Rattle.ldm_run.proofs.dump.dump_found.Goals as goal
 

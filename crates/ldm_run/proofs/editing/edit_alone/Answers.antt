@@ -1,10 +1,8 @@
-use Rattle.std.proofs.Common.{rules, ◌≡◌, if◌then◌else◌, Bool, true, false, List, [], ◌∷◌, Option, Some, sym, refl, ◌∙◌}
+use Rattle.std.proofs.Common.{[], rules, ◌≡◌, if◌then◌else◌, Bool, true, false, List, ◌∷◌, Option, Some, sym, refl, ◌∙◌}
 use Rattle.ldm_words.specs.declared.command.Command.{Command}
-use Rattle.ldm_store.specs.Sessions.{IsSession}
 use Rattle.ldm_run.specs.declared.running.Status.{Status}
 use Rattle.ldm_run.specs.declared.running.Status.TheVariants.{Done, Refused, DiskFault}
-use Rattle.ldm_run.proofs.DoingLaws.{now_of}
-use Rattle.ldm_run.proofs.EditState.{edited_none, ended, line_fails, line_done}
+use Rattle.ldm_run.proofs.EditLaws.{now_of, edited_none, ended, line_fails, line_done}
 use Rattle.ldm_run.proofs.editing.edit_alone.Goals as goal
 
 pub returns-clause-does : goal.returns-clause-does
@@ -13,19 +11,20 @@ returns-clause-does g c =
     let new = c.edit_line.new.host in
     let session = c.args.session in
     let lines : List (Option Command) = Some c.args.command ∷ [] in
-    let kept : IsSession session.group.db session.group.labels session.group.draft session.body = search rules in
     let start = now_of g.H.Host.seen g.met.H.Host.counts_now g.met.H.Host.only_now g.met.H.Host.one_each g.met.H.Host.may_stay host in
     let now = now_of g.H.Host.seen g.met.H.Host.counts_now g.met.H.Host.only_now g.met.H.Host.one_each g.met.H.Host.may_stay new in
-    ended (line_done (edited_none session lines (g.H.Host.seen host) c.requires.fresh kept.editable c.requires.rests c.requires.holds start) c.edit_line.ensures c.in-Ok.is c.is_refused.ensures now) refl c.status_of.ensures
+    ended (line_done (edited_none session lines (g.H.Host.seen host) c.requires.fresh
+    (search rules) c.requires.rests c.requires.holds start) c.edit_line.ensures c.in-Ok.is c.is_refused.ensures now) refl
+    c.status_of.ensures
 
 pub returns-in-Err-clause-does : goal.returns-in-Err-clause-does
 returns-in-Err-clause-does g c =
     let host = c.args.host.now in
     let session = c.args.session in
     let lines : List (Option Command) = Some c.args.command ∷ [] in
-    let kept : IsSession session.group.db session.group.labels session.group.draft session.body = search rules in
     let start = now_of g.H.Host.seen g.met.H.Host.counts_now g.met.H.Host.only_now g.met.H.Host.one_each g.met.H.Host.may_stay host in
-    line_fails (edited_none session lines (g.H.Host.seen host) c.requires.fresh kept.editable c.requires.rests c.requires.holds start) c.edit_line.ensures c.in-Err.is
+    line_fails (edited_none session lines (g.H.Host.seen host) c.requires.fresh
+    (search rules) c.requires.rests c.requires.holds start) c.edit_line.ensures c.in-Err.is
 
 -- a line that was answered didn't end by a disk fault
 no_fault : (refused : Bool) (status : Status) → status ≡ (if refused then Refused else Done) → status ≡ DiskFault → ⊥

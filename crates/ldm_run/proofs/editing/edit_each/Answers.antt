@@ -1,19 +1,20 @@
 use Rattle.std.proofs.Common.{rules, ◌≡◌, ℕ, List, ◌∷◌, map, sym, ap, ◌∙◌, arith, Option}
 use Rattle.ldm_words.specs.declared.command.Command.{Command}
 use Rattle.ldm_words.specs.Lines.{lines_of}
-use Rattle.ldm_store.specs.Sessions.{IsSession}
 use Rattle.ldm_run.specs.Scripts.{command_in, commands_in}
-use Rattle.ldm_run.proofs.DoingLaws.{now_of}
-use Rattle.ldm_run.proofs.EditState.{edited_none, with_left, unread, ended, line_fails, line_done}
+use Rattle.ldm_run.proofs.EditLaws.{now_of, edited_none, with_left, unread, ended, line_fails, line_done}
 use Rattle.ldm_run.proofs.editing.edit_each.Goals as goal
 
 pub editing-init : goal.editing-init
 editing-init g c =
     let host = c.args.host.now in
     let session = c.args.first in
-    let kept : IsSession session.group.db session.group.labels session.group.draft session.body = search rules in
     let now = now_of g.H.Host.seen g.met.H.Host.counts_now g.met.H.Host.only_now g.met.H.Host.one_each g.met.H.Host.may_stay host in
-    record { few = omega arith; to = edited_none session (commands_in c.args.script.now) (g.H.Host.seen host) c.requires.fresh kept.editable c.requires.rests c.requires.holds now }
+    record {
+      few = omega arith;
+      to = edited_none session (commands_in c.args.script.now) (g.H.Host.seen host) c.requires.fresh (search rules)
+          c.requires.rests c.requires.holds now;
+    }
 
 -- what the first line says, and those after it
 first_said : (rest front after : List ℕ) (line : Option Command) → lines_of rest ≡ front ∷ lines_of after → line ≡ command_in front → commands_in rest ≡ line ∷ commands_in after

@@ -1,6 +1,6 @@
 use Rattle.std.proofs.Common.{◌≤◌, ◌+◌, length}
 use Rattle.ldm_run.specs.Scripts.{commands_in}
-use Rattle.ldm_run.proofs.EditState.{IsEditedTo}
+use Rattle.ldm_run.proofs.EditLaws.{IsEditedTo}
 use Rattle.ldm_run.proofs.editing.edit_each.Given as goal
 
 abbrev pub invariant-editing : goal.invariant-editing

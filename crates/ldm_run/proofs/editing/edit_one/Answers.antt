@@ -1,7 +1,6 @@
 use Rattle.std.proofs.Common.{[], ◌∷◌, Some, ◌∙◌}
-use Rattle.ldm_run.proofs.DoingLaws.{now_of}
-use Rattle.ldm_run.proofs.GroupEnds.{grouped}
-use Rattle.ldm_run.proofs.JobLaws.{one_job}
+use Rattle.ldm_run.proofs.EditLaws.{now_of}
+use Rattle.ldm_run.proofs.JobLaws.{grouped, one_job}
 use Rattle.ldm_run.proofs.editing.edit_one.Goals as goal
 
 pub returns-in-Err : goal.returns-in-Err

@@ -1,6 +1,6 @@
 use Rattle.ldm_run.specs.Scripts.{commands_in}
-use Rattle.ldm_run.proofs.DoingLaws.{now_of}
-use Rattle.ldm_run.proofs.GroupEnds.{grouped}
+use Rattle.ldm_run.proofs.EditLaws.{now_of}
+use Rattle.ldm_run.proofs.JobLaws.{grouped}
 use Rattle.ldm_run.proofs.editing.edit_script.Goals as goal
 
 pub returns-in-Err : goal.returns-in-Err

@@ -2,7 +2,7 @@ use Rattle.std.proofs.Common.{rules, ⊎_elim, inr}
 use Rattle.ldm_host.proofs.Relations.{works_as}
 use Rattle.ldm_run.specs.declared.running.Status.TheVariants.{DiskFault, NoMemory}
 use Rattle.ldm_run.proofs.Saying.{failing}
-use Rattle.ldm_run.proofs.GroupEnds.{unopened, refused_group}
+use Rattle.ldm_run.proofs.JobLaws.{unopened, refused_group}
 use Rattle.ldm_run.proofs.editing.open_session.Goals as goal
 
 pub returns-in-Ok-clause-session : goal.returns-in-Ok-clause-session

@@ -2,7 +2,7 @@ use Rattle.std.proofs.Common.{◌≡◌, ◌+◌, ◌≤◌, ℕ, Option, Some, 
 use Rattle.ldm_records.specs.declared.types.Record.{Record}
 use Rattle.ldm_records.specs.declared.types.Record.TheVariants as kinds
 use Rattle.ldm_group.specs.Looks.{by_id, volume_in}
-use Rattle.ldm_run.proofs.MappingLaws.{range_fits}
+use Rattle.ldm_run.proofs.AnswerLaws.{range_fits}
 use Rattle.ldm_run.proofs.mapping.mapped.Goals as goal
 
 pub sound_plan-requires-clause-again : goal.sound_plan-requires-clause-again

@@ -1,8 +1,16 @@
-use Rattle.std.proofs.Common.{sym, subst, Option}
-use Rattle.std.specs.Option.{ForSome}
-use Rattle.ldm_edits.specs.declared.batch.Draft.{Draft}
-use Rattle.ldm_edits.specs.Steps.{IsDraftOf}
+use Rattle.std.proofs.Common.{◌≡◌}
+use Rattle.std.proofs.lemmas.Result.{IfOk-at_ok}
+use Rattle.ldm_group.specs.Database.{Database}
+use Rattle.ldm_edits.specs.declared.batch.Answer.{Answer}
+use Rattle.ldm_edits.specs.declared.batch.Answer.TheVariants.{Next}
+use Rattle.ldm_edits.specs.Steps.{Keeps}
 use Rattle.ldm_run.proofs.replying.done.Goals as goal
 
-pub turn-requires-clause-draft : goal.turn-requires-clause-draft
-turn-requires-clause-draft c = subst (λ (o : Option Draft). ForSome o (IsDraftOf c.args.labels.now c.args.db)) (sym c.as_ref.ensures.value) c.requires.good.draft
+pub returns-in-Next-clause-good : goal.returns-in-Next-clause-good
+returns-in-Next-clause-good c =
+    let keeps = λ (answer : Answer). (next : Database) → answer ≡ Next next → Keeps c.args.labels.now c.args.db next in
+    record {
+      sound = (IfOk-at_ok keeps c.in_ok-next.was c.take_turn-held.ensures.keeps c.in-Next.next c.in-Next.is).sound;
+      areas = c.requires.good.areas;
+      draft = λ draft there. absurd (cc there);
+    }

@@ -1,7 +1,7 @@
 use Rattle.std.proofs.Common.{rules, ◌≤◌, length, codes, ◌∙◌}
 use Rattle.ldm_text.specs.Texts.{text_of_refusal}
 use Rattle.ldm_words.specs.declared.job.Job.TheVariants.{Edit}
-use Rattle.ldm_run.proofs.HearsEdits.{unheard, long_edit, script_edit}
+use Rattle.ldm_run.proofs.JobLaws.{unheard, long_edit, script_edit}
 use Rattle.ldm_run.proofs.running.edit.Goals as goal
 
 pub returns-in-Err : goal.returns-in-Err

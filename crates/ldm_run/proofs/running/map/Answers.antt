@@ -2,7 +2,7 @@ use Rattle.std.proofs.Common.{refl, ◌∙◌, Ok}
 use Rattle.ldm_words.specs.declared.job.Job.TheVariants.{Map}
 use Rattle.ldm_run.specs.Mapping.{map_answer}
 use Rattle.ldm_run.proofs.JobLaws.{reads_job}
-use Rattle.ldm_run.proofs.MappingLaws.{same_name}
+use Rattle.ldm_run.proofs.AnswerLaws.{same_name}
 use Rattle.ldm_run.proofs.Saying.{says_first}
 use Rattle.ldm_run.proofs.running.map.Goals as goal
 

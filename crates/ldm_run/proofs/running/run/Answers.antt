@@ -1,32 +1,22 @@
 use Rattle.ldm_words.specs.Jobs.{texts, job_of}
-use Rattle.ldm_run.proofs.JobLaws.{each_job}
-use Rattle.ldm_run.proofs.RunLaws.{usage_is, answers_to, causes_of, completes}
+use Rattle.ldm_run.proofs.AnswerLaws.{one_answer}
+use Rattle.ldm_run.proofs.JobLaws.{each_job, usage_is, answers_to, causes_of, completes}
 use Rattle.ldm_run.proofs.running.run.Goals as goal
 
-pub returns-clause-usage : goal.returns-clause-usage
-returns-clause-usage g c =
-    usage_is g.H.Host.tells_disks g.H.Host.tells_talk g.H.Host.seen c.args.host.now c.do_words.new.host c.do_words.result (job_of (texts c.args.words.now)) c.do_words.ensures
-
-pub returns-clause-answers : goal.returns-clause-answers
-returns-clause-answers g c =
-    answers_to g.H.Host.tells_disks g.H.Host.tells_talk g.H.Host.seen c.args.host.now c.do_words.new.host c.do_words.result (job_of (texts c.args.words.now)) c.do_words.ensures
-
-pub returns-clause-causes : goal.returns-clause-causes
-returns-clause-causes g c =
-    causes_of g.H.Host.tells_disks g.H.Host.tells_talk g.H.Host.seen c.args.host.now c.do_words.new.host c.do_words.result (job_of (texts c.args.words.now)) c.do_words.ensures
-
-pub returns-clause-complete : goal.returns-clause-complete
-returns-clause-complete g c =
-    completes g.H.Host.tells_disks g.H.Host.tells_talk g.H.Host.seen c.args.host.now c.do_words.new.host c.do_words.result (job_of (texts c.args.words.now)) c.do_words.ensures
-
-pub returns-clause-disks : goal.returns-clause-disks
-returns-clause-disks g c = each_job (job_of (texts c.args.words.now)) _ _ _ _ (λ unread. unread.1) (λ job does. does.disks) c.do_words.ensures
-
-pub returns-clause-talk : goal.returns-clause-talk
-returns-clause-talk g c = each_job (job_of (texts c.args.words.now)) _ _ _ _ (λ unread. unread.1) (λ job does. does.talk) c.do_words.ensures
-
-pub returns-clause-stops : goal.returns-clause-stops
-returns-clause-stops g c = each_job (job_of (texts c.args.words.now)) _ _ _ _ (λ unread. unread.1) (λ job does. does.stops) c.do_words.ensures
-
-pub returns-clause-since_syncs : goal.returns-clause-since_syncs
-returns-clause-since_syncs g c = each_job (job_of (texts c.args.words.now)) _ _ _ _ (λ unread. unread.1) (λ job does. does.since_syncs) c.do_words.ensures
+pub returns : goal.returns
+returns g c =
+    let old = c.args.host.now in
+    let new = c.do_words.new.host in
+    let reading = job_of (texts c.args.words.now) in
+    let done = c.do_words.ensures in
+    record {
+      usage = usage_is g.H.Host.tells_disks g.H.Host.tells_talk g.H.Host.seen old new c.do_words.result reading done;
+      answers = answers_to g.H.Host.tells_disks g.H.Host.tells_talk g.H.Host.seen old new c.do_words.result reading done;
+      one = one_answer (texts c.args.words.now) (g.H.Host.seen old).content (g.H.Host.seen old).input;
+      causes = causes_of g.H.Host.tells_disks g.H.Host.tells_talk g.H.Host.seen old new c.do_words.result reading done;
+      complete = completes g.H.Host.tells_disks g.H.Host.tells_talk g.H.Host.seen old new c.do_words.result reading done;
+      disks = each_job reading _ _ _ _ (λ unread. unread.1) (λ job does. does.disks) done;
+      talk = each_job reading _ _ _ _ (λ unread. unread.1) (λ job does. does.talk) done;
+      stops = each_job reading _ _ _ _ (λ unread. unread.1) (λ job does. does.stops) done;
+      since_syncs = each_job reading _ _ _ _ (λ unread. unread.1) (λ job does. does.since_syncs) done;
+    }

@@ -2,8 +2,8 @@ use Rattle.std.proofs.Common.{rules, arith, ◌≤◌, length, codes, inl, inr, 
 use Rattle.ldm_text.specs.Texts.{text_of_refusal}
 use Rattle.ldm_words.specs.declared.job.Job.TheVariants.{Try}
 use Rattle.ldm_run.proofs.Saying.{says_at_once}
-use Rattle.ldm_run.proofs.HearsEdits.{hears_first, unheard}
-use Rattle.ldm_run.proofs.ScriptLaws.{long_answer, whole_answer}
+use Rattle.ldm_run.proofs.JobLaws.{hears_first, unheard}
+use Rattle.ldm_run.proofs.LineLaws.{long_answer, whole_answer}
 use Rattle.ldm_run.proofs.running.try_script.Goals as goal
 
 pub returns-in-Err : goal.returns-in-Err

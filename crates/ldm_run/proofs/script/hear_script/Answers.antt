@@ -2,7 +2,7 @@ use Rattle.std.proofs.Common.{rules, ◌≡◌, ◌≤◌, List, ℕ, length, �
 use Rattle.std.proofs.lemmas.List.{take-append-le, length-append, length-take-le}
 use Rattle.ldm_host.proofs.Relations.{rose_sooner}
 use Rattle.ldm_run.specs.Heard.{Hears}
-use Rattle.ldm_run.proofs.HeardLaws.{at_end, hears_more, hears_on, too_long}
+use Rattle.ldm_run.proofs.Saying.{at_end, hears_more, hears_on, too_long}
 use Rattle.ldm_run.proofs.script.hear_script.Goals as goal
 
 pub returns-then-count-eq0-clause-script : goal.returns-then-count-eq0-clause-script

@@ -5,7 +5,7 @@ use Rattle.ldm_run.specs.Runs.{Streams}
 use Rattle.ldm_run.specs.Said.{Answer}
 use Rattle.ldm_run.specs.Streaming.{is_compared}
 use Rattle.ldm_run.proofs.Saying.{says_as, says_at_once}
-use Rattle.ldm_run.proofs.StreamLaws.{no_scrub, scrub_of_other, scrub_of_places}
+use Rattle.ldm_run.proofs.AnswerLaws.{no_scrub, scrub_of_other, scrub_of_places}
 use Rattle.ldm_run.proofs.scrub.scrub_found.Goals as goal
 
 pub returns-in_default : goal.returns-in_default

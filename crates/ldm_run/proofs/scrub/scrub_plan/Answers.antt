@@ -5,7 +5,7 @@ use Rattle.ldm_scrub.specs.declared.scrubbing.ScrubError.{ScrubError}
 use Rattle.ldm_words.specs.Names.{esc}
 use Rattle.ldm_run.specs.Said.{HasAnswer}
 use Rattle.ldm_run.specs.Streaming.{scrub_status}
-use Rattle.ldm_run.proofs.StreamLaws.{status_answers}
+use Rattle.ldm_run.proofs.AnswerLaws.{status_answers}
 use Rattle.ldm_run.specs.declared.running.Status.TheVariants.{DiskFault, TalkFault}
 use Rattle.ldm_run.proofs.Saying.{failing, says_all, says_part}
 use Rattle.ldm_run.proofs.scrub.scrub_plan.Goals as goal

@@ -1,4 +1,4 @@
-use Rattle.std.proofs.Common.{◌≡◌, ◌≢◌, ◌+◌, ◌<◌, ◌≤◌, ℕ, List, length, slice_index, slice_get, get_or, Some, refl, sym, ◌∙◌, ap, subst, arith}
+use Rattle.std.proofs.Common.{rules, ◌≡◌, ◌≢◌, ◌+◌, ◌<◌, ◌≤◌, ℕ, List, length, slice_index, slice_get, get_or, Some, refl, sym, ◌∙◌, ap, subst, arith}
 use Rattle.std.proofs.lemmas.Option.{slice_get-get_or, slice_get_within}
 use Rattle.ldm_host.specs.Seen.{Seen}
 use Rattle.ldm_host.proofs.Relations.{works_itself, works_then, works_as}
@@ -7,14 +7,9 @@ use Rattle.ldm_label.specs.declared.Label.{Label}
 use Rattle.ldm_label.specs.LabelOf.{Fits}
 use Rattle.ldm_copy.specs.Body.{HasBody}
 use Rattle.ldm_found.specs.Facts.{LieOn}
-use Rattle.ldm_store.proofs.HasLaws.{current_open}
-use Rattle.ldm_store.proofs.Stepping.{settled_step, body_step, outside_step}
-use Rattle.ldm_store.proofs.TurnLaws.{turned_none, turning_always, turned_step, wrote_below, wrote_above}
+use Rattle.ldm_store.proofs.CopyLaws.{no_label, current_open, settled_step, body_step, outside_step, turned_none, turning_always, turned_step, wrote_below, wrote_above, wrote_each, wrote_all}
 use Rattle.ldm_changed.specs.Nexts.{bytes_in, most_in}
 use Rattle.ldm_store.proofs.rewriting.rewrite_all.Goals as goal
-
-abbrev no_label : Label
-no_label = record { disk_guid = 0; minor = 0; data_start = 0; data_size = 0; config_start = 0; area_start = 0; area_sectors = 0; log_start = 0; log_sectors = 0 }
 
 label_at : (labels : List Label) (disk : ℕ) (none : Label) → disk < length labels → slice_get labels disk ≡ Some (get_or labels disk none)
 label_at labels disk none lt = slice_get-get_or labels disk none lt
@@ -59,16 +54,6 @@ rewrite_next-requires-clause-before g c tells change is =
     let old = c.requires.before tells change is disk label (label_at c.args.labels.now disk no_label c.loop-disk-test.true) in
     (old.0, old.1, subst (λ (l : List ℕ). HasBody label old.0 l) (sym (c.loop-disk.invariant.untouched disk (omega arith))) old.2)
 
-pub returns-in_err-rewrite_next-clause-any_moment : goal.returns-in_err-rewrite_next-clause-any_moment
-returns-in_err-rewrite_next-clause-any_moment g c tells o n current bodies =
-    let seen = g.H.Host.seen in
-    let i = c.loop-disk.invariant in
-    let at = label_at c.args.labels.now c.loop-disk.disk no_label c.loop-disk-test.true in
-    turning_always c.args.labels.now o n (seen c.args.host.now) (seen c.loop-disk.host) c.loop-disk.disk c.requires.several
-    (ap length i.works.later.sizes ∙ sym c.requires.lie.one_label) i.settled i.works.quiet.said (i.turned tells o n current bodies)
-    (seen c.rewrite_next.new.host) (get_or c.args.labels.now c.loop-disk.disk no_label) at i.works.later c.rewrite_next.ensures.changes
-    (c.rewrite_next.ensures.any_moment tells n (bodies c.loop-disk.disk _ at))
-
 pub loop-disk-preserved : goal.loop-disk-preserved
 loop-disk-preserved g c =
     let seen = g.H.Host.seen in
@@ -96,38 +81,49 @@ loop-disk-preserved g c =
           d label at i.works.later changes (c.rewrite_next.ensures.any_moment tells n (bodies disk label at)) (c.in_ok-rewrite_next.ensures.done tells n (bodies disk label at));
     }
 
-pub returns-clause-any_moment : goal.returns-clause-any_moment
-returns-clause-any_moment g c tells o n current bodies = (c.loop-disk.invariant.turned tells o n current bodies).always
-
-pub returns-clause-done : goal.returns-clause-done
-returns-clause-done g c tells n bodies disk lt =
-    let turned = c.loop-disk.invariant.turned tells (c.requires.current tells).0 n (c.requires.current tells).1 bodies in
-    turned.below disk (omega (arith, lt, c.loop-disk-test.false))
-
-pub returns-in_err-rewrite_next-clause-outside : goal.returns-in_err-rewrite_next-clause-outside
-returns-in_err-rewrite_next-clause-outside g c tells =
+pub returns-in_err-rewrite_next : goal.returns-in_err-rewrite_next
+returns-in_err-rewrite_next g c =
     let seen = g.H.Host.seen in
-    let i = c.loop-disk.invariant in
+    let a = seen c.args.host.now in
+    let b = seen c.loop-disk.host in
+    let d = seen c.rewrite_next.new.host in
     let disk = c.loop-disk.disk in
-    let current = c.requires.current tells in
-    let body = c.requires.body in
-    outside_step c.args.labels.now (seen c.loop-disk.host) (seen c.rewrite_next.new.host) disk (get_or c.args.labels.now disk no_label) (label_at c.args.labels.now disk no_label c.loop-disk-test.true)
-    c.rewrite_next.ensures.changes (seen c.args.host.now) (i.turned tells current.0 body.0 current.1 body.1).outside
+    let labels = c.args.labels.now in
+    let label = get_or labels disk no_label in
+    let at = label_at labels disk no_label c.loop-disk-test.true in
+    let i = c.loop-disk.invariant in
+    let changes = c.rewrite_next.ensures.changes in
+    record {
+      any_moment = λ tells o n current bodies.
+          turning_always labels o n a b disk c.requires.several
+          (ap length i.works.later.sizes ∙ sym c.requires.lie.one_label) i.settled i.works.quiet.said
+          (i.turned tells o n current bodies)
+          d label at i.works.later changes (c.rewrite_next.ensures.any_moment tells n (bodies disk label at));
+      done = search rules;
+      has = search rules;
+      outside = λ tells. outside_step labels b d disk label at changes a
+          (i.turned tells (c.requires.current tells).0 c.requires.body.0
+          (c.requires.current tells).1 c.requires.body.1).outside;
+      settled = search rules;
+      wrote = wrote_each (most_in c.args.next.now) disk _ _ a b d changes
+          (omega (arith, c.rewrite_next.ensures.wrote)) i.wrote_below i.wrote_above;
+      works = works_then i.works (changes_works changes c.in_err-rewrite_next.ensures.cause) (λ is. refl);
+    }
 
-pub returns-clause-outside : goal.returns-clause-outside
-returns-clause-outside g c tells =
-    let current = c.requires.current tells in
-    let body = c.requires.body in
-    (c.loop-disk.invariant.turned tells current.0 body.0 current.1 body.1).outside
-
-pub returns-clause-has : goal.returns-clause-has
-returns-clause-has g c tells disk label at =
-    let lt = slice_get_within c.args.labels.now disk label at in
-    c.loop-disk.invariant.has tells disk label (omega (arith, lt, c.loop-disk-test.false)) at
-
-pub returns-in_err-rewrite_next-clause-works : goal.returns-in_err-rewrite_next-clause-works
-returns-in_err-rewrite_next-clause-works g c =
-    works_then c.loop-disk.invariant.works (changes_works c.rewrite_next.ensures.changes c.in_err-rewrite_next.ensures.cause) (λ is. refl)
-
-pub returns-clause-works : goal.returns-clause-works
-returns-clause-works g c = works_as c.loop-disk.invariant.works (λ is. absurd (cc is))
+pub returns : goal.returns
+returns g c =
+    let i = c.loop-disk.invariant in
+    let turned = λ (tells : g.H.Host.tells_disks). i.turned tells (c.requires.current tells).0 in
+    record {
+      any_moment = λ tells o n current bodies. (i.turned tells o n current bodies).always;
+      done = λ tells n bodies disk lt. (turned tells n (c.requires.current tells).1 bodies).below disk
+          (omega (arith, lt, c.loop-disk-test.false));
+      has = λ tells disk label at.
+          let lt = slice_get_within c.args.labels.now disk label at in
+          i.has tells disk label (omega (arith, lt, c.loop-disk-test.false)) at;
+      outside = λ tells. (turned tells c.requires.body.0 (c.requires.current tells).1 c.requires.body.1).outside;
+      settled = i.settled;
+      wrote = wrote_all (most_in c.args.next.now) (g.H.Host.seen c.args.host.now)
+          (g.H.Host.seen c.loop-disk.host) c.loop-disk.disk i.wrote_below i.wrote_above;
+      works = works_as i.works (λ is. absurd (cc is));
+    }

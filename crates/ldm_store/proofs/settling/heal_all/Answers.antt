@@ -9,14 +9,9 @@ use Rattle.ldm_found.specs.declared.notes.Note.{Note}
 use Rattle.ldm_found.specs.declared.notes.Note.TheVariants as notes
 use Rattle.ldm_store.specs.Healing.{is_behind}
 use Rattle.ldm_found.proofs.FoundLaws.{holds_group}
-use Rattle.ldm_store.proofs.Stepping.{settled_step, body_step, outside_step}
-use Rattle.ldm_store.proofs.HealLaws.{healed_none, note_next, healed_skip, healing_always, healed_step, spared_step, other_disk, stays_step}
-use Rattle.ldm_store.proofs.TurnLaws.{wrote_below, wrote_above, wrote_each, wrote_all, passed_below}
+use Rattle.ldm_store.proofs.CopyLaws.{no_label, settled_step, body_step, outside_step, healed_none, note_next, healed_skip, healing_always, healed_step, spared_step, other_disk, stays_step, wrote_below, wrote_above, wrote_each, wrote_all, passed_below}
 use Rattle.ldm_store.proofs.settling.heal_all.Goals as goal
 use Rattle.ldm_store.proofs.settling.heal_all.Goals.{then-is_behind+in_ok-heal, else-is_behind}
-
-abbrev no_label : Label
-no_label = record { disk_guid = 0; minor = 0; data_start = 0; data_size = 0; config_start = 0; area_start = 0; area_sectors = 0; log_start = 0; log_sectors = 0 }
 
 -- what stands at a place of a slice of the labels, and of the notes
 label_in : (slice labels : List Label) (disk : ℕ) → slice ≡ labels → disk < length slice → slice_get labels disk ≡ Some (get_or slice disk no_label)

@@ -10,10 +10,8 @@ use Rattle.ldm_found.specs.declared.notes.Note.TheVariants as notes
 use Rattle.ldm_store.specs.Healing.{is_behind}
 use Rattle.ldm_copy.specs.Table.{body_bytes}
 use Rattle.ldm_store.specs.Bodies.{LacksBody, KeepsBody}
+use Rattle.ldm_store.proofs.CopyLaws.{no_label}
 use Rattle.ldm_store.proofs.sharing.all_have.Goals as goal
-
-abbrev no_label : Label
-no_label = record { disk_guid = 0; minor = 0; data_start = 0; data_size = 0; config_start = 0; area_start = 0; area_sectors = 0; log_start = 0; log_sectors = 0 }
 
 one : {X : Type 0} (a b : X) → Some a ≡ Some b → a ≡ b
 one a b e = cc

@@ -8,8 +8,8 @@ use Rattle.ldm_found.specs.declared.notes.Note.{Note}
 use Rattle.ldm_found.proofs.ClearLaws.{clear_of}
 use Rattle.ldm_found.proofs.FoundLaws.{holds_group}
 use Rattle.ldm_store.specs.Bodies.{KeepsBody, ShareNone}
-use Rattle.ldm_store.proofs.EditLaws.{low_last, high_last}
-use Rattle.ldm_store.proofs.TidyLaws.{room_all, not_tidy, all_begun, is_exact}
+use Rattle.ldm_store.proofs.OpensLaws.{low_last, high_last}
+use Rattle.ldm_store.proofs.SettleLaws.{room_all, not_tidy, all_begun, is_exact}
 use Rattle.ldm_store.proofs.sharing.healing_body.Goals as goal
 
 -- of the group, by what was taken of it

@@ -2,13 +2,10 @@ use Rattle.std.proofs.Common.{rules, ◌≡◌, inl, inr, ℕ, List, get_or, Opt
 use Rattle.std.proofs.lemmas.Option.{slice_get-get_or, slice_get_within}
 use Rattle.ldm_host.specs.Seen.{image}
 use Rattle.ldm_host.proofs.Relations.{looks_then}
-use Rattle.ldm_label.specs.declared.Label.{Label}
 use Rattle.ldm_copy.specs.Table.{body_bytes}
 use Rattle.ldm_store.specs.Bodies.{KeepsBody, LosesBody}
+use Rattle.ldm_store.proofs.CopyLaws.{no_label}
 use Rattle.ldm_store.proofs.sharing.shared_body.Goals as goal
-
-abbrev no_label : Label
-no_label = record { disk_guid = 0; minor = 0; data_start = 0; data_size = 0; config_start = 0; area_start = 0; area_sectors = 0; log_start = 0; log_sectors = 0 }
 
 is_of : (found : Option (List ℕ)) (body bytes : List ℕ) → found ≡ Some body → IfSome found (λ b. b ≡ bytes) → body ≡ bytes
 is_of found body bytes is same = subst (λ (o : Option (List ℕ)). IfSome o (λ b. b ≡ bytes)) is same

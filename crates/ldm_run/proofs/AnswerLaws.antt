@@ -1,0 +1,119 @@
+-- What is answered to words, which is one answer, and what those of map, dump and scrub are made of.
+use Rattle.std.proofs.Common.{◌≡◌, ℕ, ◌+◌, ◌≤◌, ◌==◌, ◌||◌, nat_lt, Bool, true, false, List, refl, subst, codes, Option, Some, None, Result, Ok, ap, sym, ◌∙◌, if◌then◌else◌, map, Err}
+use Rattle.std.proofs.lemmas.Bool.{ltb-false}
+use Rattle.ldm_found.specs.declared.found.Found.{Found}
+use Rattle.ldm_run.specs.Said.{Answer, HasAnswer, refused}
+use Rattle.ldm_run.specs.Mapping.{is_bad_range, map_answer}
+use Rattle.ldm_records.specs.declared.types.Volume.{Volume}
+use Rattle.ldm_group.specs.Looks.{volume_named}
+use Rattle.ldm_layout.specs.Layouts.{Layout}
+use Rattle.ldm_layout.specs.Volumes.{layout_of}
+use Rattle.ldm_layout.specs.declared.shape.LayoutFault.{LayoutFault}
+use Rattle.ldm_dump.specs.Sources.{IsLeastLost}
+use Rattle.ldm_dump.proofs.RunLaws.{least_found}
+use Rattle.ldm_run.specs.Streaming.{laid_answer, named_answer, bytes_answer, volume_dump, dump_answer, is_compared, scrub_status, places_answer, volume_scrub, scrub_answer}
+use Rattle.ldm_scrub.specs.Missing.{missing_of}
+use Rattle.ldm_run.specs.declared.running.Status.TheVariants.{Done, Refused}
+use Rattle.ldm_host.specs.Seen.{image}
+use Rattle.ldm_label.specs.declared.Label.{Label}
+use Rattle.ldm_label.specs.declared.LabelFault.{LabelFault}
+use Rattle.ldm_label.specs.LabelOf.{label_of}
+use Rattle.ldm_copy.specs.Copy.{config_area}
+use Rattle.ldm_copy.proofs.OneCopy.{one_copy}
+use Rattle.ldm_words.specs.declared.job.Job.{Job}
+use Rattle.ldm_words.specs.Jobs.{job_of}
+use Rattle.ldm_found.proofs.GroupLaws.{one_group}
+use Rattle.ldm_run.specs.Scripts.{is_long_script, commands_in, try_answer}
+use Rattle.ldm_label.specs.Fields.{sectors_of}
+use Rattle.ldm_init.proofs.InitLaws.{one_fault}
+use Rattle.ldm_run.specs.Making.{init_answer}
+use Rattle.ldm_run.proofs.SampleLaws.{one_sample}
+use Rattle.ldm_run.specs.Answer.{copy_answer, group_answer, Basis, OfLabel, OfCopy, OfGroup, OfScript, OfEmpty, OfSeed, basis_of, IsAnswerBy, IsRecordsAnswer, IsGroupAnswer, IsAnswerToScript, IsReadingAnswer, IsAnswerTo}
+
+-- ---- What `map` is asked.
+
+-- the answer of a name is that of the same name
+pub same_name : (name other : List ℕ) (first count : ℕ) (found : Found) (answer : Answer) → name ≡ other → answer ≡ map_answer name first count found → answer ≡ map_answer other first count found
+same_name name other first count found answer same is = subst (λ (n : List ℕ). answer ≡ map_answer n first count found) same is
+
+-- a range that is not bad lies in the volume
+pub range_fits : (size first count : ℕ) → is_bad_range size first count ≡ false → first + count ≤ size
+range_fits size first count h = go (count == 0) (nat_lt 4096 count) (nat_lt size (first + count)) refl h
+  where
+    go : (a b c : Bool) → nat_lt size (first + count) ≡ c → (a || (b || c)) ≡ false → first + count ≤ size
+    go false false false e f = ltb-false size (first + count) e
+    go a b c e f = absurd cc
+
+-- ---- What is answered where the bytes of a volume are to be said, and where its copies or its rows are to be compared.
+
+-- where no volume has the name
+pub no_dump : (name : List ℕ) (images : List (List ℕ)) (found : Found) → volume_named name found.db.records ≡ None → refused (codes "no volume") ≡ dump_answer name images found
+no_dump name images found none = ap (λ (o : Option Volume). named_answer (λ v. laid_answer (volume_dump images found) (layout_of found.db.records v)) o) (sym none)
+
+-- of a volume with this layout
+of_named : (answer : Volume → Layout → Answer) (name : List ℕ) (found : Found) (v : Volume) (l : Layout) → volume_named name found.db.records ≡ Some v → layout_of found.db.records v ≡ Ok l
+    → answer v l ≡ named_answer (λ w. laid_answer (answer w) (layout_of found.db.records w)) (volume_named name found.db.records)
+of_named answer name found v l named laid =
+    ap (λ (r : Result Layout LayoutFault). laid_answer (answer v) r) (sym laid)
+    ∙ ap (λ (o : Option Volume). named_answer (λ w. laid_answer (answer w) (layout_of found.db.records w)) o) (sym named)
+
+-- by its least sector that is lost
+pub dump_of : (name : List ℕ) (images : List (List ℕ)) (found : Found) (v : Volume) (l : Layout) (r : Option ℕ) → volume_named name found.db.records ≡ Some v → layout_of found.db.records v ≡ Ok l
+    → IsLeastLost found l r → bytes_answer images found l r ≡ dump_answer name images found
+dump_of name images found v l r named laid least =
+    ap (λ (o : Option ℕ). bytes_answer images found l o) (sym (least_found found l r least)) ∙ of_named (λ w. volume_dump images found) name found v l named laid
+
+-- ---- scrub
+
+-- the status of a count is an answer's
+pub status_answers : (bad : ℕ) → HasAnswer (scrub_status bad)
+status_answers bad = go (bad == 0)
+  where
+    go : (b : Bool) → HasAnswer (if b then Done else Refused)
+    go true = tt
+    go false = tt
+
+pub no_scrub : (name : List ℕ) (images : List (List ℕ)) (found : Found) → volume_named name found.db.records ≡ None → refused (codes "no volume") ≡ scrub_answer name images found
+no_scrub name images found none = ap (λ (o : Option Volume). named_answer (λ v. laid_answer (volume_scrub name images found v) (layout_of found.db.records v)) o) (sym none)
+
+-- of one with nothing to compare
+pub scrub_of_other : (name : List ℕ) (images : List (List ℕ)) (found : Found) (v : Volume) (l : Layout) → volume_named name found.db.records ≡ Some v → layout_of found.db.records v ≡ Ok l
+    → is_compared l.shape ≡ false → refused (codes "nothing to compare") ≡ scrub_answer name images found
+scrub_of_other name images found v l named laid other =
+    ap (λ (b : Bool). if b then places_answer name images found l (missing_of found v.head.id) else refused (codes "nothing to compare")) (sym other) ∙ of_named (volume_scrub name images found) name found v l named laid
+
+-- of one with copies or rows, by its disk that is missing
+pub scrub_of_places : (name : List ℕ) (images : List (List ℕ)) (found : Found) (v : Volume) (l : Layout) (r : Option ℕ) → volume_named name found.db.records ≡ Some v → layout_of found.db.records v ≡ Ok l
+    → is_compared l.shape ≡ true → r ≡ missing_of found v.head.id → places_answer name images found l r ≡ scrub_answer name images found
+scrub_of_places name images found v l r named laid compared missing =
+    ap (λ (o : Option ℕ). places_answer name images found l o) missing
+    ∙ (ap (λ (b : Bool). if b then places_answer name images found l (missing_of found v.head.id) else refused (codes "nothing to compare")) (sym compared)
+    ∙ of_named (volume_scrub name images found) name found v l named laid)
+
+-- ---- There is one answer to the words.
+
+one_records : (label : Result Label LabelFault) (bytes : List ℕ) (a b : Answer) → IsRecordsAnswer label bytes a → IsRecordsAnswer label bytes b → a ≡ b
+one_records (Ok label) bytes a b x y = x.2 ∙ ap copy_answer (one_copy (config_area label bytes) label.area_sectors x.0 y.0 x.1 y.1) ∙ sym y.2
+one_records (Err fault) bytes a b x y = x ∙ sym y
+
+one_of_group : (answer_of : Found → Answer) (images : List (List ℕ)) (a b : Answer) → IsGroupAnswer answer_of images a → IsGroupAnswer answer_of images b → a ≡ b
+one_of_group answer_of images a b x y = x.2 ∙ ap (group_answer answer_of) (one_group images x.0 y.0 x.1 y.1) ∙ sym y.2
+
+one_of_script : (long : Bool) (script : List ℕ) (images : List (List ℕ)) (a b : Answer) → IsAnswerToScript long script images a → IsAnswerToScript long script images b → a ≡ b
+one_of_script true script images a b x y = x ∙ sym y
+one_of_script false script images a b x y = one_of_group (try_answer (commands_in script)) images a b x y
+
+one_by : (basis : Basis) (images : List (List ℕ)) (input : List ℕ) (a b : Answer) → IsAnswerBy basis images input a → IsAnswerBy basis images input b → a ≡ b
+one_by OfLabel images input a b x y = x ∙ sym y
+one_by OfCopy images input a b x y = one_records (label_of (image images 0)) (image images 0) a b x y
+one_by (OfGroup answer_of) images input a b x y = one_of_group (answer_of images) images a b x y
+one_by OfScript images input a b x y = one_of_script (is_long_script input) input images a b x y
+one_by (OfEmpty guids) images input a b x y = x.2 ∙ ap init_answer (one_fault guids (map sectors_of images) images x.0 y.0 x.1 y.1) ∙ sym y.2
+one_by (OfSeed seed) images input a b x y = one_sample seed a b x y
+
+one_reading : (reading : Option (Job × ℕ)) (images : List (List ℕ)) (input : List ℕ) (a b : Answer) → IsReadingAnswer reading images input a → IsReadingAnswer reading images input b → a ≡ b
+one_reading None images input a b x y = x ∙ sym y
+one_reading (Some reading) images input a b x y = one_by (basis_of reading.0) images input a b x y
+
+pub one_answer : (words images : List (List ℕ)) (input : List ℕ) (a b : Answer) → IsAnswerTo words images input a → IsAnswerTo words images input b → a ≡ b
+one_answer words images input a b x y = one_reading (job_of words) images input a b x y
