@@ -1,16 +1,11 @@
 -- What creates add to a group: the records of both stand in one order, and what is kept beside them is of both.
-use Rattle.std.proofs.Common.{◌≡◌, ℕ, ◌+◌, ◌-◌, ◌^◌, ◌<◌, ◌≤◌, ◌==◌, ◌||◌, ◌++◌, List, [], ◌∷◌, refl, sym, ap, subst, ◌∙◌, arith, Bool, true, false, cond, max, get_or, fold, inl, inr, bytes_eq, Option, Some, None, Result, Ok, Err, find, append_assoc, map}
+use Rattle.std.proofs.Common.{◌≡◌, ℕ, ◌+◌, ◌-◌, ◌^◌, ◌<◌, ◌≤◌, ◌==◌, ◌||◌, ◌++◌, List, [], ◌∷◌, refl, sym, ap, subst, ◌∙◌, arith, Bool, true, false, cond, max, get_or, fold, Option, Some, None, Result, Ok, Err, find, append_assoc, map}
 use Rattle.std.specs.Prelude.{is_some, option_and_then, if◌then◌else◌}
 use Rattle.std.specs.Result.{IsErrAnd}
 use Rattle.std.specs.List.{All, list_any}
 use Rattle.std.specs.List.Sorted.{IsPermutation}
-use Rattle.std.specs.Cmp.Lexicographic.{bytes_decides}
-use Rattle.std.specs.HashSet as bag
-use Rattle.std.specs.Set.{KeepsOthers}
-use Rattle.std.specs.declared.vec.Vec.{Vec}
 use Rattle.std.specs.Global.{Vec as RVec}
 use Rattle.std.proofs.lemmas.Bool.{and_parts, eq-eqb, eqb-true}
-use Rattle.std.proofs.lemmas.Cmp.{nat_list_eq_equiv}
 use Rattle.std.proofs.lemmas.List.{append-nil, map-append}
 use Rattle.std.proofs.lemmas.List.Elements.{All-head, All-tail, Contains-get_or}
 use Rattle.std.proofs.lemmas.List.Folds.{list_any-append}
@@ -37,7 +32,7 @@ use Rattle.ldm_group.proofs.InOrder.{in_order_same, in_order_rises, max_above, o
 use Rattle.ldm_group.proofs.KindLaws.{named_volume}
 use Rattle.ldm_group.proofs.KinLaws.{same_found}
 use Rattle.ldm_group.proofs.OrderLaws.{count_kept}
-use Rattle.ldm_group.proofs.Rise.{tested, counted_two, two_places}
+use Rattle.ldm_group.proofs.Rise.{counted_two, two_places}
 use Rattle.ldm_made.specs.declared.taken.Taken.{Taken}
 use Rattle.ldm_space.specs.Free.{taken_of, taken_in}
 use Rattle.ldm_space.specs.Placed.{AreMapsOf, PlacesAs}
@@ -63,26 +58,6 @@ use Rattle.ldm_edits.proofs.CommandLaws.{created_done, created_keeps, placed_new
 use Rattle.ldm_edits.proofs.Created.{MakesNew, blocks, created_rises}
 use Rattle.ldm_edits.proofs.LimitLaws.{IsGiven, ids_left, within_limits}
 use Rattle.ldm_edits.proofs.Shares.{Share, records_of, parts_of}
-
--- ---- names that are kept as bytes
-
-module _ {A S : Type 0} (old new : bag.HashSet (Vec ℕ A) S) (key : Vec ℕ A) where
-  apart : (bs cs ks : List ℕ) → bytes_eq bs cs ≡ false → bytes_eq bs ks ≡ true → bytes_eq cs ks ≡ false
-  apart bs cs ks fails holds = nat_list_eq_equiv.symm cs ks ∙ sym (nat_list_eq_equiv.congr bs ks cs holds) ∙ fails
-
-  others : KeepsOthers (λ (x y : Vec ℕ A). bytes_eq x.items y.items) (λ (y : Vec ℕ A). bytes_eq key.items y.items) old.keys new.keys
-      → (name : List ℕ) → bytes_eq key.items name ≡ false → list_any (λ (k : Vec ℕ A). bytes_eq name k.items) new.keys ≡ list_any (λ (k : Vec ℕ A). bytes_eq name k.items) old.keys
-  unfolding KeepsOthers
-  others keeps name fails = keeps (λ (k : Vec ℕ A). bytes_eq name k.items) (λ x y. nat_list_eq_equiv.congr name x.items y.items) (λ k. apart key.items name k.items fails)
-
-  -- one name more
-  pub name_more : bag.UpdatesBy (λ (x y : Vec ℕ A). bytes_eq x.items y.items) (λ (y : Vec ℕ A). bytes_eq key.items y.items) old new true
-      → (q : List ℕ) → bag.contains_by (λ (k : Vec ℕ A). bytes_eq q k.items) new ≡ (bytes_eq key.items q || bag.contains_by (λ (k : Vec ℕ A). bytes_eq q k.items) old)
-  name_more put q = elim (tested (bytes_eq key.items q)) [
-    | inl holds ↦ subst (λ (bs : List ℕ). bag.contains_by (λ (k : Vec ℕ A). bytes_eq bs k.items) new ≡ true) ((bytes_decides key.items q).0 holds) put.1
-        ∙ sym (ap (λ (b : Bool). b || bag.contains_by (λ (k : Vec ℕ A). bytes_eq q k.items) old) holds)
-    | inr fails ↦ others put.3 q fails ∙ sym (ap (λ (b : Bool). b || bag.contains_by (λ (k : Vec ℕ A). bytes_eq q k.items) old) fails)
-  ]
 
 -- ---- the greatest id
 
@@ -143,25 +118,6 @@ both_joined records added made up = one_next _ _ (both_same records added made) 
 
 -- ---- what is made for a volume
 
-none_named : (q : List ℕ) (parts : List Partition) → list_any (is_volume_named q) (records_of parts) ≡ false
-none_named q [] = refl
-none_named q (p ∷ parts) = none_named q parts
-
-blocks_unnamed : (q : List ℕ) (ss : List Share) → list_any (is_volume_named q) (blocks ss) ≡ false
-blocks_unnamed q [] = refl
-blocks_unnamed q (s ∷ ss) = list_any-append (is_volume_named q) (records_of s.parts) (blocks ss)
-    ∙ (λ i. none_named q s.parts i || blocks_unnamed q ss i)
-
-made_named : {id : ℕ} {name : List ℕ} {made : List Record} {ts : List Taken} (q : List ℕ) → MakesNew id name made ts → list_any (is_volume_named q) made ≡ bytes_eq name q
-made_named {id} {name} {made} {ts} q new =
-    ap (list_any (is_volume_named q)) new.made_are
-    ∙ (λ i. bytes_eq (new.named i) q || blocks_unnamed q new.ss i)
-    ∙ or_none (bytes_eq name q)
-  where
-    or_none : (b : Bool) → (b || false) ≡ b
-    or_none true = refl
-    or_none false = refl
-
 parts_take : (parts : List Partition) (rest : List Record) → taken_in (records_of parts ++ rest) ≡ map taken_of parts ++ taken_in rest
 parts_take [] rest = refl
 parts_take (p ∷ parts) rest = ap (λ (l : List Taken). taken_of p ∷ l) (parts_take parts rest)
@@ -177,7 +133,7 @@ made_takes new = ap taken_in new.made_are ∙ blocks_take new.ss ∙ new.are.tak
 -- ---- one volume more
 
 pub added_more : {records made : List Record} {old new : Additions} {name : List ℕ} {maps : FreeMaps} {ts : List Taken} {id : ℕ}
-    → AreAdditions records old → AddsVolume old new name made maps → MakesNew id name made ts → AreMapsOf maps (ts ++ taken_in (records ++ old.records.items))
+    → AreAdditions records old → AddsVolume old new made maps → MakesNew id name made ts → AreMapsOf maps (ts ++ taken_in (records ++ old.records.items))
     → Rising (in_order (in_order (records ++ old.records.items) ++ made)) → HasSameDisks (in_order (records ++ old.records.items)) (in_order (in_order (records ++ old.records.items) ++ made))
     → AreAdditions records new
 added_more {records} {made} {old} {new} {name} {maps} {ts} are adds volume there up disks =
@@ -187,9 +143,6 @@ added_more {records} {made} {old} {new} {name} {maps} {ts} are adds volume there
       rising = subst (λ (l : List Record). Rising (in_order (records ++ l))) (sym adds.records) (both_rise records added made up);
       disks = subst (λ (l : List Record). HasSameDisks records (in_order (records ++ l))) (sym adds.records)
           (subst (HasSameDisks records) (both_joined records added made up) (are.disks ∙ disks));
-      names = λ q. adds.names q ∙ (λ i. sym (made_named q volume) i || are.names q i)
-          ∙ or_turned (list_any (is_volume_named q) made) (list_any (is_volume_named q) added)
-          ∙ sym (list_any-append (is_volume_named q) added made) ∙ ap (list_any (is_volume_named q)) (sym adds.records);
       maps = subst (λ (m : FreeMaps). AreMapsOf m (taken_in (records ++ new.records.items))) (sym adds.maps_are)
           (subst (λ (l : List Record). AreMapsOf maps (taken_in (records ++ l))) (sym adds.records)
           (maps_same maps _ _ (λ disk s. taken_behind records added made ts (made_takes volume) disk 1 s) there));
@@ -200,18 +153,11 @@ added_more {records} {made} {old} {new} {name} {maps} {ts} are adds volume there
           ∙ sym (fold-append (λ m r. max m (id_of r)) 0 (records ++ added) made)
           ∙ ap max_id (sym whole ∙ ap (λ (l : List Record). records ++ l) (sym adds.records));
     }
-  where
-    or_turned : (a b : Bool) → (a || b) ≡ (b || a)
-    or_turned true true = refl
-    or_turned true false = refl
-    or_turned false true = refl
-    or_turned false false = refl
 
 pub added_none : {records : List Record} {old new : Additions} → AreAdditions records old → AddsNone old new → AreAdditions records new
 added_none {records} {old} {new} are adds = record {
   rising = subst (λ (l : List Record). Rising (in_order (records ++ l))) (sym adds.records) are.rising;
   disks = subst (λ (l : List Record). HasSameDisks records (in_order (records ++ l))) (sym adds.records) are.disks;
-  names = λ q. adds.names q ∙ are.names q ∙ ap (list_any (is_volume_named q)) (sym adds.records);
   maps = subst (λ (l : List Record). AreMapsOf new.maps (taken_in (records ++ l))) (sym adds.records) (adds.maps _ are.maps);
   need = adds.need ∙ are.need ∙ ap (λ (l : List Record). need_of (records ++ l)) (sym adds.records);
   max_id = adds.max_id ∙ are.max_id ∙ ap (λ (l : List Record). max_id (records ++ l)) (sym adds.records);
@@ -220,7 +166,7 @@ added_none {records} {old} {new} are adds = record {
 -- ---- what a create asks of the group that both make
 
 -- the names and the ends of disks are the same where the disks are
-asked_same : (labels : List Label) (a b : List Record) → HasSameDisks a b → (at : ℕ) (words : List (List ℕ × ℕ))
+pub asked_same : (labels : List Label) (a b : List Record) → HasSameDisks a b → (at : ℕ) (words : List (List ℕ × ℕ))
     → asked_for (data_size labels a) a at words ≡ asked_for (data_size labels b) b at words
 asked_same labels a b same at [] = refl
 asked_same labels a b same at (word ∷ words) = λ i. ask (sectors i) at word.1 (disk_in (named i)) (asked_same labels a b same (at + 1) words i)
@@ -283,7 +229,7 @@ module _ (guid : ℕ) (db : Database) (labels : List Label) (last : ℕ) (old ne
     (are : AreAdditions db.records old) (given : IsGiven group labels) (grammar : IsCreate name layout)
     (lie : ArePlaced group labels (words_of layout) (against_layout layout) wanted ts)
     (within : first_of (limits group labels (fresh_for layout) change) ≡ None)
-    (adds : AddsVolume old new name change.made maps) where
+    (adds : AddsVolume old new change.made maps) where
   records_are : group.records ≡ in_order (db.records ++ old.records.items)
   records_are = ap (λ (d : Database). d.records) group_is
 
@@ -358,12 +304,11 @@ refused_beside records added wanted piece are = go (placed (taken_in (records ++
 
 -- ---- none is added
 
-pub none_added : (records : List Record) (a : Additions) → Rising records → a.records.items ≡ [] → bag.IsEmpty a.names → AreMapsOf a.maps (taken_in records) → a.need ≡ need_of records → a.max_id ≡ max_id records
+pub none_added : (records : List Record) (a : Additions) → Rising records → a.records.items ≡ [] → AreMapsOf a.maps (taken_in records) → a.need ≡ need_of records → a.max_id ≡ max_id records
     → AreAdditions records a
-none_added records a up none empty maps need top = record {
+none_added records a up none maps need top = record {
   rising = subst Rising (sym same) up;
   disks = ap (λ (l : List Record). of_kind 2 l) (sym same);
-  names = λ q. ap (list_any (λ key. bytes_eq q key.items)) empty ∙ ap (list_any (is_volume_named q)) (sym none);
   maps = subst (λ (l : List Record). AreMapsOf a.maps (taken_in l)) (sym whole) maps;
   need = need ∙ ap need_of (sym whole);
   max_id = top ∙ ap max_id (sym whole);

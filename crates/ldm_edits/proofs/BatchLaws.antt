@@ -17,13 +17,11 @@ use Rattle.ldm_group.specs.Order.{Rising, in_order, place_of}
 use Rattle.ldm_group.proofs.InOrder.{one_next, in_order_rises}
 use Rattle.ldm_edits.specs.Drafts.{Drafted}
 use Rattle.ldm_edits.specs.Additions.{with_added}
-use Rattle.ldm_words.specs.declared.command.NewLayout.{NewLayout}
-use Rattle.ldm_words.specs.Limits.{IsCreate}
-use Rattle.ldm_edits.specs.Creating.{created}
+use Rattle.ldm_words.specs.Limits.{IsCommand}
 use Rattle.ldm_edits.specs.declared.batch.Answer.{Answer}
 use Rattle.ldm_edits.specs.declared.batch.Answer.TheVariants as answers
 use Rattle.ldm_edits.proofs.LimitLaws.{IsGiven}
-use Rattle.ldm_edits.proofs.CommandLaws.{created_done}
+use Rattle.ldm_edits.proofs.CommandLaws.{command_done}
 use Rattle.ldm_edits.specs.declared.batch.Turn.{Turn as Verdict}
 use Rattle.ldm_edits.specs.declared.batch.Turn.TheVariants as verdicts
 use Rattle.ldm_edits.specs.declared.reply.Refusal.{Refusal}
@@ -116,10 +114,11 @@ pub if_ok_as : {E : Type 0} (result : Result Verdict E) (a b : Verdict) → a �
 if_ok_as (Err e) a b same is = tt
 if_ok_as (Ok turn) a b same is = is ∙ same
 
-pub held_kept : (labels : List Label) (db : Database) (draft : Drafted) (outcome : Outcome) (step : Result Database Refusal) (seq : ℕ) (turn : Verdict) → IsDraftOf labels db draft
+pub held_kept : {E : Type 0} (labels : List Label) (db : Database) (draft : Drafted) (outcome : Outcome) (step : Result Database Refusal) (seq : ℕ) (turned : Result Verdict E) → IsDraftOf labels db draft
     → StepsAs outcome step → ((next : Database) → outcome ≡ outcomes.Next next → Keeps labels draft.db next) → ((next : Database) → outcome ≡ outcomes.Next next → next.header.seq < 2 ^ 64)
-    → seq ≡ db.header.seq → ((r : Result Database Refusal) → StepsAs outcome r → turn ≡ held_at seq r) → VerdictKeeps labels db turn
-held_kept labels db draft outcome step seq turn of is keeps low same held =
+    → seq ≡ db.header.seq → ((r : Result Database Refusal) → StepsAs outcome r → IfOk turned (λ turn. turn ≡ held_at seq r)) → IfOk turned (VerdictKeeps labels db)
+held_kept labels db draft outcome step seq (Err e) of is keeps low same held = tt
+held_kept labels db draft outcome step seq (Ok turn) of is keeps low same held =
     subst (VerdictKeeps labels db) (sym (held step is ∙ ap (λ (n : ℕ). held_at n step) same)) (kept_held labels db draft outcome step of is keeps low)
 
 pub begun_kept : {E : Type 0} (labels : List Label) (db : Database) (draft : Option Drafted) (result : Result Verdict E) → IsSoundOn db labels
@@ -145,26 +144,26 @@ change_verdict labels db draft Cancel b c d = absurd (d refl)
 
 -- ---- what calls answer where the batch is handed over
 
--- what is held of a create is what it comes to,
-pub create_verdict : (labels : List Label) (db : Database) (draft : Drafted) (name : List ℕ) (guid : ℕ) (layout : NewLayout)
+-- what is held of a change is what it comes to,
+pub held_verdict : (labels : List Label) (db : Database) (draft : Drafted) (command : Command) → (command ≡ Begin → ⊥) → (command ≡ Commit → ⊥) → (command ≡ Cancel → ⊥)
     → IsDraftOf labels db draft
-    → held_at draft.db.header.seq (created draft.db labels name guid layout) ≡ verdict_of labels db (Some draft) (Create name guid layout)
-unfolding verdict_of next_of
-create_verdict labels db draft name guid layout is =
-    ap (λ (n : ℕ). held_at n (created draft.db labels name guid layout)) (ap (λ (h : Header). h.seq) is.header)
+    → held_at draft.db.header.seq (next_of draft.db labels command) ≡ verdict_of labels db (Some draft) command
+held_verdict labels db draft command b c d is =
+    ap (λ (n : ℕ). held_at n (next_of draft.db labels command)) (ap (λ (h : Header). h.seq) is.header)
+    ∙ change_verdict labels db (Some draft) command b c d
 
 -- and a draft as before
-pub create_kept : (labels : List Label) (db : Database) (draft : Drafted) (name : List ℕ) (guid : ℕ) (layout : NewLayout)
+change_kept : (labels : List Label) (db : Database) (draft : Drafted) (command : Command)
     → IsDraftOf labels db draft → IsGiven draft.db labels
-    → IsCreate name layout → draft.db.header.seq < 2 ^ 64 - 1
-    → VerdictKeeps labels db (held_at draft.db.header.seq (created draft.db labels name guid layout))
-create_kept labels db draft name guid layout is given grammar low = go (created draft.db labels name guid layout) refl
+    → IsCommand command → draft.db.header.seq < 2 ^ 64 - 1
+    → VerdictKeeps labels db (held_at draft.db.header.seq (next_of draft.db labels command))
+change_kept labels db draft command is given grammar low = go (next_of draft.db labels command) refl
   where
-    go : (step : Result Database Refusal) → created draft.db labels name guid layout ≡ step
+    go : (step : Result Database Refusal) → next_of draft.db labels command ≡ step
         → VerdictKeeps labels db (held_at draft.db.header.seq step)
     go (Err refusal) made = tt
     go (Ok next) made =
-        let keeps : Keeps labels draft.db next = (created_done draft.db labels name guid layout next made).keeps given grammar in
+        let keeps : Keeps labels draft.db next = (command_done draft.db labels command next made).keeps given grammar in
         let up = keeps.seq in
         subst (λ (n : ℕ). IsDraftOf labels db (record { db = at_seq n next; filled = true }))
         (sym (ap (λ (h : Header). h.seq) is.header)) (further labels db draft next is keeps (omega arith))
@@ -198,18 +197,18 @@ then_next labels db verdict old answers.Held new keeps is next same = absurd cc
 then_next labels db verdict old answers.Dropped new keeps is next same = absurd cc
 then_next labels db verdict old (answers.Refused refusal) new keeps is next same = absurd cc
 
--- a create
-pub create_drafted : {E : Type 0} (labels : List Label) (db : Database) (draft : Drafted) (name : List ℕ) (guid : ℕ) (layout : NewLayout) (result : Result Answer E) (new : Option Drafted)
-    → IsDraftOf labels db draft → IsGiven draft.db labels → IsCreate name layout
-    → IfOk result (λ answer. AnswersTo (held_at draft.db.header.seq (created draft.db labels name guid layout)) (Some draft) answer new)
+-- a change
+pub change_drafted : {E : Type 0} (labels : List Label) (db : Database) (draft : Drafted) (command : Command) (result : Result Answer E) (new : Option Drafted)
+    → IsDraftOf labels db draft → IsGiven draft.db labels → IsCommand command
+    → IfOk result (λ answer. AnswersTo (held_at draft.db.header.seq (next_of draft.db labels command)) (Some draft) answer new)
     → IfErr result (λ _. new ≡ Some draft) → IfOk result (λ answer. answer ≡ answers.Held → draft.db.header.seq < 2 ^ 64 - 1)
     → ForSome new (IsDraftOf labels db)
-create_drafted labels db draft name guid layout (Err e) new of given grammar is unchanged unspent =
+change_drafted labels db draft command (Err e) new of given grammar is unchanged unspent =
     subst (AreDrafts labels db) (sym unchanged) (some_draft labels db draft of)
-create_drafted labels db draft name guid layout (Ok answer) new of given grammar is unchanged unspent =
-    then_draft labels db (held_at draft.db.header.seq (created draft.db labels name guid layout)) (Some draft) answer new
+change_drafted labels db draft command (Ok answer) new of given grammar is unchanged unspent =
+    then_draft labels db (held_at draft.db.header.seq (next_of draft.db labels command)) (Some draft) answer new
     (some_draft labels db draft of)
-    (λ held. create_kept labels db draft name guid layout of given grammar (unspent held)) is
+    (λ held. change_kept labels db draft command of given grammar (unspent held)) is
 
 module _ {E : Type 0} (labels : List Label) (db : Database) (old : Option Drafted) (new : Option Drafted) where
   -- what is answered of each verdict that it may be

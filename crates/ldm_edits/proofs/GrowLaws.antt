@@ -64,7 +64,7 @@ few_records (r ∷ records) =
 
 -- ---- the components
 
-component_is : (records : List Record) (v : Volume) (c : Component) → Contains (components_of v records) c → Contains records (kinds.Component c) × (c.parent ≡ v.head.id)
+pub component_is : (records : List Record) (v : Volume) (c : Component) → Contains (components_of v records) c → Contains records (kinds.Component c) × (c.parent ≡ v.head.id)
 component_is records v c at =
     let listed = subst (λ (l : List Record). Contains l (kinds.Component c)) (sym (named_components v.head.id records)) (map_there (λ (x : Component). kinds.Component x) (components_of v records) c at) in
     let has = filter_has (is_child 3 v.head.id) records (kinds.Component c) listed in

@@ -607,6 +607,10 @@ module _ {db : Database} {labels : List Label} {v : Volume} {c : Component} {wan
         };
       }
 
+  -- the new partitions take just these sectors
+  pub spots_are : map taken_of (parts_of (share ∷ [])) ≡ spots
+  spots_are = ap (map taken_of) (append-nil parts) ∙ taken_are
+
   pub asks_longer : {n : ℕ} → n ≡ held (layout_of db.records v) → MakesLonger db v c n spots
   asks_longer held_is = subst (λ (n : ℕ). MakesLonger db v c n spots) (sym held_is) makes_longer
 

@@ -1,12 +1,10 @@
 -- The records that the creates of a batch add to a group, and what is kept beside them.
-use Rattle.std.specs.Prelude.{◌≡◌, ℕ, ◌+◌, ◌||◌, fold, max, ◌-◌, ◌^◌, ◌<◌, ◌++◌, true, List, Result, Ok, Err, bytes_eq}
+use Rattle.std.specs.Prelude.{◌≡◌, ℕ, ◌+◌, fold, max, ◌-◌, ◌^◌, ◌<◌, ◌++◌, true, List, Result, Ok, Err}
 use Rattle.std.specs.Global.{Vec}
-use Rattle.std.specs.List.{list_any}
-use Rattle.indexmap.specs.IndexSet.{contains_by}
 use Rattle.ldm_records.specs.declared.types.Record.{Record}
 use Rattle.ldm_vmdb.specs.Headers.{grown_to}
 use Rattle.ldm_group.specs.Database.{Database, at_seq}
-use Rattle.ldm_group.specs.Looks.{is_volume_named, max_id, HasSameDisks}
+use Rattle.ldm_group.specs.Looks.{max_id, HasSameDisks}
 use Rattle.ldm_group.specs.Order.{Rising, id_of, in_order}
 use Rattle.ldm_group.specs.Room.{need_of}
 use Rattle.ldm_space.specs.Free.{taken_in}
@@ -27,19 +25,17 @@ with_added db last added = record {
 }
 
 -- The records that are added to these are volumes, components and partitions that aren't there, and what is kept beside them is of both:
--- the names of the volumes that are added, the free sectors of some disks, the blocks that all records take, and the greatest id.
+-- the free sectors of some disks, the blocks that all records take, and the greatest id.
 pub record AreAdditions (records : List Record) (a : Additions) : Type 0 where
   pub rising : Rising (in_order (records ++ a.records.items))
   pub disks : HasSameDisks records (in_order (records ++ a.records.items))
-  pub names : (name : List ℕ) → contains_by (λ key. bytes_eq name key.items) a.names ≡ list_any (is_volume_named name) a.records.items
   pub maps : AreMapsOf a.maps (taken_in (records ++ a.records.items))
   pub need : a.need ≡ need_of (records ++ a.records.items)
   pub max_id : a.max_id ≡ max_id (records ++ a.records.items)
 
--- One more volume of this name is added: these records, with the maps beside them.
-pub record AddsVolume (old new : Additions) (name : List ℕ) (made : List Record) (maps : FreeMaps) : Type 0 where
+-- These records of one more volume are added, with the maps beside them.
+pub record AddsVolume (old new : Additions) (made : List Record) (maps : FreeMaps) : Type 0 where
   pub records : new.records.items ≡ old.records.items ++ made
-  pub names : (q : List ℕ) → contains_by (λ key. bytes_eq q key.items) new.names ≡ (bytes_eq name q || contains_by (λ key. bytes_eq q key.items) old.names)
   pub maps_are : new.maps ≡ maps
   pub need : new.need ≡ old.need + need_of made
   pub max_id : new.max_id ≡ fold (λ top r. max top (id_of r)) old.max_id made
@@ -47,7 +43,6 @@ pub record AddsVolume (old new : Additions) (name : List ℕ) (made : List Recor
 -- nothing is
 pub record AddsNone (old new : Additions) : Type 0 where
   pub records : new.records.items ≡ old.records.items
-  pub names : (q : List ℕ) → contains_by (λ key. bytes_eq q key.items) new.names ≡ contains_by (λ key. bytes_eq q key.items) old.names
   pub maps : (taken : List Taken) → AreMapsOf old.maps taken → AreMapsOf new.maps taken
   pub need : new.need ≡ old.need
   pub max_id : new.max_id ≡ old.max_id

@@ -8,6 +8,7 @@ pub mod Staying
 pub mod Answers
 pub mod Drafts
 pub mod Additions
+pub mod Replacing
 pub mod Steps
 pub mod Counting
 pub mod Mirroring

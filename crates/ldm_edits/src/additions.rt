@@ -1,8 +1,9 @@
-//! The records that the creates of a batch add to a group, with what the next of them asks.
+//! Records that are added to a group, with what the next command asks of both.
 ghost use Rattle.std.specs.Prelude.{◌≡◌, ◌++◌, ◌^◌, ◌-◌, ◌<◌, [], List, All, OnOk, OnErr, None};
-ghost use Rattle.std.specs.Prelude.{IfOk, fold, is_some, max};
+ghost use Rattle.std.specs.Prelude.{IfOk, filter, fold, is_some, max};
 ghost use Rattle.ldm_group.specs.Database.{at_seq};
-ghost use Rattle.ldm_group.specs.Looks.{volume_named};
+ghost use Rattle.std.specs.List.{list_any};
+ghost use Rattle.ldm_group.specs.Looks.{is_volume_named, volume_named};
 ghost use Rattle.ldm_group.specs.Order.{id_of, in_order};
 ghost use Rattle.ldm_group.specs.Partitions.{EndsInRange};
 ghost use Rattle.ldm_group.specs.Room.{IsFitting};
@@ -18,6 +19,7 @@ ghost use Rattle.ldm_edits.specs.Creating.{words_of, fresh_for, change_for, agai
 ghost use Rattle.ldm_edits.specs.Creating.{created};
 ghost use Rattle.ldm_edits.specs.Additions.{with_added, AreAdditions, AddsVolume, AddsNone, AddsTo};
 ghost use Rattle.ldm_edits.specs.Additions.{PlacesBeside};
+ghost use Rattle.ldm_edits.specs.Replacing.{AreFront, stands_in};
 ghost use Rattle.ldm_edits.specs.Spots.{by_place, CanBePlaced, ArePlaced};
 
 use crate::creating::{fresh_for, made_for, open_wanted};
@@ -25,7 +27,6 @@ use crate::error::StepError;
 use crate::limits::{later_limit, need_made};
 use crate::reply::Refusal;
 use crate::stepping::types_hold;
-use indexmap::IndexSet;
 use ldm_bytes::NoMemory;
 use ldm_group::{Db, DbError, id_of, last_for};
 use ldm_label::Labels;
@@ -36,14 +37,12 @@ use ldm_words::NewLayout;
 use std::alloc::Global;
 use std::mem;
 
-/// Records that are added to a group, and what is kept so that one more create needs no walk over
-/// all records.
+/// Records that are added to a group, and what is kept so that one more command copies none of all
+/// records.
 #[derive(Drop)]
 pub struct Additions {
-    /// The records, in the order in which they were made.
+    /// The records, in no order.
     pub records: Vec<Record>,
-    /// The names of the volumes among them.
-    pub names: IndexSet<Vec<u8>>,
     /// The free sectors of the disks on which partitions were placed.
     pub maps: FreeMaps,
     /// How many blocks the group's records and these take.
@@ -52,8 +51,12 @@ pub struct Additions {
     pub max_id: u64,
 }
 
-// Copies of records, behind others.
-fn push_copies(alloc: Global, records: &mut Vec<Record>, more: &[Record]) -> Result<(), NoMemory>
+/// Copies of records, behind others.
+pub fn push_copies(
+    alloc: Global,
+    records: &mut Vec<Record>,
+    more: &[Record],
+) -> Result<(), NoMemory>
     ensures { OnOk result (records.new.items ≡ records.old.items ++ more.now) }
 {
     for r in more {
@@ -72,8 +75,49 @@ fn copies_of(alloc: Global, records: &[Record], more: &[Record]) -> Result<Vec<R
     Ok(copies)
 }
 
-// The greatest of an id and those of these records.
-fn max_id_with(id: u64, records: &[Record]) -> u64
+// Whether the record is the group's or a disk's, or whether it isn't.
+fn stands_in(front: bool, r: &Record) -> bool
+    ensures { result ≡ stands_in front r.now }
+{
+    match r {
+        Record::Group(_) | Record::Disk(_) => front,
+        _ => !front,
+    }
+}
+
+// Copies of the records that are the group's or a disk's, or of those that aren't.
+fn copies_where(alloc: Global, records: &[Record], front: bool) -> Result<Vec<Record>, NoMemory>
+    ensures { IfOk result (λ copies. copies.items
+        ≡ filter (stands_in front) records.now) }
+{
+    let mut copies = Vec::new(alloc);
+    for r in records {
+        if stands_in(front, r) {
+            copies.push(r.clone_in(alloc)?)?;
+        }
+    }
+    Ok(copies)
+}
+
+/// Whether the record is a volume of this name.
+pub fn is_named(r: &Record, name: &[u8]) -> bool
+    ensures { result ≡ is_volume_named name.now r.now }
+{
+    match r {
+        Record::Volume(v) => v.head.name.as_slice() == name,
+        _ => false,
+    }
+}
+
+// Whether one of the records is.
+fn has_named(records: &[Record], name: &[u8]) -> bool
+    ensures { result ≡ list_any (is_volume_named name.now) records.now }
+{
+    records.iter().any(|r| is_named(r, name))
+}
+
+/// The greatest of an id and those of these records.
+pub fn max_id_with(id: u64, records: &[Record]) -> u64
     ensures { result ≡ fold (λ top r. max top (id_of r)) id records.now }
 {
     records.iter().fold(id, |top, r| id_of(r).max(top))
@@ -89,10 +133,36 @@ impl Additions {
         let _rising = db.as_slice();
         Additions {
             records: Vec::new(alloc),
-            names: IndexSet::new(alloc),
             maps: FreeMaps::new(alloc),
             need: db.need(),
             max_id: db.max_id(),
+        }
+    }
+
+    /// The group with its own record and those of its disks alone, and all other records, as if
+    /// they were added.
+    pub fn apart(alloc: Global, db: &Db) -> Result<(Db, Additions), NoMemory>
+        requires { All IsFitting db.now.records }
+        ensures are { IfOk result (λ parts. AreAdditions parts.0.records parts.1) }
+        ensures front { IfOk result (λ parts. AreFront parts.0.records) }
+        ensures is { IfOk result (λ parts. with_added parts.0 db.now.header.last
+            parts.1.records.items ≡ db.now) }
+    {
+        let header = db.header().with_seq(alloc, db.header().seq)?;
+        let front = copies_where(alloc, db.as_slice(), true)?;
+        let records = copies_where(alloc, db.as_slice(), false)?;
+        match Db::new(alloc, header, front) {
+            Ok(front) => Ok((
+                front,
+                Additions {
+                    records,
+                    maps: FreeMaps::new(alloc),
+                    need: db.need(),
+                    max_id: db.max_id(),
+                },
+            )),
+            Err(DbError::NoMemory) => Err(NoMemory),
+            Err(DbError::SameId { .. }) => unreachable!(),
         }
     }
 
@@ -102,11 +172,11 @@ impl Additions {
         ensures { result ≡ is_some (volume_named name.now
             (in_order (db.now.records ++ self.now.records.items))) }
     {
-        db.volume_named(name).is_some() || self.names.contains(name)
+        db.volume_named(name).is_some() || has_named(self.records.as_slice(), name)
     }
 
-    // What the partitions that are asked for take beside those of both, and the maps with that.
-    fn place(
+    /// What the partitions that are asked for take beside those of both, and the maps with that.
+    pub fn place(
         &mut self,
         alloc: Global,
         db: &Db,
@@ -128,21 +198,14 @@ impl Additions {
     }
 
     // Adds what was made for a volume. All memory is taken before the first change.
-    fn add(
-        &mut self,
-        alloc: Global,
-        name: &[u8],
-        made: Vec<Record>,
-        maps: FreeMaps,
-    ) -> Result<(), NoMemory>
+    fn add(&mut self, made: Vec<Record>, maps: FreeMaps) -> Result<(), NoMemory>
         requires need { self.old.need < 2 ^ 63 }
         requires made { All IsFitting made.items }
-        ensures ok { OnOk result (AddsVolume self.old self.new name.now made.items maps) }
+        ensures ok { OnOk result (AddsVolume self.old self.new made.items maps) }
         ensures none { OnErr result (AddsNone self.old self.new) }
     {
         let mut made = made;
         self.records.reserve(made.len())?;
-        self.names.insert(Vec::from_slice(alloc, name)?)?;
         self.need += need_made(made.as_slice());
         self.max_id = max_id_with(self.max_id, made.as_slice());
         self.maps = maps;
@@ -193,7 +256,7 @@ impl Additions {
         if let Some(refusal) = later_limit(labels, seq, self.need, made.as_slice()) {
             return Err(StepError::Refused(refusal));
         }
-        self.add(alloc, name, made, maps)?;
+        self.add(made, maps)?;
         Ok(last_for(last, self.need))
     }
 

@@ -1,14 +1,11 @@
 //! A batch that is open, and what a line comes to.
-ghost use Rattle.std.specs.Prelude.{◌≡◌, ◌++◌, IfOk, OnOk};
-
 use crate::additions::Additions;
 use crate::error::StepError;
 use crate::reply::Refusal;
 use ldm_bytes::NoMemory;
 use ldm_group::Db;
 use ldm_label::Labels;
-use ldm_records::Record;
-use ldm_words::NewLayout;
+use ldm_words::Command;
 use std::alloc::Global;
 use std::marker::Model;
 
@@ -16,9 +13,9 @@ use std::marker::Model;
 /// that of the group before, and whether it has held a command.
 #[derive(Drop)]
 pub struct Draft {
-    // The group without what its last creates have added.
+    // The group with its own record and those of its disks alone.
     db: Db,
-    // What they have added.
+    // All other records.
     added: Additions,
     // The last VBLK sequence of both.
     last: u32,
@@ -28,6 +25,7 @@ pub struct Draft {
 impl Model for Draft {
     ghost use Rattle.ldm_edits.specs.Drafts.{Drafted};
     ghost use Rattle.ldm_edits.specs.Additions.{AreAdditions, with_added};
+    ghost use Rattle.ldm_edits.specs.Replacing.{AreFront};
 
     ghost Value = { Drafted };
 
@@ -36,33 +34,32 @@ impl Model for Draft {
       filled = d.filled;
     } };
 
-    ghost invariant = { λ d. AreAdditions d.db.records d.added };
+    ghost invariant = { λ d. AreAdditions d.db.records d.added × AreFront d.db.records };
 }
 
 impl Draft {
-    ghost use Rattle.std.specs.Prelude.{◌≡◌, ◌^◌, ◌-◌, ◌<◌, All, IfOk, IfSome};
+    ghost use Rattle.std.specs.Prelude.{◌≡◌, ◌^◌, ◌-◌, ◌<◌, All, IfOk};
     ghost use Rattle.ldm_group.specs.Order.{Rising};
     ghost use Rattle.ldm_group.specs.Room.{IsFitting};
     ghost use Rattle.ldm_rules.specs.Facts.{IsSoundOn};
-    ghost use Rattle.ldm_words.specs.Limits.{IsCreate};
+    ghost use Rattle.ldm_words.specs.Limits.{IsChange, IsCommand};
     ghost use Rattle.ldm_edits.specs.Changes.{AreasFit};
-    ghost use Rattle.ldm_edits.specs.Creating.{created};
     ghost use Rattle.ldm_edits.specs.Additions.{HoldsAs};
+    ghost use Rattle.ldm_edits.specs.Steps.{next_of};
 
-    /// A batch with this group. It takes no memory.
-    pub(crate) fn of(alloc: Global, db: Db, filled: bool) -> Draft
-        requires { All IsFitting db.records }
-        ensures { result ≡ record { db = db; filled = filled } }
+    /// A batch with a copy of this group.
+    pub(crate) fn of(alloc: Global, db: &Db, filled: bool) -> Result<Draft, NoMemory>
+        requires { All IsFitting db.now.records }
+        ensures { IfOk result (λ draft. draft ≡ record { db = db.now; filled = filled }) }
     {
-        let added = Additions::none(alloc, &db);
         let last = db.header().last;
-        let _rising = db.as_slice();
-        Draft {
+        let (db, added) = Additions::apart(alloc, db)?;
+        Ok(Draft {
             db,
             added,
             last,
             filled,
-        }
+        })
     }
 
     /// A law of the types: the records rise, and the last VBLK sequence is a number of the format.
@@ -80,18 +77,6 @@ impl Draft {
         self.filled
     }
 
-    /// The group with what it holds, where that stands as one database.
-    pub(crate) fn whole(&self) -> Option<&Db>
-        ensures { IfSome result (λ db. db.now ≡ self.now.db) }
-    {
-        if self.added.records.is_empty() && self.last == self.db.header().last {
-            let _rising = self.db.as_slice();
-            Some(&self.db)
-        } else {
-            None
-        }
-    }
-
     /// A copy of the group with what it holds, but for its sequence, which is that of the group
     /// before.
     pub fn db(&self, alloc: Global) -> Result<Db, NoMemory>
@@ -101,20 +86,18 @@ impl Draft {
         self.added.joined(alloc, &self.db, self.last, seq)
     }
 
-    /// Holds a create, without a walk over the records of the group where its disks were met
-    /// before.
-    pub(crate) fn create(
+    /// Holds a create, an extend or a delete, which copies no records but those of its volume.
+    pub(crate) fn change(
         self,
         alloc: Global,
         labels: &Labels,
-        name: &[u8],
-        guid: u128,
-        layout: &NewLayout,
+        command: &Command,
     ) -> (Draft, Result<(), StepError>)
         requires sound { IsSoundOn self.db labels.now }
         requires areas { AreasFit labels.now }
-        requires limits { IsCreate name.now layout.now }
-        ensures { HoldsAs self result (created self.db labels.now name.now guid layout.now) }
+        requires limits { IsCommand command.now }
+        requires change { IsChange command.now }
+        ensures { HoldsAs self result (next_of self.db labels.now command.now) }
     {
         let Draft {
             db,
@@ -122,7 +105,7 @@ impl Draft {
             last,
             filled,
         } = self;
-        match added.create(alloc, &db, last, labels, name, guid, layout) {
+        match added.change(alloc, &db, last, labels, command) {
             Ok(last) => (
                 Draft {
                     db,

@@ -1,18 +1,16 @@
 //! What a line comes to, where a batch may be open.
-ghost use Rattle.std.specs.Prelude.{◌≡◌, ◌+◌, ◌-◌, ◌^◌, ◌<◌, true, ℕ, All, Result, Some};
+ghost use Rattle.std.specs.Prelude.{◌≡◌, ◌+◌, ◌-◌, ◌^◌, ◌<◌, true, All, Result, Some};
 ghost use Rattle.std.specs.Prelude.{IfOk, IfErr, option_copied};
 ghost use Rattle.std.specs.Option.{ForSome};
 ghost use Rattle.ldm_group.specs.Database.{Database};
 ghost use Rattle.ldm_group.specs.Room.{IsFitting};
-ghost use Rattle.ldm_label.specs.declared.Label.{Label as DiskLabel};
 ghost use Rattle.ldm_rules.specs.Facts.{IsSoundOn};
-ghost use Rattle.ldm_words.specs.Limits.{IsCommand, IsChange, IsCreate};
+ghost use Rattle.ldm_words.specs.Limits.{IsCommand, IsChange};
 ghost use Rattle.ldm_edits.specs.declared.batch.Answer.TheVariants as answers;
 ghost use Rattle.ldm_edits.specs.declared.batch.Turn.{Turn as Verdict};
 ghost use Rattle.ldm_edits.specs.declared.reply.Refusal.{Refusal as Reason};
 ghost use Rattle.ldm_edits.specs.declared.stepping.Outcome.TheVariants.{Next};
 ghost use Rattle.ldm_edits.specs.Changes.{AreasFit};
-ghost use Rattle.ldm_edits.specs.Creating.{created};
 ghost use Rattle.ldm_edits.specs.Steps.{next_of, StepsAs, Keeps, IsDraftOf};
 ghost use Rattle.ldm_edits.specs.Steps.{held_at, change_in, begun, committed, cancelled};
 ghost use Rattle.ldm_edits.specs.Steps.{verdict_of};
@@ -25,7 +23,7 @@ use crate::stepping::{Outcome, step, types_hold};
 use ldm_bytes::NoMemory;
 use ldm_group::Db;
 use ldm_label::Labels;
-use ldm_words::{Command, NewLayout};
+use ldm_words::Command;
 use std::alloc::Global;
 
 // The sequence of a group, which is a number of the format.
@@ -43,7 +41,7 @@ fn begin(alloc: Global, db: &Db, draft: Option<&Draft>) -> Result<Turn, NoMemory
 {
     match draft {
         Some(_) => Ok(Turn::Refused(Refusal::BatchOpen)),
-        None => Ok(Turn::Hold(Draft::of(alloc, db.clone_in(alloc)?, false))),
+        None => Ok(Turn::Hold(Draft::of(alloc, db, false)?)),
     }
 }
 
@@ -82,18 +80,18 @@ fn at_once(outcome: Outcome) -> Turn
 }
 
 // And one in a batch, where the group has this sequence.
-fn hold(alloc: Global, seq: u64, outcome: Outcome) -> Turn
+fn hold(alloc: Global, seq: u64, outcome: Outcome) -> Result<Turn, NoMemory>
     requires { (next : Database) → outcome ≡ Next next → All IsFitting next.records }
     ensures is { (step : Result Database Reason) → StepsAs outcome step
-        → result ≡ held_at seq step }
+        → IfOk result (λ turn. turn ≡ held_at seq step) }
     ensures low { (next : Database) → outcome ≡ Next next → next.header.seq < 2 ^ 64 }
 {
     match outcome {
         Outcome::Next(next) => {
             let _seq = seq_of(&next);
-            Turn::Hold(Draft::of(alloc, next.with_seq(seq), true))
+            Ok(Turn::Hold(Draft::of(alloc, &next.with_seq(seq), true)?))
         }
-        Outcome::Refused(refusal) => Turn::Refused(refusal),
+        Outcome::Refused(refusal) => Ok(Turn::Refused(refusal)),
     }
 }
 
@@ -113,9 +111,6 @@ fn step_from(
     ensures keeps { IfOk result (λ outcome. (next : Database) → outcome ≡ Next next
         → Keeps labels.now draft.now.db next) }
 {
-    if let Some(db) = draft.whole() {
-        return step(alloc, db, labels, command);
-    }
     let db = draft.db(alloc)?;
     step(alloc, &db, labels, command)
 }
@@ -141,7 +136,7 @@ fn change(
         None => Ok(at_once(step(alloc, db, labels, command)?)),
         Some(draft) => {
             let outcome = step_from(alloc, draft, labels, command)?;
-            Ok(hold(alloc, seq_of(db), outcome))
+            hold(alloc, seq_of(db), outcome)
         }
     }
 }
@@ -189,25 +184,24 @@ fn answered(
     }
 }
 
-// A create where a batch is open.
-fn hold_create(
+// A create, an extend or a delete where a batch is open.
+fn hold_change(
     alloc: Global,
     draft: Draft,
     labels: &Labels,
-    name: &[u8],
-    guid: u128,
-    layout: &NewLayout,
+    command: &Command,
 ) -> (Option<Draft>, Result<Answer, NoMemory>)
     requires sound { IsSoundOn draft.db labels.now }
     requires areas { AreasFit labels.now }
-    requires limits { IsCreate name.now layout.now }
+    requires limits { IsCommand command.now }
+    requires change { IsChange command.now }
     ensures is { IfOk result.1 (λ answer. AnswersTo (held_at draft.db.header.seq
-        (created draft.db labels.now name.now guid layout.now)) (Some draft) answer result.0) }
+        (next_of draft.db labels.now command.now)) (Some draft) answer result.0) }
     ensures unchanged { IfErr result.1 (λ _. result.0 ≡ Some draft) }
     ensures unspent { IfOk result.1 (λ answer. answer ≡ answers.Held
         → draft.db.header.seq < 2 ^ 64 - 1) }
 {
-    let (draft, held) = draft.create(alloc, labels, name, guid, layout);
+    let (draft, held) = draft.change(alloc, labels, command);
     match held {
         Ok(()) => (Some(draft), Ok(Answer::Held)),
         Err(StepError::Refused(refusal)) => (Some(draft), Ok(Answer::Refused(refusal))),
@@ -215,8 +209,8 @@ fn hold_create(
     }
 }
 
-/// What `turn` says of a line, where the batch is handed over and comes back. A create in a batch
-/// takes no copy of the group.
+/// What `turn` says of a line, where the batch is handed over and comes back. A create, an extend
+/// or a delete in a batch copies no records but those of its volume.
 pub fn take_turn(
     alloc: Global,
     db: &Db,
@@ -240,14 +234,14 @@ pub fn take_turn(
         return answered(None, turn(alloc, db, None, labels, command));
     };
     match command {
-        Command::Create { name, guid, layout } => {
-            types_hold(db, labels);
-            draft.types_hold();
-            hold_create(alloc, draft, labels, name.as_slice(), *guid, layout)
-        }
-        _ => {
+        Command::Begin | Command::Commit | Command::Cancel => {
             let turned = turn(alloc, db, Some(&draft), labels, command);
             answered(Some(draft), turned)
+        }
+        _ => {
+            types_hold(db, labels);
+            draft.types_hold();
+            hold_change(alloc, draft, labels, command)
         }
     }
 }

@@ -1,5 +1,5 @@
 //! `create`: a new volume, or the first refusal.
-ghost use Rattle.std.specs.Prelude.{◌≡◌, ◌+◌, ◌^◌, ◌<◌, ◌≤◌, All, List, false, length, map, IfOk};
+ghost use Rattle.std.specs.Prelude.{◌≡◌, ◌+◌, ◌^◌, ◌<◌, ◌≤◌, All, false, length, map, IfOk};
 ghost use Rattle.ldm_rules.specs.Facts.{IsSoundOn};
 ghost use Rattle.ldm_words.specs.Limits.{IsNewLayout, IsCreate};
 ghost use Rattle.ldm_space.specs.declared.placed.Wanted.{Wanted};

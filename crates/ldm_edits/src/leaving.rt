@@ -33,9 +33,9 @@ fn is_component_of(db: &Db, component: u64, volume: u64) -> bool
 
 // Whether the record is the volume of this id, one of its components, or one of their partitions.
 fn goes(db: &Db, volume: u64, r: &Record) -> bool
-    requires { Rising db.now.records }
     ensures { result ≡ goes volume db.now.records r.now }
 {
+    let _rising = db.as_slice();
     match r {
         Record::Volume(v) => v.head.id == volume,
         Record::Component(c) => c.parent == volume,
@@ -63,7 +63,6 @@ fn is_in(r: &Record, volume: u64) -> bool
 impl Leaving {
     /// Whether a record of the group leaves it.
     pub fn takes(self, db: &Db, r: &Record) -> bool
-        requires { Rising db.now.records }
         ensures { result ≡ leaves self db.now.records r.now }
     {
         match self {

@@ -18,21 +18,20 @@ use ldm_label::Labels;
 use ldm_records::Record;
 
 // Whether so many new records find ids behind the greatest.
-fn has_ids(db: &Db, fresh: u64) -> bool
-    ensures { result ≡ nat_le (max_id db.now.records + fresh) (2 ^ 64 - 1) }
+fn has_ids(max_id: u64, fresh: u64) -> bool
+    ensures { result ≡ nat_le (max_id + fresh) (2 ^ 64 - 1) }
 {
-    fresh <= u64::MAX - db.max_id()
+    fresh <= u64::MAX - max_id
 }
 
-/// The first id of so many new records; none where there are fewer left.
-pub fn first_new_id(db: &Db, fresh: u64) -> Option<u64>
+/// The first id of so many new records behind the greatest; none where there are fewer left.
+pub fn first_new_id(max_id: u64, fresh: u64) -> Option<u64>
     requires { 1 ≤ fresh }
-    ensures { MatchOption result (2 ^ 64 - 1 < max_id db.now.records + fresh)
-        (λ id. (id ≡ max_id db.now.records + 1)
-        × (max_id db.now.records + fresh ≤ 2 ^ 64 - 1)) }
+    ensures { MatchOption result (2 ^ 64 - 1 < max_id + fresh)
+        (λ id. (id ≡ max_id + 1) × (max_id + fresh ≤ 2 ^ 64 - 1)) }
 {
-    if has_ids(db, fresh) {
-        Some(db.max_id() + 1)
+    if has_ids(max_id, fresh) {
+        Some(max_id + 1)
     } else {
         None
     }
@@ -135,7 +134,7 @@ pub fn first_limit(
     ensures { result ≡ first_of (limits db.now labels.now fresh
         (change_of leaving db.now.records made.now)) }
 {
-    if has_ids(db, fresh) {
+    if has_ids(db.max_id(), fresh) {
         later_limit(labels, db.header().seq, need_staying(db, leaving), made)
     } else {
         Some(Refusal::IdsSpent)

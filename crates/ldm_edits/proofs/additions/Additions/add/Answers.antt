@@ -1,16 +1,12 @@
-use Rattle.std.proofs.Common.{◌∙◌, ◌++◌, ◌+◌, ◌||◌, ap, max, fold, bytes_eq, ℕ, List}
-use Rattle.std.specs.HashSet.{contains_by}
+use Rattle.std.proofs.Common.{◌∙◌, ◌++◌, ◌+◌, ap, max, fold, ℕ, List}
 use Rattle.ldm_records.specs.declared.types.Record.{Record}
 use Rattle.ldm_group.specs.Order.{id_of}
 use Rattle.ldm_group.specs.Room.{need_of}
-use Rattle.ldm_edits.proofs.AdditionLaws.{name_more}
 use Rattle.ldm_edits.proofs.additions.Additions.add.Goals as goal
 
 pub returns-clause-ok : goal.returns-clause-ok
 returns-clause-ok c = record {
   records = c.in-Ok.ensures.items ∙ ap (λ (l : List Record). l ++ c.args.made.items) c.reserve.ensures.items;
-  names = λ q. name_more c.args.self.now.names c.insert.new.self c.in_ok-from_slice.field-0 c.in_ok-insert.ensures.updates q
-      ∙ ap (λ (l : List ℕ). bytes_eq l q || contains_by (λ key. bytes_eq q key.items) c.args.self.now.names) c.in_ok-from_slice.ensures.items;
   maps_are = λ i. c.args.maps;
   need = ap (λ (n : ℕ). c.args.self.now.need + n) (c.need_made.ensures.is ∙ ap need_of c.as_slice.ensures.value);
   max_id = c.max_id_with-self.ensures ∙ ap (fold (λ (top : ℕ) (r : Record). max top (id_of r)) c.args.self.now.max_id) c.as_slice-2.ensures.value;

@@ -53,14 +53,14 @@ last_for-requires c = need_few c.args.guid c.args.db.now c.args.labels.now c.arg
     (record { up = c.requires.are.rising; low = c.types_hold.ensures.low; sound = c.requires.sound; small = c.ranges.last.fits }) c.requires.limits c.requires.placed.1
     (sym (limited c.args.guid c.args.db.now c.args.labels.now c.args.last c.args.self.now c.args.name.now c.args.layout.now c.args.spots.now c.fresh_for-fresh.result _ _ c.later_limit.result c.requires.are
     c.fresh_for-fresh.ensures (let few = c.if-fresh-self.false in omega arith) (let fits = c.fits-self in omega arith) (ap (λ (h : Header). h.seq) c.header.ensures) (c.as_slice.ensures.value ∙ c.in_ok-made.ensures) c.later_limit.ensures) ∙ c.in_default.is)
-    (subst (λ (l : List Record). AddsVolume c.args.self.now c.add.new.self c.args.name.now l c.args.maps) (made_beside c.args.guid c.args.name.now c.args.layout.now c.args.spots.now c.in_ok-made.made.items c.requires.are c.in_ok-made.ensures) c.in_ok-add.ensures.ok) c.requires.areas
+    (subst (λ (l : List Record). AddsVolume c.args.self.now c.add.new.self l c.args.maps) (made_beside c.args.guid c.args.name.now c.args.layout.now c.args.spots.now c.in_ok-made.made.items c.requires.are c.in_ok-made.ensures) c.in_ok-add.ensures.ok) c.requires.areas
 
 pub returns-clause-are : goal.returns-clause-are
 returns-clause-are c = created_additions c.args.guid c.args.db.now c.args.labels.now c.args.last c.args.self.now c.add.new.self c.args.name.now c.args.layout.now c.requires.placed.0 c.args.spots.now c.args.maps _ refl _ refl c.requires.are
     (record { up = c.requires.are.rising; low = c.types_hold.ensures.low; sound = c.requires.sound; small = c.ranges.last.fits }) c.requires.limits c.requires.placed.1
     (sym (limited c.args.guid c.args.db.now c.args.labels.now c.args.last c.args.self.now c.args.name.now c.args.layout.now c.args.spots.now c.fresh_for-fresh.result _ _ c.later_limit.result c.requires.are
     c.fresh_for-fresh.ensures (let few = c.if-fresh-self.false in omega arith) (let fits = c.fits-self in omega arith) (ap (λ (h : Header). h.seq) c.header.ensures) (c.as_slice.ensures.value ∙ c.in_ok-made.ensures) c.later_limit.ensures) ∙ c.in_default.is)
-    (subst (λ (l : List Record). AddsVolume c.args.self.now c.add.new.self c.args.name.now l c.args.maps) (made_beside c.args.guid c.args.name.now c.args.layout.now c.args.spots.now c.in_ok-made.made.items c.requires.are c.in_ok-made.ensures) c.in_ok-add.ensures.ok) c.requires.free c.requires.maps
+    (subst (λ (l : List Record). AddsVolume c.args.self.now c.add.new.self l c.args.maps) (made_beside c.args.guid c.args.name.now c.args.layout.now c.args.spots.now c.in_ok-made.made.items c.requires.are c.in_ok-made.ensures) c.in_ok-add.ensures.ok) c.requires.free c.requires.maps
 
 pub returns-clause-is : goal.returns-clause-is
 returns-clause-is c =
@@ -69,7 +69,7 @@ returns-clause-is c =
     (record { up = c.requires.are.rising; low = c.types_hold.ensures.low; sound = c.requires.sound; small = c.ranges.last.fits }) c.requires.limits c.requires.placed.1
     (sym (limited c.args.guid c.args.db.now c.args.labels.now c.args.last c.args.self.now c.args.name.now c.args.layout.now c.args.spots.now c.fresh_for-fresh.result _ _ c.later_limit.result c.requires.are
     c.fresh_for-fresh.ensures (let few = c.if-fresh-self.false in omega arith) (let fits = c.fits-self in omega arith) (ap (λ (h : Header). h.seq) c.header.ensures) (c.as_slice.ensures.value ∙ c.in_ok-made.ensures) c.later_limit.ensures) ∙ c.in_default.is)
-    (subst (λ (l : List Record). AddsVolume c.args.self.now c.add.new.self c.args.name.now l c.args.maps) (made_beside c.args.guid c.args.name.now c.args.layout.now c.args.spots.now c.in_ok-made.made.items c.requires.are c.in_ok-made.ensures) c.in_ok-add.ensures.ok))
+    (subst (λ (l : List Record). AddsVolume c.args.self.now c.add.new.self l c.args.maps) (made_beside c.args.guid c.args.name.now c.args.layout.now c.args.spots.now c.in_ok-made.made.items c.requires.are c.in_ok-made.ensures) c.in_ok-add.ensures.ok))
 
 pub returns-clause-unspent : goal.returns-clause-unspent
 returns-clause-unspent c =

@@ -14,7 +14,7 @@ returns-then-is_some c =
 
 pub returns-else-is_some : goal.returns-else-is_some
 returns-else-is_some c =
-    c.contains.ensures ∙ c.requires.names c.args.name.now
+    c.has_named.ensures ∙ ap (list_any (is_volume_named c.args.name.now)) c.as_slice.ensures.value
     ∙ ap (λ (b : Bool). b || list_any (is_volume_named c.args.name.now) c.args.self.now.records.items)
     (sym c.if-is_some.false ∙ c.is_some.ensures ∙ copied_some c.volume_named.result ∙ ap is_some c.volume_named.ensures.is ∙ named_any c.args.name.now c.args.db.now.records)
     ∙ named_in c.requires c.args.name.now

@@ -4,4 +4,4 @@ use Rattle.ldm_edits.specs.Drafts.{Drafted}
 use Rattle.ldm_edits.proofs.batch.Draft.types_hold.Goals as goal
 
 pub returns-clause-rising : goal.returns-clause-rising
-returns-clause-rising c = subst (λ (d : Drafted). Rising d.db.records) c.self.view_is c.self.invariant.rising
+returns-clause-rising c = subst (λ (d : Drafted). Rising d.db.records) c.self.view_is c.self.invariant.0.rising
