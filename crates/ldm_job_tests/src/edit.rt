@@ -352,9 +352,53 @@ image 2 sequence 9
 ok: editable
 = 0";
 
+// In a batch too a volume that is deleted leaves its sectors, and its ids where they are the greatest,
+// to those that are made behind it.
+const BATCH_OF_ALL: &str = "\
+$ edit on A B C
+< begin
+< create Data bbbbbbbb-bbbb-bbbb-bbbb-bbbbbbbbbbbb span Disk1=2048
+< create M cccccccc-cccc-cccc-cccc-cccccccccccc mirror 100 Disk2 Disk3
+< delete Data
+< extend M Disk2=50 Disk3=50
+< create E dddddddd-dddd-dddd-dddd-dddddddddddd span Disk1=10
+< delete E
+< create F eeeeeeee-eeee-eeee-eeee-eeeeeeeeeeee span Disk1=20 Disk2=5
+< extend F Disk1=6061
+< commit
+1 held
+2 held
+3 held
+4 held
+5 held
+6 held
+7 held
+8 held
+9 held
+10 ok 8
+= 0 ABC
+$ show on A B C
+group Dg0 aaaaaaaa-aaaa-aaaa-aaaa-aaaaaaaaaaaa sequence 8 blocks 16 of 60
+disk 2 Disk1 11111111-1111-1111-1111-111111111111 image 0 free 0
+disk 3 Disk2 22222222-2222-2222-2222-222222222222 image 1 free 5926
+disk 4 Disk3 33333333-3333-3333-3333-333333333333 image 2 free 5931
+volume 8 M mirror 150 cccccccc-cccc-cccc-cccc-cccccccccccc
+  component 9 c9 basic
+    partition 10 p10 disk 3 start 0 size 100 offset 0
+    partition 13 p13 disk 3 start 100 size 50 offset 100
+  component 11 c11 basic
+    partition 12 p12 disk 4 start 0 size 100 offset 0
+    partition 14 p14 disk 4 start 100 size 50 offset 100
+volume 15 F span 6086 eeeeeeee-eeee-eeee-eeee-eeeeeeeeeeee
+  component 16 c16 basic
+    partition 17 p17 disk 2 start 0 size 20 offset 0
+    partition 18 p18 disk 3 start 150 size 5 offset 20
+    partition 19 p19 disk 2 start 20 size 6061 offset 25
+= 0";
+
 #[test]
 fn edits_the_group(rt: HostRuntime) -> Result<(), Fail> {
-    for text in [SPAN, RAID, FULL, SCRIPTS, MIRROR, BATCHES] {
+    for text in [SPAN, RAID, FULL, SCRIPTS, MIRROR, BATCHES, BATCH_OF_ALL] {
         play(rt.alloc(), &rt, 3, 64, text)?;
     }
     Ok(())
