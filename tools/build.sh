@@ -229,10 +229,9 @@ count_of_processors() {
     nproc 2>/dev/null || getconf _NPROCESSORS_ONLN 2>/dev/null || echo 1
 }
 
-# How many crates to prove side by side: two more than there are processors, so that none is idle while crates wait for others,
-# but no more than one for each 2 GB of free memory.
+# How many crates to prove side by side: as many as there are processors, but no more than one for each 2 GB of free memory.
 lanes() {
-    awk -v most="$((processors + 2))" '
+    awk -v most="$processors" '
         $1 == "MemAvailable:" && $2 < 2000000 * most { most = int($2 / 2000000) }
         END { print most < 1 ? 1 : most }' /proc/meminfo 2>/dev/null || echo 1
 }
@@ -281,27 +280,40 @@ start_ready() {
     left=$waiting
 }
 
-# Starts the proof of crate $1. The two with most to come have a process on each processor, and go before the others.
+# Starts the proof of crate $1. Processes that share a crate do some of its work twice. So it has those that no other crate takes
+# now; where it has most to come it has two at least, and goes before the others.
 start() {
     started=$((started + 1))
     say "crate $started of $total: $1 .."
-    jobs=1 back=5
-    if is_early "$1"; then
-        jobs=$processors back=0
+    jobs=$((processors - $(count_others "$1"))) least=1 back=5
+    if is_first "$1"; then
+        least=$((processors < 2 ? 1 : 2)) back=0
     fi
+    [ "$jobs" -ge "$least" ] || jobs=$least
     date +%s >"$room/$1.began"
     prove "$1" "$jobs" "$back" >"$room/$1.log" 2>&1 &
     pids="$pids $!"
     running="$running$1 "
 }
 
-# Whether at most one crate that isn't proved has more to come than crate $1.
-is_early() {
-    before=0
+# How many crates but $1 are at work, or could be.
+count_others() {
+    # shellcheck disable=SC2086
+    others=$(count_of $running)
+    for other in $left; do
+        case " $1 $running$proved" in
+        *" $other "*) ;;
+        *) ! are_proved "$(below "$other")" || others=$((others + 1)) ;;
+        esac
+    done
+    echo "$others"
+}
+
+# Whether no crate that isn't proved has more to come than crate $1.
+is_first() {
     while read -r _ name_of _ && [ "$name_of" != "$1" ]; do
-        case $proved in *" $name_of "*) ;; *) before=$((before + 1)) ;; esac
+        case $proved in *" $name_of "*) ;; *) return 1 ;; esac
     done <"$room/plan"
-    [ "$before" -lt 2 ]
 }
 
 are_proved() {
