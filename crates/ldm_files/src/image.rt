@@ -116,6 +116,16 @@ fn require_unused(rt: &HostRuntime, metadata: &Metadata) -> Result<(), ImageErro
     }
 }
 
+// Refuses an open file that holds no disk, and one that the job may not edit.
+fn require_fit(rt: &HostRuntime, file: &File, access: Access) -> Result<(), ImageError> {
+    let metadata = file.metadata()?;
+    require_disk(&metadata)?;
+    match access {
+        Access::Read => Ok(()),
+        Access::Edit => require_unused(rt, &metadata),
+    }
+}
+
 impl ImageFile {
     /// Opens an image for reading, and for writing too where the job edits. What holds no disk
     /// isn't even opened, since a named pipe would wait for a writer; what was opened is looked at
@@ -127,11 +137,7 @@ impl ImageFile {
             .read(true)
             .write(access == Access::Edit)
             .open(rt, path)?;
-        let metadata = file.metadata()?;
-        require_disk(&metadata)?;
-        if access == Access::Edit {
-            require_unused(rt, &metadata)?;
-        }
+        require_fit(rt, &file, access)?;
         ImageFile::of(file)
     }
 
