@@ -55,8 +55,8 @@ fn holds_nothing(rt: &HostRuntime, folder: Path) -> io::Result<bool> {
 // What a file in the folder of a device says, without the end of its line.
 fn read_line(rt: &HostRuntime, folder: Path, name: &str) -> io::Result<String> {
     let path = folder.join(rt.alloc(), name)?;
-    let text = fs::read_to_string(rt, &path)?;
-    Ok(String::from_str(rt.alloc(), text.as_str().trim_end())?)
+    let text = fs::read_to_string(rt, path)?;
+    Ok(text.as_str().trim_end().to_string(rt.alloc())?)
 }
 
 fn is_among(numbers: &[String], number: &str) -> bool {
@@ -86,9 +86,9 @@ fn is_one_of(rt: &HostRuntime, numbers: &[String], path: &str) -> bool {
     }
 }
 
-// Whether a line of the table of mounts is of one of the devices. It has the number of the device as
-// its third word, and its path as the second behind a bar; of some file systems the number is none
-// of a device.
+// Whether a line of the table of mounts is of one of the devices. It has the number of the device
+// as its third word, and its path as the second behind a bar; of some file systems the number is
+// none of a device.
 fn mounts_one_of(rt: &HostRuntime, numbers: &[String], line: &str) -> bool {
     let number = line.split(' ').nth(2).unwrap_or("");
     let behind = line.split(" - ").nth(1).unwrap_or("");
@@ -162,8 +162,8 @@ fn add_partition(
     Ok(is_free)
 }
 
-// Adds the numbers of the partitions of a block device, up to one that another device stands on, and
-// answers whether there was none.
+// Adds the numbers of the partitions of a block device, up to one that another device stands on,
+// and answers whether there was none.
 fn add_partitions(rt: &HostRuntime, folder: Path, numbers: &mut Vec<String>) -> io::Result<bool> {
     for entry in fs::read_dir(rt, folder)? {
         if !add_partition(rt, &entry?, numbers)? {
@@ -180,12 +180,11 @@ pub(crate) fn hindrance(rt: &HostRuntime, device: u64) -> io::Result<Option<Imag
     let own = number_text(rt.alloc(), device)?;
     let folder = Path::new("/sys/dev/block").join(rt.alloc(), own.as_str())?;
     let folder = folder.as_path();
-    if is_read_only(rt, folder)? {
-        return Ok(Some(ImageError::ReadOnly));
-    }
     let mut numbers = Vec::new(rt.alloc());
     numbers.push(own)?;
-    if holds_nothing(rt, folder)? && add_partitions(rt, folder, &mut numbers)? {
+    if is_read_only(rt, folder)? {
+        Ok(Some(ImageError::ReadOnly))
+    } else if holds_nothing(rt, folder)? && add_partitions(rt, folder, &mut numbers)? {
         find_use(rt, numbers.as_slice())
     } else {
         Ok(Some(ImageError::Below))

@@ -83,16 +83,17 @@ pub struct ImageFile {
 fn require_disk(metadata: &Metadata) -> Result<(), ImageError> {
     let kind = metadata.file_type();
     if kind.is_file() || kind.is_block_device() {
-        Ok(())
-    } else if kind.is_dir() {
-        Err(ImageError::NoDisk("a directory"))
-    } else if kind.is_fifo() {
-        Err(ImageError::NoDisk("a pipe"))
-    } else if kind.is_socket() {
-        Err(ImageError::NoDisk("a socket"))
-    } else {
-        Err(ImageError::NoDisk("a character device"))
+        return Ok(());
     }
+    Err(ImageError::NoDisk(if kind.is_dir() {
+        "a directory"
+    } else if kind.is_fifo() {
+        "a pipe"
+    } else if kind.is_socket() {
+        "a socket"
+    } else {
+        "a character device"
+    }))
 }
 
 // The system doesn't tell who uses an image, or there is no memory for it.
