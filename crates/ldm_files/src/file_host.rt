@@ -144,11 +144,22 @@ fn write_out<O: Write>(output: &mut O, bytes: &[u8]) -> io::Result<()> {
     output.flush()
 }
 
-// Keeps a failed call of a disk as the last.
-fn keep_failure(failure: &mut Option<Failure>, image: usize, call: DiskCall, done: io::Result<()>) {
+// Ends a call of a disk. One that failed is kept as the last, and counted.
+fn end_disk_call(
+    failure: &mut Option<Failure>,
+    faults: &mut u64,
+    image: usize,
+    call: DiskCall,
+    done: io::Result<()>,
+) -> Result<(), Failed>
+    ensures ok { is_ok result ≡ is_ok done }
+    ensures rises { faults.old ≤ faults.new }
+    ensures cause { IsErr result → Rose faults.old faults.new }
+{
     if let Err(error) = done {
         *failure = Some(Failure::Disk { image, call, error });
     }
+    ended(done.is_ok(), faults)
 }
 
 impl<I: Read, O: Write> Host for FileHost<'_, I, O> {
@@ -192,21 +203,36 @@ impl<I: Read, O: Write> Host for FileHost<'_, I, O> {
     fn read_at(&mut self, disk: usize, at: u64, buf: &mut [u8]) -> Result<(), Failed> {
         let done = self.images[disk].file.read_exact_at(buf, at);
         self.watch.read(buf.len());
-        keep_failure(&mut self.failure, disk, DiskCall::Read, done);
-        ended(done.is_ok(), &mut self.disk_faults)
+        end_disk_call(
+            &mut self.failure,
+            &mut self.disk_faults,
+            disk,
+            DiskCall::Read,
+            done,
+        )
     }
 
     fn write_at(&mut self, disk: usize, at: u64, bytes: &[u8]) -> Result<(), Failed> {
         hand(&mut self.wrote, disk, bytes.len());
         let done = self.images[disk].file.write_all_at(bytes, at);
-        keep_failure(&mut self.failure, disk, DiskCall::Write, done);
-        ended(done.is_ok(), &mut self.disk_faults)
+        end_disk_call(
+            &mut self.failure,
+            &mut self.disk_faults,
+            disk,
+            DiskCall::Write,
+            done,
+        )
     }
 
     fn sync(&mut self, disk: usize) -> Result<(), Failed> {
         let done = self.images[disk].file.sync_all();
-        keep_failure(&mut self.failure, disk, DiskCall::Sync, done);
-        ended(done.is_ok(), &mut self.disk_faults)
+        end_disk_call(
+            &mut self.failure,
+            &mut self.disk_faults,
+            disk,
+            DiskCall::Sync,
+            done,
+        )
     }
 
     fn hear(&mut self, buf: &mut [u8]) -> Result<usize, Failed> {

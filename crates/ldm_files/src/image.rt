@@ -83,16 +83,17 @@ pub struct ImageFile {
 fn require_disk(metadata: &Metadata) -> Result<(), ImageError> {
     let kind = metadata.file_type();
     if kind.is_file() || kind.is_block_device() {
-        Ok(())
-    } else if kind.is_dir() {
-        Err(ImageError::NoDisk("a directory"))
-    } else if kind.is_fifo() {
-        Err(ImageError::NoDisk("a pipe"))
-    } else if kind.is_socket() {
-        Err(ImageError::NoDisk("a socket"))
-    } else {
-        Err(ImageError::NoDisk("a character device"))
+        return Ok(());
     }
+    Err(ImageError::NoDisk(if kind.is_dir() {
+        "a directory"
+    } else if kind.is_fifo() {
+        "a pipe"
+    } else if kind.is_socket() {
+        "a socket"
+    } else {
+        "a character device"
+    }))
 }
 
 // The system doesn't tell who uses an image, or there is no memory for it.
@@ -116,6 +117,16 @@ fn require_unused(rt: &HostRuntime, metadata: &Metadata) -> Result<(), ImageErro
     }
 }
 
+// Refuses an open file that holds no disk, and one that the job may not edit.
+fn require_fit(rt: &HostRuntime, file: &File, access: Access) -> Result<(), ImageError> {
+    let metadata = file.metadata()?;
+    require_disk(&metadata)?;
+    match access {
+        Access::Read => Ok(()),
+        Access::Edit => require_unused(rt, &metadata),
+    }
+}
+
 impl ImageFile {
     /// Opens an image for reading, and for writing too where the job edits. What holds no disk
     /// isn't even opened, since a named pipe would wait for a writer; what was opened is looked at
@@ -127,11 +138,7 @@ impl ImageFile {
             .read(true)
             .write(access == Access::Edit)
             .open(rt, path)?;
-        let metadata = file.metadata()?;
-        require_disk(&metadata)?;
-        if access == Access::Edit {
-            require_unused(rt, &metadata)?;
-        }
+        require_fit(rt, &file, access)?;
         ImageFile::of(file)
     }
 

@@ -16,10 +16,59 @@ pub enum Counted {
 // The time between two lines, in milliseconds.
 const PAUSE: u128 = 500;
 
-// The names of a byte, a thousand bytes and so on, and of 1024 bytes and so on.
-const THOUSANDS: [&str; 7] = ["B", "kB", "MB", "GB", "TB", "PB", "EB"];
+// The names of a thousand bytes, a million and so on, and of 1024 bytes and so on.
+const THOUSANDS: [&str; 6] = ["kB", "MB", "GB", "TB", "PB", "EB"];
 
-const BINARIES: [&str; 7] = ["B", "KiB", "MiB", "GiB", "TiB", "PiB", "EiB"];
+const BINARIES: [&str; 6] = ["KiB", "MiB", "GiB", "TiB", "PiB", "EiB"];
+
+// So many bytes, and the names of the units of which each is so many of the one before.
+#[derive(Clone, Copy)]
+struct Amount {
+    bytes: u64,
+    step: u64,
+    names: [&'static str; 6],
+    ghost grows: { 0 < step },
+}
+
+impl Amount {
+    fn in_thousands(bytes: u64) -> Amount {
+        Amount {
+            bytes,
+            step: 1000,
+            names: THOUSANDS,
+        }
+    }
+
+    fn in_binaries(bytes: u64) -> Amount {
+        Amount {
+            bytes,
+            step: 1024,
+            names: BINARIES,
+        }
+    }
+}
+
+// It is written in the largest unit that it has one of, with a tenth below ten.
+impl fmt::Display for Amount {
+    fn fmt<W: fmt::Write>(&self, f: &mut fmt::Formatter<W>) -> fmt::Result {
+        let mut whole = self.bytes;
+        let mut rest = 0;
+        let mut unit = "B";
+        for name in self.names {
+            if whole < self.step {
+                break;
+            }
+            unit = name;
+            rest = whole % self.step;
+            whole /= self.step;
+        }
+        if whole < 10 && whole < self.bytes {
+            write!(f, "{whole}.{} {unit}", rest.saturating_mul(10) / self.step)
+        } else {
+            write!(f, "{whole} {unit}")
+        }
+    }
+}
 
 /// So many bytes, after so many milliseconds. The text is in the manner of `dd status=progress`.
 #[derive(Clone, Copy, Debug)]
@@ -29,33 +78,6 @@ pub struct Progress {
     pub counted: Counted,
 }
 
-// Writes so many bytes in the largest unit that they have one of, with a tenth below ten.
-fn write_amount<W: fmt::Write>(
-    f: &mut fmt::Formatter<W>,
-    bytes: u64,
-    step: u64,
-    names: [&str; 7],
-) -> fmt::Result
-    requires { 0 < step }
-{
-    let mut whole = bytes;
-    let mut rest = 0;
-    let mut unit = "";
-    for name in names {
-        unit = name;
-        if whole < step || name == "EB" || name == "EiB" {
-            break;
-        }
-        rest = whole % step;
-        whole /= step;
-    }
-    if whole < 10 && whole < bytes {
-        write!(f, "{whole}.{} {unit}", rest.saturating_mul(10) / step)
-    } else {
-        write!(f, "{whole} {unit}")
-    }
-}
-
 impl fmt::Display for Progress {
     fn fmt<W: fmt::Write>(&self, f: &mut fmt::Formatter<W>) -> fmt::Result {
         let verb = match self.counted {
@@ -63,13 +85,15 @@ impl fmt::Display for Progress {
             Counted::Read => "read",
         };
         let rate = self.bytes.saturating_mul(1000) / self.millis.max(1);
-        write!(f, "{} bytes (", self.bytes)?;
-        write_amount(f, self.bytes, 1000, THOUSANDS)?;
-        write!(f, ", ")?;
-        write_amount(f, self.bytes, 1024, BINARIES)?;
-        write!(f, ") {verb}, {} s, ", self.millis / 1000)?;
-        write_amount(f, rate, 1000, THOUSANDS)?;
-        write!(f, "/s")
+        write!(
+            f,
+            "{} bytes ({}, {}) {verb}, {} s, {}/s",
+            self.bytes,
+            Amount::in_thousands(self.bytes),
+            Amount::in_binaries(self.bytes),
+            self.millis / 1000,
+            Amount::in_thousands(rate),
+        )
     }
 }
 
