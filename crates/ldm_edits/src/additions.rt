@@ -39,7 +39,6 @@ use std::mem;
 
 /// Records that are added to a group, and what is kept so that one more command copies none of all
 /// records.
-#[derive(Drop)]
 pub struct Additions {
     /// The records, in no order.
     pub records: Vec<Record>,
@@ -49,6 +48,18 @@ pub struct Additions {
     pub need: u64,
     /// The greatest id of the group's records and of these.
     pub max_id: u64,
+}
+
+// By hand, so that a function that lets them go has one step for all that they have.
+impl Drop for Additions {
+    fn drop(self) {
+        let Additions {
+            records: _,
+            maps: _,
+            need: _,
+            max_id: _,
+        } = self;
+    }
 }
 
 /// Copies of records, behind others.

@@ -11,7 +11,6 @@ use std::marker::Model;
 
 /// A batch that is open. Contracts see the group with what it holds, but for its sequence, which is
 /// that of the group before, and whether it has held a command.
-#[derive(Drop)]
 pub struct Draft {
     // The group with its own record and those of its disks alone.
     db: Db,
@@ -20,6 +19,18 @@ pub struct Draft {
     // The last VBLK sequence of both.
     last: u32,
     filled: bool,
+}
+
+// By hand, so that a function that lets a batch go has one step for all that it has.
+impl Drop for Draft {
+    fn drop(self) {
+        let Draft {
+            db: _,
+            added: _,
+            last: _,
+            filled: _,
+        } = self;
+    }
 }
 
 impl Model for Draft {

@@ -10,7 +10,6 @@ use std::alloc::Global;
 /// It keeps a list of its calls of `write_at`, `sync`, `hear` and `say`, so that what a stop could
 /// have left at any time is known. Such a call may find no memory for the list: it then answers
 /// `Failed`, takes nothing and is counted by `dry`.
-#[derive(Drop)]
 pub struct MemoryHost {
     pub(crate) alloc: Global,
     /// The images and the input at the start, and the calls since.
@@ -32,4 +31,26 @@ pub struct MemoryHost {
     pub(crate) talk_faults: u64,
     pub(crate) dry: u64,
     ghost kept: { IsKeptHost (items_of first.items) calls.items script.items held.items said.items heard handed.items },
+}
+
+// By hand, so that a function that lets a host go has one step for all that it has.
+impl Drop for MemoryHost {
+    fn drop(self) {
+        let MemoryHost {
+            alloc: _,
+            first: _,
+            script: _,
+            calls: _,
+            held: _,
+            said: _,
+            heard: _,
+            handed: _,
+            chosen: _,
+            stop: _,
+            number: _,
+            disk_faults: _,
+            talk_faults: _,
+            dry: _,
+        } = self;
+    }
 }

@@ -1,5 +1,5 @@
 -- What is answered where the bytes of a volume are to be said, and where its copies or its rows are to be compared.
-use Rattle.std.specs.Prelude.{ℕ, ◌++◌, ◌==◌, Bool, true, false, List, [], codes, decimal, Option, Some, None, Result, Ok, Err, find, if◌then◌else◌}
+use Rattle.std.specs.Prelude.{ℕ, ◌≡◌, ◌+◌, ◌*◌, ◌<◌, ◌≤◌, ◌++◌, ◌==◌, length, Bool, true, false, List, [], codes, decimal, Option, Some, None, Result, Ok, Err, find, if◌then◌else◌}
 use Rattle.std.specs.List.{range_with_len}
 use Rattle.ldm_records.specs.declared.types.Volume.{Volume}
 use Rattle.ldm_group.specs.Looks.{volume_named}
@@ -17,6 +17,7 @@ use Rattle.ldm_scrub.specs.Missing.{missing_of}
 use Rattle.ldm_words.specs.Names.{esc}
 use Rattle.ldm_run.specs.Said.{Answer, refused}
 use Rattle.ldm_run.specs.declared.running.Status.{Status}
+use Rattle.ldm_run.specs.declared.scrub.Buffers.{Buffers}
 use Rattle.ldm_run.specs.declared.running.Status.TheVariants.{Done, Refused}
 
 -- by its layout, which each volume of a group that was found has
@@ -69,3 +70,11 @@ volume_scrub name images found v l =
 abbrev pub scrub_answer : List ℕ → List (List ℕ) → Found → Answer
 scrub_answer name images found =
     named_answer (λ v. laid_answer (volume_scrub name images found v) (layout_of found.db.records v)) (volume_named name found.db.records)
+
+-- room to compare some sectors at a time, for a line of 80 bytes at most for each, and for a last line that begins so
+pub record IsRoomy (front : List ℕ) (b : Buffers) : Type 0 where
+  pub some : 0 < length b.marks.items
+  pub size : length b.out.items ≡ 512 * length b.marks.items
+  pub same : length b.scratch.items ≡ length b.out.items
+  pub room : 80 * length b.marks.items ≤ length b.page.items
+  pub last : length front + 80 ≤ length b.page.items

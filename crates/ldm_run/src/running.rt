@@ -238,6 +238,21 @@ fn map<H: Host>(alloc: Global, host: &mut H, name: &Bytes, first: u64, count: u6
     }
 }
 
+// Says what the lines of a script would make of a group.
+fn try_found<H: Host>(alloc: Global, host: &mut H, found: Found, script: &[u8]) -> Status
+    requires sound { IsSoundGroup found }
+    requires lies { LieOn found.labels (H.seen host.old).sizes }
+    requires short { length script.now ≤ 1048576 }
+    ensures { Replies H.tells_disks (H.seen host.old) (H.seen host.new)
+        (λ answer. answer ≡ try_answer (commands_in script.now) found) result }
+{
+    if let Some(fault) = &found.blocked {
+        return refuse_opening(alloc, host, fault);
+    }
+    let Found { db, labels, .. } = found;
+    reply_each(alloc, host, db, &labels, script)
+}
+
 // Says what the lines of a script would make of the group that the images hold.
 fn try_lines<H: Host>(alloc: Global, host: &mut H, script: &[u8]) -> Status
     requires images { 0 < length (H.seen host.old).sizes }
@@ -245,15 +260,10 @@ fn try_lines<H: Host>(alloc: Global, host: &mut H, script: &[u8]) -> Status
     ensures { Replies H.tells_disks (H.seen host.old) (H.seen host.new)
         (IsGroupAnswer (try_answer (commands_in script.now)) (H.seen host.old).content) result }
 {
-    let found = match open_group(alloc, host) {
-        Err(status) => return status,
-        Ok(found) => found,
-    };
-    if let Some(fault) = &found.blocked {
-        return refuse_opening(alloc, host, fault);
+    match open_group(alloc, host) {
+        Err(status) => status,
+        Ok(found) => try_found(alloc, host, found, script),
     }
-    let Found { db, labels, .. } = found;
-    reply_each(alloc, host, db, &labels, script)
 }
 
 // try on IMAGE...

@@ -1,10 +1,12 @@
 //! The sample: a script from a seed, done to a group of three images in memory.
-ghost use Rattle.std.specs.Prelude.{◌≡◌, ◌==◌, count_by, IfOk, string_bytes};
+ghost use Rattle.std.specs.Prelude.{◌≡◌, ◌==◌, ◌≤◌, count_by, length, IfOk, string_bytes};
+ghost use Rattle.ldm_found.specs.declared.found.Found.{Found};
+ghost use Rattle.ldm_vectors.specs.Script.{script_of};
 ghost use Rattle.ldm_words.specs.declared.job.Job.TheVariants as jobs;
 ghost use Rattle.ldm_run.specs.declared.running.Status.{Status as Ending};
 ghost use Rattle.ldm_run.specs.Runs.{DoesJob};
 ghost use Rattle.ldm_run.specs.Sample.{text_of_counts, text_of_sample, text_of_summary};
-ghost use Rattle.ldm_run.specs.Sample.{IsSampleAnswer, IsSampleHost};
+ghost use Rattle.ldm_run.specs.Sample.{IsSampleAnswer, IsSampleHost, IsSampleStart};
 
 use crate::running::{Status, edit, say_made};
 use ldm_bytes::{Bytes, NoMemory};
@@ -14,13 +16,21 @@ use ldm_host::{Host, MemoryHost};
 use ldm_vectors::{sample_images, sample_script};
 use std::alloc::Global;
 
+// A host of three sample images, with the sample script of a seed still to be heard.
+fn start_host(alloc: Global, seed: u64) -> Result<MemoryHost, NoMemory>
+    ensures starts { IfOk result (λ host. (found : Found) × IsSampleStart seed found host) }
+    ensures short { IfOk result (λ _. length (script_of seed) ≤ 20000) }
+{
+    let images = sample_images(alloc, 3, 512)?;
+    let script = sample_script(alloc, seed)?;
+    Ok(MemoryHost::new(alloc, images, script)?)
+}
+
 /// Does the sample script of a seed to the group of three sample images, in memory, as an edit.
 pub fn sample_host(alloc: Global, seed: u64) -> Result<MemoryHost, NoMemory>
     ensures { IfOk result (λ host. IsSampleHost seed host) }
 {
-    let images = sample_images(alloc, 3, 512)?;
-    let script = sample_script(alloc, seed)?;
-    let mut host = MemoryHost::new(alloc, images, script)?;
+    let mut host = start_host(alloc, seed)?;
     match edit(alloc, &mut host) {
         Status::Done | Status::Refused if host.dry() == 0 => Ok(host),
         _ => Err(NoMemory),

@@ -8,7 +8,7 @@ ghost use Rattle.ldm_scrub.specs.Lines.{bad_of, text_of_scrub};
 ghost use Rattle.ldm_words.specs.Names.{esc};
 ghost use Rattle.ldm_words.specs.declared.job.Job.TheVariants as jobs;
 ghost use Rattle.ldm_run.specs.Runs.{DoesJob, Streams};
-ghost use Rattle.ldm_run.specs.Streaming.{is_compared, scrub_status, scrub_answer};
+ghost use Rattle.ldm_run.specs.Streaming.{is_compared, scrub_status, scrub_answer, IsRoomy};
 
 use crate::running::{Status, open_group, say_made};
 use ldm_bytes::{Bytes, NoMemory};
@@ -63,6 +63,59 @@ fn status_of(bad: u64) -> Status
     }
 }
 
+// What a scrub works in: what is read, what it is joined with, a mark for each place, and the lines.
+#[derive(Drop)]
+struct Buffers {
+    out: Vec<u8>,
+    scratch: Vec<u8>,
+    marks: Vec<u8>,
+    page: Vec<u8>,
+}
+
+impl Buffers {
+    // For so many sectors at a time, and a last line that begins so.
+    fn new(alloc: Global, front: &[u8]) -> Result<Buffers, NoMemory>
+        ensures { IfOk result (IsRoomy front.now) }
+    {
+        Ok(Buffers {
+            out: vec![in alloc; 0u8; 512 * SECTORS]?,
+            scratch: vec![in alloc; 0u8; 512 * SECTORS]?,
+            marks: vec![in alloc; 0u8; SECTORS]?,
+            page: vec![in alloc; 0u8; LINE * SECTORS + front.len()]?,
+        })
+    }
+}
+
+// Compares the places of a volume, and says the bad ones and a last line that begins so.
+fn compare<H: Host>(
+    host: &mut H,
+    found: &Found,
+    plan: &Plan,
+    front: &[u8],
+    buffers: &mut Buffers,
+) -> Status
+    requires room { IsRoomy front.now buffers.old }
+    requires lies { LiesOn found.now plan.now (H.seen host.old).sizes }
+    requires rows { RowsLieOn found.now plan.now (H.seen host.old).sizes }
+    ensures { Streams H.tells_disks (H.seen host.old) (H.seen host.new) (λ answer. answer
+        ≡ (
+          text_of_scrub front.now (H.seen host.old).content found.now plan.now,
+          scrub_status (bad_of (H.seen host.old).content found.now plan.now (places_of plan.now)),
+        )) result }
+{
+    let Buffers {
+        out,
+        scratch,
+        marks,
+        page,
+    } = buffers;
+    match scrub_volume(host, found, plan, front, out, scratch, marks, page) {
+        Ok(bad) => status_of(bad),
+        Err(ScrubError::Disk) => Status::DiskFault,
+        Err(ScrubError::Talk) => Status::TalkFault,
+    }
+}
+
 // Compares the places of a volume, and says the bad ones. All memory is taken before.
 fn scrub_plan<H: Host>(
     alloc: Global,
@@ -82,32 +135,9 @@ fn scrub_plan<H: Host>(
     let Ok(front) = front_of(alloc, name) else {
         return Status::NoMemory;
     };
-    let front = front.as_slice();
-    let Ok(mut out) = vec![in alloc; 0u8; 512 * SECTORS] else {
-        return Status::NoMemory;
-    };
-    let Ok(mut scratch) = vec![in alloc; 0u8; 512 * SECTORS] else {
-        return Status::NoMemory;
-    };
-    let Ok(mut marks) = vec![in alloc; 0u8; SECTORS] else {
-        return Status::NoMemory;
-    };
-    let Ok(mut page) = vec![in alloc; 0u8; LINE * SECTORS + front.len()] else {
-        return Status::NoMemory;
-    };
-    match scrub_volume(
-        host,
-        found,
-        plan,
-        front,
-        &mut out,
-        &mut scratch,
-        &mut marks,
-        &mut page,
-    ) {
-        Ok(bad) => status_of(bad),
-        Err(ScrubError::Disk) => Status::DiskFault,
-        Err(ScrubError::Talk) => Status::TalkFault,
+    match Buffers::new(alloc, front.as_slice()) {
+        Ok(mut buffers) => compare(host, found, plan, front.as_slice(), &mut buffers),
+        Err(NoMemory) => Status::NoMemory,
     }
 }
 

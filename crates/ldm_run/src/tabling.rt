@@ -1,18 +1,21 @@
 //! `table`: the device-mapper tables that make a device of a volume.
 ghost use Rattle.std.specs.Prelude.{◌≡◌, ◌<◌, length, IfOk};
 ghost use Rattle.ldm_found.specs.Facts.{IsSoundGroup, LieOn};
+ghost use Rattle.ldm_dump.specs.Runs.{LiesOn, RowsLieOn};
 ghost use Rattle.ldm_words.specs.declared.job.Job.TheVariants as jobs;
 ghost use Rattle.ldm_table.specs.Faults.{text_of_fault};
 ghost use Rattle.ldm_text.specs.Texts.{text_of_refusal};
 ghost use Rattle.ldm_run.specs.Said.{HasAnswer};
 ghost use Rattle.ldm_run.specs.Runs.{DoesJob};
-ghost use Rattle.ldm_run.specs.Tabling.{table_answer};
+ghost use Rattle.ldm_run.specs.Tabling.{table_answer, volume_table};
 
 use crate::running::{Status, open_group, say_made};
 use ldm_bytes::{Bytes, NoMemory};
 use ldm_dump::volumes_lie_on_images;
 use ldm_found::Found;
 use ldm_host::Host;
+use ldm_layout::Plan;
+use ldm_records::Volume;
 use ldm_rules::sound_plan;
 use ldm_table::{TableFault, fault_text, table_text};
 use ldm_text::refusal_text;
@@ -25,6 +28,27 @@ fn fault_refusal(alloc: Global, fault: TableFault) -> Result<Bytes, NoMemory>
 {
     let text = fault_text(alloc, fault)?;
     refusal_text(alloc, text.as_slice())
+}
+
+// What is answered of a volume that is laid out so.
+fn table_of<H: Host>(
+    alloc: Global,
+    host: &H,
+    found: &Found,
+    volume: &Volume,
+    plan: &Plan,
+    words: &Names,
+) -> Result<(Bytes, Status), NoMemory>
+    requires lies { LiesOn found.now plan.now (H.seen host.now).sizes }
+    requires rows { RowsLieOn found.now plan.now (H.seen host.now).sizes }
+    ensures is { IfOk result (λ answer. (answer.0, answer.1)
+        ≡ volume_table words.now found.now volume.now plan.now) }
+    ensures status { IfOk result (λ answer. HasAnswer answer.1) }
+{
+    match table_text(alloc, host, found, volume, plan, words)? {
+        Ok(text) => Ok((text, Status::Done)),
+        Err(fault) => Ok((fault_refusal(alloc, fault)?, Status::Refused)),
+    }
 }
 
 // What is answered on a group: the line that makes the device of the volume of this name, or that
@@ -47,10 +71,7 @@ fn tabled<H: Host>(
     };
     let plan = sound_plan(alloc, &found.db, &found.labels, volume)?;
     volumes_lie_on_images();
-    match table_text(alloc, host, found, volume, &plan, words)? {
-        Ok(text) => Ok((text, Status::Done)),
-        Err(fault) => Ok((fault_refusal(alloc, fault)?, Status::Refused)),
-    }
+    table_of(alloc, host, found, volume, &plan, words)
 }
 
 /// table VOLUME on IMAGE...

@@ -57,9 +57,15 @@ fn fit(map: &mut FreeMap, asked: Wanted) -> Option<u64>
 }
 
 /// The gaps of the disks on which partitions were placed.
-#[derive(Drop)]
 pub struct FreeMaps {
     maps: BTreeMap<u64, FreeMap>,
+}
+
+// By hand, so that a function that lets maps go has one step for all of them.
+impl Drop for FreeMaps {
+    fn drop(self) {
+        let FreeMaps { maps: _ } = self;
+    }
 }
 
 impl FreeMaps {

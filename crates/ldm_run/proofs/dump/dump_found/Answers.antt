@@ -23,3 +23,8 @@ returns g c =
     let images = (g.H.Host.seen c.args.host.now).content in
     let is = dump_of c.args.name.now images c.args.found.now c.in-Some.volume.now c.in-Ok.plan None (sym c.in-Some.ensures.is) c.in-Ok.ensures.is c.in-None.ensures in
     says_as c.dump_plan.ensures (λ told. told) (λ told answer e. e ∙ is)
+
+-- the volume's sectors lie on the images
+pub dump_plan-requires-clause-lies : goal.dump_plan-requires-clause-lies
+dump_plan-requires-clause-lies g c =
+    c.volumes_lie_on_images.ensures.volumes c.args.found.now _ c.in-Some.volume.now c.in-Ok.plan c.requires.sound c.requires.lies (record { there = c.in-Some.ensures.there; layout = c.in-Ok.ensures.is })

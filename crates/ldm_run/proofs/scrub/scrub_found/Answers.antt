@@ -36,3 +36,12 @@ returns g c =
     let compared : is_compared c.in-Ok.plan.shape ≡ true = ap (λ (s : Shape). is_compared s) (sym c.shape.ensures) ∙ (sym c.is_compared.ensures ∙ c.if-not-is_compared.false) in
     let is = scrub_of_places c.args.name.now images c.args.found.now c.in-Some.volume.now c.in-Ok.plan None (sym c.in-Some.ensures.is) c.in-Ok.ensures.is compared c.in-None.ensures in
     subst (λ (a : Answer). Streams g.H.Host.tells_disks (g.H.Host.seen c.args.host.now) (g.H.Host.seen c.scrub_plan.new.host) (λ answer. answer ≡ a) c.scrub_plan.result) is c.scrub_plan.ensures
+
+-- the volume's sectors, and its columns, lie on the images
+pub scrub_plan-requires-clause-lies : goal.scrub_plan-requires-clause-lies
+scrub_plan-requires-clause-lies g c =
+    c.volumes_lie_on_images.ensures.volumes c.args.found.now _ c.in-Some.volume.now c.in-Ok.plan c.requires.sound c.requires.lies (record { there = c.in-Some.ensures.there; layout = c.in-Ok.ensures.is })
+
+pub scrub_plan-requires-clause-rows : goal.scrub_plan-requires-clause-rows
+scrub_plan-requires-clause-rows g c =
+    c.volumes_lie_on_images.ensures.rows c.args.found.now _ c.in-Some.volume.now c.in-Ok.plan c.requires.sound c.requires.lies (record { there = c.in-Some.ensures.there; layout = c.in-Ok.ensures.is })
