@@ -1,4 +1,4 @@
-use Rattle.std.proofs.Common.{◌≡◌, ℕ, Err, ap, sym, ◌∙◌, subst}
+use Rattle.std.proofs.Common.{ℕ, Err, ap, sym, ◌∙◌, subst}
 use Rattle.ldm_scrub.specs.declared.scrubbing.ScrubError.{ScrubError}
 use Rattle.ldm_run.specs.Said.{HasAnswer}
 use Rattle.ldm_run.specs.Streaming.{scrub_status}

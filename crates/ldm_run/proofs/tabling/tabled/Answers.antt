@@ -1,4 +1,3 @@
-use Rattle.std.proofs.Common.{◌≡◌}
 use Rattle.ldm_run.proofs.tabling.tabled.Goals as goal
 
 -- the volume's sectors, and its columns, lie on the images
