@@ -1,5 +1,4 @@
 use Rattle.std.proofs.Common.{◌≡◌, ◌+◌, ◌<◌, ◌≤◌, ℕ, IfOk, false, sym, subst, ap, ◌∙◌}
-use Rattle.ldm_layout.specs.declared.shape.Shape.{Shape}
 use Rattle.ldm_dump.specs.Sources.{is_raid5}
 use Rattle.ldm_scrub.proofs.CompareLaws.{other_shape}
 use Rattle.ldm_scrub.proofs.scrubbing.mark_some.Goals as goal
