@@ -519,6 +519,14 @@ bad_are images found l places = refl
 
 -- ---- what was said
 
+-- the marks of the places that were marked
+marks_taken : (images : List (List ℕ)) (found : Found) (l : Layout) (place n : ℕ) (marks : List ℕ) → n ≤ length marks
+    → ((i : ℕ) → i < n → slice_index marks i ≡ mark (is_bad_at images found l (place + i)))
+    → (i : ℕ) → i < length (take n marks) → slice_index (take n marks) i ≡ mark (is_bad_at images found l (place + i))
+marks_taken images found l place n marks few marked i lt =
+    let size = length-take-le n marks few in
+    get_or-take n marks i 0 (omega (arith, size, lt)) ∙ marked i (omega (arith, size, lt))
+
 -- what begins the lines of places that were marked, before which nothing was said
 pub marked_front : (images : List (List ℕ)) (found : Found) (l : Layout) (place all n : ℕ) (marks old mid new : List ℕ) → n ≤ length marks → mid ≡ old → place + n ≤ all
     → ((i : ℕ) → i < n → slice_index marks i ≡ mark (is_bad_at images found l (place + i)))
@@ -526,13 +534,33 @@ pub marked_front : (images : List (List ℕ)) (found : Found) (l : Layout) (plac
     → Begins new (mid ++ bad_lines images found l (range_with_len place (length (take n marks)))))
     → (m : ℕ) × (place + m ≤ all) × Begins new (old ++ bad_lines images found l (range_with_len place m))
 marked_front images found l place all n marks old mid new few same fits marked front =
-    let size = length-take-le n marks few in
-    let part = front (λ i lt. get_or-take n marks i 0 (omega (arith, size, lt)) ∙ marked i (omega (arith, size, lt))) in (
+    let part = front (marks_taken images found l place n marks few marked) in (
       n,
       fits,
-      subst (λ (m : ℕ). Begins new (old ++ bad_lines images found l (range_with_len place m))) size
+      subst (λ (m : ℕ). Begins new (old ++ bad_lines images found l (range_with_len place m))) (length-take-le n marks few)
           (subst (λ (s : List ℕ). Begins new (s ++ bad_lines images found l (range_with_len place (length (take n marks))))) same part),
     )
+
+-- the lines of places that were marked, before which nothing was said
+pub marked_said : (images : List (List ℕ)) (found : Found) (l : Layout) (place n : ℕ) (marks old mid new : List ℕ) → n ≤ length marks → mid ≡ old
+    → ((i : ℕ) → i < n → slice_index marks i ≡ mark (is_bad_at images found l (place + i)))
+    → (((i : ℕ) → i < length (take n marks) → slice_index (take n marks) i ≡ mark (is_bad_at images found l (place + i)))
+    → new ≡ mid ++ bad_lines images found l (range_with_len place (length (take n marks))))
+    → new ≡ old ++ bad_lines images found l (range_with_len place n)
+marked_said images found l place n marks old mid new few same marked said =
+    said (marks_taken images found l place n marks few marked)
+    ∙ (ap (λ (m : ℕ). mid ++ bad_lines images found l (range_with_len place m)) (length-take-le n marks few)
+    ∙ ap (λ (s : List ℕ). s ++ bad_lines images found l (range_with_len place n)) same)
+
+-- how many of the places that were marked are bad
+pub marked_bad : (images : List (List ℕ)) (found : Found) (l : Layout) (place n bad : ℕ) (marks : List ℕ) → n ≤ length marks
+    → ((i : ℕ) → i < n → slice_index marks i ≡ mark (is_bad_at images found l (place + i)))
+    → (((i : ℕ) → i < length (take n marks) → slice_index (take n marks) i ≡ mark (is_bad_at images found l (place + i)))
+    → bad ≡ bad_of images found l (range_with_len place (length (take n marks))))
+    → bad ≡ bad_of images found l (range_with_len place n)
+marked_bad images found l place n bad marks few marked count =
+    count (marks_taken images found l place n marks few marked)
+    ∙ ap (λ (m : ℕ). bad_of images found l (range_with_len place m)) (length-take-le n marks few)
 
 -- what begins a text begins it with more behind
 pub begins_more : (new whole more : List ℕ) → Begins new whole → Begins new (whole ++ more)

@@ -22,6 +22,14 @@ use ldm_found::Found;
 use ldm_host::{Failed, Host};
 use ldm_layout::{Plan, Shape};
 
+// Sector i of some sectors.
+fn sector_in(bytes: &[u8], i: usize) -> &[u8]
+    requires { 512 * i + 512 ≤ length bytes.now }
+    ensures { result.now ≡ sector_in bytes.now i }
+{
+    &bytes[512 * i..512 * i + 512]
+}
+
 // Marks each sector of which the two differ.
 fn mark_differing(bytes: &[u8], others: &[u8], marks: &mut [u8])
     requires size { length bytes.now ≡ 512 * length marks.old }
@@ -32,7 +40,7 @@ fn mark_differing(bytes: &[u8], others: &[u8], marks: &mut [u8])
         (slice_index marks.old i) }
 {
     for i in 0..marks.len() {
-        if bytes[512 * i..512 * i + 512] != others[512 * i..512 * i + 512] {
+        if sector_in(bytes, i) != sector_in(others, i) {
             marks[i] = 1;
         }
     }
@@ -46,7 +54,7 @@ fn mark_unlike(bytes: &[u8], sector: &[u8], marks: &mut [u8])
         (slice_index marks.old i) }
 {
     for i in 0..marks.len() {
-        if &bytes[512 * i..512 * i + 512] != sector {
+        if sector_in(bytes, i) != sector {
             marks[i] = 1;
         }
     }

@@ -158,6 +158,16 @@ row_within l some =
     let once : 1 * row_sectors l ≤ whole_rows l * row_sectors l = grind (arith, mul-le-mul_left) in
     omega (arith, within, once)
 
+-- a column of a stripe begins in the first row
+pub stripe_begins : (l : Layout) (c : ℕ) → l.shape ≡ Stripe → 0 < whole_rows l → c < length (columns_of l) → chunk_of l * c < l.size
+stripe_begins l c stripe some lt =
+    let row = row_within l some in
+    let there = row_there l some in
+    let is : row_sectors l ≡ chunk_of l * length (columns_of l) = ap (λ (s : Shape). chunk_of l * data_columns s (length (columns_of l))) stripe in
+    let less : chunk_of l * (c + 1) ≤ chunk_of l * length (columns_of l) = mul-le-mul_left (chunk_of l) (omega (arith, lt)) in
+    let chunk : chunk_of l ≡ 0 → ⊥ = λ none. (let no = ap (λ (n : ℕ). n * length (columns_of l)) none in omega (arith, is, no, there)) in
+    grind (arith, row, is, less, chunk)
+
 -- ---- columns
 
 -- a place in the column, so far behind its start

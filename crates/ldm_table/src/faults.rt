@@ -1,6 +1,6 @@
 //! Why a volume has no table.
 ghost use Rattle.std.specs.Prelude.{◌≡◌, ◌-◌, ◌<◌, ◌+◌, ◌≤◌, ℕ, true, false, IfOk, find, position};
-ghost use Rattle.std.specs.Prelude.{length};
+ghost use Rattle.std.specs.Prelude.{◌++◌, length, decimal};
 ghost use Rattle.std.specs.List.{range_with_len, list_all, list_any};
 ghost use Rattle.ldm_words.specs.Names.{is_plain};
 ghost use Rattle.ldm_layout.specs.Columns.{columns_of};
@@ -153,35 +153,32 @@ pub(crate) fn is_one_long(members: &[Option<Member>]) -> bool
     false
 }
 
+// A word, a number and what is said of it.
+fn said_text(alloc: Global, word: &[u8], number: u64, said: &[u8]) -> Result<Bytes, NoMemory>
+    ensures { IfOk result (λ text. text ≡ (word.now ++ decimal number) ++ said.now) }
+{
+    let mut text = Text::new(alloc);
+    push_number(&mut text, word, number)?;
+    text.push(said)?;
+    Ok(text.into_bytes())
+}
+
 /// The text of a fault.
 #[tactic(auto, unfolding(crate::specs::Faults::text_of_fault))]
 pub fn fault_text(alloc: Global, fault: TableFault) -> Result<Bytes, NoMemory>
     ensures { IfOk result (λ text. text ≡ text_of_fault fault) }
 {
-    let mut text = Text::new(alloc);
     match fault {
-        TableFault::Empty => text.push(b"no sectors")?,
-        TableFault::Lost(sector) => {
-            push_number(&mut text, b"sector ", sector)?;
-            text.push(b" is lost")?;
-        }
-        TableFault::Chunk(chunk) => {
-            push_number(&mut text, b"chunk of ", chunk)?;
-            text.push(b" sectors")?;
-        }
-        TableFault::Columns(columns) => {
-            text.push_number(columns as u64)?;
-            text.push(b" columns")?;
-        }
+        TableFault::Empty => Bytes::from_slice(alloc, b"no sectors"),
+        TableFault::Lost(sector) => said_text(alloc, b"sector ", sector, b" is lost"),
+        TableFault::Chunk(chunk) => said_text(alloc, b"chunk of ", chunk, b" sectors"),
+        TableFault::Columns(columns) => said_text(alloc, b"", columns as u64, b" columns"),
         TableFault::Rebuilt(sector) => {
-            push_number(&mut text, b"sector ", sector)?;
-            text.push(b" is missing in a part of a row")?;
+            said_text(alloc, b"sector ", sector, b" is missing in a part of a row")
         }
         TableFault::Word(image) => {
-            push_number(&mut text, b"image ", image as u64)?;
-            text.push(b": no word of a table")?;
+            said_text(alloc, b"image ", image as u64, b": no word of a table")
         }
-        TableFault::Name => text.push(b"name too long")?,
+        TableFault::Name => Bytes::from_slice(alloc, b"name too long"),
     }
-    Ok(text.into_bytes())
 }

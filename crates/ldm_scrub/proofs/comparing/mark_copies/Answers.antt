@@ -1,11 +1,12 @@
-use Rattle.std.proofs.Common.{◌≡◌, ◌+◌, ◌-◌, ◌*◌, ◌<◌, ℕ, List, not, length, slice_index, arith, ap, sym, ◌∙◌}
+use Rattle.std.proofs.Common.{◌≡◌, ◌+◌, ◌-◌, ◌*◌, ◌<◌, ℕ, List, not, length, slice_index, arith, ap, sym, subst, refl, ◌∙◌}
 use Rattle.std.specs.List.{list_any, range_with_len}
 use Rattle.std.specs.Option.{option_to_list}
 use Rattle.std.specs.Str.{bytes_eq}
-use Rattle.ldm_host.proofs.Relations.{looks_then}
+use Rattle.ldm_host.proofs.Relations.{looks_then, looks_as}
 use Rattle.ldm_layout.specs.Layouts.{copies_of}
 use Rattle.ldm_dump.specs.Sources.{copy_spot}
 use Rattle.ldm_dump.specs.Bytes.{joined_byte}
+use Rattle.ldm_dump.specs.Runs.{LiesOn}
 use Rattle.ldm_scrub.specs.Compare.{copy_sector, copy_differs, sector_in, mark}
 use Rattle.ldm_scrub.proofs.CompareLaws.{copy_part, marked_next, bad_copies}
 use Rattle.ldm_scrub.proofs.comparing.mark_copies.Goals as goal
@@ -52,3 +53,12 @@ returns-clause-marks g c tells i lt =
     c.copies.invariant.so_far tells i (omega (arith, lt))
     ∙ (ap (λ (n : ℕ). mark (list_any (copy_differs images found l (c.args.sector + i)) (range_with_len 1 (n - 1)))) all
     ∙ ap mark (bad_copies images found l (c.args.sector + i) c.requires.other))
+
+pub read_copy_run-requires-in-copies-clause-lies : goal.read_copy_run-requires-in-copies-clause-lies
+read_copy_run-requires-in-copies-clause-lies g c = subst (λ (l : List ℕ). LiesOn c.args.found.now c.args.plan.now l) (sym c.copies.invariant.looks.still.later.sizes) c.requires.lies
+
+pub returns-in_err-read_copy_run-2-clause-looks : goal.returns-in_err-read_copy_run-2-clause-looks
+returns-in_err-read_copy_run-2-clause-looks g c = looks_then c.copies.invariant.looks c.in_err-read_copy_run-2.ensures.looks (λ failed. refl)
+
+pub returns-clause-looks : goal.returns-clause-looks
+returns-clause-looks g c = looks_as c.copies.invariant.looks (λ is. absurd (cc is))

@@ -1,5 +1,6 @@
 use Rattle.std.proofs.Common.{◌≡◌, ◌+◌, ◌*◌, ℕ, List, not, length, slice_index, replicate, arith, ap, sym, ◌∙◌}
 use Rattle.std.specs.Str.{bytes_eq}
+use Rattle.ldm_host.proofs.Relations.{looks_as}
 use Rattle.ldm_layout.specs.Columns.{column_in}
 use Rattle.ldm_dump.specs.Sources.{spot_at}
 use Rattle.ldm_dump.specs.Bytes.{joined_byte, joined_sector}
@@ -29,3 +30,6 @@ returns-clause-marks g c tells i lt =
     (c.clear.ensures i (omega (arith, lt))) (c.mark_unlike.ensures i (omega (arith, lt)))
     ∙ (ap (λ (p : List ℕ). mark (not (bytes_eq p (replicate 512 0)))) a
     ∙ ap mark (bad_row images found l (place_sector l (c.args.place + i)) c.requires.raid5))
+
+pub returns-clause-looks : goal.returns-clause-looks
+returns-clause-looks g c = looks_as c.in_ok-join_row.ensures.looks (λ is. absurd (cc is))

@@ -1,6 +1,7 @@
-use Rattle.std.proofs.Common.{◌++◌, ℕ, List, length, ap, sym, ◌∙◌}
+use Rattle.std.proofs.Common.{◌++◌, ℕ, List, length, refl, ap, sym, ◌∙◌}
 use Rattle.std.specs.List.{range_with_len}
 use Rattle.std.proofs.lemmas.List.{append-nil}
+use Rattle.ldm_host.proofs.Relations.{still_itself}
 use Rattle.ldm_dump.proofs.ByteLaws.{begins_of}
 use Rattle.ldm_scrub.specs.Compare.{is_bad_at}
 use Rattle.ldm_scrub.proofs.CompareLaws.{silent, lines_are, bad_are}
@@ -35,3 +36,15 @@ returns-clause-count g c images found marked =
 pub returns-clause-front : goal.returns-clause-front
 returns-clause-front g c images found marked =
     begins_of _ _ _ _ (c.push_lines-end.ensures.is (is_bad_at images found c.args.plan.now) marked ∙ lines_are images found c.args.plan.now (range_with_len c.args.place (length c.args.marks.now))) c.in_ok-say.ensures.front
+
+pub returns-then-bad-eq0-clause-still : goal.returns-then-bad-eq0-clause-still
+returns-then-bad-eq0-clause-still g c = still_itself (g.H.Host.seen c.args.host.now) (g.met.H.Host.counts_now c.args.host.now) (g.met.H.Host.only_now c.args.host.now)
+
+pub returns-then-bad-eq0-clause-input : goal.returns-then-bad-eq0-clause-input
+returns-then-bad-eq0-clause-input g c = record { input = refl; heard = refl }
+
+pub returns-in_err-say-clause-input : goal.returns-in_err-say-clause-input
+returns-in_err-say-clause-input g c = record { input = c.in_err-say.ensures.input; heard = c.in_err-say.ensures.heard }
+
+pub returns-clause-input : goal.returns-clause-input
+returns-clause-input g c = record { input = c.in_ok-say.ensures.input; heard = c.in_ok-say.ensures.heard }

@@ -4,6 +4,7 @@ use Rattle.std.specs.List.{range_with_len}
 use Rattle.ldm_host.specs.Moves.{Begins}
 use Rattle.ldm_host.proofs.Relations.{still_itself, still_trans}
 use Rattle.ldm_scrub.specs.Lines.{bad_lines, bad_of}
+use Rattle.ldm_dump.specs.Runs.{LiesOn, RowsLieOn}
 use Rattle.ldm_dump.proofs.ByteLaws.{begins_all, said_on, part_said}
 use Rattle.ldm_scrub.proofs.CompareLaws.{no_lines, none_bad, lines_more, bad_more}
 use Rattle.ldm_scrub.proofs.scrubbing.scrub_places.Goals as goal
@@ -32,6 +33,18 @@ returns-in_err-some-clause-front g c tells =
 
 pub returns-in_err-some-clause-still : goal.returns-in_err-some-clause-still
 returns-in_err-some-clause-still g c = still_trans _ _ _ c.pieces.invariant.still c.in_err-some.ensures.still
+
+pub returns-in_err-some-clause-input : goal.returns-in_err-some-clause-input
+returns-in_err-some-clause-input g c = record {
+  input = c.in_err-some.ensures.input.input ∙ c.pieces.invariant.input.input;
+  heard = c.in_err-some.ensures.input.heard ∙ c.pieces.invariant.input.heard;
+}
+
+pub scrub_some-requires-clause-lies : goal.scrub_some-requires-clause-lies
+scrub_some-requires-clause-lies g c = subst (λ (l : List ℕ). LiesOn c.args.found.now c.args.plan.now l) (sym c.pieces.invariant.still.later.sizes) c.requires.lies
+
+pub scrub_some-requires-clause-rows : goal.scrub_some-requires-clause-rows
+scrub_some-requires-clause-rows g c = subst (λ (l : List ℕ). RowsLieOn c.args.found.now c.args.plan.now l) (sym c.pieces.invariant.still.later.sizes) c.requires.rows
 
 pub pieces-preserved : goal.pieces-preserved
 pieces-preserved g c =

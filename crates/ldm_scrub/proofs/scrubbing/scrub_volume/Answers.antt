@@ -1,6 +1,6 @@
-use Rattle.std.proofs.Common.{◌++◌, ℕ, List, length, ap, sym, ◌∙◌, append_assoc}
+use Rattle.std.proofs.Common.{◌++◌, ℕ, List, length, refl, ap, sym, ◌∙◌, append_assoc}
 use Rattle.ldm_host.specs.Moves.{Begins}
-use Rattle.ldm_host.proofs.Relations.{still_trans}
+use Rattle.ldm_host.proofs.Relations.{still_trans, rose_sooner}
 use Rattle.ldm_dump.proofs.ByteLaws.{begins_of, begins_all}
 use Rattle.ldm_scrub.specs.Compare.{places_of}
 use Rattle.ldm_scrub.specs.Lines.{bad_lines, bad_of, text_of_end}
@@ -46,3 +46,18 @@ returns-in-Err-clause-front g c tells =
     ∙ end_text old.content c.args.found.now c.args.plan.now c.args.front.now c.place_count-all.result c.in_ok-bad.bad c.place_count-all.ensures (c.in_ok-bad.ensures.count tells) in
     let part : Begins (g.H.Host.seen c.say.new.self).said (mid ++ end) = begins_of _ _ _ _ text c.in-Err.ensures.front in
     (part.0, sym (append_assoc old.said lines end) ∙ (ap (λ (s : List ℕ). s ++ end) (sym (c.in_ok-bad.ensures.said tells)) ∙ part.1))
+
+pub returns-in-Ok-clause-input : goal.returns-in-Ok-clause-input
+returns-in-Ok-clause-input g c = record {
+  input = c.in-Ok.ensures.input ∙ c.in_ok-bad.ensures.input.input;
+  heard = c.in-Ok.ensures.heard ∙ c.in_ok-bad.ensures.input.heard;
+}
+
+pub returns-in-Err-clause-input : goal.returns-in-Err-clause-input
+returns-in-Err-clause-input g c = record {
+  input = c.in-Err.ensures.input ∙ c.in_ok-bad.ensures.input.input;
+  heard = c.in-Err.ensures.heard ∙ c.in_ok-bad.ensures.input.heard;
+}
+
+pub returns-in-Err-clause-talk : goal.returns-in-Err-clause-talk
+returns-in-Err-clause-talk g c is = rose_sooner _ _ _ c.in_ok-bad.ensures.still.later.talk_faults (c.in-Err.ensures.cause refl)

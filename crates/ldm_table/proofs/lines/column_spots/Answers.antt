@@ -1,3 +1,6 @@
+use Rattle.std.proofs.Common.{◌≡◌, ℕ, length, map, arith, subst}
+use Rattle.std.specs.List.{range_with_len}
+use Rattle.ldm_layout.specs.Columns.{columns_of}
 use Rattle.ldm_table.specs.Tables.{column_begin}
 use Rattle.ldm_table.proofs.LineLaws.{more_made}
 use Rattle.ldm_table.proofs.lines.column_spots.Goals as goal
@@ -5,3 +8,9 @@ use Rattle.ldm_table.proofs.lines.column_spots.Goals as goal
 pub columns-preserved : goal.columns-preserved
 columns-preserved g c =
     more_made (column_begin c.args.found.now c.args.plan.now) c.columns.column c.columns.spots.items _ c.column_spot.result c.columns.invariant c.column_spot.ensures c.in_ok-push.ensures.items
+
+pub returns : goal.returns
+returns g c =
+    let count = c.columns-column-end.ensures.count in
+    let all : c.columns.column ≡ length (columns_of c.args.plan.now) = omega (arith, count) in
+    subst (λ (n : ℕ). c.columns.spots.items ≡ map (column_begin c.args.found.now c.args.plan.now) (range_with_len 0 n)) all c.columns.invariant

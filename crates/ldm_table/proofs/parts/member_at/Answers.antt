@@ -7,3 +7,6 @@ use Rattle.ldm_table.proofs.parts.member_at.Goals as goal
 pub member_from-requires : goal.member_from-requires
 member_from-requires g c = λ s is.
     c.requires.lies 0 c.args.column s (some_sector c.args.plan.now c.requires.rows) c.requires.raid5 (ap (λ (p : Option Place). spot_at c.args.found.now p) c.column.ensures ∙ is)
+
+pub column-requires-clause-within : goal.column-requires-clause-within
+column-requires-clause-within g c = some_sector c.args.plan.now c.requires.rows
