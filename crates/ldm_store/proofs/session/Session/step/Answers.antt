@@ -1,4 +1,4 @@
-use Rattle.std.proofs.Common.{rules, ◌≡◌, ◌≤◌, ℕ, List, length, slice_get, Some, None, Result, Ok, Err, IfOk, IsErrAnd, refl, sym, ◌∙◌, ap, subst}
+use Rattle.std.proofs.Common.{◌≡◌, ◌≤◌, ℕ, List, length, slice_get, Some, None, refl, sym, ◌∙◌, ap, subst}
 use Rattle.ldm_host.proofs.Relations.{works_as}
 use Rattle.ldm_label.specs.declared.Label.{Label}
 use Rattle.ldm_vmdb.specs.declared.header.Header.{Header}
@@ -11,16 +11,12 @@ use Rattle.ldm_store.specs.Kept.{IsCurrent}
 use Rattle.ldm_store.specs.Turning.{IsBodyOnEach, AllSettled, AllHave}
 use Rattle.ldm_store.specs.Sessions.{IsEditable, IsTurnOf, IsApplied, Edited, turn_in}
 use Rattle.ldm_store.proofs.ApplyLaws.{next_for, turned_next, bodies_of, moved, written, holds_next, begun_with, begun_next, rests_next}
+use Rattle.ldm_store.proofs.ResultLaws.{fails, true_not_false}
 use Rattle.ldm_store.proofs.session.Session.step.Goals as goal
 
 -- the labels, as a slice
 slice_is : (slice : List Label) (inside session : Edited) → slice ≡ inside.group.labels → inside ≡ session → slice ≡ session.group.labels
 slice_is slice inside session same view = same ∙ ap (λ (s : Edited). s.group.labels) view
-
--- where there is an error nothing is asked of a value
-fails : {T E : Type 0} (result : Result T E) (error : E) (Is : T → Type 0) → IsErrAnd result (λ e. e ≡ error) → IfOk result Is
-fails (Ok value) error Is is = absurd is
-fails (Err given) error Is is = tt
 
 pub rewrite_all-requires : goal.rewrite_all-requires
 rewrite_all-requires g c =
@@ -52,7 +48,7 @@ returns-in_err-rewrite_all g c =
           c.requires.rests (c.requires.holds tells).holds c.requires.steps.1 c.requires.body (c.rewrite_all.ensures.any_moment tells);
       applied = fails c.from_residual.result _ _ c.from_residual.ensures.1;
       wrote = c.rewrite_all.ensures.wrote;
-      works = works_as c.rewrite_all.ensures.works (λ e. search rules);
+      works = works_as c.in_err-rewrite_all.ensures.works (λ e. refl);
     }
 
 pub returns : goal.returns
@@ -83,10 +79,10 @@ returns g c =
                   holds = holds_next session next slice a d same editable (c.requires.holds tells).holds one_each (c.rewrite_all.ensures.outside tells) (have tells);
                   body = begun_next session command next bytes slice a d same c.requires.rests steps made (have tells) (c.in_ok-rewrite_all.ensures.has tells);
                 };
-            unwritten = λ no. absurd (cc no);
+            unwritten = λ no. absurd (true_not_false no);
             done = λ tells seq e. have tells;
-            tidy = λ seq e. (_, refl);
+            tidy = λ seq e. (bytes, refl);
           });
       wrote = c.rewrite_all.ensures.wrote;
-      works = works_as c.rewrite_all.ensures.works (λ e. absurd (cc e));
+      works = works_as c.rewrite_all.ensures.works (λ e. absurd (true_not_false (sym e)));
     }
