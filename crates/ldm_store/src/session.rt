@@ -213,10 +213,7 @@ impl Session {
     {
         rewrite_all(host, self.labels.as_slice(), &next)?;
         let seq = newer.header().seq;
-        Ok((
-            self.with_group(newer, next.into_body()),
-            Reply::Done(seq),
-        ))
+        Ok((self.with_group(newer, next.into_body()), Reply::Done(seq)))
     }
 
     /// Does one command on all disks, in their order; while a batch is open, a command is held, and
