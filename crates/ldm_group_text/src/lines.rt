@@ -2,16 +2,25 @@
 ghost use Rattle.std.specs.Prelude.{◌≡◌, ◌==◌, ◌++◌, ℕ, [], nat_eq, OnOk, IfOk, unwrap_or, codes};
 ghost use Rattle.std.specs.Prelude.{if◌then◌else◌};
 ghost use Rattle.std.specs.HashMap as hash;
-ghost use Rattle.ldm_group_text.specs.Volumes.{text_of_index, text_of_partition};
+ghost use Rattle.ldm_group_text.specs.Volumes.{text_of_head, text_of_index, text_of_partition};
 ghost use Rattle.ldm_group_text.specs.Volumes.{text_of_partitions, text_of_striping};
 ghost use Rattle.ldm_group_text.specs.Volumes.{text_of_layout, text_of_component};
 ghost use Rattle.ldm_group_text.specs.Volumes.{text_of_components};
 
 use ldm_bytes::NoMemory;
-use ldm_records::{Component, Partition, Record, Striping};
-use ldm_text::{Part, Text, push_parts};
+use ldm_records::{Component, Head, Partition, Record, Striping};
+use ldm_text::{Part, Text, push_name, push_number, push_parts};
 use std::alloc::Global;
 use std::collections::HashMap;
+
+// A word, and then ID NAME.
+#[tactic(auto, unfolding(crate::specs::Volumes::text_of_head))]
+pub(crate) fn push_head(text: &mut Text, word: &[u8], head: &Head) -> Result<(), NoMemory>
+    ensures { OnOk result (text.new ≡ text.old ++ text_of_head word.now head.now) }
+{
+    push_number(text, word, head.id)?;
+    push_name(text, b" ", head.name.as_slice())
+}
 
 // index I, where it is there, and the end of the line
 fn push_end(text: &mut Text, index: Option<u64>) -> Result<(), NoMemory>
@@ -31,15 +40,12 @@ fn push_end(text: &mut Text, index: Option<u64>) -> Result<(), NoMemory>
 }
 
 // The line of a partition.
-#[tactic(auto, unfolding(crate::specs::Volumes::text_of_head, crate::specs::Volumes::text_of_extent, crate::specs::Volumes::text_of_partition))]
+#[tactic(auto, unfolding(crate::specs::Volumes::text_of_extent, crate::specs::Volumes::text_of_partition))]
 fn push_partition(text: &mut Text, p: &Partition) -> Result<(), NoMemory>
     ensures { OnOk result (text.new ≡ text.old ++ text_of_partition p.now) }
 {
-    let parts = [
-        Part::Word(b"    partition "),
-        Part::Number(p.head.id),
-        Part::Word(b" "),
-        Part::Name(p.head.name.as_slice()),
+    push_head(text, b"    partition ", &p.head)?;
+    let extent = [
         Part::Word(b" disk "),
         Part::Number(p.disk),
         Part::Word(b" start "),
@@ -49,7 +55,7 @@ fn push_partition(text: &mut Text, p: &Partition) -> Result<(), NoMemory>
         Part::Word(b" offset "),
         Part::Number(p.offset),
     ];
-    push_parts(text, &parts)?;
+    push_parts(text, &extent)?;
     push_end(text, p.index)
 }
 
@@ -126,20 +132,10 @@ fn push_layout(text: &mut Text, c: &Component) -> Result<(), NoMemory>
 }
 
 // The line of a component, and those of its partitions.
-fn push_component<'a>(
-    text: &mut Text,
-    c: &'a Component,
-    partitions: &'a [u8],
-) -> Result<(), NoMemory>
+fn push_component(text: &mut Text, c: &Component, partitions: &[u8]) -> Result<(), NoMemory>
     ensures { OnOk result (text.new ≡ text.old ++ text_of_component c.now partitions.now) }
 {
-    let head = [
-        Part::Word(b"  component "),
-        Part::Number(c.head.id),
-        Part::Word(b" "),
-        Part::Name(c.head.name.as_slice()),
-    ];
-    push_parts(text, &head)?;
+    push_head(text, b"  component ", &c.head)?;
     push_layout(text, c)?;
     push_parts(text, &[Part::Word(b"\n"), Part::Word(partitions)])
 }

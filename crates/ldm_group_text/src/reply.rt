@@ -56,21 +56,28 @@ fn push_reason(text: &mut Text, refusal: &Refusal) -> Result<(), NoMemory>
     }
 }
 
+// The number of a line and the reply to it, to the end of the line.
+fn push_reply(text: &mut Text, line: u64, reply: &Reply) -> Result<(), NoMemory>
+    ensures { OnOk result (text.new ≡ text.old ++ text_of_reply (line, reply.now)) }
+{
+    text.push_number(line)?;
+    match reply {
+        Reply::Done(seq) => push_number(text, b" ok ", *seq)?,
+        Reply::Held => text.push(b" held")?,
+        Reply::Dropped => text.push(b" dropped")?,
+        Reply::Refused(refusal) => {
+            text.push(b" refused: ")?;
+            push_reason(text, refusal)?;
+        }
+    }
+    text.push(b"\n")
+}
+
 /// The text of the reply to the line of this number.
 pub fn reply_text(alloc: Global, line: u64, reply: &Reply) -> Result<Bytes, NoMemory>
     ensures { IfOk result (λ text. text ≡ text_of_reply (line, reply.now)) }
 {
     let mut text = Text::new(alloc);
-    text.push_number(line)?;
-    match reply {
-        Reply::Done(seq) => push_number(&mut text, b" ok ", *seq)?,
-        Reply::Held => text.push(b" held")?,
-        Reply::Dropped => text.push(b" dropped")?,
-        Reply::Refused(refusal) => {
-            text.push(b" refused: ")?;
-            push_reason(&mut text, refusal)?;
-        }
-    }
-    text.push(b"\n")?;
+    push_reply(&mut text, line, reply)?;
     Ok(text.into_bytes())
 }

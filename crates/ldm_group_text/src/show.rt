@@ -1,9 +1,9 @@
 //! The text of `show`.
 ghost use Rattle.std.specs.Prelude.{◌≡◌, ◌++◌, ◌-◌, ◌<◌, nat_eq, length, slice_get, Some, All};
-ghost use Rattle.std.specs.Prelude.{OnOk, IfOk, unwrap_or};
+ghost use Rattle.std.specs.Prelude.{OnOk, IfOk, unwrap_or, codes, decimal};
 ghost use Rattle.indexmap.specs.IndexMap as map;
 ghost use Rattle.ldm_group.specs.Partitions.{used_on};
-ghost use Rattle.ldm_group.specs.Room.{IsFitting};
+ghost use Rattle.ldm_group.specs.Room.{IsFitting, need_of, room_of};
 ghost use Rattle.ldm_rules.specs.Ends.{sectors_by};
 ghost use Rattle.ldm_found.specs.Facts.{IsSoundGroup};
 ghost use Rattle.ldm_rules.specs.Present.{image_with};
@@ -17,8 +17,25 @@ use ldm_found::Found;
 use ldm_group::{Db, used_of, used_sectors};
 use ldm_label::{Label, Labels};
 use ldm_records::{Disk, Record};
-use ldm_text::{Text, push_named, push_number};
+use ldm_text::{Part, Text, push_named, push_number, push_parts};
 use std::alloc::Global;
+
+// blocks NEED of ROOM, and the end of the line
+fn push_blocks(text: &mut Text, db: &Db) -> Result<(), NoMemory>
+    requires { All IsFitting db.now.records }
+    ensures { OnOk result (text.new ≡ text.old
+        ++ ((codes " blocks " ++ decimal (need_of db.now.records))
+        ++ (codes " of " ++ decimal (room_of db.now.header.last)) ++ codes "\n")) }
+{
+    let parts = [
+        Part::Word(b" blocks "),
+        Part::Number(db.need()),
+        Part::Word(b" of "),
+        Part::Number(db.room()),
+        Part::Word(b"\n"),
+    ];
+    push_parts(text, &parts)
+}
 
 // The line of the group.
 #[tactic(auto, unfolding(crate::specs::Show::text_of_group))]
@@ -29,9 +46,7 @@ fn push_group(text: &mut Text, db: &Db) -> Result<(), NoMemory>
     let header = db.header();
     push_named(text, b"group ", header.name.as_slice(), header.guid)?;
     push_number(text, b" sequence ", header.seq)?;
-    push_number(text, b" blocks ", db.need())?;
-    push_number(text, b" of ", db.room())?;
-    text.push(b"\n")
+    push_blocks(text, db)
 }
 
 // The sectors of an image's data that no partition has.

@@ -3,10 +3,10 @@ ghost use Rattle.std.specs.Prelude.{◌≡◌, ◌++◌, [], nat_eq, OnOk, unwra
 ghost use Rattle.std.specs.HashMap as hash;
 ghost use Rattle.ldm_layout.specs.Parts.{plexes_at};
 ghost use Rattle.ldm_layout.specs.Volumes.{shape_of};
-ghost use Rattle.ldm_group_text.specs.Volumes.{text_of_shape, text_of_volume, text_of_volumes};
-ghost use Rattle.ldm_group_text.specs.Volumes.{text_of_all_volumes};
+ghost use Rattle.ldm_group_text.specs.Volumes.{text_of_shape, text_of_form, text_of_volume};
+ghost use Rattle.ldm_group_text.specs.Volumes.{text_of_volumes, text_of_all_volumes};
 
-use crate::lines::{component_lines, lines_of, partition_lines};
+use crate::lines::{component_lines, lines_of, partition_lines, push_head};
 use ldm_bytes::NoMemory;
 use ldm_layout::{Parts, Shape, shape_of};
 use ldm_records::{Record, Volume};
@@ -25,12 +25,28 @@ fn shape_text(shape: Shape) -> &'static [u8]
     }
 }
 
+// SHAPE SIZE GUID
+#[tactic(auto, unfolding(crate::specs::Volumes::text_of_form))]
+fn push_form(text: &mut Text, v: &Volume, shape: Shape) -> Result<(), NoMemory>
+    ensures { OnOk result (text.new ≡ text.old ++ text_of_form v.now shape) }
+{
+    let parts = [
+        Part::Word(b" "),
+        Part::Word(shape_text(shape)),
+        Part::Word(b" "),
+        Part::Number(v.size),
+        Part::Word(b" "),
+        Part::Guid(guid_of(v)),
+    ];
+    push_parts(text, &parts)
+}
+
 // The line of a volume, and the texts of its components.
-#[tactic(auto, unfolding(crate::specs::Volumes::text_of_head, crate::specs::Volumes::text_of_form, crate::specs::Volumes::text_of_volume))]
-fn push_volume<'a>(
+#[tactic(auto, unfolding(crate::specs::Volumes::text_of_volume))]
+fn push_volume(
     text: &mut Text,
-    v: &'a Volume,
-    components: &'a [u8],
+    v: &Volume,
+    components: &[u8],
     shape: Option<Shape>,
 ) -> Result<(), NoMemory>
     ensures { OnOk result (text.new ≡ text.old ++ text_of_volume v.now components.now shape) }
@@ -38,21 +54,9 @@ fn push_volume<'a>(
     let Some(shape) = shape else {
         return Ok(());
     };
-    let parts = [
-        Part::Word(b"volume "),
-        Part::Number(v.head.id),
-        Part::Word(b" "),
-        Part::Name(v.head.name.as_slice()),
-        Part::Word(b" "),
-        Part::Word(shape_text(shape)),
-        Part::Word(b" "),
-        Part::Number(v.size),
-        Part::Word(b" "),
-        Part::Guid(guid_of(v)),
-        Part::Word(b"\n"),
-        Part::Word(components),
-    ];
-    push_parts(text, &parts)
+    push_head(text, b"volume ", &v.head)?;
+    push_form(text, v, shape)?;
+    push_parts(text, &[Part::Word(b"\n"), Part::Word(components)])
 }
 
 // The texts of all volumes, by their parts and the texts of their components.

@@ -2,3 +2,4 @@ pub mod OpensLaws
 pub mod CopyLaws
 pub mod SettleLaws
 pub mod ApplyLaws
+pub mod ResultLaws

@@ -13,7 +13,7 @@ use ldm_copy::{Body, body_of};
 use ldm_edits::{Answer, Draft, Reply, take_turn};
 use ldm_found::Found;
 use ldm_group::Db;
-use ldm_host::Host;
+use ldm_host::{Failed, Host};
 use ldm_label::Labels;
 use ldm_words::Command;
 use std::alloc::Global;
@@ -84,18 +84,22 @@ fn next_of(alloc: Global, body: &Option<Body>, older: &Db, newer: &Db) -> Result
 
 impl Session {
     ghost use Rattle.std.specs.Prelude.{◌≡◌, ◌+◌, ◌*◌, ◌/◌, ◌<◌, ◌≤◌, ℕ, List, slice_index, Option};
-    ghost use Rattle.std.specs.Prelude.{IfOk, IfErr, IfSome, IsErrOf, Some, None, option_copied};
+    ghost use Rattle.std.specs.Prelude.{IfOk, IfErr, IfSome, IsErr, IsErrOf, Some, None};
+    ghost use Rattle.std.specs.Prelude.{option_copied};
     ghost use Rattle.std.specs.Option.{ForSome};
     ghost use Rattle.ldm_host.specs.Moves.{Still, Works};
+    ghost use Rattle.ldm_copy.specs.Body.{IsBodyOf};
     ghost use Rattle.ldm_copy.specs.Table.{IsCoreBody};
+    ghost use Rattle.ldm_changed.specs.Nexts.{bytes_in, most_in};
     ghost use Rattle.ldm_edits.specs.Changes.{AreasFit};
     ghost use Rattle.ldm_edits.specs.Steps.{IsDraftOf};
     ghost use Rattle.ldm_words.specs.Limits.{IsCommand};
+    ghost use Rattle.ldm_words.specs.declared.command.Command.{Command};
     ghost use Rattle.ldm_found.specs.Facts.{IsSoundGroup};
-    ghost use Rattle.ldm_store.specs.Bodies.{changed_blocks};
+    ghost use Rattle.ldm_store.specs.Bodies.{IsFrom, changed_blocks};
     ghost use Rattle.ldm_store.specs.Kept.{AlwaysKept};
     ghost use Rattle.ldm_store.specs.Sessions.{IsEditable, IsNextFor, RestsOn, HoldsSession};
-    ghost use Rattle.ldm_store.specs.Sessions.{ComesTo, IsApplied, turn_in};
+    ghost use Rattle.ldm_store.specs.Sessions.{StepsFrom, ComesTo, IsApplied, turn_in};
 
     // The session of a group that was found and that nothing blocks, with the body that its copies
     // begin with.
@@ -190,6 +194,28 @@ impl Session {
         self.draft.as_ref()
     }
 
+    // Writes the next group on all disks, in their order: the session then, and the reply.
+    fn step<H: Host>(self, host: &mut H, newer: Db, next: Next) -> Result<(Session, Reply), Failed>
+        requires rests { RestsOn self.group (H.seen host.old) }
+        requires holds { H.tells_disks → HoldsSession self (H.seen host.old).content }
+        requires steps { (command : Command) × StepsFrom self.group command newer }
+        requires body { IsBodyOf newer (bytes_in next) }
+        requires from { IsFrom self.body next }
+        ensures any_moment { H.tells_disks → AlwaysKept self.group.labels self.group.db newer
+            (H.seen host.old) (H.seen host.new) }
+        ensures applied { IfOk result (λ answer. (command : Command)
+            → StepsFrom self.group command newer
+            → IsApplied H.tells_disks self command answer.0 answer.1
+            (H.seen host.old) (H.seen host.new)) }
+        ensures wrote { (disk : ℕ) → slice_index (H.seen host.new).wrote disk
+            ≤ slice_index (H.seen host.old).wrote disk + most_in next }
+        ensures works { Works (H.seen host.old) (H.seen host.new) (IsErr result) }
+    {
+        rewrite_all(host, self.labels.as_slice(), &next)?;
+        let seq = newer.header().seq;
+        Ok((self.with_group(newer, next.into_body()), Reply::Done(seq)))
+    }
+
     /// Does one command on all disks, in their order; while a batch is open, a command is held, and
     /// a commit is done. All memory is taken before the first write.
     ///
@@ -240,13 +266,9 @@ impl Session {
         let Ok(next) = next_of(alloc, &session.body, &session.db, &newer) else {
             return Err(ApplyError::NoMemory(session));
         };
-        let Ok(()) = rewrite_all(host, session.labels.as_slice(), &next) else {
-            return Err(ApplyError::Disk);
-        };
-        let seq = newer.header().seq;
-        Ok((
-            session.with_group(newer, next.into_body()),
-            Reply::Done(seq),
-        ))
+        match session.step(host, newer, next) {
+            Ok(answer) => Ok(answer),
+            Err(Failed) => Err(ApplyError::Disk),
+        }
     }
 }

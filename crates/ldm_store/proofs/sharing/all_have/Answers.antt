@@ -1,9 +1,10 @@
-use Rattle.std.proofs.Common.{◌≡◌, ⊎_elim, ℕ, List, slice_get, get_or, Some, false, sym, ◌∙◌, subst, arith}
+use Rattle.std.proofs.Common.{◌≡◌, ⊎_elim, ℕ, List, length, slice_get, slice_index, get_or, Some, false, Err, sym, ◌∙◌, ap, subst, arith}
 use Rattle.std.proofs.lemmas.Bool.{cases_eq}
 use Rattle.std.proofs.lemmas.Option.{slice_get-get_or}
 use Rattle.ldm_host.specs.Seen.{image}
-use Rattle.ldm_host.proofs.Relations.{looks_then}
+use Rattle.ldm_host.proofs.Relations.{looks_itself, looks_then, looks_as}
 use Rattle.ldm_label.specs.declared.Label.{Label}
+use Rattle.ldm_label.specs.LabelOf.{Fits}
 use Rattle.ldm_group.specs.Database.{Database}
 use Rattle.ldm_found.specs.declared.notes.Note.{Note}
 use Rattle.ldm_found.specs.declared.notes.Note.TheVariants as notes
@@ -11,6 +12,7 @@ use Rattle.ldm_store.specs.Healing.{is_behind}
 use Rattle.ldm_copy.specs.Table.{body_bytes}
 use Rattle.ldm_store.specs.Bodies.{LacksBody, KeepsBody}
 use Rattle.ldm_store.proofs.CopyLaws.{no_label}
+use Rattle.ldm_store.proofs.ResultLaws.{fails, same_error, no_error, true_not_false}
 use Rattle.ldm_store.proofs.sharing.all_have.Goals as goal
 
 one : {X : Type 0} (a b : X) → Some a ≡ Some b → a ≡ b
@@ -24,6 +26,48 @@ keeps_here seq labels list db body images now disk label' note' at noted e f lab
     let n : note' ≡ note = one note' note (sym noted ∙ noted') in
     subst (λ (x : Label). body ≡ body_bytes db x (image images disk)) l
     (subst (λ (i : List (List ℕ)). body ≡ body_bytes db label' (image i disk)) e (f (subst (λ (x : Note). is_behind seq x ≡ false) (sym n) ahead)))
+
+pub loop-disk-init : goal.loop-disk-init
+loop-disk-init g c = record {
+  looks = looks_itself (g.H.Host.seen c.args.host.now) (g.met.H.Host.counts_now c.args.host.now) (g.met.H.Host.only_now c.args.host.now);
+  keeps = λ tells k lt. absurd (omega (arith, lt));
+}
+
+pub keeps_body-requires : goal.keeps_body-requires
+keeps_body-requires g c =
+    let disk = c.loop-disk.disk in
+    let sizes = c.loop-disk.invariant.looks.still.later.sizes in
+    let at = slice_get-get_or c.args.labels.now disk no_label c.loop-disk-test.true in
+    record {
+      disk = omega (arith, c.loop-disk-test.true, ap length sizes, c.requires.lie.one_label);
+      fits = subst (λ (l : List ℕ). Fits (get_or c.args.labels.now disk no_label) (slice_index l disk)) (sym sizes) (c.requires.lie.fits disk _ at);
+      low = c.requires.low;
+      room = c.requires.room disk _ at;
+    }
+
+pub returns-in_err-keeps_body : goal.returns-in_err-keeps_body
+returns-in_err-keeps_body g c =
+    let handed = c.from_residual.ensures.1 in
+    record {
+      yes = λ tells. fails c.from_residual.result _ _ handed;
+      no = λ tells. fails c.from_residual.result _ _ handed;
+      looks = looks_then c.loop-disk.invariant.looks c.in_err-keeps_body.ensures.looks (λ is. ap Err (same_error c.from_residual.result _ _ handed is));
+    }
+
+pub returns-then-not-branch-clause-yes : goal.returns-then-not-branch-clause-yes
+returns-then-not-branch-clause-yes g c tells all disk lt = absurd (true_not_false (sym all))
+
+pub returns-then-not-branch-clause-looks : goal.returns-then-not-branch-clause-looks
+returns-then-not-branch-clause-looks g c = looks_then c.loop-disk.invariant.looks c.in_ok-keeps_body.ensures.looks (λ is. absurd (no_error _ _ is))
+
+pub returns : goal.returns
+returns g c =
+    let i = c.loop-disk.invariant in
+    record {
+      yes = λ tells all disk lt. i.keeps tells disk (omega (arith, lt, c.loop-disk-test.false));
+      no = λ tells is. absurd (true_not_false is);
+      looks = looks_as i.looks (λ is. absurd (no_error _ _ is));
+    }
 
 pub returns-then-not-branch-clause-no : goal.returns-then-not-branch-clause-no
 returns-then-not-branch-clause-no g c tells same =

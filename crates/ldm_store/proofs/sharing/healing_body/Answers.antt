@@ -1,15 +1,18 @@
-use Rattle.std.proofs.Common.{◌≡◌, ◌<◌, ℕ, List, length, slice_get, Option, Some, IfSome, sym, ◌∙◌, subst}
+use Rattle.std.proofs.Common.{◌≡◌, ◌<◌, ℕ, List, length, slice_get, Option, Some, IfSome, refl, sym, ◌∙◌, ap, subst}
+use Rattle.ldm_host.proofs.Relations.{looks_as}
 use Rattle.ldm_label.specs.declared.Label.{Label}
 use Rattle.ldm_vmdb.specs.declared.header.Header.{Header}
 use Rattle.ldm_group.specs.Database.{Database}
 use Rattle.ldm_copy.specs.Table.{IsCoreBody}
 use Rattle.ldm_found.specs.declared.found.Found.{Found}
 use Rattle.ldm_found.specs.declared.notes.Note.{Note}
+use Rattle.ldm_found.specs.Facts.{LieOn}
 use Rattle.ldm_found.proofs.ClearLaws.{clear_of}
 use Rattle.ldm_found.proofs.FoundLaws.{holds_group}
 use Rattle.ldm_store.specs.Bodies.{KeepsBody, ShareNone}
 use Rattle.ldm_store.proofs.OpensLaws.{low_last, high_last}
 use Rattle.ldm_store.proofs.SettleLaws.{room_all, not_tidy, all_begun, is_exact}
+use Rattle.ldm_store.proofs.ResultLaws.{no_error, true_not_false}
 use Rattle.ldm_store.proofs.sharing.healing_body.Goals as goal
 
 -- of the group, by what was taken of it
@@ -33,6 +36,12 @@ share_found found header labels notes images head of_labels of_notes none =
 some_keep : (found : Option (List ℕ)) (body : List ℕ) (Is : List ℕ → Type 0) → found ≡ Some body → IfSome found Is → Is body
 some_keep found body Is is same = subst (λ (o : Option (List ℕ)). IfSome o Is) is same
 
+pub shared_body-requires-clause-lie : goal.shared_body-requires-clause-lie
+shared_body-requires-clause-lie g c = subst (λ (l : List Label). LieOn l (g.H.Host.seen c.args.host.now).sizes) (sym c.as_slice-labels.ensures) c.requires.lies
+
+pub shared_body-requires-clause-one_note : goal.shared_body-requires-clause-one_note
+shared_body-requires-clause-one_note g c = ap length c.as_slice.ensures ∙ c.requires.sound.one_note ∙ sym (ap length c.as_slice-labels.ensures)
+
 pub shared_body-requires-clause-low : goal.shared_body-requires-clause-low
 shared_body-requires-clause-low g c = low_last c.args.found.now.db c.args.found.now.labels c.requires.sound.group
 
@@ -48,6 +57,33 @@ pub body_of-requires-clause-high : goal.body_of-requires-clause-high
 body_of-requires-clause-high g c =
     let found = c.args.found.now in
     high_last found.db found.labels (g.H.Host.seen c.args.host.now).sizes c.requires.lies (sym c.requires.sound.blocked_is ∙ c.requires.unblocked)
+
+pub returns-in-Ok-Some-clause-core : goal.returns-in-Ok-Some-clause-core
+returns-in-Ok-Some-clause-core g c = some_keep c.in-Ok-Some.field-0 c.in-Ok-Some.body (IsCoreBody c.args.found.now.db) c.in-Ok-Some.field-0-is c.in-Ok-Some.ensures.core
+
+pub returns-in-Ok-Some-clause-alone : goal.returns-in-Ok-Some-clause-alone
+returns-in-Ok-Some-clause-alone g c tells is = absurd (true_not_false is)
+
+pub returns-in-Ok-Some-clause-faultless : goal.returns-in-Ok-Some-clause-faultless
+returns-in-Ok-Some-clause-faultless g c fault is = no_error _ _ is
+
+pub returns-in-Ok-Some-clause-looks : goal.returns-in-Ok-Some-clause-looks
+returns-in-Ok-Some-clause-looks g c = looks_as c.in-Ok-Some.ensures.looks (λ is. absurd (no_error _ _ is))
+
+pub returns-in_ok-body_of-in-Ok-None-clause-shared : goal.returns-in_ok-body_of-in-Ok-None-clause-shared
+returns-in_ok-body_of-in-Ok-None-clause-shared g c tells is = absurd (true_not_false (sym is))
+
+pub returns-in_ok-body_of-in-Ok-None-clause-faultless : goal.returns-in_ok-body_of-in-Ok-None-clause-faultless
+returns-in_ok-body_of-in-Ok-None-clause-faultless g c fault is = no_error _ _ is
+
+pub returns-in_ok-body_of-in-Ok-None-clause-core : goal.returns-in_ok-body_of-in-Ok-None-clause-core
+returns-in_ok-body_of-in-Ok-None-clause-core g c = (c.args.found.now.db, refl, c.in_ok-body_of-in-Ok-None.ensures.body)
+
+pub returns-in_ok-body_of-in-Ok-None-clause-exact : goal.returns-in_ok-body_of-in-Ok-None-clause-exact
+returns-in_ok-body_of-in-Ok-None-clause-exact g c tells = c.in_ok-body_of-in-Ok-None.ensures.body
+
+pub returns-in_ok-body_of-in-Ok-None-clause-looks : goal.returns-in_ok-body_of-in-Ok-None-clause-looks
+returns-in_ok-body_of-in-Ok-None-clause-looks g c = looks_as c.in-Ok-None.ensures.looks (λ is. absurd (no_error _ _ is))
 
 pub returns-in-Ok-Some-clause-exact : goal.returns-in-Ok-Some-clause-exact
 returns-in-Ok-Some-clause-exact g c tells =

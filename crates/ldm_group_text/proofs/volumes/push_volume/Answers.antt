@@ -1,0 +1,26 @@
+use Rattle.std.proofs.Common.{◌≡◌, ◌∙◌, ℕ, List, [], ◌++◌, Some, ap, append_assoc}
+use Rattle.std.specs.Prelude.{codes}
+use Rattle.std.proofs.lemmas.List.{append-nil}
+use Rattle.std.proofs.lemmas.Result.{IfOk-equal}
+use Rattle.ldm_records.specs.declared.types.Volume.{Volume}
+use Rattle.ldm_layout.specs.declared.shape.Shape.{Shape}
+use Rattle.ldm_group_text.specs.Volumes.{text_of_head, text_of_form, text_of_volume}
+use Rattle.ldm_group_text.proofs.volumes.push_volume.Goals as goal
+
+line_is : (start one two components : List ℕ) (v : Volume) (shape : Shape) → one ≡ start ++ text_of_head (codes "volume ") v.head → two ≡ one ++ text_of_form v shape
+    → two ++ (codes "\n" ++ (components ++ [])) ≡ start ++ text_of_volume v components (Some shape)
+unfolding text_of_volume
+line_is start one two components v shape first second =
+    ap (λ (t : List ℕ). t ++ (codes "\n" ++ (components ++ [])))
+    (second ∙ ap (λ (t : List ℕ). t ++ text_of_form v shape) first)
+    ∙ simp (append_assoc, append-nil)
+
+pub returns : goal.returns
+returns c =
+    let v = c.args.v.now in
+    let components = c.args.components.now in
+    let start = c.args.text.now in
+    let text = c.push_parts.new.text in
+    rw c.in-Some.is
+    (IfOk-equal c.push_parts.result text (c.push_form.new.text ++ (codes "\n" ++ (components ++ []))) (start ++ text_of_volume v components (Some c.in-Some.shape))
+    c.push_parts.ensures (line_is start _ _ components v c.in-Some.shape c.in_ok-push_head.ensures c.in_ok-push_form.ensures))
