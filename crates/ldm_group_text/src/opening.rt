@@ -9,7 +9,9 @@ use ldm_copy::CopyFault;
 use ldm_found::OpenFault;
 use ldm_label::LabelFault;
 use ldm_rules::RuleFault;
-use ldm_text::{Text, copy_fault_text, image_fault_text, label_fault_text, push_number};
+use ldm_text::{
+    Text, copy_fault_text, image_fault_text, label_fault_text, push_number, said_text,
+};
 use std::alloc::Global;
 
 // image I: the fault of its label
@@ -35,16 +37,6 @@ fn images_text(alloc: Global, i: usize, j: usize, said: &[u8]) -> Result<Bytes, 
     let mut text = Text::new(alloc);
     push_number(&mut text, b"images ", i as u64)?;
     push_number(&mut text, b" and ", j as u64)?;
-    text.push(said)?;
-    Ok(text.into_bytes())
-}
-
-// A word, a number and what is said of it.
-fn said_text(alloc: Global, word: &[u8], number: u64, said: &[u8]) -> Result<Bytes, NoMemory>
-    ensures { IfOk result (λ text. text ≡ word.now ++ decimal number ++ said.now) }
-{
-    let mut text = Text::new(alloc);
-    push_number(&mut text, word, number)?;
     text.push(said)?;
     Ok(text.into_bytes())
 }

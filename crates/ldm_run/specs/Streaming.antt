@@ -72,7 +72,7 @@ scrub_answer name images found =
     named_answer (λ v. laid_answer (volume_scrub name images found v) (layout_of found.db.records v)) (volume_named name found.db.records)
 
 -- room to compare some sectors at a time, for a line of 80 bytes at most for each, and for a last line that begins so
-pub record IsRoomy (front : List ℕ) (b : Buffers) : Type 0 where
+pub record FitsScrub (front : List ℕ) (b : Buffers) : Type 0 where
   pub some : 0 < length b.marks.items
   pub size : length b.out.items ≡ 512 * length b.marks.items
   pub same : length b.scratch.items ≡ length b.out.items

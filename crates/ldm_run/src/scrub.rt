@@ -8,7 +8,7 @@ ghost use Rattle.ldm_scrub.specs.Lines.{bad_of, text_of_scrub};
 ghost use Rattle.ldm_words.specs.Names.{esc};
 ghost use Rattle.ldm_words.specs.declared.job.Job.TheVariants as jobs;
 ghost use Rattle.ldm_run.specs.Runs.{DoesJob, Streams};
-ghost use Rattle.ldm_run.specs.Streaming.{is_compared, scrub_status, scrub_answer, IsRoomy};
+ghost use Rattle.ldm_run.specs.Streaming.{is_compared, scrub_status, scrub_answer, FitsScrub};
 
 use crate::running::{Status, open_group, say_made};
 use ldm_bytes::{Bytes, NoMemory};
@@ -75,7 +75,7 @@ struct Buffers {
 impl Buffers {
     // For so many sectors at a time, and a last line that begins so.
     fn new(alloc: Global, front: &[u8]) -> Result<Buffers, NoMemory>
-        ensures { IfOk result (IsRoomy front.now) }
+        ensures { IfOk result (FitsScrub front.now) }
     {
         Ok(Buffers {
             out: vec![in alloc; 0u8; 512 * SECTORS]?,
@@ -94,7 +94,7 @@ fn compare<H: Host>(
     front: &[u8],
     buffers: &mut Buffers,
 ) -> Status
-    requires room { IsRoomy front.now buffers.old }
+    requires room { FitsScrub front.now buffers.old }
     requires lies { LiesOn found.now plan.now (H.seen host.old).sizes }
     requires rows { RowsLieOn found.now plan.now (H.seen host.old).sizes }
     ensures { Streams H.tells_disks (H.seen host.old) (H.seen host.new) (λ answer. answer

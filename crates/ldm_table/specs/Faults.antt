@@ -90,9 +90,9 @@ table_text words found v l = unless (table_fault words found v l) (text_of_table
 
 unfoldable pub text_of_fault : TableFault → List ℕ
 text_of_fault Empty = codes "no sectors"
-text_of_fault (Lost x) = (codes "sector " ++ decimal x) ++ codes " is lost"
-text_of_fault (Chunk u) = (codes "chunk of " ++ decimal u) ++ codes " sectors"
+text_of_fault (Lost x) = codes "sector " ++ decimal x ++ codes " is lost"
+text_of_fault (Chunk u) = codes "chunk of " ++ decimal u ++ codes " sectors"
 text_of_fault (Columns k) = decimal k ++ codes " columns"
-text_of_fault (Rebuilt x) = (codes "sector " ++ decimal x) ++ codes " is missing in a part of a row"
-text_of_fault (Word i) = (codes "image " ++ decimal i) ++ codes ": no word of a table"
+text_of_fault (Rebuilt x) = codes "sector " ++ decimal x ++ codes " is missing in a part of a row"
+text_of_fault (Word i) = codes "image " ++ decimal i ++ codes ": no word of a table"
 text_of_fault Name = codes "name too long"

@@ -1,6 +1,6 @@
 //! Why a volume has no table.
 ghost use Rattle.std.specs.Prelude.{◌≡◌, ◌-◌, ◌<◌, ◌+◌, ◌≤◌, ℕ, true, false, IfOk, find, position};
-ghost use Rattle.std.specs.Prelude.{◌++◌, length, decimal};
+ghost use Rattle.std.specs.Prelude.{length};
 ghost use Rattle.std.specs.List.{range_with_len, list_all, list_any};
 ghost use Rattle.ldm_words.specs.Names.{is_plain};
 ghost use Rattle.ldm_layout.specs.Columns.{columns_of};
@@ -16,7 +16,7 @@ use ldm_bytes::{Bytes, NoMemory};
 use ldm_dump::{lost, run_at};
 use ldm_found::Found;
 use ldm_layout::{Plan, Shape};
-use ldm_text::{Text, push_number};
+use ldm_text::said_text;
 use ldm_words::is_plain;
 use std::alloc::Global;
 
@@ -151,16 +151,6 @@ pub(crate) fn is_one_long(members: &[Option<Member>]) -> bool
         }
     }
     false
-}
-
-// A word, a number and what is said of it.
-fn said_text(alloc: Global, word: &[u8], number: u64, said: &[u8]) -> Result<Bytes, NoMemory>
-    ensures { IfOk result (λ text. text ≡ (word.now ++ decimal number) ++ said.now) }
-{
-    let mut text = Text::new(alloc);
-    push_number(&mut text, word, number)?;
-    text.push(said)?;
-    Ok(text.into_bytes())
 }
 
 /// The text of a fault.

@@ -1,5 +1,5 @@
 //! Names as they are said.
-ghost use Rattle.std.specs.Prelude.{◌≡◌, ◌<◌, ◌++◌, OnOk, codes, decimal};
+ghost use Rattle.std.specs.Prelude.{◌≡◌, ◌<◌, ◌++◌, IfOk, OnOk, codes, decimal};
 ghost use Rattle.ldm_bytes.specs.Guid.{own_guid};
 ghost use Rattle.ldm_words.specs.Names.{hex_digit, hex_byte, esc_byte, esc};
 ghost use Rattle.ldm_text.specs.Texts.{guid_of_volume};
@@ -7,9 +7,10 @@ ghost use Rattle.ldm_text.specs.Texts.{guid_of_volume};
 use crate::growing::Text;
 use crate::parts::{Part, push_parts};
 use byteorder::{BigEndian, ByteOrder};
-use ldm_bytes::NoMemory;
+use ldm_bytes::{Bytes, NoMemory};
 use ldm_records::Volume;
 use ldm_words::is_plain;
+use std::alloc::Global;
 
 fn hex_digit(d: u8) -> u8
     requires { d < 16 }
@@ -54,6 +55,21 @@ pub fn push_number(text: &mut Text, word: &[u8], number: u64) -> Result<(), NoMe
     ensures { OnOk result (text.new ≡ text.old ++ (word.now ++ decimal number)) }
 {
     push_parts(text, &[Part::Word(word), Part::Number(number)])
+}
+
+/// The text of a number behind a word, and of what is said of it.
+pub fn said_text(
+    alloc: Global,
+    word: &[u8],
+    number: u64,
+    said: &[u8],
+) -> Result<Bytes, NoMemory>
+    ensures { IfOk result (λ text. text ≡ word.now ++ decimal number ++ said.now) }
+{
+    let mut text = Text::new(alloc);
+    push_number(&mut text, word, number)?;
+    text.push(said)?;
+    Ok(text.into_bytes())
 }
 
 /// A name behind a word.
