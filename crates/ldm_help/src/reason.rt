@@ -6,8 +6,13 @@ use ldm_words::{image_count, read_name, read_number};
 use std::alloc::{AllocError, Global};
 use strsim::levenshtein;
 
-// A part of the words that is right, or why not.
+// A part of the words that is right, or why not. Of parts that are joined by `and` the first wrong
+// one is said.
 type Read<'a> = Result<(), UsageError<'a>>;
+
+fn check(right: bool, wrong: UsageError<'_>) -> Read<'_> {
+    if right { Ok(()) } else { Err(wrong) }
+}
 
 impl From<NoMemory> for UsageError<'_> {
     fn from(_error: NoMemory) -> Self {
@@ -15,27 +20,23 @@ impl From<NoMemory> for UsageError<'_> {
     }
 }
 
-impl From<AllocError> for UsageError<'_> {
-    fn from(_error: AllocError) -> Self {
-        UsageError::NoMemory
+// The help up to this text.
+fn help_to(end: &str) -> &'static str {
+    match HELP.split_once(end) {
+        Some((front, _)) => front,
+        None => HELP,
     }
 }
 
 // The part of the help that says the jobs: the form of each in a line that begins with two spaces.
 fn jobs() -> &'static str {
-    match HELP.split_once("A line of a script") {
-        Some((jobs, _)) => jobs,
-        None => HELP,
-    }
+    help_to("A line of a script")
 }
 
 // The form of a job that a line of the help says, if it says one.
 fn form_in(line: &'static str) -> Option<&'static str> {
     let text = line.strip_prefix("  ")?;
-    match text.split_once("  ") {
-        Some((form, _)) => Some(form),
-        None => Some(text),
-    }
+    text.split("  ").next()
 }
 
 // The first word of a form.
@@ -46,62 +47,66 @@ fn word_of(form: &'static str) -> &'static str {
     }
 }
 
-// The form of the job of this name.
-fn form_of(name: &str) -> Option<&'static str> {
-    for line in jobs().lines() {
-        if let Some(form) = form_in(line)
-            && word_of(form) == name
-            && name != COMMAND
-        {
-            return Some(form);
-        }
-    }
-    None
-}
-
 // What stands in the help for a command.
 const COMMAND: &str = "COMMAND";
 
-// The one of two words that takes fewer changes to be this word, the first where they take as many;
-// with how many.
+// The form of a job or a command, and how many changes its name takes to be a word.
 type Near = (&'static str, usize);
 
-fn nearer(alloc: Global, word: &str, best: Near, name: &'static str) -> Result<Near, AllocError> {
+// The nearer of two forms, the first where they are as near.
+fn nearer(alloc: Global, word: &str, best: Near, form: &'static str) -> Result<Near, AllocError> {
+    let name = word_of(form);
     let changes = levenshtein(alloc, word, name)?;
     if changes < best.1 && name != COMMAND {
-        Ok((name, changes))
+        Ok((form, changes))
     } else {
         Ok(best)
     }
 }
 
-// The job or the command whose name takes the fewest changes to be this word.
-fn nearest(alloc: Global, word: &str) -> Result<&'static str, AllocError> {
-    let mut best = ("show", usize::MAX);
-    for line in jobs().lines() {
+// The nearest of those that the help says, up to the words of a batch.
+fn nearest(alloc: Global, word: &str) -> Result<Near, AllocError> {
+    let mut best = ("", usize::MAX);
+    for line in help_to("  begin ").lines() {
         if let Some(form) = form_in(line) {
-            best = nearer(alloc, word, best, word_of(form))?;
+            best = nearer(alloc, word, best, form)?;
         }
     }
-    let best = nearer(alloc, word, best, "create")?;
-    let best = nearer(alloc, word, best, "extend")?;
-    let best = nearer(alloc, word, best, "delete")?;
-    Ok(best.0)
+    Ok(best)
 }
 
-fn number<'a>(what: &'static str, word: &'a str) -> Read<'a> {
-    match read_number(word.as_bytes()) {
-        Some(_) => Ok(()),
-        None => Err(UsageError::Number {
-            what,
-            word: Shown(word),
-        }),
+// What a word has to be.
+#[derive(Clone, Copy)]
+enum Is {
+    Name,
+    NewVolume,
+    NewGroup,
+    Number,
+    Guid,
+    // DISK=SECTORS.
+    Piece,
+    // What it has to be is said by what is read behind it.
+    Any,
+}
+
+// A part of a form that a word stands for: what the form says there, and what the word has to be.
+type Part = (&'static str, Is);
+
+// The bytes of a name, which are bounded where it is of something new.
+fn new_name<'a>(is: Is, word: &'a str, name: &[u8]) -> Read<'a> {
+    let len = name.len();
+    let word = Shown(word);
+    match is {
+        Is::NewVolume if !(1..=63).contains(&len) => Err(UsageError::NewName { word, len }),
+        Is::NewGroup if !(1..=30).contains(&len) => Err(UsageError::GroupName { word, len }),
+        Is::NewGroup if name.contains(&0) => Err(UsageError::Zero { word }),
+        _ => Ok(()),
     }
 }
 
-fn name<'a>(alloc: Global, what: &'static str, word: &'a str) -> Read<'a> {
+fn name<'a>(alloc: Global, (what, is): Part, word: &'a str) -> Read<'a> {
     match read_name(alloc, word.as_bytes())? {
-        Some(_) => Ok(()),
+        Some(name) => new_name(is, word, name.as_slice()),
         None => Err(UsageError::Name {
             what,
             word: Shown(word),
@@ -109,185 +114,128 @@ fn name<'a>(alloc: Global, what: &'static str, word: &'a str) -> Read<'a> {
     }
 }
 
-// The name of a new volume.
-fn new_name<'a>(alloc: Global, word: &'a str) -> Read<'a> {
-    let Some(name) = read_name(alloc, word.as_bytes())? else {
-        return Err(UsageError::Name {
-            what: "NAME",
-            word: Shown(word),
-        });
-    };
-    let len = name.as_slice().len();
-    if (1..=63).contains(&len) {
-        Ok(())
-    } else {
-        Err(UsageError::NewName {
-            word: Shown(word),
-            len,
-        })
+// Whether a word is DISK=SECTORS, split at the last `=`.
+fn is_piece(alloc: Global, word: &str) -> Result<bool, NoMemory> {
+    match word.rsplit_once('=') {
+        Some((disk, sectors)) if read_number(sectors.as_bytes()).is_some() => {
+            Ok(read_name(alloc, disk.as_bytes())?.is_some())
+        }
+        _ => Ok(false),
     }
 }
 
-// The name of a new group.
-fn group_name<'a>(alloc: Global, word: &'a str) -> Read<'a> {
-    let Some(name) = read_name(alloc, word.as_bytes())? else {
-        return Err(UsageError::Name {
-            what: "NAME",
-            word: Shown(word),
-        });
-    };
-    let bytes = name.as_slice();
-    if !(1..=30).contains(&bytes.len()) {
-        Err(UsageError::GroupName {
-            word: Shown(word),
-            len: bytes.len(),
-        })
-    } else if bytes.contains(&0) {
-        Err(UsageError::Zero { word: Shown(word) })
-    } else {
-        Ok(())
+// A word that stands for a part of a form.
+fn part<'a>(alloc: Global, part: Part, text: &'a str) -> Read<'a> {
+    let (what, is) = part;
+    let word = Shown(text);
+    match is {
+        Is::Name | Is::NewVolume | Is::NewGroup => name(alloc, part, text),
+        Is::Number => check(
+            read_number(text.as_bytes()).is_some(),
+            UsageError::Number { what, word },
+        ),
+        Is::Guid => check(
+            read_guid(text.as_bytes()).is_some(),
+            UsageError::Guid { word },
+        ),
+        Is::Piece => check(is_piece(alloc, text)?, UsageError::Piece { word }),
+        Is::Any => Ok(()),
     }
 }
 
-fn guid(word: &str) -> Read<'_> {
-    match read_guid(word.as_bytes()) {
-        Some(_) => Ok(()),
-        None => Err(UsageError::Guid { word: Shown(word) }),
+// The part of a form by its name, which is that in the help, or says more than the form does.
+fn part_of(name: &'static str) -> Part {
+    match name {
+        "VOLUME" | "NAME" => (name, Is::Name),
+        "NEWVOLUME" => ("NAME", Is::NewVolume),
+        "NEWGROUP" => ("NAME", Is::NewGroup),
+        "GUID" => (name, Is::Guid),
+        "DISKGUID" => (name, Is::Any),
+        "KIND" => ("the kind of volume", Is::Any),
+        _ => (name, Is::Number),
     }
 }
 
-// DISK=SECTORS, split at the last `=`.
-fn piece<'a>(alloc: Global, word: &'a str) -> Read<'a> {
-    let bytes = word.as_bytes();
-    let wrong = Err(UsageError::Piece { word: Shown(word) });
-    let Some(place) = bytes.iter().rposition(|c| *c == b'=') else {
-        return wrong;
-    };
-    if read_number(&bytes[place + 1..]).is_none() || read_name(alloc, &bytes[..place])?.is_none() {
-        return wrong;
+// As many words as there are: each as the part whose name stands in its place, behind the job's.
+fn each_part<'a>(alloc: Global, names: &'static str, words: &'a [String]) -> Read<'a> {
+    for (name, word) in names.split(' ').skip(1).zip(words) {
+        part(alloc, part_of(name), word.as_str())?;
     }
     Ok(())
 }
 
-// As many as a form takes.
-fn counted<'a>(kind: &'static str, least: usize, what: &'static str, count: usize) -> Read<'a> {
-    if (least..=64).contains(&count) {
-        Ok(())
-    } else {
-        Err(UsageError::Count {
+// The parts that a form begins with, by their names behind the job's: wants a word for each.
+fn parts<'a>(
+    alloc: Global,
+    form: &'static str,
+    names: &'static str,
+    words: &'a [String],
+) -> Read<'a> {
+    match names.split(' ').skip(1).nth(words.len()) {
+        Some(name) => Err(UsageError::Missing {
+            form,
+            what: part_of(name).0,
+        }),
+        None => each_part(alloc, names, words),
+    }
+}
+
+// The words behind this many.
+fn behind(words: &[String], count: usize) -> &[String] {
+    words.get(count..).unwrap_or(&[])
+}
+
+// The list that a form ends in: as many words as it takes, each of one kind.
+fn list<'a>(
+    alloc: Global,
+    kind: &'static str,
+    least: usize,
+    (what, is): Part,
+    words: &'a [String],
+) -> Read<'a> {
+    let count = words.len();
+    if !(least..=64).contains(&count) {
+        return Err(UsageError::Count {
             kind,
             least,
             what,
             count,
-        })
+        });
     }
-}
-
-fn pieces<'a>(alloc: Global, kind: &'static str, words: &'a [String]) -> Read<'a> {
-    counted(kind, 1, "pieces", words.len())?;
     for word in words {
-        piece(alloc, word.as_str())?;
+        part(alloc, ("DISK", is), word.as_str())?;
     }
     Ok(())
 }
 
-fn disks<'a>(alloc: Global, kind: &'static str, least: usize, words: &'a [String]) -> Read<'a> {
-    counted(kind, least, "disks", words.len())?;
-    for word in words {
-        name(alloc, "DISK", word.as_str())?;
-    }
-    Ok(())
-}
-
-// Wants each word that a form names: the form, its words and what stands for them.
-fn all_there<'a>(form: &'static str, names: &[&'static str], words: &[String]) -> Read<'a> {
-    match names.get(words.len()) {
-        Some(what) => Err(UsageError::Missing { form, what: *what }),
-        None => Ok(()),
-    }
-}
-
-// Refuses what stands behind the words of a form.
-fn no_more<'a>(form: &'static str, rest: &'a [String]) -> Read<'a> {
+// Refuses what stands behind the parts of a form, where there is an `on` or the form has none: else
+// the images stand there.
+fn no_more<'a>(form: &'static str, rest: &'a [String], on: Option<usize>) -> Read<'a> {
     match rest {
-        [word, ..] => Err(UsageError::Extra {
+        [word, ..] if on.is_some() || !form.contains(" on ") => Err(UsageError::Extra {
             form,
             word: Shown(word.as_str()),
         }),
-        [] => Ok(()),
+        _ => Ok(()),
     }
 }
 
-// The image behind `on`.
-fn image<'a>(job: &'static str, on: Option<usize>) -> Read<'a> {
+// The images behind `on` that the end of a form says: one, those of a group, or none.
+fn images<'a>(form: &'static str, on: Option<usize>) -> Read<'a> {
+    let job = word_of(form);
+    let end = match form.split_once(" on ") {
+        Some((_, end)) => end,
+        None => "",
+    };
     match on {
+        None if end.is_empty() => Ok(()),
+        Some(_) if end.is_empty() => Err(UsageError::Images { job }),
         None => Err(UsageError::NoOn { job }),
         Some(0) => Err(UsageError::NoImages),
         Some(1) => Ok(()),
-        Some(count) => Err(UsageError::OneImage { job, count }),
-    }
-}
-
-// The images of a group behind `on`.
-fn images<'a>(job: &'static str, on: Option<usize>) -> Read<'a> {
-    match on {
-        None => Err(UsageError::NoOn { job }),
-        Some(0) => Err(UsageError::NoImages),
-        Some(1..=64) => Ok(()),
+        Some(count) if end == "IMAGE" => Err(UsageError::OneImage { job, count }),
+        Some(2..=64) => Ok(()),
         Some(count) => Err(UsageError::ManyImages { count }),
-    }
-}
-
-// No image.
-fn no_images<'a>(job: &'static str, on: Option<usize>) -> Read<'a> {
-    match on {
-        Some(_) => Err(UsageError::Images { job }),
-        None => Ok(()),
-    }
-}
-
-// No more words, where there is an `on`: without one the images stand there.
-fn plain<'a>(form: &'static str, rest: &'a [String], on: Option<usize>) -> Read<'a> {
-    match on {
-        Some(_) => no_more(form, rest),
-        None => Ok(()),
-    }
-}
-
-// A word that stands for one of a form: VOLUME and NAME are names, and any other is a number.
-fn worded<'a>(alloc: Global, what: &'static str, word: &'a str) -> Read<'a> {
-    if what == "VOLUME" || what == "NAME" {
-        name(alloc, what, word)
-    } else {
-        number(what, word)
-    }
-}
-
-// Each word of a form, and no more.
-fn words_by<'a>(
-    alloc: Global,
-    form: &'static str,
-    names: &[&'static str],
-    rest: &'a [String],
-    on: Option<usize>,
-) -> Read<'a> {
-    all_there(form, names, rest)?;
-    for (what, word) in names.iter().zip(rest) {
-        worded(alloc, *what, word.as_str())?;
-    }
-    if names.len() <= rest.len() {
-        plain(form, &rest[names.len()..], on)
-    } else {
-        Ok(())
-    }
-}
-
-// The images that the end of a form says.
-fn images_by<'a>(job: &'static str, end: &'static str, on: Option<usize>) -> Read<'a> {
-    if end == "IMAGE" {
-        image(job, on)
-    } else {
-        images(job, on)
     }
 }
 
@@ -295,160 +243,120 @@ fn images_by<'a>(job: &'static str, end: &'static str, on: Option<usize>) -> Rea
 fn by_form<'a>(
     alloc: Global,
     form: &'static str,
-    rest: &'a [String],
+    words: &'a [String],
     on: Option<usize>,
 ) -> Read<'a> {
-    let (front, end) = match form.split_once(" on ") {
-        Some(parts) => parts,
-        None => (form, ""),
+    let names = match form.split_once(" on ") {
+        Some((names, _)) => names,
+        None => form,
     };
-    let mut names = Vec::new(alloc);
-    for name in front.split(' ').skip(1) {
-        if names.push(name).is_err() {
-            return Err(UsageError::NoMemory);
-        }
-    }
-    if !end.is_empty() {
-        words_by(alloc, form, &names, rest, on)?;
-        images_by(word_of(form), end, on)
-    } else {
-        words_by(alloc, form, &names, rest, Some(0))?;
-        no_images(word_of(form), on)
-    }
+    let rest = behind(words, names.matches(' ').count());
+    parts(alloc, form, names, words)
+        .and(no_more(form, rest, on))
+        .and(images(form, on))
 }
 
-// CHUNK SECTORS DISK..
-fn columns<'a>(
-    alloc: Global,
-    form: &'static str,
-    kind: &'static str,
-    least: usize,
-    words: &'a [String],
-) -> Read<'a> {
-    all_there(form, &["CHUNK", "SECTORS"], words)?;
-    if let [chunk, sectors, rest @ ..] = words {
-        number("CHUNK", chunk.as_str())?;
-        number("SECTORS", sectors.as_str())?;
-        disks(alloc, kind, least, rest)?;
-    }
-    Ok(())
-}
-
-// SECTORS DISK..
-fn copies<'a>(alloc: Global, words: &'a [String]) -> Read<'a> {
-    let form = "create NAME GUID mirror SECTORS DISK DISK... on IMAGE...";
-    all_there(form, &["SECTORS"], words)?;
-    if let [sectors, rest @ ..] = words {
-        number("SECTORS", sectors.as_str())?;
-        disks(alloc, "a mirror", 2, rest)?;
-    }
-    Ok(())
+// The disks that a form ends in.
+fn disks<'a>(alloc: Global, kind: &'static str, least: usize, words: &'a [String]) -> Read<'a> {
+    list(alloc, kind, least, ("disks", Is::Name), words)
 }
 
 fn layout<'a>(alloc: Global, kind: &'a str, words: &'a [String]) -> Read<'a> {
     match kind {
-        "span" => pieces(alloc, "a span", words),
+        "span" => list(alloc, "a span", 1, ("pieces", Is::Piece), words),
         "stripe" => {
             let form = "create NAME GUID stripe CHUNK SECTORS DISK DISK... on IMAGE...";
-            columns(alloc, form, "a stripe", 2, words)
+            parts(alloc, form, "stripe CHUNK SECTORS", words).and(disks(
+                alloc,
+                "a stripe",
+                2,
+                behind(words, 2),
+            ))
         }
-        "mirror" => copies(alloc, words),
+        "mirror" => {
+            let form = "create NAME GUID mirror SECTORS DISK DISK... on IMAGE...";
+            parts(alloc, form, "mirror SECTORS", words).and(disks(
+                alloc,
+                "a mirror",
+                2,
+                behind(words, 1),
+            ))
+        }
         "raid5" => {
             let form = "create NAME GUID raid5 CHUNK SECTORS DISK DISK DISK... on IMAGE...";
-            columns(alloc, form, "a raid5", 3, words)
+            parts(alloc, form, "raid5 CHUNK SECTORS", words).and(disks(
+                alloc,
+                "a raid5",
+                3,
+                behind(words, 2),
+            ))
         }
         _ => Err(UsageError::Kind { word: Shown(kind) }),
     }
 }
 
-fn create<'a>(alloc: Global, rest: &'a [String]) -> Read<'a> {
+fn create<'a>(alloc: Global, words: &'a [String], on: Option<usize>) -> Read<'a> {
     let form = "create NAME GUID span|stripe|mirror|raid5 .. on IMAGE...";
-    all_there(form, &["NAME", "GUID", "the kind of volume"], rest)?;
-    if let [name, id, kind, words @ ..] = rest {
-        new_name(alloc, name.as_str())?;
-        guid(id.as_str())?;
-        layout(alloc, kind.as_str(), words)?;
+    let front = parts(alloc, form, "create NEWVOLUME GUID KIND", words);
+    match words {
+        [_, _, kind, rest @ ..] => front
+            .and(layout(alloc, kind.as_str(), rest))
+            .and(images(form, on)),
+        _ => front,
     }
-    Ok(())
 }
 
-fn extend<'a>(alloc: Global, rest: &'a [String]) -> Read<'a> {
+fn extend<'a>(alloc: Global, words: &'a [String], on: Option<usize>) -> Read<'a> {
     let form = "extend NAME DISK=SECTORS... on IMAGE...";
-    all_there(form, &["NAME"], rest)?;
-    if let [volume, words @ ..] = rest {
-        name(alloc, "NAME", volume.as_str())?;
-        pieces(alloc, "extend", words)?;
-    }
-    Ok(())
+    let pieces = ("pieces", Is::Piece);
+    parts(alloc, form, "extend NAME", words)
+        .and(list(alloc, "extend", 1, pieces, behind(words, 1)))
+        .and(images(form, on))
 }
 
-fn delete<'a>(alloc: Global, rest: &'a [String], on: Option<usize>) -> Read<'a> {
-    let form = "delete NAME on IMAGE...";
-    all_there(form, &["NAME"], rest)?;
-    if let [volume, more @ ..] = rest {
-        name(alloc, "NAME", volume.as_str())?;
-        plain(form, more, on)?;
-    }
-    Ok(())
-}
-
-// As many images as disks.
-fn for_each_disk<'a>(disks: usize, on: Option<usize>) -> Read<'a> {
-    images("init", on)?;
-    if on == Some(disks) {
-        Ok(())
-    } else {
-        Err(UsageError::Unlike {
-            disks,
-            images: on.unwrap_or(0),
-        })
-    }
-}
-
-fn init<'a>(alloc: Global, rest: &'a [String], on: Option<usize>) -> Read<'a> {
+fn init<'a>(alloc: Global, words: &'a [String], on: Option<usize>) -> Read<'a> {
     let form = "init NAME GUID DISKGUID DISKGUID... on IMAGE...";
-    all_there(form, &["NAME", "GUID", "DISKGUID"], rest)?;
-    if let [name, id, disks @ ..] = rest {
-        group_name(alloc, name.as_str())?;
-        guid(id.as_str())?;
-        counted("init", 2, "DISKGUIDs", disks.len())?;
-        for disk in disks {
-            guid(disk.as_str())?;
-        }
-        for_each_disk(disks.len(), on)?;
-    }
-    Ok(())
+    let ids = behind(words, 2);
+    let disks = ids.len();
+    let count = on.unwrap_or(0);
+    parts(alloc, form, "init NEWGROUP GUID DISKGUID", words)
+        .and(list(alloc, "init", 2, ("DISKGUIDs", Is::Guid), ids))
+        .and(images(form, on))
+        .and(check(
+            disks == count,
+            UsageError::Unlike {
+                disks,
+                images: count,
+            },
+        ))
 }
 
-// The words before `on`, and how many stand behind it.
+// A job that the help says, or the one whose name is the nearest to this word.
+fn by_help<'a>(alloc: Global, word: &'a str, rest: &'a [String], on: Option<usize>) -> Read<'a> {
+    match nearest(alloc, word) {
+        Ok((form, 0)) => by_form(alloc, form, rest, on),
+        Ok((form, _)) => Err(UsageError::UnknownJob {
+            word: Shown(word),
+            nearest: word_of(form),
+        }),
+        Err(_) => Err(UsageError::NoMemory),
+    }
+}
+
+// The words before `on`, and how many images stand behind it.
 fn job<'a>(alloc: Global, words: &'a [String], on: Option<usize>) -> Read<'a> {
     let [word, rest @ ..] = words else {
         return Err(UsageError::NoJob);
     };
     match word.as_str() {
         "init" => init(alloc, rest, on),
-        "create" => {
-            create(alloc, rest)?;
-            images("create", on)
-        }
-        "extend" => {
-            extend(alloc, rest)?;
-            images("extend", on)
-        }
-        "delete" => {
-            delete(alloc, rest, on)?;
-            images("delete", on)
-        }
+        "create" => create(alloc, rest, on),
+        "extend" => extend(alloc, rest, on),
+        "delete" => by_form(alloc, "delete NAME on IMAGE...", rest, on),
         "begin" | "commit" | "cancel" => Err(UsageError::OfBatch {
             word: Shown(word.as_str()),
         }),
-        word => match form_of(word) {
-            Some(form) => by_form(alloc, form, rest, on),
-            None => Err(UsageError::UnknownJob {
-                word: Shown(word),
-                nearest: nearest(alloc, word)?,
-            }),
-        },
+        word => by_help(alloc, word, rest, on),
     }
 }
 
