@@ -9,9 +9,7 @@ use ldm_copy::CopyFault;
 use ldm_found::OpenFault;
 use ldm_label::LabelFault;
 use ldm_rules::RuleFault;
-use ldm_text::{
-    Text, copy_fault_text, image_fault_text, label_fault_text, push_number, said_text,
-};
+use ldm_text::{Text, copy_fault_text, image_fault_text, label_fault_text, push_number, said_text};
 use std::alloc::Global;
 
 // image I: the fault of its label

@@ -58,12 +58,7 @@ pub fn push_number(text: &mut Text, word: &[u8], number: u64) -> Result<(), NoMe
 }
 
 /// The text of a number behind a word, and of what is said of it.
-pub fn said_text(
-    alloc: Global,
-    word: &[u8],
-    number: u64,
-    said: &[u8],
-) -> Result<Bytes, NoMemory>
+pub fn said_text(alloc: Global, word: &[u8], number: u64, said: &[u8]) -> Result<Bytes, NoMemory>
     ensures { IfOk result (λ text. text ≡ word.now ++ decimal number ++ said.now) }
 {
     let mut text = Text::new(alloc);
