@@ -63,17 +63,3 @@ impl Bytes {
         Bytes::from_slice(alloc, self.as_slice())
     }
 }
-
-#[cfg(test)]
-mod tests {
-    use super::*;
-    use std::test::Fail;
-
-    #[test]
-    fn copies(rt: HostRuntime) -> Result<(), Fail> {
-        let bytes = Bytes::from_slice(rt.alloc(), b"LDM")?;
-        let copy = bytes.clone_in(rt.alloc())?;
-        assert_eq!(rt; copy.as_slice(), b"LDM".as_slice());
-        Ok(())
-    }
-}

@@ -60,24 +60,3 @@ pub fn put_bytes(buf: &mut [u8], at: usize, bytes: &[u8])
 {
     buf[at..at + bytes.len()].copy_from_slice(bytes);
 }
-
-#[cfg(test)]
-mod tests {
-    use super::*;
-
-    #[test]
-    fn high_byte_first(rt: HostRuntime) {
-        let bytes = [0xFF, 0x01, 0x02, 0x03, 0x04, 0x05, 0x06, 0x07, 0x08];
-        assert_eq!(rt; get_u16(&bytes, 1), 0x0102);
-        assert_eq!(rt; get_u32(&bytes, 1), 0x0102_0304);
-        assert_eq!(rt; get_u64(&bytes, 1), 0x0102_0304_0506_0708);
-        let mut written = [0xFFu8; 16];
-        put_u16(&mut written, 0, 0x0102);
-        put_u32(&mut written, 3, 0x0304_0506);
-        put_u64(&mut written, 8, 0x0708_090A_0B0C_0D0E);
-        let want = [
-            1, 2, 0xFF, 3, 4, 5, 6, 0xFF, 7, 8, 9, 0x0A, 0x0B, 0x0C, 0x0D, 0x0E,
-        ];
-        assert_eq!(rt; written.as_slice(), want.as_slice());
-    }
-}

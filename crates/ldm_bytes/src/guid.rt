@@ -37,25 +37,3 @@ fn put_text(out: &mut [u8], text: &[u8])
 {
     out[..36].copy_from_slice(text);
 }
-
-#[cfg(test)]
-mod tests {
-    use super::*;
-
-    #[test]
-    fn reads_either_case_and_writes_lower(rt: HostRuntime) {
-        let guid = 0xAAAA_AAAA_BBBB_CCCC_DDDD_0123_4567_89AB;
-        let upper = b"AAAAAAAA-bbbb-CCCC-dddd-0123456789aB";
-        assert_eq!(rt; read_guid(upper), Some(guid));
-        let mut text = [0u8; 38];
-        write_guid(guid, &mut text);
-        assert_eq!(rt;
-            text.as_slice(),
-            b"aaaaaaaa-bbbb-cccc-dddd-0123456789ab\0\0".as_slice()
-        );
-        assert_eq!(rt; read_guid(&upper[..35]), None);
-        assert_eq!(rt; read_guid(b"AAAAAAAA-bbbb-CCCC-dddd+0123456789aB"), None);
-        assert_eq!(rt; read_guid(b"{AAAAAAAA-bbbb-CCCC-dddd-0123456789aB}"), None);
-        assert_eq!(rt; read_guid(b"AAAAAAAAbbbbCCCCdddd0123456789aB"), None);
-    }
-}
