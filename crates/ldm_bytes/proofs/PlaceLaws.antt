@@ -82,16 +82,3 @@ put-put old at first second fits =
     ap (λ (r : List ℕ). r ++ second ++ drop (n + length second) (put old at first)) before
     ∙ ap (λ (r : List ℕ). (take at old ++ first) ++ second ++ r) behind
     ∙ ap (λ (r : List ℕ). r ++ drop (at + length (first ++ second)) old) (append_assoc (take at old) first second)
-
--- the bytes of the number that stands at a place, put there again
-pub put_again : (old : List ℕ) (at n : ℕ) → at + n ≤ length old → ((i : ℕ) → get_or old i 0 < 256) → put old at (big_bytes n (big_number n (drop at old))) ≡ old
-put_again old at n fits small =
-    let bytes : big_bytes n (big_number n (drop at old)) ≡ take n (drop at old) =
-    big_back n (drop at old) (omega (arith, length-drop at old)) (λ i. omega (arith, get_or-drop at old i 0, small (at + i))) in
-    let len : length (take n (drop at old)) ≡ n = omega (arith, length-take n (drop at old), length-drop at old) in
-    ap (put old at) bytes
-    ∙ append_assoc (take at old) (take n (drop at old)) (drop (at + length (take n (drop at old))) old)
-    ∙ ap (λ (k : ℕ). take at old ++ (take n (drop at old) ++ drop (at + k) old)) len
-    ∙ ap (λ (r : List ℕ). take at old ++ (take n (drop at old) ++ r)) (sym (drop-drop n at old))
-    ∙ ap (λ (r : List ℕ). take at old ++ r) (take-append-drop n (drop at old))
-    ∙ take-append-drop at old

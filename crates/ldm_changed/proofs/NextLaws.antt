@@ -43,13 +43,6 @@ pub record IsWovenUpTo (N old : List Record) (kept made : List (List ℕ)) (j : 
   pub kept_are : AreTaken (has_record old) N kept j taken.0 table
   pub made_are : AreTaken (lacks old) N made j taken.1 table
 
-pub woven_none : (N old : List Record) (kept made : List (List ℕ)) → IsWovenUpTo N old kept made 0 (0, 0) []
-woven_none N old kept made = record {
-  size = refl;
-  kept_are = record { many = refl; same = refl };
-  made_are = record { many = refl; same = refl };
-}
-
 count_front : (p : Record → Bool) (N : List Record) (j : ℕ) → length (filter p (take j N)) ≤ length (filter p N)
 count_front p N j =
     let whole : filter p N ≡ filter p (take j N) ++ filter p (drop j N) = ap (filter p) (sym (take-append-drop j N)) ∙ filter-append p (take j N) (drop j N) in

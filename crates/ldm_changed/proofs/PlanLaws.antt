@@ -92,15 +92,6 @@ pub record IsFreedUpTo (S : List Stored) (new : List Record) (i : ℕ) (before o
   pub others : (b : ℕ) → 4 ≤ b → All (Avoids b) (filter (record_goes new) (take i S)) → block_at out b ≡ block_at before b
   pub there : All (λ (s : Stored). Contains new s.record_is) (filter (record_stays new) (take i S))
 
--- none was looked at
-pub freed_none : (S : List Stored) (new : List Record) (before : List ℕ) → Holds before (map placed_of S) → IsFreedUpTo S new 0 before before []
-freed_none S new before holds = record {
-  kept_is = refl;
-  holds = holds;
-  others = λ b low avoid. refl;
-  there = All-nil (λ (s : Stored). Contains new s.record_is);
-}
-
 module _ (S : List Stored) (new : List Record) (i : ℕ) (x : Stored) (lt : i < length S) (at : get_or S i x ≡ x) where
   drop_step : drop i S ≡ x ∷ drop (i + 1) S
   drop_step = drop_more S i x lt ∙ ap (λ (y : Stored). y ∷ drop (i + 1) S) at

@@ -209,13 +209,6 @@ passing_within n k p e = omega (
   passing_least n k p e,
 )
 
--- no block was looked at
-pub places_none : (blocks places : List ℕ) → places ≡ replicate (4 * count blocks) (count blocks + 4) → HasPlaces blocks 0 places
-places_none blocks places is = record {
-  size = ap (λ (l : List ℕ). length l) is ∙ length-replicate (4 * count blocks) (count blocks + 4);
-  at = λ g p low high few. ap (λ (l : List ℕ). table_place l g p) is ∙ get_or-replicate (4 * count blocks) (4 * (g - 4) + p) (count blocks + 4) 0 (omega (arith, low, high, few));
-}
-
 -- block k, by what was read of its head
 module _ (blocks places : List ℕ) (k n G P : ℕ) (has : HasPlaces blocks k places)
     (in_range : k < count blocks) (is_n : n ≡ parts blocks k) (is_g : G ≡ group blocks k)

@@ -236,16 +236,3 @@ module _ {E : Type 0} (labels : List Label) (db : Database) (old : Option Drafte
   answered_draft turned (Err e) of keeps is unchanged = subst (AreDrafts labels db) (sym unchanged) of
   answered_draft turned (Ok answer) of keeps is unchanged =
       (let one = kept_one turned (Ok answer) keeps is in then_draft labels db one.0 old answer new of (λ held. one.1) one.2)
-
--- ---- from line to line
-
--- what a line comes to leaves a good state good
-pub stays_good : (labels : List Label) (state : State) (verdict : Verdict) → IsGood labels state → VerdictKeeps labels state.db verdict → IsGood labels (state_by state verdict)
-stays_good labels state (verdicts.Next next) good keeps = record { sound = keeps.sound; areas = good.areas; draft = no_draft labels next }
-stays_good labels state (verdicts.Hold draft) good keeps = record {
-  sound = good.sound;
-  areas = good.areas;
-  draft = some_draft labels state.db draft keeps;
-}
-stays_good labels state verdicts.GiveUp good keeps = record { sound = good.sound; areas = good.areas; draft = no_draft labels state.db }
-stays_good labels state (verdicts.Refused refusal) good keeps = good

@@ -131,8 +131,3 @@ pub olds_are : (records : List Record) (v : Volume) (ss : List Share) → map (�
     → filter (is_child 3 v.head.id) records ≡ olds ss
 olds_are records v ss are =
     named_components v.head.id records ∙ ap (map (λ (c : Component). kinds.Component c)) (sym are) ∙ map_map (λ (c : Component). kinds.Component c) (λ (s : Share). s.c) ss
-
--- what is made of the components that were found
-pub made_by : (records : List Record) (v : Volume) (cs : List Component) (size id : ℕ) (ts : List Taken) → cs ≡ components_of v records
-    → there (option_map kinds.Volume (resized v size) ∷ (grown_components cs ++ grown_parts records id cs ts)) ≡ grown_made records v size id ts
-made_by records v cs size id ts is = λ i. there (option_map kinds.Volume (resized v size) ∷ (grown_components (is i) ++ grown_parts records id (is i) ts))

@@ -8,6 +8,8 @@ mod commands;
 #[cfg(test)]
 mod frags;
 #[cfg(test)]
+mod help;
+#[cfg(test)]
 mod host;
 #[cfg(test)]
 mod label;

@@ -6,5 +6,5 @@ mod shown;
 mod text;
 
 pub use reason::usage_error;
-pub use shown::{Shown, UsageError};
+pub use shown::{FormError, ImagesError, Shown, UsageError, WordError};
 pub use text::{HELP, VERSION};

@@ -1,5 +1,5 @@
 //! The grammar of command lines once more, read in its order up to the first word that is wrong.
-use crate::shown::{Shown, UsageError};
+use crate::shown::{FormError, ImagesError, Shown, UsageError, WordError};
 use crate::text::HELP;
 use ldm_bytes::{NoMemory, read_guid};
 use ldm_words::{image_count, read_name, read_number};
@@ -96,21 +96,22 @@ type Part = (&'static str, Is);
 fn new_name<'a>(is: Is, word: &'a str, name: &[u8]) -> Read<'a> {
     let len = name.len();
     let word = Shown(word);
-    match is {
-        Is::NewVolume if !(1..=63).contains(&len) => Err(UsageError::NewName { word, len }),
-        Is::NewGroup if !(1..=30).contains(&len) => Err(UsageError::GroupName { word, len }),
-        Is::NewGroup if name.contains(&0) => Err(UsageError::Zero { word }),
-        _ => Ok(()),
-    }
+    let wrong = match is {
+        Is::NewVolume if !(1..=63).contains(&len) => WordError::NewName { word, len },
+        Is::NewGroup if !(1..=30).contains(&len) => WordError::GroupName { word, len },
+        Is::NewGroup if name.contains(&0) => WordError::Zero { word },
+        _ => return Ok(()),
+    };
+    Err(UsageError::Word(wrong))
 }
 
 fn name<'a>(alloc: Global, (what, is): Part, word: &'a str) -> Read<'a> {
     match read_name(alloc, word.as_bytes())? {
         Some(name) => new_name(is, word, name.as_slice()),
-        None => Err(UsageError::Name {
+        None => Err(UsageError::Word(WordError::Name {
             what,
             word: Shown(word),
-        }),
+        })),
     }
 }
 
@@ -132,13 +133,16 @@ fn part<'a>(alloc: Global, part: Part, text: &'a str) -> Read<'a> {
         Is::Name | Is::NewVolume | Is::NewGroup => name(alloc, part, text),
         Is::Number => check(
             read_number(text.as_bytes()).is_some(),
-            UsageError::Number { what, word },
+            UsageError::Word(WordError::Number { what, word }),
         ),
         Is::Guid => check(
             read_guid(text.as_bytes()).is_some(),
-            UsageError::Guid { word },
+            UsageError::Word(WordError::Guid { word }),
         ),
-        Is::Piece => check(is_piece(alloc, text)?, UsageError::Piece { word }),
+        Is::Piece => check(
+            is_piece(alloc, text)?,
+            UsageError::Word(WordError::Piece { word }),
+        ),
         Is::Any => Ok(()),
     }
 }
@@ -172,10 +176,10 @@ fn parts<'a>(
     words: &'a [String],
 ) -> Read<'a> {
     match names.split(' ').skip(1).nth(words.len()) {
-        Some(name) => Err(UsageError::Missing {
+        Some(name) => Err(UsageError::Form(FormError::Missing {
             form,
             what: part_of(name).0,
-        }),
+        })),
         None => each_part(alloc, names, words),
     }
 }
@@ -195,12 +199,12 @@ fn list<'a>(
 ) -> Read<'a> {
     let count = words.len();
     if !(least..=64).contains(&count) {
-        return Err(UsageError::Count {
+        return Err(UsageError::Form(FormError::Count {
             kind,
             least,
             what,
             count,
-        });
+        }));
     }
     for word in words {
         part(alloc, ("DISK", is), word.as_str())?;
@@ -212,10 +216,10 @@ fn list<'a>(
 // the images stand there.
 fn no_more<'a>(form: &'static str, rest: &'a [String], on: Option<usize>) -> Read<'a> {
     match rest {
-        [word, ..] if on.is_some() || !form.contains(" on ") => Err(UsageError::Extra {
-            form,
-            word: Shown(word.as_str()),
-        }),
+        [word, ..] if on.is_some() || !form.contains(" on ") => {
+            let word = Shown(word.as_str());
+            Err(UsageError::Form(FormError::Extra { form, word }))
+        }
         _ => Ok(()),
     }
 }
@@ -227,16 +231,17 @@ fn images<'a>(form: &'static str, on: Option<usize>) -> Read<'a> {
         Some((_, end)) => end,
         None => "",
     };
-    match on {
-        None if end.is_empty() => Ok(()),
-        Some(_) if end.is_empty() => Err(UsageError::Images { job }),
-        None => Err(UsageError::NoOn { job }),
-        Some(0) => Err(UsageError::NoImages),
-        Some(1) => Ok(()),
-        Some(count) if end == "IMAGE" => Err(UsageError::OneImage { job, count }),
-        Some(2..=64) => Ok(()),
-        Some(count) => Err(UsageError::ManyImages { count }),
-    }
+    let wrong = match on {
+        None if end.is_empty() => return Ok(()),
+        Some(_) if end.is_empty() => ImagesError::TakesNone { job },
+        None => ImagesError::NoOn { job },
+        Some(0) => ImagesError::NoImages,
+        Some(1) => return Ok(()),
+        Some(count) if end == "IMAGE" => ImagesError::OneImage { job, count },
+        Some(2..=64) => return Ok(()),
+        Some(count) => ImagesError::ManyImages { count },
+    };
+    Err(UsageError::Images(wrong))
 }
 
 // The words behind that of a job, and its images, by the form that the help says.
@@ -291,7 +296,7 @@ fn layout<'a>(alloc: Global, kind: &'a str, words: &'a [String]) -> Read<'a> {
                 behind(words, 2),
             ))
         }
-        _ => Err(UsageError::Kind { word: Shown(kind) }),
+        _ => Err(UsageError::Word(WordError::Kind { word: Shown(kind) })),
     }
 }
 
@@ -324,10 +329,10 @@ fn init<'a>(alloc: Global, words: &'a [String], on: Option<usize>) -> Read<'a> {
         .and(images(form, on))
         .and(check(
             disks == count,
-            UsageError::Unlike {
+            UsageError::Images(ImagesError::Unlike {
                 disks,
                 images: count,
-            },
+            }),
         ))
 }
 
@@ -373,6 +378,3 @@ pub fn usage_error(alloc: Global, words: &[String]) -> UsageError<'_> {
         Err(error) => error,
     }
 }
-
-#[cfg(test)]
-mod tests;

@@ -19,18 +19,8 @@ use Rattle.ldm_images.specs.Usual.{usual_header, IsUsualImage, AreUsualImages, K
 
 -- ---- what is written behind the header leaves it
 
-pub keeps_all : (image : List ℕ) → KeepsHeader image image
-keeps_all image = record { size = refl; before = λ k lt. refl }
-
 pub keeps_then : (a b c : List ℕ) → KeepsHeader a b → KeepsHeader b c → KeepsHeader a c
 keeps_then a b c one two = record { size = two.size ∙ one.size; before = λ k lt. two.before k lt ∙ one.before k lt }
-
-pub keeps_put : (first old new : List ℕ) (at : ℕ) (bytes : List ℕ) → KeepsHeader first old → 512 * 6162 ≤ at → at + length bytes ≤ length old
-    → new ≡ put old at bytes → KeepsHeader first new
-keeps_put first old new at bytes kept behind fits is = record {
-  size = ap length is ∙ length-put old at bytes fits ∙ kept.size;
-  before = λ k lt. ap (λ (l : List ℕ). slice_index l k) is ∙ put_before old bytes at fits k (omega arith) ∙ kept.before k lt;
-}
 
 -- ---- one image
 

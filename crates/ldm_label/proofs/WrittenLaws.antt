@@ -294,15 +294,6 @@ module _ (label : Label) (old new : List ℕ) (fits : Fits label (sectors_of old
   pub fits_new : Fits label (sectors_of new)
   fits_new = subst (λ (n : ℕ). Fits label (n / 512)) (sym size_stays) fits
 
--- No byte of the config area is in a sector of the label.
-pub area_is_outside : (label : Label) (k : ℕ) → 7 ≤ label.config_start → IsClearOfLabel label → 512 * (label.config_start + label.area_start) ≤ k
-    → k < 512 * (label.config_start + label.area_start + label.area_sectors) → IsOutsideLabel label k
-area_is_outside label k room clear low high =
-    let behind = clear.behind in
-    let before = clear.before in
-    All-from_recursion (λ place. k / 512 ≢ place) (label_places label)
-    (λ is. omega arith, (λ is. omega arith, (λ is. omega arith, (λ is. omega arith, (λ is. omega arith, (λ is. omega arith, (λ is. omega arith, (λ is. omega arith, tt))))))))
-
 -- An image that differs in the config area alone has the same sectors of the label.
 pub label_sectors_stay : (label : Label) (old new : List ℕ) → HasLabel label old → 7 ≤ label.config_start → IsClearOfLabel label → SameOutsideArea label old new → HasLabel label new
 label_sectors_stay label old new has room clear same =

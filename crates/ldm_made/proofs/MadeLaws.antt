@@ -26,11 +26,6 @@ use Rattle.ldm_made.specs.Made.{given, given_short, partition_with, component_wi
 use Rattle.ldm_records.proofs.PlainLaws.{own-len}
 use Rattle.ldm_records.proofs.OneRecord.{one_volume, one_component, one_record}
 
--- what is made is of a test that passed
-pub given_some : {A : Type 0} (test : Bool) (make : test ≡ true → A) (x : A) → given test make ≡ Some x → (e : test ≡ true) × (make e ≡ x)
-given_some true make x e = (refl, cc)
-given_some false make x e = absurd cc
-
 -- a test that passes makes it
 pub given_true : {A : Type 0} (test : Bool) (make : test ≡ true → A) (e : test ≡ true) → given test make ≡ Some (make e)
 given_true true make e = ap (λ (p : true ≡ true). Some (make p)) (Bool-set true true refl e)
