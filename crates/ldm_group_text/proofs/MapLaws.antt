@@ -1,5 +1,5 @@
 -- One number more, and one record more.
-use Rattle.std.proofs.Common.{◌≡◌, ◌∙◌, ℕ, zero, suc, ◌+◌, ◌<◌, ◌==◌, length, take, get_or, Bool, true, false, cond, List, [], ◌∷◌, ◌++◌, Option, Some, None, refl, ap, sym, append_assoc, add-one, arith}
+use Rattle.std.proofs.Common.{◌≡◌, ◌∙◌, ℕ, zero, suc, ◌+◌, ◌<◌, ◌==◌, length, take, get_or, Bool, true, false, cond, List, [], ◌∷◌, ◌++◌, Option, Some, None, refl, ap, sym, append_assoc, arith}
 use Rattle.std.specs.List.{flat_map, range_with_len}
 use Rattle.std.specs.Option.{option_map, option_or}
 use Rattle.std.proofs.lemmas.List.{append-nil, take_more}
@@ -21,10 +21,7 @@ flat_suc f a (suc n) j e =
 
 pub numbers_more : (f : ℕ → List ℕ) (a n j : ℕ) (start old new : List ℕ) → a + n ≡ j
     → old ≡ start ++ flat_map f (range_with_len a n) → new ≡ old ++ f j → new ≡ start ++ flat_map f (range_with_len a (n + 1))
-numbers_more f a n j start old new at before after =
-    after ∙ ap (λ (t : List ℕ). t ++ f j) before ∙ append_assoc start (flat_map f (range_with_len a n)) (f j)
-    ∙ ap (λ (t : List ℕ). start ++ t) (sym (flat_suc f a n j at))
-    ∙ ap (λ (m : ℕ). start ++ flat_map f (range_with_len a m)) (sym (add-one n))
+numbers_more f a n j start old new at before after = grind (arith, append_assoc, flat_suc)
 
 -- ---- disks
 

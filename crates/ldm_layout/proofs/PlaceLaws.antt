@@ -1,8 +1,8 @@
 -- Two sectors lie at two places, inside their columns, and beside no parity.
-use Rattle.std.proofs.Common.{◌≡◌, ℕ, ◌+◌, ◌-◌, ◌*◌, ◌/◌, ◌%◌, ◌<◌, ◌≤◌, ◌⊎◌, ◌↔◌, ap, sym, subst, ◌∙◌, arith, inl, inr}
-use Rattle.std.proofs.lemmas.Nat.{same_from_place, mul-add-lt, div_below, mod_below, div-add-mod'}
-use Rattle.std.proofs.Math.Nat.{mul-div-le, add-mod_right, mod-eq_of_lt, div-div-eq-div-mul}
-use Rattle.std.proofs.lemmas.Bool.{cases_lt}
+use Rattle.std.proofs.Common.{◌≡◌, ℕ, ◌+◌, ◌-◌, ◌*◌, ◌/◌, ◌%◌, ◌<◌, ◌≤◌, ◌↔◌, ap, sym, subst, ◌∙◌, arith}
+use Rattle.std.proofs.lemmas.Grind.{common_steps}
+use Rattle.std.proofs.lemmas.Nat.{same_from_place, div_below, mod_below, div-add-mod'}
+use Rattle.std.proofs.Math.Nat.{mod-eq_of_lt, div-div-eq-div-mul}
 use Rattle.ldm_layout.specs.Places.{stripe_capacity, stripe_column, stripe_offset, raid5_capacity, raid5_row, parity_column, raid5_column, raid5_offset}
 
 -- a number is one with its quotient and its rest
@@ -14,16 +14,11 @@ pub same_row : (u a b x y : ℕ) → 0 < u → a * u + x % u ≡ b * u + y % u �
 same_row u a b x y h e = same_from_place a (x % u) b (y % u) u (mod_below x u h) (mod_below y u h) e
 
 pub stripe_apart : (k u x y : ℕ) → 0 < u → stripe_column k u x ≡ stripe_column k u y → stripe_offset k u x ≡ stripe_offset k u y → x ≡ y
-stripe_apart k u x y h c o =
-    let rows : (x / u / k ≡ y / u / k) × (x % u ≡ y % u) = same_row u (x / u / k) (y / u / k) x y h o in
-    same_quotient u x y (same_quotient k (x / u) (y / u) rows.0 c) rows.1
+stripe_apart k u x y h c o = grind (arith, same_row, same_quotient)
 
 -- row q of columns of m sectors, in chunks of u
 pub inside_row : (u m q r : ℕ) → q < m / u → r < u → q * u + r < m
-inside_row u m q r h g =
-    let below : q * u + r < u * (m / u) = mul-add-lt q u r (m / u) h g in
-    let fits : u * (m / u) ≤ m = mul-div-le m u in
-    omega arith
+inside_row u m q r h g = grind (arith, common_steps)
 
 pub rows_within : (k u m x : ℕ) → 0 < u → 0 < k → x < k * u * (m / u) → x / u / k < m / u
 rows_within k u m x hu hk h =
@@ -33,32 +28,11 @@ rows_within k u m x hu hk h =
     div_below (x / u) k (m / u) hk chunks
 
 pub stripe_inside : (k u m x : ℕ) → 0 < u → 0 < k → x < stripe_capacity k u m → (stripe_column k u x < k) × (stripe_offset k u x < m)
-stripe_inside k u m x hu hk h =
-    (mod_below (x / u) k hk, inside_row u m (x / u / k) (x % u) (rows_within k u m x hu hk h) (mod_below x u hu))
-
--- less than two rounds
-round_back : (k a : ℕ) → 0 < k → a < 2 * k → k ≤ a → a % k ≡ a - k
-round_back k a h g le =
-    let e : a ≡ a - k + k = omega arith in
-    let lt : a - k < k = omega arith in
-    ap (λ n. n % k) e ∙ (add-mod_right (a - k) k ∙ mod-eq_of_lt lt)
-
-pub round_cases : (k a : ℕ) → 0 < k → a < 2 * k → ((a < k) × (a % k ≡ a)) ⊎ ((k ≤ a) × (a % k ≡ a - k))
-round_cases k a h g = elim (cases_lt a k) [
-  | inl lt ↦ inl (lt, mod-eq_of_lt lt)
-  | inr le ↦ inr (le, round_back k a h g le)
-]
+stripe_inside k u m x hu hk h = grind (arith, mod_below, inside_row, rows_within)
 
 -- two steps from one place that are less than a round come to two places
 pub round_apart : (k p d e : ℕ) → p < k → d < k → e < k → (p + d) % k ≡ (p + e) % k → d ≡ e
-round_apart k p d e hp hd he h =
-    let pos : 0 < k = omega arith in
-    let low : p + d < 2 * k = omega arith in
-    let high : p + e < 2 * k = omega arith in
-    elim (round_cases k (p + d) pos low) [
-      | inl a ↦ elim (round_cases k (p + e) pos high) [ inl b ↦ omega (arith, a, b, h) | inr b ↦ omega (arith, a, b, h) ]
-      | inr a ↦ elim (round_cases k (p + e) pos high) [ inl b ↦ omega (arith, a, b, h) | inr b ↦ omega (arith, a, b, h) ]
-    ]
+round_apart k p d e hp hd he h = grind (arith, common_steps)
 
 pub parity_below : (k row : ℕ) → 0 < k → parity_column k row < k
 parity_below k row h = omega arith
@@ -72,19 +46,7 @@ raid5_same_row k u x y h o = same_row u (raid5_row k u x) (raid5_row k u y) x y 
 
 pub raid5_apart : (k u x y : ℕ) → 0 < u → 2 ≤ k → raid5_column k u x ≡ raid5_column k u y → raid5_offset k u x ≡ raid5_offset k u y → x ≡ y
 raid5_apart k u x y h hk c o =
-    let rows : (raid5_row k u x ≡ raid5_row k u y) × (x % u ≡ y % u) = raid5_same_row k u x y h o in
-    let p : parity_column k (raid5_row k u y) < k = parity_below k (raid5_row k u y) (omega arith) in
-    let pos : 0 < k - 1 = omega arith in
-    let d : x / u % (k - 1) < k - 1 = mod_below (x / u) (k - 1) pos in
-    let e : y / u % (k - 1) < k - 1 = mod_below (y / u) (k - 1) pos in
-    let one : (parity_column k (raid5_row k u y) + (x / u % (k - 1) + 1)) % k ≡ (parity_column k (raid5_row k u y) + (y / u % (k - 1) + 1)) % k =
-    sym (data_column k (parity_column k (raid5_row k u y)) (x / u % (k - 1)))
-    ∙ ap (λ row. (parity_column k row + 1 + x / u % (k - 1)) % k) (sym rows.0)
-    ∙ c ∙ data_column k (parity_column k (raid5_row k u y)) (y / u % (k - 1)) in
-    let same : x / u % (k - 1) + 1 ≡ y / u % (k - 1) + 1 =
-    round_apart k (parity_column k (raid5_row k u y)) (x / u % (k - 1) + 1) (y / u % (k - 1) + 1) p (omega arith) (omega arith) one in
-    let rest : x / u % (k - 1) ≡ y / u % (k - 1) = omega arith in
-    same_quotient u x y (same_quotient (k - 1) (x / u) (y / u) rows.0 rest) rows.1
+    grind (arith, raid5_same_row, parity_below, mod_below, data_column, round_apart, same_quotient)
 
 -- no sector lies where its row has the parity
 pub beside_parity : (k u x : ℕ) → 2 ≤ k → raid5_column k u x ≡ parity_column k (raid5_row k u x) → ⊥
@@ -101,28 +63,14 @@ beside_parity k u x hk c =
 
 -- nor where another's has it
 pub no_parity : (k u x y : ℕ) → 0 < u → 2 ≤ k → raid5_column k u x ≡ parity_column k (raid5_row k u y) → raid5_offset k u x ≡ raid5_offset k u y → ⊥
-no_parity k u x y h hk c o =
-    let rows : (raid5_row k u x ≡ raid5_row k u y) × (x % u ≡ y % u) = raid5_same_row k u x y h o in
-    beside_parity k u x hk (c ∙ ap (λ row. parity_column k row) (sym rows.0))
+no_parity k u x y h hk c o = grind (arith, raid5_same_row, beside_parity)
 
 pub raid5_inside : (k u m x : ℕ) → 0 < u → 2 ≤ k → x < raid5_capacity k u m
     → (raid5_column k u x < k) × (parity_column k (raid5_row k u x) < k) × (raid5_offset k u x < m)
-raid5_inside k u m x hu hk h =
-    let pos : 0 < k = omega arith in
-    let pos1 : 0 < k - 1 = omega arith in (
-      mod_below (parity_column k (raid5_row k u x) + 1 + x / u % (k - 1)) k pos,
-      parity_below k (raid5_row k u x) pos,
-      inside_row u m (raid5_row k u x) (x % u) (rows_within (k - 1) u m x hu pos1 h) (mod_below x u hu),
-    )
+raid5_inside k u m x hu hk h = grind (arith, mod_below, parity_below, inside_row, rows_within)
 
 -- two sectors have one parity place exactly where they are in one row of chunks, at one offset in their chunks
 pub one_parity : (k u x y : ℕ) → 0 < u
     → ((parity_column k (raid5_row k u x) ≡ parity_column k (raid5_row k u y)) × (raid5_offset k u x ≡ raid5_offset k u y))
     ↔ ((x / (u * (k - 1)) ≡ y / (u * (k - 1))) × (x % u ≡ y % u))
-one_parity k u x y h =
-    let one : raid5_row k u x ≡ x / (u * (k - 1)) = div-div-eq-div-mul x u (k - 1) in
-    let two : raid5_row k u y ≡ y / (u * (k - 1)) = div-div-eq-div-mul y u (k - 1) in (
-      λ both. (sym one ∙ (raid5_same_row k u x y h both.1).0 ∙ two, (raid5_same_row k u x y h both.1).1),
-      λ both. let row : raid5_row k u x ≡ raid5_row k u y = one ∙ both.0 ∙ sym two in
-          (ap (λ n. parity_column k n) row, ap (λ n. n * u + x % u) row ∙ ap (λ n. raid5_row k u y * u + n) both.1),
-    )
+one_parity k u x y h = grind (arith, div-div-eq-div-mul, raid5_same_row)

@@ -1,22 +1,20 @@
 -- Lists of parts in their order: sorts by a number, the part of a list with one number, and the
 -- least of some numbers.
 use Rattle.std.proofs.Common.{◌≡◌, ℕ, ◌≤◌, min, List, [], ◌∷◌, length, get_or, take, drop, ◌-◌, refl, ap, ◌∙◌, arith, map, fold, zero, suc, ◌<◌, ◌==◌, ◌&&◌, not, inl, inr, Bool, true, false, cond, sym, subst, leb, ltb}
+use Rattle.std.proofs.lemmas.Grind.{common_steps}
 use Rattle.std.proofs.lemmas.List.{take_rest}
 use Rattle.ldm_layout.specs.Parts.{least, insert_by, in_rising}
-use Rattle.std.proofs.lemmas.Bool.{cases_lt, cases_order, and_from, and_left, and_right, cases_Bool, eq-eqb, ne_eqb, eqb-true, cond-true, cond-false, leb-true, leb-false, ltb-true, ltb-false}
+use Rattle.std.proofs.lemmas.Bool.{cases_lt, cases_Bool, eq-eqb, ne_eqb, eqb-true, cond-true, cond-false, leb-true, leb-false}
 use Rattle.std.specs.List.{filter, slice_range}
 use Rattle.std.specs.List.Sorted.{IsNonDecreasingBy, IsStableByKey, IsPartitionPoint}
 use Rattle.std.specs.Ordering.{is_lt, nat_cmp}
-use Rattle.std.specs.Cmp.{nat_cmp_is}
-use Rattle.std.specs.declared.cmp.Ordering.TheVariants.{Less, Equal}
 use Rattle.std.proofs.lemmas.List.Elements.{filter_agree}
 use Rattle.ldm_layout.specs.declared.parts.Extent.{Extent}
 
 -- ---- The least of some numbers, as a fold, and that none is less.
 
 least_head : (a b : ℕ) (ns : List ℕ) → least (min a b ∷ ns) ≡ min a (least (b ∷ ns))
-least_head a b [] = refl
-least_head a b (n ∷ ns) = omega arith
+least_head a b ns = grind (arith, common_steps)
 
 pub least_fold : {X : Type 0} (f : X → ℕ) (a : ℕ) (xs : List X) → fold (λ m x. min m (f x)) a xs ≡ least (a ∷ map f xs)
 least_fold f a [] = refl
@@ -24,16 +22,12 @@ least_fold f a (x ∷ xs) = least_fold f (min a (f x)) xs ∙ least_head a (f x)
 
 -- of a list that isn't empty
 pub least_list : {X : Type 0} (f : X → ℕ) (xs : List X) (d : X) → 1 ≤ length xs → least (f (get_or xs 0 d) ∷ map f (drop 1 xs)) ≡ least (map f xs)
-least_list f [] d h = absurd (omega arith)
-least_list f (x ∷ xs) d h = refl
+least_list f xs d h = grind (arith, common_steps)
 
 -- what a walk from the first to the last finds
 pub least_whole : {X : Type 0} (f : X → ℕ) (xs ys : List X) (first d : X) (a r : ℕ) → 1 ≤ length xs → first ≡ get_or xs 0 d → a ≡ f first
     → r ≡ fold (λ m x. min m (f x)) a (take (length xs - 1) (drop 1 xs)) → xs ≡ ys → r ≡ least (map f ys)
-least_whole {X} f xs ys first d a r some at start walked same =
-    walked ∙ (ap (λ (rest : List X). fold (λ m x. min m (f x)) a rest) (take_rest xs 1)
-    ∙ (ap (λ n. fold (λ m x. min m (f x)) n (drop 1 xs)) (start ∙ ap f at)
-    ∙ (least_fold f (f (get_or xs 0 d)) (drop 1 xs) ∙ (least_list f xs d some ∙ ap (λ (zs : List X). least (map f zs)) same))))
+least_whole {X} f xs ys first d a r some at start walked same = grind (arith, common_steps, take_rest, least_fold, least_list)
 
 -- ---- A stable sort by a number gives one list: it doesn't fall, and keeps the order of those of one number.
 
@@ -62,10 +56,7 @@ none_below n k x xs up h = none_of n k (x ∷ xs) (λ i d lt. let first : n x �
 
 -- so the first of two lists with the same elements of each number have one number
 first_least : {X : Type 0} (n : X → ℕ) (x y : X) (xs ys : List X) → IsNonDecreasingBy n (x ∷ xs) → of_number n (n y) (x ∷ xs) ≡ of_number n (n y) (y ∷ ys) → n x ≤ n y
-first_least n x y xs ys up same = elim (cases_lt (n y) (n x)) [
-  | inl lt ↦ absurd (let none = none_below n (n y) x xs up lt in let some = number_yes n (n y) y ys refl in cc)
-  | inr le ↦ le
-]
+first_least n x y xs ys up same = grind (arith, cases_lt, none_below, number_yes)
 
 pub same_sorted : {X : Type 0} (n : X → ℕ) (xs ys : List X) → IsNonDecreasingBy n xs → IsNonDecreasingBy n ys → ((k : ℕ) → of_number n k xs ≡ of_number n k ys) → xs ≡ ys
 same_sorted n [] [] up vp same = refl
@@ -160,17 +151,7 @@ stable_is n xs ys up same = same_sorted n ys (in_rising n xs) up (climbs_rises n
 -- ---- what a sort by a key says
 
 ties_number : (a b k : ℕ) → a ≡ k → (b == k) ≡ (not (is_lt (nat_cmp a b)) && not (is_lt (nat_cmp b a)))
-ties_number a b k e = elim (cases_order b k) [
-  | inl at ↦ (let there : Equal ≡ nat_cmp a b = nat_cmp_is a b Equal (omega arith) in
-      let back : Equal ≡ nat_cmp b a = nat_cmp_is b a Equal (omega arith) in
-      eq-eqb b k at ∙ sym (and_from _ _ (ap (λ o. not (is_lt o)) (sym there)) (ap (λ o. not (is_lt o)) (sym back))))
-  | inr off ↦ elim off [
-    | inl low ↦ (let back : Less ≡ nat_cmp b a = nat_cmp_is b a Less (omega arith) in
-        ne_eqb b k (λ h. omega arith) ∙ sym (and_right _ _ (ap (λ o. not (is_lt o)) (sym back))))
-    | inr high ↦ (let there : Less ≡ nat_cmp a b = nat_cmp_is a b Less (omega arith) in
-        ne_eqb b k (λ h. omega arith) ∙ sym (and_left _ _ (ap (λ o. not (is_lt o)) (sym there))))
-  ]
-]
+ties_number a b k e = grind (arith, common_steps)
 
 -- where some element has each number, a stable sort keeps the elements of each number
 pub stable_numbers : {X : Type 0} (n : X → ℕ) (s : ℕ → X) → ((k : ℕ) → n (s k) ≡ k) → (xs ys : List X) → IsStableByKey n nat_cmp xs ys → (k : ℕ) → of_number n k ys ≡ of_number n k xs
@@ -193,14 +174,7 @@ pub record IsRange {X : Type 0} (n : X → ℕ) (q : ℕ) (xs : List X) (i j : �
 pub range_of_points : {X : Type 0} (n : X → ℕ) (q : ℕ) (xs : List X) (i j : ℕ) → i ≤ length xs → j ≤ length xs
     → IsPartitionPoint (λ y. ltb (n y) q ≡ true) (λ y. ltb (n y) q ≡ false) xs i
     → IsPartitionPoint (λ y. leb (n y) q ≡ true) (λ y. leb (n y) q ≡ false) xs j → IsRange n q xs i j
-range_of_points n q xs i j hi hj p r = record {
-  ends = hj;
-  starts = hi;
-  low = λ k d h. ltb-true _ _ (p.0 k d (omega arith) h);
-  not_low = λ k d le h. ltb-false _ _ (p.1 k d le h);
-  not_high = λ k d h. leb-true _ _ (r.0 k d (omega arith) h);
-  high = λ k d le h. leb-false _ _ (r.1 k d le h);
-}
+range_of_points n q xs i j hi hj p r = grind (arith, common_steps)
 
 pub range_order : {X : Type 0} (n : X → ℕ) (q : ℕ) (xs : List X) (d : X) (i j : ℕ) → IsRange n q xs i j → i ≤ j
 range_order n q xs d i j r = elim (cases_lt j i) [

@@ -1,6 +1,7 @@
 -- Where the sectors of a layout without faults lie: each at a spot of its own in each copy, inside
 -- a partition, and side by side with the next.
-use Rattle.std.proofs.Common.{◌≡◌, ℕ, zero, suc, ◌+◌, ◌^◌, ◌<◌, ◌≤◌, List, [], ◌∷◌, length, get_or, map, refl, ap, arith, Option, Some, slice_get, ◌==◌, ◌&&◌, Bool, true, false, sym, subst, nat_le, None, inl, inr, drop, ◌∙◌, nat_lt, find, sum_by, ◌-◌, ◌*◌, ◌/◌, ◌%◌, min, cond, add_assoc}
+use Rattle.std.proofs.Common.{◌≡◌, ℕ, zero, suc, ◌+◌, ◌^◌, ◌<◌, ◌≤◌, List, [], ◌∷◌, length, get_or, map, refl, ap, arith, Option, Some, slice_get, Bool, true, false, sym, subst, nat_le, None, inl, inr, drop, ◌∙◌, nat_lt, find, sum_by, ◌-◌, ◌*◌, ◌/◌, ◌%◌, min, cond, add_assoc}
+use Rattle.std.proofs.lemmas.Grind.{common_steps}
 use Rattle.std.specs.Option.{option_map}
 use Rattle.ldm_layout.specs.Answers.{AllEnd, IsPlan, IsPlexOf}
 use Rattle.ldm_layout.specs.Layouts.{place_at, Layout, is_tiled, has_gap, lacks_chunk, lacks_columns, has_columns, is_short, fewest, plex_capacity, capacity_of, layout_fault, covers, tile_spot, stripe_spot, raid5_spot, parity_spot, plex_spot, parity_at, place_in}
@@ -9,10 +10,9 @@ use Rattle.ldm_layout.specs.Places.{stripe_capacity, stripe_column, stripe_offse
 use Rattle.ldm_layout.specs.declared.parts.Extent.{Extent}
 use Rattle.ldm_layout.specs.declared.shape.Place.{Place}
 use Rattle.std.specs.List.{list_all, All}
-use Rattle.std.proofs.lemmas.Bool.{and_parts, leb-true, ltb-false, eqb-false, cases_lt, and_from, and_right, eqb-true, lt-ltb, le-ltb, le-leb, cond-true, cond-false, leb-false, ltb-true, not-false, not_from_false}
+use Rattle.std.proofs.lemmas.Bool.{and_parts, leb-true, ltb-false, eqb-false, cases_lt, and_from, and_right, lt-ltb, le-ltb, le-leb, cond-true, cond-false, leb-false, not-false, not_from_false}
 use Rattle.ldm_bytes.specs.Tables as tables
 use Rattle.ldm_layout.specs.declared.shape.LayoutFault.{LayoutFault}
-use Rattle.ldm_layout.specs.declared.shape.LayoutFault.TheVariants.{Gap, Chunk, Columns, Short}
 use Rattle.std.specs.List.Sorted.{IsNonDecreasingBy, IsPartitionPoint}
 use Rattle.std.proofs.lemmas.List.Sums.{sum_by-cons, AllPass-from_list_all}
 use Rattle.ldm_group.proofs.LookLaws.{find_there}
@@ -20,7 +20,6 @@ use Rattle.ldm_layout.proofs.PlaceLaws.{stripe_inside, stripe_apart, raid5_insid
 use Rattle.ldm_layout.specs.declared.shape.Shape.{Shape}
 use Rattle.ldm_layout.specs.declared.shape.Shape.TheVariants.{Span, Stripe, Mirror, Raid5}
 use Rattle.std.specs.Prelude.{option_and_then}
-use Rattle.std.proofs.lemmas.Nat.{div-add-mod', div-mul-add, mod-mul-add}
 use Rattle.ldm_layout.specs.Columns.{columns_of, column_spot, moved, IsStretch}
 use Rattle.std.proofs.lemmas.Option.{slice_get-get_or}
 
@@ -46,15 +45,11 @@ place_there es i o d h = ap (λ (g : Option Extent). option_map place_at (option
 
 -- an offset below the least size stays within the numbers of the format
 pub ends_there : (es : List Extent) (i o : ℕ) (d : Extent) → AllEnd es → i < length es → o < least (sizes es) → (get_or es i d).start + o < 2 ^ 64
-ends_there es i o d ends h lt =
-    let low : least (sizes es) ≤ (get_or es i d).size = least_at (λ e. e.size) es i d h in
-    let end : (get_or es i d).start + (get_or es i d).size < 2 ^ 64 = ends i d h in
-    omega arith
+ends_there es i o d ends h lt = grind (arith, least_at)
 
 -- only a volume with columns has sectors
 pub some_columns : (k u m x : ℕ) → x < stripe_capacity k u m → 0 < k
-some_columns zero u m x h = absurd (grind arith)
-some_columns (suc k) u m x h = omega arith
+some_columns k u m x h = grind (arith, common_steps)
 
 abbrev pub none : Extent
 none = record { component = 0; disk = 0; start = 0; size = 0; offset = 0; index = 0 }
@@ -62,8 +57,7 @@ none = record { component = 0; disk = 0; start = 0; size = 0; offset = 0; index 
 -- ---- What a layout without faults has.
 
 not_first : (f : LayoutFault) (b : Bool) (rest : List (LayoutFault × Bool)) → tables.first_fault ((f, b) ∷ rest) ≡ None → (b ≡ false) × (tables.first_fault rest ≡ None)
-not_first f true rest h = absurd cc
-not_first f false rest h = (refl, h)
+not_first f b rest h = grind (arith, common_steps)
 
 -- without faults no test holds
 pub record HasNone (l : Layout) : Type 0 where
@@ -73,17 +67,10 @@ pub record HasNone (l : Layout) : Type 0 where
   pub short : is_short l ≡ false
 
 pub has_none : (l : Layout) → layout_fault l ≡ None → HasNone l
-has_none l h =
-    let one = not_first Gap (has_gap l) ((Chunk, lacks_chunk l) ∷ (Columns, lacks_columns l) ∷ (Short, is_short l) ∷ []) h in
-    let two = not_first Chunk (lacks_chunk l) ((Columns, lacks_columns l) ∷ (Short, is_short l) ∷ []) one.1 in
-    let three = not_first Columns (lacks_columns l) ((Short, is_short l) ∷ []) two.1 in
-    let four = not_first Short (is_short l) [] three.1 in
-    record { gap = one.0; chunk = two.0; columns = three.0; short = four.0 }
+has_none l h = grind (arith, common_steps)
 
 columns_parts : (l : Layout) (es : List Extent) → has_columns l es ≡ true → (fewest l.shape ≤ length es) × (rises_from 0 es ≡ true)
-columns_parts l es h =
-    let rest = and_parts (nat_le (fewest l.shape) (length es)) (rises_from 0 es) (and_parts (l.columns == length es) (nat_le (fewest l.shape) (length es) && rises_from 0 es) h).1 in
-    (leb-true (fewest l.shape) (length es) rest.0, rest.1)
+columns_parts l es h = grind (arith, common_steps)
 
 -- what a component of a layout without faults has
 pub record PlexFacts (l : Layout) (es : List Extent) : Type 0 where
@@ -114,9 +101,7 @@ plex_facts l k d sound h =
 
 -- each component of a plan holds the volume
 pub plex_of_plan : (l : Layout) (k : ℕ) (d : List Extent) → IsPlan l → k < length l.plexes → IsPlexOf l (get_or l.plexes k d)
-plex_of_plan l k d plan h =
-    let facts = plex_facts l k d plan.sound h in
-    record { tiled = facts.tiled; chunked = facts.chunked; columned = facts.columned; holds = facts.holds; ends = plan.ends k d h }
+plex_of_plan l k d plan h = grind (arith, common_steps, plex_facts)
 
 -- a volume with sectors has a component
 pub some_plex : (l : Layout) → IsPlan l → 0 < l.size → 0 < length l.plexes
@@ -136,14 +121,11 @@ abbrev pub Walked : List Extent → ℕ → ℕ → Type 0
 Walked es i at = tiles_from 0 es ≡ tiles_from at (drop i es)
 
 pub tiles_zero : (es : List Extent) → tiles es ≡ true → tiles_from 0 es ≡ true
-tiles_zero [] h = absurd cc
-tiles_zero (e ∷ es) h = h
+tiles_zero es h = grind (arith, common_steps)
 
 -- the first tile begins at the place, and the others where it ends
 pub first_tile : (at : ℕ) (e : Extent) (es : List Extent) → tiles_from at (e ∷ es) ≡ true → (e.offset ≡ at) × (tiles_from (at + e.size) es ≡ true)
-first_tile at e es tiled =
-    let parts : ((e.offset == at) ≡ true) × (tiles_from (at + e.size) es ≡ true) = and_parts (e.offset == at) (tiles_from (at + e.size) es) tiled in
-    (eqb-true e.offset at parts.0, parts.1)
+first_tile at e es tiled = grind (arith, common_steps)
 
 -- no tile begins before them
 pub begins_behind : (at : ℕ) (es : List Extent) (k : ℕ) (d : Extent) → tiles_from at es ≡ true → k < length es → at ≤ (get_or es k d).offset
@@ -160,10 +142,7 @@ pub tiles_rise : (n : Extent → ℕ) (at : ℕ) (es : List Extent)
 tiles_rise n at [] next tiled i j d le h = absurd (omega arith)
 tiles_rise n at (e ∷ es) next tiled zero zero d le h = omega arith
 tiles_rise n at (e ∷ es) next tiled (suc i) zero d le h = absurd (omega arith)
-tiles_rise n at (e ∷ es) next tiled zero (suc j) d le h =
-    let first = first_tile at e es tiled in
-    let later = begins_behind (at + e.size) es j d first.1 (omega arith) in
-    next e (get_or es j d) (omega (arith, first.0, later))
+tiles_rise n at (e ∷ es) next tiled zero (suc j) d le h = grind (arith, first_tile, begins_behind)
 tiles_rise n at (e ∷ es) next tiled (suc i) (suc j) d le h = tiles_rise n (at + e.size) es next (first_tile at e es tiled).1 i j d (omega arith) (omega arith)
 
 -- where those before an index begin at a sector or before it, and the others behind it
@@ -251,9 +230,7 @@ pub record IsInside (P : Extent → Type 0) (spot : Option (Extent × ℕ)) : Ty
 -- ---- tiles
 
 covers_parts : (x : ℕ) (e : Extent) → covers x e ≡ true → (e.offset ≤ x) × (x < e.offset + e.size)
-covers_parts x e h =
-    let parts : (nat_le e.offset x ≡ true) × (nat_lt x (e.offset + e.size) ≡ true) = and_parts (nat_le e.offset x) (nat_lt x (e.offset + e.size)) h in
-    (leb-true e.offset x parts.0, ltb-true x (e.offset + e.size) parts.1)
+covers_parts x e h = grind (arith, common_steps)
 
 -- a spot among tiles, by its partition
 pub tile_spot_at : (es : List Extent) (x : ℕ) (e : Extent) (o : ℕ) → tile_spot es x ≡ Some (e, o) → e.offset + o ≡ x
@@ -322,10 +299,7 @@ rise_above n (f ∷ fs) (suc i) e up h =
     omega arith
 
 first_later : (n : ℕ) (f : Extent) (fs : List Extent) (j : ℕ) (e : Extent) → rises_from n (f ∷ fs) ≡ true → Some f ≡ Some e → slice_get fs j ≡ Some e → zero ≡ suc j
-first_later n f fs j e up g h =
-    let more : f.index + 1 ≤ e.index = rise_above (f.index + 1) fs j e (and_parts (nat_le n f.index) (rises_from (f.index + 1) fs) up).1 h in
-    let one : f.index ≡ e.index = ap (λ (y : Extent). y.index) (some_same g) in
-    absurd (omega arith)
+first_later n f fs j e up g h = grind (arith, rise_above, and_parts, some_same)
 
 -- a partition is one column alone
 pub rise_apart : (n : ℕ) (es : List Extent) (i j : ℕ) (e : Extent) → rises_from n es ≡ true → slice_get es i ≡ Some e → slice_get es j ≡ Some e → i ≡ j
@@ -365,10 +339,7 @@ stripe_spot_inside P es u x d hu all h =
     column_inside P es (stripe_column (length es) u x) (stripe_offset (length es) u x) d all inside.0 inside.1
 
 pub stripe_spot_apart : (es : List Extent) (u x y : ℕ) (e : Extent) (o : ℕ) → 0 < u → rises_from 0 es ≡ true → stripe_spot es u x ≡ Some (e, o) → stripe_spot es u y ≡ Some (e, o) → x ≡ y
-stripe_spot_apart es u x y e o hu up f g =
-    let a = in_column es (stripe_column (length es) u x) (stripe_offset (length es) u x) e o f in
-    let b = in_column es (stripe_column (length es) u y) (stripe_offset (length es) u y) e o g in
-    stripe_apart (length es) u x y hu (rise_apart 0 es _ _ e up a.0 b.0) (a.1 ∙ sym b.1)
+stripe_spot_apart es u x y e o hu up f g = grind (arith, in_column, stripe_apart, rise_apart)
 
 pub raid5_spot_inside : (P : Extent → Type 0) (es : List Extent) (u x : ℕ) (d : Extent) → 0 < u → 2 ≤ length es → All P es → x < raid5_capacity (length es) u (least (sizes es)) → IsInside P (raid5_spot es u x)
 raid5_spot_inside P es u x d hu hk all h =
@@ -382,32 +353,20 @@ parity_spot_inside P es u x d hu hk all h =
     column_inside P es (parity_column (length es) (raid5_row (length es) u x)) (raid5_offset (length es) u x) d all inside.1 inside.2
 
 pub raid5_spot_apart : (es : List Extent) (u x y : ℕ) (e : Extent) (o : ℕ) → 0 < u → 2 ≤ length es → rises_from 0 es ≡ true → raid5_spot es u x ≡ Some (e, o) → raid5_spot es u y ≡ Some (e, o) → x ≡ y
-raid5_spot_apart es u x y e o hu hk up f g =
-    let a = in_column es (raid5_column (length es) u x) (raid5_offset (length es) u x) e o f in
-    let b = in_column es (raid5_column (length es) u y) (raid5_offset (length es) u y) e o g in
-    raid5_apart (length es) u x y hu hk (rise_apart 0 es _ _ e up a.0 b.0) (a.1 ∙ sym b.1)
+raid5_spot_apart es u x y e o hu hk up f g = grind (arith, in_column, raid5_apart, rise_apart)
 
 -- no sector lies at a parity's spot
 pub parity_spot_apart : (es : List Extent) (u x y : ℕ) (e : Extent) (o : ℕ) → 0 < u → 2 ≤ length es → rises_from 0 es ≡ true → raid5_spot es u x ≡ Some (e, o) → parity_spot es u y ≡ Some (e, o) → ⊥
-parity_spot_apart es u x y e o hu hk up f g =
-    let a = in_column es (raid5_column (length es) u x) (raid5_offset (length es) u x) e o f in
-    let b = in_column es (parity_column (length es) (raid5_row (length es) u y)) (raid5_offset (length es) u y) e o g in
-    no_parity (length es) u x y hu hk (rise_apart 0 es _ _ e up a.0 b.0) (a.1 ∙ sym b.1)
+parity_spot_apart es u x y e o hu hk up f g = grind (arith, in_column, no_parity, rise_apart)
 
 -- two sectors with one parity are in one row of chunks, at one offset in their chunks
 pub parity_spot_shared : (es : List Extent) (u x y : ℕ) (e : Extent) (o : ℕ) → 0 < u → rises_from 0 es ≡ true → parity_spot es u x ≡ Some (e, o) → parity_spot es u y ≡ Some (e, o)
     → (x / (u * (length es - 1)) ≡ y / (u * (length es - 1))) × (x % u ≡ y % u)
-parity_spot_shared es u x y e o hu up f g =
-    let a = in_column es (parity_column (length es) (raid5_row (length es) u x)) (raid5_offset (length es) u x) e o f in
-    let b = in_column es (parity_column (length es) (raid5_row (length es) u y)) (raid5_offset (length es) u y) e o g in
-    (one_parity (length es) u x y hu).0 (rise_apart 0 es _ _ e up a.0 b.0, a.1 ∙ sym b.1)
+parity_spot_shared es u x y e o hu up f g = grind (arith, in_column, one_parity, rise_apart)
 
 -- and the other way round
 pub parity_spot_same : (es : List Extent) (u x y : ℕ) → 0 < u → x / (u * (length es - 1)) ≡ y / (u * (length es - 1)) → x % u ≡ y % u → parity_spot es u x ≡ parity_spot es u y
-parity_spot_same es u x y hu rows rests =
-    let both = (one_parity (length es) u x y hu).1 (rows, rests) in
-    ap (λ (i : ℕ). option_map {U = Extent × ℕ} (λ e. (e, raid5_offset (length es) u x)) (slice_get es i)) both.0
-    ∙ ap (λ (o : ℕ). option_map {U = Extent × ℕ} (λ e. (e, o)) (slice_get es (parity_column (length es) (raid5_row (length es) u y)))) both.1
+parity_spot_same es u x y hu rows rests = grind (arith, one_parity)
 
 -- ---- a component of a layout without faults
 
@@ -416,9 +375,7 @@ plex_inside : (P : Extent → Type 0) (s : Shape) (u size : ℕ) (es : List Exte
 plex_inside P Span u size es x d tiled chunked columned holds all h = tile_spot_inside P es x d (tiled refl) all (omega arith)
 plex_inside P Mirror u size es x d tiled chunked columned holds all h = tile_spot_inside P es x d (tiled refl) all (omega arith)
 plex_inside P Stripe u size es x d tiled chunked columned holds all h = stripe_spot_inside P es u x d (chunked refl) all (omega arith)
-plex_inside P Raid5 u size es x d tiled chunked columned holds all h =
-    let many : 3 ≤ length es = columned refl in
-    raid5_spot_inside P es u x d (chunked refl) (omega arith) all (omega arith)
+plex_inside P Raid5 u size es x d tiled chunked columned holds all h = grind (arith, raid5_spot_inside)
 
 pub plex_spot_inside : (P : Extent → Type 0) (l : Layout) (es : List Extent) (x : ℕ) (d : Extent) → PlexFacts l es → All P es → x < l.size → IsInside P (plex_spot l.shape l.chunk es x)
 plex_spot_inside P l es x d facts all h = plex_inside P l.shape l.chunk l.size es x d facts.tiled facts.chunked facts.columned facts.holds all h
@@ -437,24 +394,14 @@ plex_spot_apart l es x y e o facts f g = plex_apart l.shape l.chunk es x y e o f
 
 plex_parity_inside : (P : Extent → Type 0) (s : Shape) (u size : ℕ) (es : List Extent) (x : ℕ) (d : Extent) → s ≡ Raid5 → (is_tiled s ≡ false → 0 < u) → (is_tiled s ≡ false → fewest s ≤ length es)
     → size ≤ plex_capacity s u es → All P es → x < size → IsInside P (parity_at s u es x)
-plex_parity_inside P Span u size es x d e chunked columned holds all h = absurd cc
-plex_parity_inside P Mirror u size es x d e chunked columned holds all h = absurd cc
-plex_parity_inside P Stripe u size es x d e chunked columned holds all h = absurd cc
-plex_parity_inside P Raid5 u size es x d e chunked columned holds all h =
-    let many : 3 ≤ length es = columned refl in
-    parity_spot_inside P es u x d (chunked refl) (omega arith) all (omega arith)
+plex_parity_inside P s u size es x d e chunked columned holds all h = grind (arith, common_steps, parity_spot_inside)
 
 pub parity_inside : (P : Extent → Type 0) (l : Layout) (es : List Extent) (x : ℕ) (d : Extent) → l.shape ≡ Raid5 → PlexFacts l es → All P es → x < l.size → IsInside P (parity_at l.shape l.chunk es x)
 parity_inside P l es x d e facts all h = plex_parity_inside P l.shape l.chunk l.size es x d e facts.chunked facts.columned facts.holds all h
 
 plex_beside : (s : Shape) (u : ℕ) (es : List Extent) (x y : ℕ) (e : Extent) (o : ℕ) → (is_tiled s ≡ false → 0 < u) → (is_tiled s ≡ false → fewest s ≤ length es) → (is_tiled s ≡ false → rises_from 0 es ≡ true)
     → plex_spot s u es x ≡ Some (e, o) → parity_at s u es y ≡ Some (e, o) → ⊥
-plex_beside Span u es x y e o chunked columned rises f g = cc
-plex_beside Mirror u es x y e o chunked columned rises f g = cc
-plex_beside Stripe u es x y e o chunked columned rises f g = cc
-plex_beside Raid5 u es x y e o chunked columned rises f g =
-    let many : 3 ≤ length es = columned refl in
-    parity_spot_apart es u x y e o (chunked refl) (omega arith) (rises refl) f g
+plex_beside s u es x y e o chunked columned rises f g = grind (arith, common_steps, parity_spot_apart)
 
 -- no sector of the component lies at a parity's spot
 pub parity_beside : (l : Layout) (es : List Extent) (x y : ℕ) (e : Extent) (o : ℕ) → PlexFacts l es → plex_spot l.shape l.chunk es x ≡ Some (e, o) → parity_at l.shape l.chunk es y ≡ Some (e, o) → ⊥
@@ -472,14 +419,10 @@ along i spot = option_map (λ s. (s.0, s.1 + i)) spot
 pub spot_along : (g : Option Extent) (o p i : ℕ) → o ≡ p + i
     → option_map {U = Extent × ℕ} (λ (f : Extent). (f, o)) g
     ≡ along i (option_map {U = Extent × ℕ} (λ (f : Extent). (f, p)) g)
-spot_along None o p i e = refl
-spot_along (Some f) o p i e = ap (λ (n : ℕ). spot_at f n) e
+spot_along g o p i e = grind (arith, common_steps)
 
 pub place_along : (spot : Option (Extent × ℕ)) (i : ℕ) → option_map place_at (along i spot) ≡ option_map (moved i) (option_map place_at spot)
-place_along None i = refl
-place_along (Some s) i =
-    let make : ℕ → Option Place = λ n. Some (record { disk = s.0.disk; sector = n }) in
-    ap make (sym (add_assoc s.0.start s.1 i))
+place_along spot i = grind (arith, common_steps)
 
 -- ---- tiles
 
@@ -489,12 +432,7 @@ covering x e low high = and_from (nat_le e.offset x) (nat_lt x (e.offset + e.siz
 -- what a tile covers doesn't lie in an earlier one
 behind_first : (at : ℕ) (f : Extent) (fs : List Extent) (x y : ℕ) (e : Extent) → tiles_from at (f ∷ fs) ≡ true → find (covers x) fs ≡ Some e → covers y e ≡ true → covers y f ≡ false
 behind_first at f fs x y e tiled hit cover =
-    let first : (f.offset ≡ at) × (tiles_from (at + f.size) fs ≡ true) = first_tile at f fs tiled in
-    let there = (find_there (covers x) fs e hit).0 in
-    let later : at + f.size ≤ (get_or fs there.0 e).offset = begins_behind (at + f.size) fs there.0 e first.1 there.1 in
-    let same : (get_or fs there.0 e).offset ≡ e.offset = ap (λ (g : Extent). g.offset) there.2 in
-    let low : e.offset ≤ y = (covers_parts y e cover).0 in
-    and_right (nat_le f.offset y) (nat_lt y (f.offset + f.size)) (le-ltb y (f.offset + f.size) (omega arith))
+    grind (arith, first_tile, find_there, begins_behind, covers_parts, and_right, le-ltb)
 
 pub same_tile : (at : ℕ) (es : List Extent) (x y : ℕ) (e : Extent) → tiles_from at es ≡ true → find (covers x) es ≡ Some e → covers y e ≡ true → find (covers y) es ≡ Some e
 same_tile at [] x y e tiled hit cover = absurd cc
@@ -516,9 +454,7 @@ tile_along es x i e tiled hit lt =
 -- ---- chunks
 
 pub in_chunk : (u x i : ℕ) → x % u + i < u → ((x + i) / u ≡ x / u) × ((x + i) % u ≡ x % u + i)
-in_chunk u x i lt =
-    let e : x + i ≡ x / u * u + (x % u + i) = sym (ap (λ n. n + i) (div-add-mod' x u)) ∙ add_assoc (x / u * u) (x % u) i in
-    (ap (λ n. n / u) e ∙ div-mul-add (x / u) u (x % u + i) lt, ap (λ n. n % u) e ∙ mod-mul-add (x / u) u (x % u + i) lt)
+in_chunk u x i lt = grind (arith, common_steps)
 
 pub stripe_along : (es : List Extent) (u x i : ℕ) → x % u + i < u → stripe_spot es u (x + i) ≡ along i (stripe_spot es u x)
 stripe_along es u x i lt =
@@ -544,17 +480,12 @@ raid5_along es u x i lt =
     ∙ spot_along (slice_get es (raid5_column k u x)) (raid5_offset k u (x + i)) (raid5_offset k u x) i (raid5_offset_along k u x i lt)
 
 pub column_along : (es : List Extent) (u x i column : ℕ) → x % u + i < u → column_spot es u (x + i) column ≡ along i (column_spot es u x column)
-column_along es u x i column lt =
-    let k = length es in
-    spot_along (slice_get es column) (raid5_offset k u (x + i)) (raid5_offset k u x) i (raid5_offset_along k u x i lt)
+column_along es u x i column lt = grind (arith, spot_along, raid5_offset_along)
 
 -- ---- a component
 
 pub chunked_along : (s : Shape) (u : ℕ) (es : List Extent) (x i : ℕ) → is_tiled s ≡ false → x % u + i < u → plex_spot s u es (x + i) ≡ along i (plex_spot s u es x)
-chunked_along Span u es x i tiled lt = absurd cc
-chunked_along Mirror u es x i tiled lt = absurd cc
-chunked_along Stripe u es x i tiled lt = stripe_along es u x i lt
-chunked_along Raid5 u es x i tiled lt = raid5_along es u x i lt
+chunked_along s u es x i tiled lt = grind (arith, common_steps, stripe_along, raid5_along)
 
 -- the places of a copy are those of its component
 pub place_by : (l : Layout) (copy x : ℕ) (es : List Extent) → slice_get l.plexes copy ≡ Some es → place_in l x copy ≡ option_map place_at (plex_spot l.shape l.chunk es x)

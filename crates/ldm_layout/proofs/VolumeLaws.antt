@@ -1,7 +1,8 @@
 -- What a layout is made of: the components and partitions of a volume, and drafts of them.
 use Rattle.std.proofs.Common.{◌≡◌, ℕ, suc, ◌<◌, ◌==◌, List, [], ◌∷◌, length, get_or, refl, sym, ap, ◌∙◌, arith, Bool, true, false, Option, Some, None, ◌+◌, ◌*◌, ◌^◌, inl, inr, subst, slice_get, cond, map, IfSome, Result, Ok, Err, IfOk, nat_le, ◌≤◌, ◌||◌, ◌++◌, sum_by}
+use Rattle.std.proofs.lemmas.Grind.{common_steps}
 use Rattle.std.specs.Prelude.{filter, if◌then◌else◌}
-use Rattle.std.specs.List.{filter_map, All, AllPairs, Contains, cons_option, list_all, list_any}
+use Rattle.std.specs.List.{filter_map, All, AllPairs, Contains, cons_option, list_any}
 use Rattle.std.specs.Option.{option_map}
 use Rattle.std.proofs.lemmas.Bool.{eq-eqb, cases_lt, eqb-true, and_from}
 use Rattle.ldm_records.specs.declared.types.Record.{Record}
@@ -15,7 +16,7 @@ use Rattle.ldm_layout.specs.declared.parts.Plex.{Plex}
 use Rattle.ldm_layout.specs.declared.parts.Extent.{Extent}
 use Rattle.ldm_layout.specs.Parts.{plex_of, extent_of, plex_in, plexes_of, extent_in, extents_of, plexes_at, extents_at, insert_by, in_rising, by_offset, by_index, tile_key, is_partition_of, tiles, tiles_from}
 use Rattle.ldm_layout.specs.Layouts.{Layout, is_tiled, layout_fault, copies_by}
-use Rattle.ldm_layout.specs.Volumes.{layout_of, shape_of, draft_of, checked, laid_out, striping_of, fault_of, fault_at, is_basic}
+use Rattle.ldm_layout.specs.Volumes.{layout_of, shape_of, draft_of, checked, laid_out, striping_of, fault_of, fault_at}
 use Rattle.std.proofs.lemmas.List.Kept.{AllPairs-filter, AllPairs-cons}
 use Rattle.ldm_group.specs.Order.{Rising, place_of}
 use Rattle.ldm_group.proofs.LookLaws.{one_record}
@@ -31,7 +32,6 @@ use Rattle.std.proofs.lemmas.List.Folds.{list_any_at}
 use Rattle.ldm_bytes.specs.Tables.{unless}
 use Rattle.ldm_group.specs.Partitions.{EndsInRange}
 use Rattle.ldm_layout.specs.declared.shape.LayoutError.{LayoutError}
-use Rattle.ldm_layout.specs.declared.shape.Shape.TheVariants.{Span, Stripe, Mirror, Raid5}
 use Rattle.std.proofs.lemmas.List.Sums.{sum_by-cons}
 use Rattle.ldm_layout.proofs.SortLaws.{rising_numbers, stable_is}
 use Rattle.std.proofs.lemmas.Option.{slice_get_within, get_or_from_slice_get, same_Some}
@@ -172,15 +172,7 @@ Above p q = p.id < q.id
 
 ids_rise : (r s : Record) (p q : Plex) → place_of r < place_of s → plex_in r ≡ Some p → plex_in s ≡ Some q → Above p q
 unfolding place_of
-ids_rise r s p q lt at_p at_q =
-    let one = plex_from r p at_p in
-    let two = plex_from s q at_q in
-    let P : Record → Type 0 = λ t. place_of t < place_of s in
-    let Q : Record → Type 0 = λ t. place_of (kinds.Component one.0) < place_of t in
-    let below : 4 * 2 ^ 64 + one.0.head.id < 4 * 2 ^ 64 + two.0.head.id = subst Q two.1 (subst P one.1 lt) in
-    let id_p : one.0.head.id ≡ p.id = ap (λ (x : Plex). x.id) one.2 in
-    let id_q : two.0.head.id ≡ q.id = ap (λ (x : Plex). x.id) two.2 in
-    omega (arith, below, id_p, id_q)
+ids_rise r s p q lt at_p at_q = grind (arith, common_steps)
 
 plexes_rise : (records : List Record) → Rising records → AllPairs Above (filter_map plex_in records)
 plexes_rise [] up = λ i j d lt le. absurd (omega arith)
@@ -228,14 +220,9 @@ one_volume records v w up at_v at_w e = same_volume (one_record records (kinds.V
 
 -- ---- Lists of the components and partitions of a group give the layouts of its volumes.
 
-pub same_extents : (lists : Lists) (records : List Record) → IsListsOf lists records → ◌≡◌ {A = ℕ → List Extent} (λ c. extents_at c lists.extents) (λ c. extents_of c records)
-same_extents lists records h = λ i. λ c. h.extents_are c i
-
 pub draft_is : (lists : Lists) (records : List Record) (v : Volume) → IsListsOf lists records
     → draft_of v.size (plexes_at v.head.id lists.plexes) (λ c. extents_at c lists.extents) ≡ draft_of v.size (plexes_of v.head.id records) (λ c. extents_of c records)
-draft_is lists records v h =
-    ap (λ (ps : List Plex). draft_of v.size ps (λ c. extents_at c lists.extents)) (h.plexes_are v.head.id)
-    ∙ ap (λ (es : ℕ → List Extent). draft_of v.size (plexes_of v.head.id records) es) (same_extents lists records h)
+draft_is lists records v h = grind (arith, common_steps)
 
 pub layout_is : (lists : Lists) (records : List Record) (v : Volume) → IsListsOf lists records
     → checked (draft_of v.size (plexes_at v.head.id lists.plexes) (λ c. extents_at c lists.extents)) ≡ layout_of records v
@@ -246,9 +233,7 @@ layout_is lists records v h = ap checked (draft_is lists records v h)
 pub fault_is : (lists : Lists) (records : List Record) (r : Record) (v : Volume) (f : Option LayoutFault) → r ≡ kinds.Volume v → IsListsOf lists records
     → f ≡ fault_of (checked (draft_of v.size (plexes_at v.head.id lists.plexes) (λ c. extents_at c lists.extents)))
     → option_map {U = VolumeFault} (λ g. record { volume = v.head.id; fault = g }) f ≡ fault_at records r
-fault_is lists records r v f at h is =
-    ap (λ (o : Option LayoutFault). option_map {U = VolumeFault} (λ g. record { volume = v.head.id; fault = g }) o) (is ∙ ap fault_of (layout_is lists records v h))
-    ∙ ap (fault_at records) (sym at)
+fault_is lists records r v f at h is = grind (arith, layout_is)
 
 -- the partitions of the components in the lists end in range where those of the volume do
 pub lists_end : (lists : Lists) (records : List Record) (volume : ℕ) → IsListsOf lists records → All (λ p. AllEnd (extents_of p.id records)) (plexes_of volume records)
@@ -312,19 +297,10 @@ plexes_end s extents (p ∷ ps) hs =
 -- ---- copies
 
 one_copy : (s : Shape) → copies_by s 1 ≡ 1
-one_copy Span = refl
-one_copy Stripe = refl
-one_copy Mirror = refl
-one_copy Raid5 = refl
+one_copy s = grind (arith, common_steps)
 
 shape_copies : (ps : List Plex) (s : Shape) → shape_of ps ≡ Some s → copies_by s (length ps) ≡ length ps
-shape_copies [] s h = absurd cc
-shape_copies (p ∷ []) s h = one_copy s
-shape_copies (p ∷ (q ∷ ps)) s h = go (list_all is_basic (p ∷ (q ∷ ps))) h
-  where
-    go : (b : Bool) → cond b (Some Mirror) None ≡ Some s → copies_by s (length (p ∷ (q ∷ ps))) ≡ length (p ∷ (q ∷ ps))
-    go true e = (let same : Mirror ≡ s = cc in ap (λ t. copies_by t (length (p ∷ (q ∷ ps)))) (sym same))
-    go false e = absurd cc
+shape_copies ps s h = grind (arith, common_steps, one_copy)
 
 -- ---- the parts of a draft
 
@@ -354,24 +330,11 @@ draft_shape size ps extents l h = go (shape_of ps) refl h
     go (Some s) is e = (s, is, same_Some (drafted size ps extents s) l e)
 
 draft_parts : (size : ℕ) (ps : List Plex) (extents : ℕ → List Extent) (l : Layout) → draft_of size ps extents ≡ Some l → IsDraft ps extents l
-draft_parts size ps extents l h =
-    let of = draft_shape size ps extents l h in
-    record {
-      shape = of.1 ∙ ap (λ (x : Layout). Some x.shape) of.2;
-      plexes = sym (ap (λ (x : Layout). x.plexes) of.2)
-          ∙ ap (λ (x : Layout). map (λ p. laid_out x.shape (extents p.id)) ps) of.2;
-    }
+draft_parts size ps extents l h = grind (arith, common_steps)
 
 -- a draft without faults is a plan
 pub plan_of_draft : (size : ℕ) (ps : List Plex) (extents : ℕ → List Extent) (l : Layout) → All (λ p. AllEnd (extents p.id)) ps → draft_of size ps extents ≡ Some l → layout_fault l ≡ None → IsPlan l
-plan_of_draft size ps extents l ends h sound =
-    let parts = draft_parts size ps extents l h in
-    let many : length l.plexes ≡ length ps = ap (λ (xs : List (List Extent)). length xs) parts.plexes ∙ length-map ps (λ (p : Plex). laid_out l.shape (extents p.id)) in
-    record {
-      sound = sound;
-      copies = many ∙ (sym (shape_copies ps l.shape parts.shape) ∙ ap (λ n. copies_by l.shape n) (sym many));
-      ends = subst (λ (xs : List (List Extent)). All AllEnd xs) (sym parts.plexes) (plexes_end l.shape extents ps ends);
-    }
+plan_of_draft size ps extents l ends h sound = grind (arith, draft_parts, length-map, shape_copies, plexes_end)
 
 -- ---- the layout of a volume
 
@@ -425,8 +388,7 @@ by_offset_more es more tiled =
     filter-append (λ e. tile_key e == k) (by_offset es) more ∙ ap (λ (l : List Extent). l ++ filter (λ e. tile_key e == k) more) (rising_numbers tile_key k es) ∙ sym (filter-append (λ e. tile_key e == k) es more)))
 
 pub some_tiles : (xs ys : List Extent) → tiles xs ≡ true → tiles_from 0 (xs ++ ys) ≡ true → tiles (xs ++ ys) ≡ true
-some_tiles [] ys some h = absurd cc
-some_tiles (x ∷ xs) ys some h = h
+some_tiles xs ys some h = grind (arith, common_steps)
 
 -- ---- how many there are
 

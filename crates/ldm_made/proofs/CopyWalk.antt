@@ -1,6 +1,6 @@
 -- The components of a mirror that a walk makes, each followed by its partition.
-use Rattle.std.proofs.Common.{◌≡◌, ℕ, ◌+◌, ◌*◌, ◌<◌, List, [], ◌∷◌, ◌++◌, length, get_or, take, sym, ap, ◌∙◌, append_assoc, arith, Option, Some, None}
-use Rattle.std.specs.List.{cons_option}
+use Rattle.std.proofs.Common.{◌≡◌, ℕ, ◌+◌, ◌*◌, ◌<◌, List, [], ◌∷◌, ◌++◌, length, get_or, take, ap, ◌∙◌, append_assoc, arith, Option, Some, None}
+use Rattle.std.proofs.lemmas.Grind.{common_steps}
 use Rattle.std.proofs.lemmas.List.{take_more, length-take-le}
 use Rattle.std.proofs.lemmas.List.Elements.{filter_map-append}
 use Rattle.ldm_records.specs.declared.types.Record.{Record}
@@ -25,14 +25,4 @@ pub copies_more : (before items half pushed : List Record) (spots : List Taken) 
     → new_component (id + 2 * at) v 2 1 None ≡ Some c → new_partition (id + 2 * at + 1) (get_or spots at d).start 0 (get_or spots at d).size (id + 2 * at) (get_or spots at d).disk None ≡ Some p
     → half ≡ items ++ c ∷ [] → pushed ≡ half ++ p ∷ [] → pushed ≡ before ++ there (mirror_parts id v (take (at + 1) spots))
 copies_more before items half pushed spots id v at d c p lt is makes_c makes_p push_c push_p =
-    let t : Taken = get_or spots at d in
-    let many : length (take at spots) ≡ at = length-take-le at spots (omega arith) in
-    let made : mirror_parts id v (take (at + 1) spots) ≡ mirror_parts id v (take at spots) ++ (new_component (id + 2 * at) v 2 1 None ∷ (new_partition (id + 2 * at + 1) t.start 0 t.size (id + 2 * at) t.disk None ∷ [])) =
-    ap (mirror_parts id v) (take_more spots at d lt) ∙ copy_push id v (take at spots) t
-    ∙ (λ i. mirror_parts id v (take at spots) ++ (new_component (id + 2 * many i) v 2 1 None ∷ (new_partition (id + 2 * many i + 1) t.start 0 t.size (id + 2 * many i) t.disk None ∷ []))) in
-    let all : there (mirror_parts id v (take (at + 1) spots)) ≡ there (mirror_parts id v (take at spots)) ++ (c ∷ (p ∷ [])) =
-    ap there made ∙ filter_map-append (λ (x : Option Record). x) (mirror_parts id v (take at spots)) _
-    ∙ (λ i. there (mirror_parts id v (take at spots)) ++ cons_option (makes_c i) (cons_option (makes_p i) [])) in
-    push_p ∙ ap (λ (l : List Record). l ++ p ∷ []) (push_c ∙ ap (λ (l : List Record). l ++ c ∷ []) is)
-    ∙ append_assoc (before ++ there (mirror_parts id v (take at spots))) (c ∷ []) (p ∷ []) ∙ append_assoc before (there (mirror_parts id v (take at spots))) (c ∷ (p ∷ []))
-    ∙ ap (λ (l : List Record). before ++ l) (sym all)
+    grind (arith, common_steps, length-take-le, take_more, copy_push, filter_map-append, append_assoc)

@@ -49,8 +49,7 @@ there_push xs o r e = filter_map-append (λ (x : Option Record). x) xs (o ∷ []
 
 grown : (before : List Record) (xs ys : List (Option Record)) (o : Option Record) (r : Record) (items pushed : List Record) → items ≡ before ++ there xs → ys ≡ xs ++ o ∷ [] → o ≡ Some r → pushed ≡ items ++ r ∷ []
     → pushed ≡ before ++ there ys
-grown before xs ys o r items pushed is more e push =
-    push ∙ ap (λ (l : List Record). l ++ r ∷ []) is ∙ append_assoc before (there xs) (r ∷ []) ∙ ap (λ (l : List Record). before ++ l) (sym (there_push xs o r e) ∙ ap there (sym more))
+grown before xs ys o r items pushed is more e push = grind (arith, append_assoc, there_push)
 
 -- a step of each walk
 pub tiles_more : (before items pushed : List Record) (spots : List Taken) (id c from at offset : ℕ) (d : Taken) (r : Record) → at < length spots → items ≡ before ++ there (span_parts id c from (take at spots))

@@ -1,6 +1,7 @@
 -- What makes the next group sound: a change that carries the rules over, or records that are all
 -- new.
 use Rattle.std.proofs.Common.{◌≡◌, ◌⊎◌, inl, inr, ℕ, ◌≤◌, ◌==◌, not, List, get_or, refl, sym, ap, subst, ◌∙◌, arith, true, false, None, Ok, Contains, count_by, zero, suc, ◌+◌, ◌<◌, Bool, cond, [], ◌∷◌, length, slice_get, Some, find, position}
+use Rattle.std.proofs.lemmas.Grind.{common_steps}
 use Rattle.std.specs.Prelude.{filter, is_none, map, nat_le, nat_lt}
 use Rattle.std.proofs.lemmas.Bool.{not-false, eqb-true, eq-eqb, cases_lt, false≢true}
 use Rattle.ldm_records.specs.declared.types.Record.{Record}
@@ -280,11 +281,7 @@ no_group (d ∷ disks) = no_group disks
 -- ---- GUIDs
 
 count_guids : (guid : ℕ) (disks : List Disk) → count_by (is_disk_with guid) (map kinds.Disk disks) ≡ count_by (λ g. g == guid) (map (λ d. d.guid) disks)
-count_guids guid [] = refl
-count_guids guid (d ∷ disks) =
-    sum_by-cons (λ r. cond (is_disk_with guid r) 1 0) (kinds.Disk d) (map kinds.Disk disks)
-    ∙ ap (λ (n : ℕ). cond (d.guid == guid) 1 0 + n) (count_guids guid disks)
-    ∙ sym (sum_by-cons (λ g. cond (g == guid) 1 0) d.guid (map (λ d. d.guid) disks))
+count_guids guid disks = grind (arith, common_steps, sum_by-cons)
 
 -- the label of a GUID in the list of all
 label_of_guid : (labels : List Label) (k g : ℕ) → k < length (map (λ l. l.disk_guid) labels) → get_or (map (λ l. l.disk_guid) labels) k 0 ≡ g
@@ -356,12 +353,7 @@ no_position {X} t (x ∷ xs) fails =
 
 -- the first is there, where one passes
 some_position : {X : Type 0} (t : X → Bool) (xs : List X) (k : ℕ) (d : X) → k < length xs → t (get_or xs k d) ≡ true → is_none (position t xs) ≡ false
-some_position t xs k d lt holds =
-    elim (cases_lt (position_or_len t xs) (length xs)) [
-      | inl less ↦ (let there : nat_lt (position_or_len t xs) (length xs) ≡ true = grind (arith, nat_tests) in
-          ap (λ (b : Bool). is_none (cond b (Some (position_or_len t xs)) None)) there)
-      | inr ge ↦ absurd (false≢true (sym (fails_before_first t xs k d (omega arith)) ∙ holds))
-    ]
+some_position t xs k d lt holds = grind (arith, cases_lt, nat_tests, false≢true, fails_before_first)
 
 pub new_own : (records : List Record) (labels : List Label) → IsNewOn records labels → stranger records labels ≡ None
 new_own records labels new =

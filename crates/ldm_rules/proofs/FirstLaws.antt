@@ -1,6 +1,7 @@
 -- How the tests find the first broken rule: walks over records, layouts and sorted spans, and the
 -- table of all.
-use Rattle.std.proofs.Common.{◌≡◌, ℕ, List, [], ◌∷◌, ◌++◌, refl, Option, Some, None, Err, ◌+◌, ◌<◌, ◌==◌, inl, inr, Bool, true, false, cond, length, get_or, ap, sym, subst, ◌∙◌, arith, count_by, find, Bor, not, option_copied, take, drop, Result, Ok, ◌≢◌, ◌≤◌, max, min, zero-add, eq-eqb, nat_lt}
+use Rattle.std.proofs.Common.{◌≡◌, ℕ, List, [], ◌∷◌, ◌++◌, refl, Option, Some, None, Err, ◌+◌, ◌<◌, ◌==◌, inl, inr, Bool, true, false, cond, length, get_or, ap, sym, subst, ◌∙◌, arith, count_by, find, Bor, not, option_copied, take, drop, Result, ◌≢◌, ◌≤◌, max, min, zero-add, eq-eqb, nat_lt}
+use Rattle.std.proofs.lemmas.Grind.{common_steps}
 use Rattle.ldm_bytes.specs.Tables.{first_of}
 use Rattle.ldm_rules.specs.Table.{ChecksAs}
 use Rattle.ldm_rules.specs.declared.fault.RuleError.{RuleError}
@@ -64,10 +65,7 @@ none_counted {X} t (x ∷ xs) =
     ]
 
 pub none_handed : {X : Type 0} (handed : Option (Bor X)) (none : Bool) (found : Option X) → is_some handed ≡ not none → option_copied handed ≡ found → none ≡ is_none found
-none_handed None true found is same = ap is_none same
-none_handed (Some x) false found is same = ap is_none same
-none_handed None false found is same = absurd cc
-none_handed (Some x) true found is same = absurd cc
+none_handed handed none found is same = grind (arith, common_steps)
 
 -- ---- of a walk
 
@@ -93,8 +91,7 @@ Seen false ids = ids ≡ []
 Seen true ids = (id : ℕ) × (ids ≡ id ∷ [])
 
 no_group : (r : Record) → ((g : GroupRec) → r ≡ kinds.Group g → ⊥) → group_id r ≡ None
-no_group (kinds.Group g) other = absurd (other g refl)
-no_group r other = refl
+no_group r other = grind (arith, common_steps)
 
 module _ (records : List Record) (i : ℕ) (r : Record) (lt : i < length records) (is : r ≡ get_or records i r) where
   grown : (o : Option ℕ) → group_id r ≡ o → filter_map group_id (take (i + 1) records) ≡ filter_map group_id (take i records) ++ cons_option o []
@@ -132,13 +129,7 @@ first_passing test faults = option_map (λ f. f.volume) (find (λ f. test f.faul
 step : (test : LayoutFault → Bool) (v : Volume) (l : Result Layout LayoutFault) (faults : List VolumeFault) (found : Option Record) → first_passing test faults ≡ option_map id_of found
     → first_passing test (cons_option (option_map {U = VolumeFault} (λ f. record { volume = v.head.id; fault = f }) (fault_of l)) faults)
     ≡ option_map id_of (cond (fails test l) (Some (kinds.Volume v)) found)
-step test v (Ok l) faults found h = h
-step test v (Err f) faults found h = by_test (test f)
-  where
-    by_test : (b : Bool) → option_map {U = ℕ} (λ (g : VolumeFault). g.volume) (cond b (Some (record { volume = v.head.id; fault = f })) (find (λ g. test g.fault) faults))
-        ≡ option_map id_of (cond b (Some (kinds.Volume v)) found)
-    by_test true = refl
-    by_test false = h
+step test v l faults found h = grind (arith, common_steps)
 
 pub first_of_kind : (test : LayoutFault → Bool) (records rs : List Record) → first_passing test (filter_map (fault_at records) rs) ≡ first_broken (fails_at test records) rs
 first_of_kind test records [] = refl
@@ -200,13 +191,7 @@ apart_once xs x apart there twice =
 
 -- where two partitions of the list meet, and both are of one disk
 pub overlap_of : (p q : Partition) → meets p q ≡ true → (overlaps (span p) (span q) ≡ true) × (overlaps (span p) (span p) ≡ true)
-overlap_of p q h =
-    let both = and_parts (p.disk == q.disk)
-    (nat_lt (max p.start q.start) (min (p.start + p.size) (q.start + q.size))) h in
-    let disk : p.disk ≡ q.disk = eqb-true p.disk q.disk both.0 in
-    let lt : max p.start q.start < min (p.start + p.size) (q.start + q.size) =
-    ltb-true _ _ both.1 in
-    (lt-ltb _ _ (omega arith), lt-ltb _ _ (omega arith))
+overlap_of p q h = grind (arith, and_parts, eqb-true, ltb-true, lt-ltb)
 
 pub two_met : (records : List Record) (sorted : List Span) (d : Record) (p q : Partition) (k j : ℕ) → Apart sorted → IsPermutation (filter_map span_of records) sorted
     → k < length records → j < length records → get_or records k d ≡ kinds.Partition p → get_or records j d ≡ kinds.Partition q

@@ -1,5 +1,6 @@
 -- What rules that aren't broken say of the records, and what keeps them.
 use Rattle.std.proofs.Common.{◌≡◌, ℕ, ◌+◌, ◌*◌, ◌^◌, max, min, ◌<◌, ◌==◌, not, inl, inr, Bool, true, false, List, get_or, refl, ap, sym, ◌∙◌, arith, Option, Some, None, find, ◌⊎◌, ◌≤◌, subst, Ok, count_by, bytes_eq, ◌&&◌, cond, [], ◌∷◌}
+use Rattle.std.proofs.lemmas.Grind.{common_steps}
 use Rattle.std.specs.Option.{option_map, option_and_then}
 use Rattle.std.specs.List.{list_any, filter_map, Contains, All}
 use Rattle.std.proofs.lemmas.Bool.{and_from, lt-ltb, eq-eqb, eqb-true, and_cases, and_left, and_right, not-false, false_from_ne_true, false≢true, ltb-false}
@@ -36,13 +37,11 @@ same_partition : {p q : Partition} → kinds.Partition p ≡ kinds.Partition q �
 same_partition h = cc
 
 pub map_none : {A B : Type 0} (f : A → B) (o : Option A) → option_map f o ≡ None → o ≡ None
-map_none f None h = refl
-map_none f (Some a) h = absurd cc
+map_none f o h = grind (arith, common_steps)
 
 -- a rule that isn't broken holds of each record
 pub not_broken : (broken : Record → Bool) (records : List Record) (r : Record) → first_broken broken records ≡ None → Contains records r → broken r ≡ false
-not_broken broken records r sound at =
-    ap broken (sym at.2) ∙ none_found broken records at.0 r (map_none id_of (find broken records) sound) at.1
+not_broken broken records r sound at = grind (arith, none_found, map_none)
 
 -- and one that holds of each record isn't
 pub none_broken : (broken : Record → Bool) (records : List Record) → ((r : Record) → Contains records r → broken r ≡ false) → first_broken broken records ≡ None
@@ -244,8 +243,7 @@ label_low guid (l ∷ ls) low = elim (l.disk_guid == guid) as (λ b. sectors_by 
 ]
 
 disk_low : (labels : List Label) (disk : Option Disk) → All (λ l. l.data_size < 2 ^ 64) labels → sectors_by (option_and_then (λ (d : Disk). label_with d.guid labels) disk) < 2 ^ 64
-disk_low labels None low = omega arith
-disk_low labels (Some d) low = label_low d.guid labels low
+disk_low labels disk low = grind (arith, common_steps, label_low)
 
 pub data_low : (labels : List Label) (records : List Record) → All (λ l. l.data_size < 2 ^ 64) labels → (disk : ℕ) → data_size labels records disk < 2 ^ 64
 data_low labels records low disk = disk_low labels (disk_in (by_id 2 disk records)) low

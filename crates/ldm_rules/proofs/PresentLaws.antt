@@ -1,5 +1,6 @@
 -- Which image is that of a disk.
-use Rattle.std.proofs.Common.{◌≡◌, ℕ, Bool, true, false, cond, List, length, Some, None, refl, ◌∙◌, ltb, slice_get, option_and_then, ap}
+use Rattle.std.proofs.Common.{arith, ◌≡◌, ℕ, Bool, true, false, cond, List, length, Some, None, refl, ◌∙◌, ltb, slice_get, option_and_then, ap}
+use Rattle.std.proofs.lemmas.Grind.{common_steps}
 use Rattle.std.specs.List.{position_or_len}
 use Rattle.std.proofs.lemmas.Bool.{ltb-false}
 use Rattle.std.proofs.lemmas.List.Folds.{find_at}
@@ -29,8 +30,7 @@ label_at_image guid labels = find_at (has_guid guid) labels ∙ by (ltb at (leng
 -- ---- What depends on the disk records of a group alone: the disk of a GUID, and so the first image of a strange disk.
 
 guid_disk : (guid : ℕ) (r : Record) → is_disk_with guid r ≡ true → kind_of r ≡ 2
-guid_disk guid (kinds.Disk d) e = refl
-guid_disk guid r e = absurd cc
+guid_disk guid r e = grind (arith, common_steps)
 
 same_disk : (a b : List Record) (guid : ℕ) → HasSameDisks a b → disk_with guid a ≡ disk_with guid b
 same_disk a b guid disks = ap disk_in (same_found 2 (is_disk_with guid) a b (guid_disk guid) disks)

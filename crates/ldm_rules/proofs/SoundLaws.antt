@@ -1,6 +1,7 @@
 -- What a sound group has: each rule is kept, its volumes have layouts, no two sectors have one place, and its partitions end in range.
-use Rattle.std.proofs.Common.{◌≡◌, ℕ, ◌<◌, ◌≤◌, ◌==◌, ◌&&◌, not, Bool, true, false, List, [], ◌∷◌, length, get_or, refl, ap, sym, subst, ◌∙◌, arith, Option, Some, None, Result, nat_le, Contains, ◌+◌, ◌-◌, ◌*◌, ◌/◌, Ok, ◌^◌, Err, OnOk, IfOk, IfSome}
-use Rattle.std.specs.List.{All, list_all, filter_map}
+use Rattle.std.proofs.Common.{◌≡◌, ℕ, ◌<◌, ◌≤◌, not, Bool, false, List, [], ◌∷◌, length, get_or, refl, ap, sym, subst, ◌∙◌, arith, Option, Some, None, Result, Contains, ◌+◌, ◌-◌, ◌*◌, ◌/◌, Ok, ◌^◌, Err, OnOk, IfOk, IfSome}
+use Rattle.std.proofs.lemmas.Grind.{common_steps}
+use Rattle.std.specs.List.{All, filter_map}
 use Rattle.std.specs.Option.{option_map, option_and_then, IsSomeAnd}
 use Rattle.std.specs.Result.{result_ok}
 use Rattle.std.proofs.lemmas.Bool.{and_parts, eqb-true, not-false, not_from_false}
@@ -11,14 +12,14 @@ use Rattle.ldm_records.specs.declared.types.Record.TheVariants as kinds
 use Rattle.ldm_records.specs.declared.types.Volume.{Volume}
 use Rattle.ldm_layout.proofs.SpotLaws.{none, HasNone, PlexFacts, plex_facts, has_none, IsInside, plex_spot_inside, parity_inside, plex_spot_apart, parity_beside, parity_spot_shared, parity_spot_same}
 use Rattle.ldm_layout.proofs.VolumeLaws.{IsLaidOut, laid_out_volume, laid_all, IsExtentOf, extents_are, plexes_are, one_plex, plex_once, one_volume}
-use Rattle.ldm_layout.specs.Layouts.{Layout, is_tiled, fewest, has_columns, plex_spot, parity_at, spot_in, parity_spot_in, place_in, parity_in, place_at, copies_by, copies_of, parity_spot}
-use Rattle.ldm_layout.specs.Parts.{plexes_of, extents_of, rises_from, extent_of}
+use Rattle.ldm_layout.specs.Layouts.{Layout, is_tiled, plex_spot, parity_at, spot_in, parity_spot_in, place_in, parity_in, place_at, copies_by, copies_of, parity_spot}
+use Rattle.ldm_layout.specs.Parts.{plexes_of, extents_of, extent_of}
 use Rattle.ldm_layout.specs.Volumes.{shape_of, laid_out, volume_place, parity_of, layout_of, volume_with}
 use Rattle.ldm_layout.specs.declared.parts.Extent.{Extent}
 use Rattle.ldm_layout.specs.declared.parts.Plex.{Plex}
 use Rattle.ldm_layout.specs.declared.shape.LayoutFault.{LayoutFault}
 use Rattle.ldm_layout.specs.declared.shape.Shape.{Shape}
-use Rattle.ldm_layout.specs.declared.shape.Shape.TheVariants.{Span, Stripe, Mirror, Raid5}
+use Rattle.ldm_layout.specs.declared.shape.Shape.TheVariants.{Raid5}
 use Rattle.ldm_rules.specs.Disjoint.{HasLayout, IsSector, IsRaid5Sector, LiesInOwn, IsSameRow, AllLaidOut, HasDisjointPlaces}
 use Rattle.ldm_records.specs.declared.types.Partition.{Partition}
 use Rattle.ldm_group.specs.Order.{Rising}
@@ -60,14 +61,10 @@ pub record IsCopy (records : List Record) (v : Volume) (l : Layout) (copy : ℕ)
   pub size : l.size ≡ v.size
 
 some_plex : (ps : List Plex) (s : Shape) → shape_of ps ≡ Some s → 1 ≤ length ps
-some_plex [] s h = absurd cc
-some_plex (p ∷ ps) s h = omega arith
+some_plex ps s h = grind (arith, common_steps)
 
 copies_low : (s : Shape) (n : ℕ) → 1 ≤ n → copies_by s n ≤ n
-copies_low Span n h = h
-copies_low Stripe n h = h
-copies_low Mirror n h = omega arith
-copies_low Raid5 n h = h
+copies_low s n h = grind (arith, common_steps)
 
 pub copy_facts : (records : List Record) (v : Volume) (l : Layout) (copy : ℕ) → HasLayout records v l → copy < copies_of l → IsCopy records v l copy
 copy_facts records v l copy has h =
@@ -166,14 +163,7 @@ spot_in_own records v copy spot s =
 
 -- the columns that the component says are as many as its partitions
 pub columns_are : (l : Layout) → l.shape ≡ Raid5 → HasNone l → 0 < length l.plexes → l.columns ≡ length (parts_at l 0)
-columns_are l raid5 has h =
-    let all : list_all (has_columns l) l.plexes ≡ true =
-    not-false (list_all (has_columns l) l.plexes)
-    (rw (not_from_false (is_tiled l.shape) (ap is_tiled raid5)) at has.columns) in
-    let one : has_columns l (parts_at l 0) ≡ true =
-    AllPass-from_list_all (has_columns l) l.plexes all 0 [] h in
-    eqb-true l.columns (length (parts_at l 0))
-    (and_parts (l.columns == length (parts_at l 0)) (nat_le (fewest l.shape) (length (parts_at l 0)) && rises_from 0 (parts_at l 0)) one).0
+columns_are l raid5 has h = grind (arith, not-false, not_from_false, AllPass-from_list_all, eqb-true, and_parts)
 
 -- ---- In a sound group no two sectors have one place.
 
@@ -257,9 +247,7 @@ places_beside records v w l m x y d up apart at_x at_y e =
 
 -- the parity of a sector, by the columns of its volume
 parity_by : (records : List Record) (v : Volume) (l : Layout) (x y : ℕ) → IsRaid5Sector records v l x → parity_spot_in l y ≡ parity_spot (parts_at l 0) l.chunk y
-parity_by records v l x y s =
-    parity_spot_is l y (raid5_copy records v l x s).listed
-    ∙ ap (λ (t : Shape). parity_at t l.chunk (parts_at l 0) y) s.raid5
+parity_by records v l x y s = grind (arith, common_steps, parity_spot_is, raid5_copy)
 
 columns_of : (records : List Record) (v : Volume) (l : Layout) (x : ℕ) → IsRaid5Sector records v l x → l.columns ≡ length (parts_at l 0)
 columns_of records v l x s = columns_are l s.raid5 (has_none l (laid_out_volume records v l s.volume.layout).sound) (raid5_copy records v l x s).listed
@@ -339,12 +327,10 @@ all_none a b c d e f g h i j k l m A B C D E F G H I J K L M = rw (A, B, C, D, E
 -- no rule is broken where each is kept
 pub sound_from : (records : List Record) (labels : List Label) → EachRule records labels → IsSound records labels
 unfolding first_broken_rule name_rules tree_rules sector_rules
-sound_from records labels each =
-    all_none _ _ _ _ _ _ _ _ _ _ _ _ _ each.one_group each.guids each.names each.volumes each.components each.disks each.component_counts each.partition_counts each.sizes each.ends each.meetings each.layouts each.capacities
+sound_from records labels each = grind (arith, all_none)
 
 next_none : (rule : ℕ) (o : Option ℕ) (rest : List (Option (ℕ × ℕ))) → first_of (broken_at rule o ∷ rest) ≡ None → (o ≡ None) × (first_of rest ≡ None)
-next_none rule None rest h = (refl, h)
-next_none rule (Some id) rest h = absurd cc
+next_none rule o rest h = grind (arith, common_steps)
 
 -- and each is kept where none is
 pub sound_parts : (records : List Record) (labels : List Label) → IsSound records labels → EachRule records labels
@@ -382,13 +368,11 @@ sound_parts records labels sound =
 -- ---- layouts
 
 one_of_two : (a : Bool) → not a ≡ false → a ≡ false → ⊥
-one_of_two true h e = cc
-one_of_two false h e = cc
+one_of_two a h e = grind (arith, common_steps)
 
 has_layout : (records : List Record) (v : Volume) (r : Result Layout LayoutFault) → layout_of records v ≡ r → fails (λ f. not (is_short_fault f)) r ≡ false → fails is_short_fault r ≡ false
     → (l : Layout) × (layout_of records v ≡ Ok l)
-has_layout records v (Ok l) is a b = (l, is)
-has_layout records v (Err f) is a b = absurd (one_of_two (is_short_fault f) a b)
+has_layout records v r is a b = grind (arith, common_steps, one_of_two)
 
 pub each_laid : (records : List Record) (labels : List Label) (v : Volume) → EachRule records labels → Contains records (kinds.Volume v) → (l : Layout) × HasLayout records v l
 each_laid records labels v each there =
@@ -447,5 +431,4 @@ no_fault records v result error fault laid_out there plans is fault_is =
 
 pub planned_size : (records : List Record) (v : Volume) (result : Result Layout LayoutError) (plan : Layout) → volume_with v.head.id records ≡ Some v
     → IfOk result (λ l. IfSome (volume_with v.head.id records) (λ w. l.size ≡ w.size)) → result ≡ Ok plan → plan.size ≡ v.size
-planned_size records v result plan again sizes is =
-    of_volume (λ w. plan.size ≡ w.size) records v again (subst (λ (r : Result Layout LayoutError). IfOk r (λ l. IfSome (volume_with v.head.id records) (λ w. l.size ≡ w.size))) is sizes)
+planned_size records v result plan again sizes is = grind (arith, of_volume)

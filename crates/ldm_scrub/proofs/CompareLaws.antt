@@ -1,6 +1,6 @@
 -- Places of a volume: where they lie, how many there are, what is compared at each, and what is
 -- said of those that are bad.
-use Rattle.std.proofs.Common.{◌≡◌, ℕ, ◌+◌, ◌-◌, ◌*◌, ◌/◌, ◌%◌, ◌<◌, ◌≤◌, Bool, false, length, refl, ap, sym, ◌∙◌, arith, Option, Some, if◌then◌else◌, slice_get, List, true, not, ◌||◌, [], ◌∷◌, ◌++◌, map, take, drop, slice_index, add-one, zero, suc, ◌==◌, get_or, replicate, filter_map, inl, inr, min, cond, nat_lt, filter, flat_map, count_by, subst, append_assoc, zero-add}
+use Rattle.std.proofs.Common.{◌≡◌, ℕ, ◌+◌, ◌-◌, ◌*◌, ◌/◌, ◌%◌, ◌<◌, ◌≤◌, Bool, false, length, refl, ap, sym, ◌∙◌, arith, Option, Some, if◌then◌else◌, slice_get, List, true, not, ◌||◌, [], ◌∷◌, ◌++◌, map, take, drop, slice_index, add-one, zero, suc, ◌==◌, get_or, replicate, filter_map, inl, inr, min, cond, filter, flat_map, count_by, append_assoc, zero-add}
 use Rattle.std.specs.Option.{option_map, option_to_list}
 use Rattle.std.proofs.lemmas.Nat.{div-add-mod', div-mul-add, mod-mul-add, mod_below, mul-le}
 use Rattle.ldm_layout.specs.Places.{raid5_offset}
@@ -31,9 +31,9 @@ use Rattle.std.proofs.lemmas.Slice.Eq.{bytes_eq-Decides}
 use Rattle.std.proofs.lemmas.List.Elements.{filter-append}
 use Rattle.std.proofs.Math.Nat.{suc-mul, mul_assoc, mul_comm}
 use Rattle.std.proofs.lemmas.List.Sums.{sum_by-append}
-use Rattle.std.proofs.lemmas.Grind.{flat_map-append}
+use Rattle.std.proofs.lemmas.Grind.{common_steps, flat_map-append}
 use Rattle.ldm_host.specs.Moves.{Begins}
-use Rattle.ldm_scrub.specs.Lines.{text_of_differing, text_of_failing, bad_line, line_at, bad_lines, bad_of, text_of_end}
+use Rattle.ldm_scrub.specs.Lines.{text_of_differing, text_of_failing, bad_line, bad_lines, bad_of, text_of_end}
 use Rattle.ldm_layout.proofs.SpotLaws.{spot_along, place_along}
 
 -- ---- Places of a RAID-5: what lies beside them in the columns.
@@ -74,34 +74,21 @@ row_parts k u p some many =
 
 -- the place of a sector in the first chunk of a row
 pub place_of_row : (k u x : ℕ) → 0 < u → x / u % (k - 1) ≡ 0 → row_sector k u (x / u / (k - 1) * u + x % u) ≡ x
-place_of_row k u x some first =
-    let low : x % u < u = mod_below x u some in
-    let p : ℕ = x / u / (k - 1) * u + x % u in
-    let row : p / u ≡ x / u / (k - 1) = div-mul-add (x / u / (k - 1)) u (x % u) low in
-    let rest : p % u ≡ x % u = mod-mul-add (x / u / (k - 1)) u (x % u) low in
-    let whole : x / u / (k - 1) * (k - 1) + x / u % (k - 1) ≡ x / u = div-add-mod' (x / u) (k - 1) in
-    let chunks : x / u / (k - 1) * (k - 1) ≡ x / u = omega (arith, whole, first) in
-    ap (λ n. n * (k - 1) * u + p % u) row ∙ (ap (λ n. n * u + p % u) chunks ∙ (ap (λ n. x / u * u + n) rest ∙ div-add-mod' x u))
+place_of_row k u x some first = grind (arith, mod_below, div-mul-add, mod-mul-add, div-add-mod')
 
 -- ---- the columns
 
 at_offset : (o : Option Extent) (p i : ℕ) → option_map place_at (option_map {U = Extent × ℕ} (λ e. (e, p + i)) o) ≡ option_map (moved i) (option_map place_at (option_map {U = Extent × ℕ} (λ e. (e, p)) o))
-at_offset o p i =
-    ap (λ (s : Option (Extent × ℕ)). option_map place_at s) (spot_along o (p + i) p i refl)
-    ∙ place_along (option_map {U = Extent × ℕ} (λ e. (e, p)) o) i
+at_offset o p i = grind (arith, spot_along, place_along)
 
 -- what is in a column at a place
 column_at : (l : Layout) (p column : ℕ) → l.shape ≡ Raid5 → IsColumned l
     → column_in l (place_sector l p) column ≡ option_map place_at (option_map {U = Extent × ℕ} (λ e. (e, p)) (slice_get (columns_of l) column))
-column_at l p column raid5 columned =
-    ap (λ (x : ℕ). option_map place_at (option_map {U = Extent × ℕ} (λ e. (e, raid5_offset (length (columns_of l)) l.chunk x)) (slice_get (columns_of l) column))) (sector_raid5 l p raid5)
-    ∙ ap (λ (o : ℕ). option_map place_at (option_map {U = Extent × ℕ} (λ e. (e, o)) (slice_get (columns_of l) column))) (row_parts (length (columns_of l)) l.chunk p columned.chunked columned.many).offset
+column_at l p column raid5 columned = grind (arith, sector_raid5, row_parts)
 
 -- places lie side by side in each column
 pub column_moved : (l : Layout) (p i column : ℕ) → l.shape ≡ Raid5 → IsColumned l → column_in l (place_sector l (p + i)) column ≡ option_map (moved i) (column_in l (place_sector l p) column)
-column_moved l p i column raid5 columned =
-    column_at l (p + i) column raid5 columned
-    ∙ (at_offset (slice_get (columns_of l) column) p i ∙ sym (ap (λ (o : Option Place). option_map (moved i) o) (column_at l p column raid5 columned)))
+column_moved l p i column raid5 columned = grind (arith, column_at, at_offset)
 
 -- as many sectors are there as up to the last
 last_bytes : (sizes : List ℕ) (s : Spot) (n bytes : ℕ) → 0 < n → IsOn sizes (behind (n - 1) s) → bytes ≤ 512 * n → HasBytes sizes s bytes
@@ -141,10 +128,7 @@ copy_part images found l x copy run i n out common copied few size lt bytes =
 -- ---- marks
 
 marked_more : (a : Bool) (b : Bool) → marked b (mark a) ≡ mark (a || not b)
-marked_more true true = refl
-marked_more true false = refl
-marked_more false true = refl
-marked_more false false = refl
+marked_more a b = grind (arith, common_steps)
 
 any_push : (t : ℕ → Bool) (xs : List ℕ) (y : ℕ) → list_any t (xs ++ y ∷ []) ≡ (list_any t xs || t y)
 any_push t xs y = list_any-append t xs (y ∷ []) ∙ ap (λ (b : Bool). list_any t xs || b) (go (t y))
@@ -176,8 +160,7 @@ row_part images found l p i n out raid5 columned size lt bytes =
     (λ column. ap (λ (q : Option Place). spot_at found q) (column_moved l p i column raid5 columned) ∙ spot_moved found i (column_in l (place_sector l p) column))))
 
 pub marked_once : (same : Bool) (m new : ℕ) → m ≡ 0 → new ≡ marked same m → new ≡ mark (not same)
-marked_once true m new none is = is ∙ none
-marked_once false m new none is = is
+marked_once same m new none is = grind (arith, common_steps)
 
 -- ---- what is bad
 
@@ -351,17 +334,10 @@ filter_front t size n le passes fails =
 
 -- what a number of places must be
 pub count_is : (l : Layout) (n : ℕ) → n ≤ l.size → ((p : ℕ) → p < n → place_sector l p < l.size) → ((p : ℕ) → n ≤ p → l.size ≤ place_sector l p) → (is_raid5 l.shape ≡ false → n ≡ l.size) → IsCount l n
-count_is l n le passes fails others = record {
-  all = filter_front (λ p. nat_lt (place_sector l p) l.size) l.size n le (λ p lt. lt-ltb (place_sector l p) l.size (passes p lt)) (λ p low. le-ltb (place_sector l p) l.size (fails p low));
-  each = passes;
-  others = others;
-}
+count_is l n le passes fails others = grind (arith, filter_front, lt-ltb, le-ltb)
 
 pub count_others : (l : Layout) → is_raid5 l.shape ≡ false → IsCount l l.size
-count_others l other = count_is l l.size (omega arith)
-    (λ p lt. let e = sector_other l p other in omega (arith, e, lt))
-    (λ p low. let e = sector_other l p other in omega (arith, e, low))
-    (λ _. refl)
+count_others l other = grind (arith, count_is, sector_other)
 
 -- ---- rows
 
@@ -462,30 +438,19 @@ count_append t xs ys = sum_by-append (λ (x : ℕ). cond (t x) 1 0) xs ys
 
 -- one place more
 pub count_one : (t : ℕ → Bool) (place i : ℕ) → count_by t (range_with_len place (i + 1)) ≡ count_by t (range_with_len place i) + cond (t (place + i)) 1 0
-count_one t place i =
-    ap (λ (n : ℕ). count_by t (range_with_len place n)) (add-one i)
-    ∙ (ap (λ (r : List ℕ). count_by t r) (range_more place i) ∙ (count_append t (range_with_len place i) ((place + i) ∷ []) ∙ ap (λ (n : ℕ). count_by t (range_with_len place i) + n) (zero-add (cond (t (place + i)) 1 0))))
+count_one t place i = grind (arith, range_more, count_append, zero-add)
 
 pub line_one : (t : ℕ → Bool) (line : ℕ → List ℕ) (place i : ℕ) → flat_map (λ p. if t p then line p else []) (range_with_len place (i + 1))
     ≡ flat_map (λ p. if t p then line p else []) (range_with_len place i) ++ (if t (place + i) then line (place + i) else [])
-line_one t line place i =
-    let f : ℕ → List ℕ = λ p. if t p then line p else [] in
-    ap (λ (n : ℕ). flat_map f (range_with_len place n)) (add-one i)
-    ∙ (ap (λ (r : List ℕ). flat_map f r) (range_more place i)
-    ∙ (flat_map-append f (range_with_len place i) ((place + i) ∷ [])
-    ∙ ap (λ (r : List ℕ). flat_map f (range_with_len place i) ++ r) (append-nil (f (place + i)))))
+line_one t line place i = grind (arith, range_more, flat_map-append, append-nil)
 
 pub lines_more : (images : List (List ℕ)) (found : Found) (l : Layout) (p n : ℕ) → bad_lines images found l (range_with_len 0 (p + n)) ≡ bad_lines images found l (range_with_len 0 p) ++ bad_lines images found l (range_with_len p n)
 unfolding bad_lines
-lines_more images found l p n =
-    ap (λ (r : List ℕ). flat_map (line_at images found l) r) (range_append 0 p n ∙ ap (λ (q : ℕ). range_with_len 0 p ++ range_with_len q n) (zero-add p))
-    ∙ flat_map-append (line_at images found l) (range_with_len 0 p) (range_with_len p n)
+lines_more images found l p n = grind (arith, range_append, zero-add, flat_map-append)
 
 pub bad_more : (images : List (List ℕ)) (found : Found) (l : Layout) (p n : ℕ) → bad_of images found l (range_with_len 0 (p + n)) ≡ bad_of images found l (range_with_len 0 p) + bad_of images found l (range_with_len p n)
 unfolding bad_of
-bad_more images found l p n =
-    ap (λ (r : List ℕ). count_by (is_bad_at images found l) r) (range_append 0 p n ∙ ap (λ (q : ℕ). range_with_len 0 p ++ range_with_len q n) (zero-add p))
-    ∙ count_append (is_bad_at images found l) (range_with_len 0 p) (range_with_len p n)
+bad_more images found l p n = grind (arith, range_append, zero-add, count_append)
 
 pub no_lines : (images : List (List ℕ)) (found : Found) (l : Layout) → bad_lines images found l (range_with_len 0 0) ≡ []
 unfolding bad_lines
@@ -523,9 +488,7 @@ bad_are images found l places = refl
 marks_taken : (images : List (List ℕ)) (found : Found) (l : Layout) (place n : ℕ) (marks : List ℕ) → n ≤ length marks
     → ((i : ℕ) → i < n → slice_index marks i ≡ mark (is_bad_at images found l (place + i)))
     → (i : ℕ) → i < length (take n marks) → slice_index (take n marks) i ≡ mark (is_bad_at images found l (place + i))
-marks_taken images found l place n marks few marked i lt =
-    let size = length-take-le n marks few in
-    get_or-take n marks i 0 (omega (arith, size, lt)) ∙ marked i (omega (arith, size, lt))
+marks_taken images found l place n marks few marked i lt = grind (arith, length-take-le, get_or-take)
 
 -- what begins the lines of places that were marked, before which nothing was said
 pub marked_front : (images : List (List ℕ)) (found : Found) (l : Layout) (place all n : ℕ) (marks old mid new : List ℕ) → n ≤ length marks → mid ≡ old → place + n ≤ all
@@ -534,12 +497,7 @@ pub marked_front : (images : List (List ℕ)) (found : Found) (l : Layout) (plac
     → Begins new (mid ++ bad_lines images found l (range_with_len place (length (take n marks)))))
     → (m : ℕ) × (place + m ≤ all) × Begins new (old ++ bad_lines images found l (range_with_len place m))
 marked_front images found l place all n marks old mid new few same fits marked front =
-    let part = front (marks_taken images found l place n marks few marked) in (
-      n,
-      fits,
-      subst (λ (m : ℕ). Begins new (old ++ bad_lines images found l (range_with_len place m))) (length-take-le n marks few)
-          (subst (λ (s : List ℕ). Begins new (s ++ bad_lines images found l (range_with_len place (length (take n marks))))) same part),
-    )
+    grind (arith, marks_taken, length-take-le)
 
 -- the lines of places that were marked, before which nothing was said
 pub marked_said : (images : List (List ℕ)) (found : Found) (l : Layout) (place n : ℕ) (marks old mid new : List ℕ) → n ≤ length marks → mid ≡ old
@@ -548,9 +506,7 @@ pub marked_said : (images : List (List ℕ)) (found : Found) (l : Layout) (place
     → new ≡ mid ++ bad_lines images found l (range_with_len place (length (take n marks))))
     → new ≡ old ++ bad_lines images found l (range_with_len place n)
 marked_said images found l place n marks old mid new few same marked said =
-    said (marks_taken images found l place n marks few marked)
-    ∙ (ap (λ (m : ℕ). mid ++ bad_lines images found l (range_with_len place m)) (length-take-le n marks few)
-    ∙ ap (λ (s : List ℕ). s ++ bad_lines images found l (range_with_len place n)) same)
+    grind (arith, marks_taken, length-take-le)
 
 -- how many of the places that were marked are bad
 pub marked_bad : (images : List (List ℕ)) (found : Found) (l : Layout) (place n bad : ℕ) (marks : List ℕ) → n ≤ length marks
@@ -558,9 +514,7 @@ pub marked_bad : (images : List (List ℕ)) (found : Found) (l : Layout) (place 
     → (((i : ℕ) → i < length (take n marks) → slice_index (take n marks) i ≡ mark (is_bad_at images found l (place + i)))
     → bad ≡ bad_of images found l (range_with_len place (length (take n marks))))
     → bad ≡ bad_of images found l (range_with_len place n)
-marked_bad images found l place n bad marks few marked count =
-    count (marks_taken images found l place n marks few marked)
-    ∙ ap (λ (m : ℕ). bad_of images found l (range_with_len place m)) (length-take-le n marks few)
+marked_bad images found l place n bad marks few marked count = grind (arith, marks_taken, length-take-le)
 
 -- what begins a text begins it with more behind
 pub begins_more : (new whole more : List ℕ) → Begins new whole → Begins new (whole ++ more)
@@ -582,6 +536,4 @@ other_shape s apart = false_from_ne_true (is_raid5 s) (λ is. apart (raid5_is s 
 -- the last line has both counts
 pub end_text : (images : List (List ℕ)) (found : Found) (l : Layout) (front : List ℕ) (all bad : ℕ) → IsCount l all → bad ≡ bad_of images found l (places_of l)
     → text_of_end front all bad ≡ text_of_end front (length (places_of l)) (bad_of images found l (places_of l))
-end_text images found l front all bad counted is =
-    let many : length (places_of l) ≡ all = ap (λ (r : List ℕ). length r) counted.all ∙ length-range_with_len 0 all in
-    ap (λ (n : ℕ). text_of_end front n bad) (sym many) ∙ ap (λ (n : ℕ). text_of_end front (length (places_of l)) n) is
+end_text images found l front all bad counted is = grind (arith, length-range_with_len)

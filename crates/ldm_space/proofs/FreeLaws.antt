@@ -1,6 +1,7 @@
 -- Free sectors: the first fit is exactly the least free start, and what is placed one after the
 -- other lies apart.
-use Rattle.std.proofs.Common.{◌≡◌, inl, inr, ℕ, zero, suc, ◌+◌, ◌-◌, ◌<◌, ◌≤◌, ◌==◌, max, min, not, List, [], ◌∷◌, length, get_or, refl, sym, ap, ◌∙◌, arith, Bool, true, false, cond, ltb, Option, Some, None, ◌||◌, ◌++◌, drop, append_assoc, Result, Ok, Err, drop-cons, ◌&&◌, subst, nat_lt}
+use Rattle.std.proofs.Common.{◌≡◌, inl, inr, ℕ, zero, suc, ◌+◌, ◌-◌, ◌<◌, ◌≤◌, ◌==◌, max, min, not, List, [], ◌∷◌, length, get_or, refl, sym, ap, ◌∙◌, arith, Bool, true, false, cond, ltb, Option, Some, None, ◌||◌, ◌++◌, drop, append_assoc, Result, Ok, Err, drop-cons, subst}
+use Rattle.std.proofs.lemmas.Grind.{common_steps}
 use Rattle.std.specs.List.{Contains, list_any, cons_option, filter_map}
 use Rattle.std.proofs.lemmas.Bool.{cases_order, not-true, not-false, ltb-true, ltb-false, lt-ltb, le-ltb, cond-false, false_from_ne_true, false≢true, and_parts, and_from, ne_eqb, eq-eqb, cases_eq}
 use Rattle.std.proofs.lemmas.List.Folds.{list_any_at, list_any-append}
@@ -100,19 +101,13 @@ is_none taken disk size len h = go (first_free_start taken disk size len) refl
 -- free sectors are none of what is taken
 pub not_met : (taken : List Taken) (disk len p : ℕ) (t : Taken) → is_taken taken disk len p ≡ false → Contains taken t → takes_one disk len p t ≡ false
 unfolding is_taken
-not_met taken disk len p t free at = false_from_ne_true (takes_one disk len p t)
-    (λ met. false≢true (sym free ∙ list_any_at (takes_one disk len p) taken at.0 t at.1 (ap (takes_one disk len p) at.2 ∙ met)))
+not_met taken disk len p t free at = grind (arith, false_from_ne_true, false≢true, list_any_at)
 
 -- ---- a walk past what is taken
 
 -- a step goes back nowhere,
 pub past_on : (disk len at : ℕ) (o : Option Taken) → at ≤ past disk len at o
-past_on disk len at None = omega arith
-past_on disk len at (Some t) = go (takes_one disk len at t) refl
-  where
-    go : (b : Bool) → takes_one disk len at t ≡ b → at ≤ cond b (t.start + t.size) at
-    go true met = let lt : max at t.start < min (at + len) (t.start + t.size) = ltb-true _ _ (and_parts (disk == t.disk) _ met).1 in omega arith
-    go false met = omega arith
+past_on disk len at o = grind (arith, common_steps, ltb-true, and_parts)
 
 -- skips no free start,
 pub past_taken : (taken : List Taken) (disk len at : ℕ) (t : Taken) (q : ℕ) → Contains taken t → at ≤ q → q < past disk len at (Some t) → is_taken taken disk len q ≡ true
@@ -177,8 +172,7 @@ ahead done (Ok more) = Ok (done ++ more)
 ahead done (Err place) = Err place
 
 pub ahead_none : {T : Type 0} (rest : Result (List T) ℕ) → rest ≡ ahead [] rest
-ahead_none (Ok more) = refl
-ahead_none (Err place) = refl
+ahead_none rest = grind (arith, common_steps)
 
 pub ahead_front : {T : Type 0} (done : List T) (x : T) (rest : Result (List T) ℕ) → ahead done (in_front x rest) ≡ ahead (done ++ x ∷ []) rest
 ahead_front {T} done x (Ok more) = ap (λ (l : List T). Ok l) (sym (append_assoc done (x ∷ []) more))
@@ -199,16 +193,12 @@ any_by_each h test (r ∷ records) =
 -- by the records in another order
 pub taken_permuted : (xs ys : List Record) → IsPermutation xs ys → (disk len p : ℕ) → is_taken (taken_in xs) disk len p ≡ is_taken (taken_in ys) disk len p
 unfolding is_taken
-taken_permuted xs ys moved disk len p =
-    let test : Taken → Bool = takes_one disk len p in
-    any_by_each taken_by test xs ∙ list_any-IsPermutation (λ r. list_any test (taken_in (r ∷ []))) xs ys moved ∙ sym (any_by_each taken_by test ys)
+taken_permuted xs ys moved disk len p = grind (arith, any_by_each, list_any-IsPermutation)
 
 -- by records that are made of what was placed, behind those that were there
 pub taken_behind : (records more made : List Record) (spots : List Taken) → taken_in made ≡ spots → (disk len p : ℕ) → is_taken (spots ++ taken_in (records ++ more)) disk len p ≡ is_taken (taken_in (records ++ (more ++ made))) disk len p
 taken_behind records more made spots is disk len p =
-    let taken : List Taken = taken_in (records ++ more) in
-    taken_moved (spots ++ taken) (taken ++ spots) disk len p (IsPermutation-append_comm spots taken)
-    ∙ ap (λ (l : List Taken). is_taken l disk len p) (ap (λ (l : List Taken). taken ++ l) (sym is) ∙ sym (filter_map-append taken_by (records ++ more) made) ∙ ap taken_in (append_assoc records more made))
+    grind (arith, taken_moved, IsPermutation-append_comm, filter_map-append, append_assoc)
 
 -- what is placed last, before or behind what is placed so far
 pub put_last : (t : Taken) (spots taken : List Taken) (disk len p : ℕ) → is_taken (t ∷ (spots ++ taken)) disk len p ≡ is_taken ((spots ++ t ∷ []) ++ taken) disk len p
@@ -230,20 +220,13 @@ IsPlacedTo taken wanted at spots = placed taken 0 wanted ≡ ahead spots (placed
 
 next_wanted : (taken : List Taken) (wanted : List Wanted) (at : ℕ) (spots : List Taken) (w d : Wanted) (o : Option ℕ) → at < length wanted → w ≡ get_or wanted at d → o ≡ first_free_start (spots ++ taken) w.disk w.limit w.size
     → IsPlacedTo taken wanted at spots → placed taken 0 wanted ≡ ahead spots (place_rest at (λ spot. placed (spot ∷ (spots ++ taken)) (at + 1) (drop (at + 1) wanted)) (option_map (placing w) o))
-next_wanted taken wanted at spots w d o lt is found so_far =
-    let one : suc at ≡ at + 1 = omega arith in
-    so_far ∙ ap (λ (l : List Wanted). ahead spots (placed (spots ++ taken) at l)) (drop-cons wanted at d lt ∙ (λ i. sym is i ∷ drop (one i) wanted))
-    ∙ ap (λ (x : Option ℕ). ahead spots (place_rest at (λ spot. placed (spot ∷ (spots ++ taken)) (at + 1) (drop (at + 1) wanted)) (option_map (placing w) x))) (sym found)
+next_wanted taken wanted at spots w d o lt is found so_far = grind (arith, drop-cons)
 
 -- one more
 pub placed_more : (taken : List Taken) (wanted : List Wanted) (at : ℕ) (spots items : List Taken) (w d : Wanted) (start : ℕ) → at < length wanted → w ≡ get_or wanted at d
     → Some start ≡ first_free_start (spots ++ taken) w.disk w.limit w.size → items ≡ spots ++ placing w start ∷ [] → IsPlacedTo taken wanted at spots → IsPlacedTo taken wanted (at + 1) items
 placed_more taken wanted at spots items w d start lt is found pushed so_far =
-    let t : Taken = placing w start in
-    let rest : List Wanted = drop (at + 1) wanted in
-    next_wanted taken wanted at spots w d (Some start) lt is found so_far ∙ ahead_front spots t (placed (t ∷ (spots ++ taken)) (at + 1) rest)
-    ∙ ap (ahead (spots ++ t ∷ [])) (placed_same (t ∷ (spots ++ taken)) ((spots ++ t ∷ []) ++ taken) (at + 1) rest (put_last t spots taken))
-    ∙ ap (λ (l : List Taken). ahead l (placed (l ++ taken) (at + 1) rest)) (sym pushed)
+    grind (arith, common_steps, next_wanted, ahead_front, placed_same, put_last)
 
 -- one that finds no fit
 pub placed_none : (taken : List Taken) (wanted : List Wanted) (at : ℕ) (spots : List Taken) (w d : Wanted) → at < length wanted → w ≡ get_or wanted at d
@@ -252,8 +235,7 @@ placed_none taken wanted at spots w d lt is found so_far = next_wanted taken wan
 
 -- all of them
 pub placed_all : (taken : List Taken) (wanted : List Wanted) (at : ℕ) (spots : List Taken) → length wanted ≤ at → IsPlacedTo taken wanted at spots → placed taken 0 wanted ≡ Ok spots
-placed_all taken wanted at spots past so_far =
-    so_far ∙ ap (λ (l : List Wanted). ahead spots (placed (spots ++ taken) at l)) (drop_all at wanted past) ∙ ap (λ (l : List Taken). Ok l) (append-nil spots)
+placed_all taken wanted at spots past so_far = grind (arith, drop_all, append-nil)
 
 -- ---- What is placed is free of what was taken, ends within the disk, and lies apart from what is placed beside it.
 
@@ -316,14 +298,7 @@ apart_new taken (t ∷ more) zero (suc j) d h lt within = apart_old (t ∷ taken
 apart_new taken (t ∷ more) (suc i) (suc j) d h lt within = apart_new (t ∷ taken) more i j d h.1 (omega arith) (omega arith)
 
 eqb_back : (a b : ℕ) → (a == b) ≡ (b == a)
-eqb_back a b = elim (cases_eq a b) [
-  | inl same ↦ eq-eqb a b same ∙ sym (eq-eqb b a (sym same))
-  | inr other ↦ ne_eqb a b other ∙ sym (ne_eqb b a (λ e. other (sym e)))
-]
+eqb_back a b = grind (arith, cases_eq, eq-eqb, ne_eqb)
 
 pub clash_back : (a b : Taken) → clash a b ≡ clash b a
-clash_back a b =
-    let disks : (a.disk == b.disk) ≡ (b.disk == a.disk) = eqb_back a.disk b.disk in
-    let from : max a.start b.start ≡ max b.start a.start = omega arith in
-    let to : min (a.start + a.size) (b.start + b.size) ≡ min (b.start + b.size) (a.start + a.size) = omega arith in
-    λ i. disks i && nat_lt (from i) (to i)
+clash_back a b = grind (arith, eqb_back)

@@ -1,7 +1,8 @@
 -- Gaps between what is taken: the first that is long enough begins at the first fit, and what a
 -- taking leaves.
 use Rattle.std.proofs.Common.{◌≡◌, ◌≢◌, ◌⊎◌, inl, inr, ℕ, zero, suc, ◌+◌, ◌<◌, ◌≤◌, ◌==◌, max, min, List, [], ◌∷◌, length, get_or, sym, ap, subst, ◌∙◌, arith, Bool, true, false, cond, Some, None, find, eq-eqb, ◌-◌, ◌^◌, ◌&&◌, ◌||◌, ◌++◌, take, refl, nat_lt, set, get_or-set_same, get_or-set_other, ltb, Option, MatchOption}
-use Rattle.std.specs.List.{All, AllPairs, Contains, filter_map, list_any, cons_option, remove, position, position_or_len, slice_get}
+use Rattle.std.proofs.lemmas.Grind.{common_steps}
+use Rattle.std.specs.List.{All, AllPairs, Contains, filter_map, list_any, cons_option, remove, position, position_or_len}
 use Rattle.std.proofs.lemmas.Bool.{cases_order, and_parts, and_from, ltb-true, lt-ltb, leb-true, le-leb, eqb-true, false_from_ne_true, true_from_ne_false, false≢true, cases_lt, le-ltb, or_from, or_parts, cases_eq, ltb-false, ne_eqb}
 use Rattle.std.proofs.lemmas.List.{get_or_default, take_more, take_all}
 use Rattle.std.proofs.lemmas.List.Elements.{All-contains, All-nil, All-cons, All-push, All-tail, All-head, All-weaker, Contains-append_left, Contains-push, Contains-push_cases, Contains-get_or}
@@ -77,10 +78,7 @@ pub apart_at : (gaps : List Gap) (g h : Gap) (i j : ℕ) → AllPairs (λ a b. a
 apart_at gaps g h i j rising lt_i is_g lt_j is_h off = elim off [ inl low ↦ inl (before_at gaps g h i j rising low is_g lt_j is_h) | inr high ↦ inr (before_at gaps h g j i rising high is_h lt_i is_g) ]
 
 pub apart : (gaps : List Gap) (g h : Gap) → AllPairs (λ a b. a.start + a.len < b.start) gaps → Contains gaps g → Contains gaps h → (g ≡ h) ⊎ ((g.start + g.len < h.start) ⊎ (h.start + h.len < g.start))
-apart gaps g h rising (i, lt_i, is_g) (j, lt_j, is_h) = elim (cases_order i j) [
-  | inl same ↦ inl (sym is_g ∙ (get_or_default gaps i g h lt_i ∙ (ap (λ (k : ℕ). get_or gaps k h) same ∙ is_h)))
-  | inr off ↦ inr (apart_at gaps g h i j rising lt_i is_g lt_j is_h off)
-]
+apart gaps g h rising (i, lt_i, is_g) (j, lt_j, is_h) = grind (arith, cases_order, get_or_default, apart_at)
 
 pub run_in : (gaps : List Gap) (taken : List Taken) (disk size len q : ℕ) (h : Gap) → AreGaps gaps taken disk size → Contains gaps h → IsIn h q → q + len ≤ size
     → ((s : ℕ) → q ≤ s → s < q + len → is_taken taken disk 1 s ≡ false) → q + len ≤ h.start + h.len
@@ -113,12 +111,7 @@ first_behind len x gaps at f = record {
 }
 
 pub found_first : (len : ℕ) (gaps : List Gap) (at : ℕ) (d : Gap) → IsFirstLong len gaps at → find (has_length len) gaps ≡ Some (get_or gaps at d)
-found_first len gaps at d f =
-    let within = f.within in
-    find_at (has_length len) gaps
-    ∙ ap (slice_get gaps)
-    (position_or_len_is (has_length len) gaps at d (omega arith) (λ k lt. f.before k d lt)
-    (λ lt. f.long d)) ∙ slice_get-get_or gaps at d within
+found_first len gaps at d f = grind (arith, find_at, position_or_len_is, slice_get-get_or)
 
 -- ---- the law
 
@@ -269,10 +262,7 @@ met gaps taken disk low high t are on behind le covers = record {
 
 -- a gap more, where there are sectors up to the next
 all_with : (P : Gap → Type 0) (gaps : List Gap) (at until : ℕ) → All P gaps → (at < until → P (record { start = at; len = until - at })) → All P (with_gap gaps at until)
-all_with P gaps at until all last = elim (cases_lt at until) [
-  | inl below ↦ subst (λ (b : Bool). All P (cond b (gaps ++ record { start = at; len = until - at } ∷ []) gaps)) (sym (lt-ltb at until below)) (All-push P gaps (record { start = at; len = until - at }) all (last below))
-  | inr past ↦ subst (λ (b : Bool). All P (cond b (gaps ++ record { start = at; len = until - at } ∷ []) gaps)) (sym (le-ltb at until past)) all
-]
+all_with P gaps at until all last = grind (arith, common_steps, cases_lt, lt-ltb, All-push, le-ltb)
 
 gaps_to : (gaps : List Gap) (taken : List Taken) (disk at until size : ℕ) → until ≤ size → AreGaps gaps taken disk (min at size) → All (λ g. g.start + g.len < at) gaps → All (λ t. t.start + t.size ≤ at) taken
     → AreGaps (with_gap gaps at until) taken disk (max (min at size) until)
@@ -294,18 +284,7 @@ pub record IsWalked (taken : List Taken) (disk size k at : ℕ) (gaps : List Gap
   pub passed : All (λ t. t.start + t.size ≤ at) (take k taken)
 
 pub walk_begun : (taken : List Taken) (disk size : ℕ) → IsWalked taken disk size 0 0 []
-walk_begun taken disk size = record {
-  are = record {
-    some = All-nil (λ (g : Gap). 0 < g.len);
-    rising = λ i j d lt low. absurd (omega arith);
-    within = All-nil (λ (g : Gap). g.start + g.len ≤ min 0 size);
-    free = λ g s (k, low, is) in_g. absurd (omega arith);
-    all = λ s below free. absurd (omega arith);
-  };
-  apart = All-nil (λ (g : Gap). g.start + g.len < 0);
-  behind = λ j d le lt. All-nil (λ (g : Gap). g.start + g.len ≤ (get_or taken j d).start);
-  passed = All-nil (λ (t : Taken). t.start + t.size ≤ 0);
-}
+walk_begun taken disk size = grind (arith, All-nil, apart)
 
 -- one more
 pub walk_more : (taken : List Taken) (disk size k at : ℕ) (gaps : List Gap) (t : Taken) → IsNonDecreasingBy (λ t. t.start) taken → All (IsOn disk) taken → k < length taken → get_or taken k t ≡ t

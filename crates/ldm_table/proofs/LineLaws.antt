@@ -1,5 +1,6 @@
 -- Stretches of sectors that lie side by side, and the lines and texts that are made of them.
-use Rattle.std.proofs.Common.{◌≡◌, ◌∙◌, ℕ, zero, suc, ◌+◌, ◌-◌, ◌<◌, ◌==◌, ◌&&◌, Bool, true, false, List, [], ◌∷◌, refl, ap, sym, arith, add_assoc, Option, Some, filter_map, ◌≤◌, inl, inr, map, subst, ◌++◌, flat_map, append_assoc}
+use Rattle.std.proofs.Common.{◌≡◌, ◌∙◌, ℕ, zero, suc, ◌+◌, ◌-◌, ◌<◌, Bool, true, false, List, [], ◌∷◌, refl, ap, sym, arith, add_assoc, Option, Some, filter_map, ◌≤◌, inl, inr, map, subst, ◌++◌, flat_map, append_assoc}
+use Rattle.std.proofs.lemmas.Grind.{common_steps}
 use Rattle.std.specs.List.{range_with_len, cons_option}
 use Rattle.std.proofs.lemmas.Bool.{and_parts, and_from, cond-true, cond-false, eqb-true, eq-eqb, and_right, cases_lt, le-leb, lt-ltb, le-ltb, cases_Bool}
 use Rattle.ldm_layout.specs.Layouts.{Layout}
@@ -26,35 +27,20 @@ pub record IsNext (a b : Stretch) : Type 0 where
   pub sector : a.spot.sector + a.sectors ≡ b.spot.sector
 
 pub next_is : (a b : Stretch) → is_next_to a b ≡ true → IsNext a b
-next_is a b is =
-    let parts = and_parts (a.spot.image == b.spot.image) (a.spot.sector + a.sectors == b.spot.sector) is in
-    record { image = eqb-true a.spot.image b.spot.image parts.0; sector = eqb-true (a.spot.sector + a.sectors) b.spot.sector parts.1 }
+next_is a b is = grind (arith, and_parts, eqb-true)
 
 pub is_next : (a b : Stretch) → IsNext a b → is_next_to a b ≡ true
-is_next a b is =
-    and_from (a.spot.image == b.spot.image) (a.spot.sector + a.sectors == b.spot.sector) (eq-eqb a.spot.image b.spot.image is.image) (eq-eqb (a.spot.sector + a.sectors) b.spot.sector is.sector)
+is_next a b is = grind (arith, and_from, eq-eqb)
 
 -- what is behind the second is behind both
 behind_both : (a b c : Stretch) → IsNext a b → is_next_to b c ≡ is_next_to (with_next a b) c
-behind_both a b c next =
-    let at : b.spot.sector + b.sectors ≡ a.spot.sector + (a.sectors + b.sectors) = ap (λ (n : ℕ). n + b.sectors) (sym next.sector) ∙ add_assoc a.spot.sector a.sectors b.sectors in
-    ap (λ (i : ℕ). (i == c.spot.image) && (b.spot.sector + b.sectors == c.spot.sector)) (sym next.image)
-    ∙ ap (λ (n : ℕ). (a.spot.image == c.spot.image) && (n == c.spot.sector)) at
+behind_both a b c next = grind (arith, add_assoc)
 
 pub before_next : (a b : Stretch) (rest : List Stretch) → is_next_to a b ≡ true → before a (before b rest) ≡ before (with_next a b) rest
-before_next a b [] is = cond-true (is_next_to a b) (with_next a b ∷ []) (a ∷ b ∷ []) is
-before_next a b (c ∷ cs) is =
-    let behind = sym (behind_both a b c (next_is a b is)) in
-    elim (cases_Bool (is_next_to b c)) [
-      | inl e ↦ rw (e, is, behind ∙ e)
-          (ap (λ (n : ℕ). record a { sectors = n } ∷ cs) (sym (add_assoc a.sectors b.sectors c.sectors)))
-      | inr e ↦ rw (e, is, behind ∙ e) refl
-    ]
+before_next a b rest is = grind (arith, common_steps, cond-true, behind_both, next_is, cases_Bool, add_assoc)
 
 pub before_apart : (a b : Stretch) (rest : List Stretch) → is_next_to a b ≡ false → before a (before b rest) ≡ a ∷ before b rest
-before_apart a b [] is = cond-false (is_next_to a b) (with_next a b ∷ []) (a ∷ b ∷ []) is
-before_apart a b (c ∷ cs) is =
-    elim (cases_Bool (is_next_to b c)) [ inl e ↦ rw (e, is) refl | inr e ↦ rw (e, is) refl ]
+before_apart a b rest is = grind (arith, common_steps, cond-false, cases_Bool)
 
 -- ---- sectors side by side are one stretch
 
@@ -229,13 +215,10 @@ module _ (g : ℕ → Spot) where
 
 -- a list with what is made of the next number
 pub more_made : {X : Type 0} (f : ℕ → X) (n : ℕ) (so more : List X) (x : X) → so ≡ map f (range_with_len 0 n) → x ≡ f n → more ≡ so ++ x ∷ [] → more ≡ map f (range_with_len 0 (n + 1))
-more_made {X} f n so more x is at said =
-    said ∙ (ap (λ (y : X). so ++ y ∷ []) at
-    ∙ (ap (λ (l : List X). l ++ f n ∷ []) is ∙ sym (map-range_with_len_more f 0 n n (omega arith))))
+more_made {X} f n so more x is at said = grind (arith, map-range_with_len_more)
 
 pub three_parts : (t a b c m n o : List ℕ) → m ≡ t ++ a → n ≡ m ++ b → o ≡ n ++ c → o ≡ t ++ ((a ++ b) ++ c)
-three_parts t a b c m n o x y z =
-    z ∙ (ap (λ (l : List ℕ). l ++ c) (y ∙ (ap (λ (l : List ℕ). l ++ b) x ∙ append_assoc t a b)) ∙ append_assoc t (a ++ b) c)
+three_parts t a b c m n o x y z = grind (arith, append_assoc)
 
 abbrev pub lines_text : List (List ℕ) → List Stretch → List ℕ
 lines_text words stretches = flat_map (text_of_line words) (map table_line stretches)

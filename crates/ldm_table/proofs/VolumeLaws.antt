@@ -1,10 +1,11 @@
 -- The device of a volume's table has the volume's sectors: those of whole rows through a target,
 -- and the rest from one image each.
 use Rattle.std.proofs.Common.{◌≡◌, ◌∙◌, ℕ, ◌+◌, ◌-◌, ◌<◌, ◌≤◌, true, false, [], ◌∷◌, map, refl, ap, sym, subst, arith, Option, Some, None, is_none, is_some, inl, inr, find, zero, suc, ◌*◌, ◌/◌, ◌%◌, ◌==◌, Bool, length, slice_get, ◌≢◌, if◌then◌else◌, List, get_or, zero-add, filter_map, ◌++◌}
+use Rattle.std.proofs.lemmas.Grind.{common_steps}
 use Rattle.std.specs.List.{range_with_len, list_all}
 use Rattle.std.specs.Option.{option_map, option_to_list}
 use Rattle.std.proofs.lemmas.Bool.{cases_lt, cond-true, cond-false, eqb-true, eqb-false, cases_Bool, ne_eqb}
-use Rattle.ldm_layout.specs.Layouts.{Layout, copies_of, place_in, is_tiled, place_at, plex_spot, copies_by}
+use Rattle.ldm_layout.specs.Layouts.{Layout, copies_of, place_in, is_tiled, place_at, copies_by}
 use Rattle.ldm_layout.specs.declared.shape.Place.{Place}
 use Rattle.ldm_found.specs.declared.found.Found.{Found}
 use Rattle.ldm_found.specs.Labels.{image_of}
@@ -111,18 +112,10 @@ no_times n = omega arith
 -- whole rows, and what the last one has in part
 rows_of : (l : Layout) → (row_sectors l == 0) ≡ false
     → whole_rows l * row_sectors l + l.size % row_sectors l ≡ l.size
-rows_of l is =
-    ap (λ (n : ℕ). n * row_sectors l + l.size % row_sectors l)
-    (cond-false (row_sectors l == 0) 0 (l.size / row_sectors l) is)
-    ∙ div-add-mod' l.size (row_sectors l)
+rows_of l is = grind (arith, cond-false, div-add-mod')
 
 pub rows_within : (l : Layout) → whole_rows l * row_sectors l ≤ l.size
-rows_within l = elim (cases_Bool (row_sectors l == 0)) [
-  | inl is ↦ (let none = ap (λ (n : ℕ). n * row_sectors l)
-      (cond-true (row_sectors l == 0) 0 (l.size / row_sectors l) is)
-      ∙ no_times (row_sectors l) in omega (arith, none))
-  | inr is ↦ (let all = rows_of l is in omega (arith, all))
-]
+rows_within l = grind (arith, cases_Bool, cond-true, no_times, rows_of)
 
 -- where there are no rows
 pub no_rows : (l : Layout) → row_sectors l ≡ 0 → in_rows l ≡ 0
@@ -134,11 +127,7 @@ whole_of l some = (let all = rows_of l (ne_eqb (row_sectors l) 0 some) in omega 
 
 -- a volume with whole rows has sectors in each row
 pub row_there : (l : Layout) → 0 < whole_rows l → 0 < row_sectors l
-row_there l some = elim (cases_Bool (row_sectors l == 0)) [
-  | inl is ↦ (let none : whole_rows l ≡ 0 =
-      cond-true (row_sectors l == 0) 0 (l.size / row_sectors l) is in absurd (omega arith))
-  | inr is ↦ (let ne = eqb-false (row_sectors l) 0 is in grind (arith, ne))
-]
+row_there l some = grind (arith, cases_Bool, cond-true, eqb-false)
 
 -- a part of a product
 part_of : (u d : ℕ) → 0 < u * d → u ≤ u * d
@@ -146,27 +135,15 @@ part_of u zero some = absurd (grind arith)
 part_of u (suc d) some = grind arith
 
 pub rows_in_one : (l : Layout) → 0 < whole_rows l → whole_rows l * chunk_of l ≤ l.size
-rows_in_one l some =
-    let within = rows_within l in
-    let less : whole_rows l * chunk_of l ≤ whole_rows l * row_sectors l = mul-le-mul_left (whole_rows l) (part_of (chunk_of l) (data_columns l.shape (length (columns_of l))) (row_there l some)) in
-    omega (arith, within, less)
+rows_in_one l some = grind (arith, rows_within, mul-le-mul_left, part_of, row_there)
 
 -- a row at least
 pub row_within : (l : Layout) → 0 < whole_rows l → row_sectors l ≤ l.size
-row_within l some =
-    let within = rows_within l in
-    let once : 1 * row_sectors l ≤ whole_rows l * row_sectors l = grind (arith, mul-le-mul_left) in
-    omega (arith, within, once)
+row_within l some = grind (arith, rows_within, mul-le-mul_left)
 
 -- a column of a stripe begins in the first row
 pub stripe_begins : (l : Layout) (c : ℕ) → l.shape ≡ Stripe → 0 < whole_rows l → c < length (columns_of l) → chunk_of l * c < l.size
-stripe_begins l c stripe some lt =
-    let row = row_within l some in
-    let there = row_there l some in
-    let is : row_sectors l ≡ chunk_of l * length (columns_of l) = ap (λ (s : Shape). chunk_of l * data_columns s (length (columns_of l))) stripe in
-    let less : chunk_of l * (c + 1) ≤ chunk_of l * length (columns_of l) = mul-le-mul_left (chunk_of l) (omega (arith, lt)) in
-    let chunk : chunk_of l ≡ 0 → ⊥ = λ none. (let no = ap (λ (n : ℕ). n * length (columns_of l)) none in omega (arith, is, no, there)) in
-    grind (arith, row, is, less, chunk)
+stripe_begins l c stripe some lt = grind (arith, row_within, row_there, mul-le-mul_left)
 
 -- ---- columns
 
@@ -179,19 +156,12 @@ spot_from l c o = go (slice_get (columns_of l) c)
     go (Some e) = refl
 
 pub moved_none : (p : Option Place) → option_map (moved 0) p ≡ p
-moved_none None = refl
-moved_none (Some p) = (let same : p.sector + 0 ≡ p.sector = omega arith in ap (λ (n : ℕ). some_place p.disk n) same)
-  where
-    some_place : ℕ → ℕ → Option Place
-    some_place disk sector = Some (record { disk = disk; sector = sector })
+moved_none p = grind (arith, common_steps)
 
 -- in a stripe
 pub stripe_at : (l : Layout) (x : ℕ) → l.shape ≡ Stripe → IsColumned l
     → place_in l x 0 ≡ option_map (moved (stripe_offset (length (columns_of l)) l.chunk x)) (column_start l (stripe_column (length (columns_of l)) l.chunk x))
-stripe_at l x stripe is =
-    place_by l 0 x (columns_of l) is.first
-    ∙ (ap (λ (s : Shape). option_map place_at (plex_spot s l.chunk (columns_of l) x)) stripe
-    ∙ spot_from l (stripe_column (length (columns_of l)) l.chunk x) (stripe_offset (length (columns_of l)) l.chunk x))
+stripe_at l x stripe is = grind (arith, place_by, spot_from)
 
 -- in a RAID-5
 pub column_at : (l : Layout) (x c : ℕ) → column_in l x c ≡ option_map (moved (raid5_offset (length (columns_of l)) l.chunk x)) (column_start l c)
@@ -199,10 +169,7 @@ column_at l x c = spot_from l c (raid5_offset (length (columns_of l)) l.chunk x)
 
 pub raid5_at : (l : Layout) (x : ℕ) → l.shape ≡ Raid5 → IsColumned l
     → place_in l x 0 ≡ option_map (moved (raid5_offset (length (columns_of l)) l.chunk x)) (column_start l (raid5_column (length (columns_of l)) l.chunk x))
-raid5_at l x raid5 is =
-    place_by l 0 x (columns_of l) is.first
-    ∙ (ap (λ (s : Shape). option_map place_at (plex_spot s l.chunk (columns_of l) x)) raid5
-    ∙ spot_from l (raid5_column (length (columns_of l)) l.chunk x) (raid5_offset (length (columns_of l)) l.chunk x))
+raid5_at l x raid5 is = grind (arith, place_by, spot_from)
 
 -- ---- the first of each
 
@@ -250,10 +217,7 @@ pub one_copy : (l : Layout) → l.shape ≡ Stripe → 0 < copies_of l
 one_copy l is = subst (λ (s : Shape). 0 < copies_by s (length l.plexes)) (sym is) (omega arith)
 
 pub row_in_rows : (l : Layout) → 0 < whole_rows l → 0 < in_rows l
-row_in_rows l some =
-    let row = row_there l some in
-    let once : 1 * row_sectors l ≤ whole_rows l * row_sectors l = grind (arith, mul-le-mul_left) in
-    omega (arith, row, once)
+row_in_rows l some = grind (arith, row_there, mul-le-mul_left)
 
 -- ---- The first fault of a volume, by its tests in their order; and what holds where there is none.
 

@@ -3,7 +3,7 @@ use Rattle.std.specs.Prelude.{filter}
 use Rattle.std.proofs.lemmas.List.{with_items_is, length-map}
 use Rattle.ldm_records.specs.declared.types.Record.{Record}
 use Rattle.ldm_frags.specs.Written.{Holds, block_at}
-use Rattle.ldm_copy.specs.Body.{Stored, placed_of, stored_at}
+use Rattle.ldm_copy.specs.Body.{Store, Stored, placed_of, stored_at}
 use Rattle.ldm_changed.specs.Plan.{has_record, record_stays, changed_numbers}
 use Rattle.ldm_copy.proofs.BodyLaws.{record_of}
 use Rattle.ldm_frags.proofs.HoldEdits.{hold_grown}
@@ -27,6 +27,15 @@ rewrite_blocks-requires-clause-holds c =
     subst (λ (l : List ℕ). Holds l records) (sym c.deref_mut.ensures.value)
     (hold_grown blocks c.in_ok-out.out.items c.args.room (let more = c.requires.more in omega arith) c.in_ok-out.ensures records c.requires.holds)
 
+pub returns-clause-store : goal.returns-clause-store
+returns-clause-store c =
+    let is = c.from_vec.ensures ∙ with_items_is c.in_ok-out.out c.rewrite_blocks.new.out (c.rewrite_blocks.auto.out ∙ c.deref_mut.ensures.len) in
+    subst (λ (l : List ℕ). Store l c.args.new.now.records) (sym is) c.in_ok-kept.ensures.store
+
+pub returns-clause-changed : goal.returns-clause-changed
+returns-clause-changed c =
+    c.from_vec-2.ensures ∙ c.in_ok-numbers.ensures ∙ ap (changed_numbers c.args.blocks.now) (c.deref-3.ensures.value ∙ sym c.from_vec.ensures)
+
 pub returns-clause-few : goal.returns-clause-few
 returns-clause-few c =
     let blocks = c.args.blocks.now in
@@ -47,11 +56,6 @@ returns-clause-holds c =
     let out = c.rewrite_blocks.new.out in
     let is : c.from_vec.result ≡ out = c.from_vec.ensures ∙ with_items_is c.in_ok-out.out out (c.rewrite_blocks.auto.out ∙ c.deref_mut.ensures.len) in
     subst (λ (l : List ℕ). Holds l (map placed_of (stored_at new c.in_ok-next.next.items))) (sym is)
-    (next_holds old new c.args.table.now c.in_ok-kept.kept.items c.in_ok-kept.made.items
-    c.in_ok-next.next.items out c.requires.one_each c.in_ok-kept.ensures.kept
-    c.in_ok-kept.ensures.same c.in_ok-kept.ensures.holds
-    (rw (
-      c.as_slice.ensures.all,
-      c.deref.ensures.value,
-      c.deref-2.ensures.value,
-    ) at c.in_ok-next.ensures.same))
+    (next_holds old new c.args.table.now c.in_ok-kept.kept.items c.in_ok-kept.made.items c.in_ok-next.next.items out
+    c.requires.one_each c.in_ok-kept.ensures.kept c.in_ok-kept.ensures.same c.in_ok-kept.ensures.holds
+    (rw (c.as_slice.ensures.all, c.deref.ensures.value, c.deref-2.ensures.value) at c.in_ok-next.ensures.same))

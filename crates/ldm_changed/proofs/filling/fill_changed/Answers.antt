@@ -10,12 +10,12 @@ use Rattle.ldm_changed.proofs.FillLaws.{HasAllBut, all_there, run_within, filled
 use Rattle.ldm_changed.proofs.filling.fill_changed.Goals as goal
 
 -- the parts of a change, as they were read
-parts : (inside_body inside_numbers body numbers : List ℕ) (change : Changed)
+parts : {inside_body inside_numbers body numbers : List ℕ} (change : Changed)
     → record { body = inside_body; numbers = inside_numbers } ≡ change
     → IsChangedBody inside_body inside_numbers
     → body ≡ inside_body → numbers ≡ inside_numbers
     → (record { body = body; numbers = numbers } ≡ change) × IsChangedBody body numbers
-parts inside_body inside_numbers body numbers change view is e f = (
+parts {inside_numbers = inside_numbers} {body = body} change view is e f = (
   (λ i. record { body = e i; numbers = f i })
       ∙ view,
   subst (λ (l : List ℕ). IsChangedBody body l) (sym f)
@@ -24,23 +24,20 @@ parts inside_body inside_numbers body numbers change view is e f = (
 
 pub write_part-requires-clause-small : goal.write_part-requires-clause-small
 write_part-requires-clause-small g c =
-    let it = parts _ _ _ _ c.args.change.now c.change.view_is c.change.invariant
-    c.as_slice-body.ensures.value c.as_slice-numbers.ensures in
+    let it = parts c.args.change.now c.change.view_is c.change.invariant c.as_slice-body.ensures.value c.as_slice-numbers.ensures in
     let size = ap (λ (v : Changed). length v.body) it.0 in
     omega (arith, size, c.requires.room, c.gate_at-at.ensures.small)
 
 pub write_part-requires-in-loop-k-clause-small : goal.write_part-requires-in-loop-k-clause-small
 write_part-requires-in-loop-k-clause-small g c =
-    let it = parts _ _ _ _ c.args.change.now c.change.view_is c.change.invariant
-    c.as_slice-body.ensures.value c.as_slice-numbers.ensures in
+    let it = parts c.args.change.now c.change.view_is c.change.invariant c.as_slice-body.ensures.value c.as_slice-numbers.ensures in
     let size = ap (λ (v : Changed). length v.body) it.0 in
     omega (arith, size, c.requires.room, c.gate_at-at.ensures.small)
 
 pub returns-in_err-write_part-clause-changes : goal.returns-in_err-write_part-clause-changes
 returns-in_err-write_part-clause-changes g c =
     let seen = g.H.Host.seen in
-    let it = parts _ _ _ _ c.args.change.now c.change.view_is c.change.invariant
-    c.as_slice-body.ensures.value c.as_slice-numbers.ensures in
+    let it = parts c.args.change.now c.change.view_is c.change.invariant c.as_slice-body.ensures.value c.as_slice-numbers.ensures in
     let size = ap (λ (v : Changed). length v.body) it.0 in
     let some = it.1.some in
     writes_change c.args.disk (c.gate_at-at.result + 1) 511 (gate_at c.args.label.now + 1) (length c.args.change.now.body - 1) (seen c.args.host.now) (seen c.write_part.new.host)
@@ -51,12 +48,10 @@ loop-k-init g c =
     let seen = g.H.Host.seen in
     let start = seen c.args.host.now in
     let at = c.gate_at-at.result in
-    let it = parts _ _ _ _ c.args.change.now c.change.view_is c.change.invariant
-    c.as_slice-body.ensures.value c.as_slice-numbers.ensures in
+    let it = parts c.args.change.now c.change.view_is c.change.invariant c.as_slice-body.ensures.value c.as_slice-numbers.ensures in
     record {
-      filled = filled_first g.H.Host.tells_disks c.args.disk at c.as_slice-body.result.now
-          c.as_slice-numbers.result.now start (seen c.write_part.new.host) it.1.some
-          c.write_part.ensures.writes
+      filled = filled_first g.H.Host.tells_disks c.args.disk at c.as_slice-body.result.now c.as_slice-numbers.result.now start
+          (seen c.write_part.new.host) it.1.some c.write_part.ensures.writes
           (λ t.
           let before = c.requires.before t in (
             before.0,
@@ -67,10 +62,19 @@ loop-k-init g c =
       within = omega arith;
     }
 
+pub overflow_add-from : goal.overflow_add-from
+overflow_add-from g c =
+    let it = parts c.args.change.now c.change.view_is c.change.invariant c.as_slice-body.ensures.value c.as_slice-numbers.ensures in
+    let in_body = run_within c.as_slice-body.result.now c.as_slice-numbers.result.now c.loop-k.k
+    c.run_from-run.result it.1 c.run_from-run.ensures.some c.run_from-run.ensures.within c.run_from-run.ensures.run in
+    omega (arith, in_body.1)
+
+pub overflow_mul-run : goal.overflow_mul-run
+overflow_mul-run g c = omega (arith, overflow_add-from g c)
+
 pub write_part-requires-in-loop-k-clause-within : goal.write_part-requires-in-loop-k-clause-within
 write_part-requires-in-loop-k-clause-within g c =
-    let it = parts _ _ _ _ c.args.change.now c.change.view_is c.change.invariant
-    c.as_slice-body.ensures.value c.as_slice-numbers.ensures in (
+    let it = parts c.args.change.now c.change.view_is c.change.invariant c.as_slice-body.ensures.value c.as_slice-numbers.ensures in (
     run_within c.as_slice-body.result.now c.as_slice-numbers.result.now c.loop-k.k
     c.run_from-run.result it.1 c.run_from-run.ensures.some c.run_from-run.ensures.within
     c.run_from-run.ensures.run).1
@@ -85,8 +89,7 @@ returns-in_err-write_part-2-clause-changes g c =
     let numbers = c.as_slice-numbers.result.now in
     let n = slice_index numbers c.loop-k.k in
     let m = c.run_from-run.result in
-    let it = parts _ _ _ _ c.args.change.now c.change.view_is c.change.invariant
-    c.as_slice-body.ensures.value c.as_slice-numbers.ensures in
+    let it = parts c.args.change.now c.change.view_is c.change.invariant c.as_slice-body.ensures.value c.as_slice-numbers.ensures in
     let size = ap (λ (v : Changed). length v.body) it.0 in
     let in_body = run_within c.as_slice-body.result.now numbers c.loop-k.k m it.1
     c.run_from-run.ensures.some c.run_from-run.ensures.within c.run_from-run.ensures.run in
@@ -107,8 +110,7 @@ loop-k-preserved g c =
     let numbers = c.as_slice-numbers.result.now in
     let n = slice_index numbers c.loop-k.k in
     let m = c.run_from-run.result in
-    let it = parts _ _ _ _ c.args.change.now c.change.view_is c.change.invariant
-    c.as_slice-body.ensures.value c.as_slice-numbers.ensures in
+    let it = parts c.args.change.now c.change.view_is c.change.invariant c.as_slice-body.ensures.value c.as_slice-numbers.ensures in
     let in_body = run_within c.as_slice-body.result.now numbers c.loop-k.k m it.1
     c.run_from-run.ensures.some c.run_from-run.ensures.within c.run_from-run.ensures.run in
     let span : 128 * n + 128 * m - 128 * n ≡ 128 * m = omega arith in
@@ -126,8 +128,7 @@ returns-clause-filled g c tells =
     let now = seen c.loop-k.host in
     let at = c.gate_at-at.result in
     let body = c.as_slice-body.result.now in
-    let it = parts _ _ _ _ c.args.change.now c.change.view_is c.change.invariant
-    c.as_slice-body.ensures.value c.as_slice-numbers.ensures in
+    let it = parts c.args.change.now c.change.view_is c.change.invariant c.as_slice-body.ensures.value c.as_slice-numbers.ensures in
     let body_is = ap (λ (v : Changed). v.body) it.0 in
     let none : drop c.loop-k.k c.as_slice-numbers.result.now ≡ [] = drop_all c.loop-k.k c.as_slice-numbers.result.now c.loop-k-test.false in
     let has = subst (λ (l : List ℕ). HasAllBut at body l (image now.content c.args.disk)) none (c.loop-k.invariant.filled.there tells) in
@@ -143,8 +144,7 @@ returns-clause-changes g c =
     let seen = g.H.Host.seen in
     let start = seen c.args.host.now in
     let at = c.gate_at-at.result in
-    let it = parts _ _ _ _ c.args.change.now c.change.view_is c.change.invariant
-    c.as_slice-body.ensures.value c.as_slice-numbers.ensures in
+    let it = parts c.args.change.now c.change.view_is c.change.invariant c.as_slice-body.ensures.value c.as_slice-numbers.ensures in
     let size = ap (λ (v : Changed). length v.body) it.0 in
     same_change c.args.disk (at + 1) (gate_at c.args.label.now + 1) (length c.as_slice-body.result.now - 1) (length c.args.change.now.body - 1) start (seen c.sync.new.self)
     (ap (λ (m : ℕ). m + 1) c.gate_at-at.ensures.is) (ap (λ (m : ℕ). m - 1) size)

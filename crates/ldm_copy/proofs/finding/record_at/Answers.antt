@@ -65,6 +65,6 @@ returns-then-not-is_written c ss sound holds =
 
 pub returns : goal.returns
 returns c =
-    let slots : c.in_ok-slots.slots ≡ slots_by c.args.blocks.now (c.args.k + 4) c.args.many =
-    by_heads c.args.blocks.now c.args.places.now c.in_ok-slots.slots c.args.k c.args.many c.requires.places c.requires.within c.requires.some (omega arith) c.in_ok-slots.ensures in
-    search rules
+    let slots = by_heads c.args.blocks.now c.args.places.now c.in_ok-slots.slots c.args.k c.args.many c.requires.places c.requires.within c.requires.some (omega arith) c.in_ok-slots.ensures in
+    let many : c.args.many ≡ parts c.args.blocks.now (c.args.k + 4 - 4) = c.requires.many ∙ ap (parts c.args.blocks.now) (omega arith) in
+    record { first = c.requires.first; some = omega arith; slots_are = rw (← many) slots; placed = search rules; sound = search rules }

@@ -1,4 +1,4 @@
-use Rattle.std.proofs.Common.{◌*◌, ◌≤◌, length, sym, arith}
+use Rattle.std.proofs.Common.{refl, ◌*◌, ◌≤◌, length, sym, arith}
 use Rattle.ldm_host.proofs.Relations.{looks_itself, looks_then, looks_as}
 use Rattle.ldm_dump.proofs.ByteLaws.{no_text, text_step}
 use Rattle.ldm_dump.proofs.dumping.read_many.Goals as goal
@@ -25,3 +25,6 @@ runs-preserved g c =
       bytes = λ tells. text_step old.content (g.H.Host.seen c.runs.host).content c.args.found.now c.args.plan.now c.args.sector c.runs.count c.in_ok-count.field-0 c.runs.out c.read_some.new.out _
           c.runs.invariant.looks.still.content here (omega (arith, next.room)) (c.runs.invariant.bytes tells) (next.bytes tells);
     }
+
+pub returns-in_err-count-clause-looks : goal.returns-in_err-count-clause-looks
+returns-in_err-count-clause-looks g c = looks_then c.runs.invariant.looks c.in_err-count.ensures.looks (λ is. refl)

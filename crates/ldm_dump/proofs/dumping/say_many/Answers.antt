@@ -1,8 +1,8 @@
-use Rattle.std.proofs.Common.{◌++◌, ℕ, List, subst}
+use Rattle.std.proofs.Common.{◌++◌, ℕ, List, subst, rules}
 use Rattle.ldm_host.specs.Moves.{Begins}
 use Rattle.ldm_host.proofs.Relations.{still_trans}
 use Rattle.ldm_dump.specs.Bytes.{bytes_of_sectors}
-use Rattle.ldm_dump.proofs.ByteLaws.{begins_of}
+use Rattle.ldm_dump.proofs.ByteLaws.{begins_of, begins_all}
 use Rattle.ldm_dump.proofs.dumping.say_many.Goals as goal
 
 pub returns-in-Ok-say-clause-still : goal.returns-in-Ok-say-clause-still
@@ -17,3 +17,6 @@ returns-in-Err-clause-front g c tells =
     let n = c.in-Ok.count in
     let text = bytes_of_sectors old.content c.args.found.now c.args.plan.now c.args.sector n in
     (n, c.in-Ok.ensures.fits, subst (λ (s : List ℕ). Begins (g.H.Host.seen c.say.new.self).said (s ++ text)) c.in-Ok.ensures.looks.quiet.said (begins_of _ _ _ _ (c.in-Ok.ensures.bytes tells) c.in-Err.ensures.front))
+
+pub returns-in-Ok-say-clause-front : goal.returns-in-Ok-say-clause-front
+returns-in-Ok-say-clause-front g c tells = (c.in-Ok.count, c.in-Ok.ensures.fits, begins_all _ _ (search rules))

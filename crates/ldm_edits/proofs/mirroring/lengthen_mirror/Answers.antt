@@ -1,4 +1,5 @@
 use Rattle.std.proofs.Common.{◌∙◌, ◌≤◌, ◌+◌, ◌-◌, ◌^◌, ◌++◌, ap, sym, subst, arith, length, List}
+use Rattle.std.proofs.lemmas.Grind.{common_steps}
 use Rattle.ldm_records.specs.declared.types.Record.{Record}
 use Rattle.ldm_group.specs.Looks.{max_id}
 use Rattle.ldm_group.specs.Order.{in_order}
@@ -20,6 +21,9 @@ use Rattle.ldm_edits.proofs.mirroring.lengthen_mirror.Goals as goal
 
 pub open_wanted-requires-clause-held : goal.open_wanted-requires-clause-held
 open_wanted-requires-clause-held c = c.requires.held ∙ ap held (sym (layout_shown c.requires.volume.shows))
+
+pub returns-then-pieces-components-clause-is : goal.returns-then-pieces-components-clause-is
+returns-then-pieces-components-clause-is c = grind (arith, common_steps)
 
 pub returns-in_err-asked-clause-is : goal.returns-in_err-asked-clause-is
 returns-in_err-asked-clause-is c =

@@ -1,4 +1,5 @@
-use Rattle.std.proofs.Common.{◌∙◌, ap, sym, length, List}
+use Rattle.std.proofs.Common.{◌∙◌, ap, sym, arith, length, List}
+use Rattle.std.proofs.lemmas.Grind.{common_steps}
 use Rattle.ldm_space.specs.declared.placed.Wanted.{Wanted}
 use Rattle.ldm_edits.proofs.AskedLaws.{piece_each}
 use Rattle.ldm_edits.proofs.mirroring.open_wanted.Goals as goal
@@ -10,3 +11,9 @@ is_same_disk-requires c =
 
 pub returns-clause-one_each : goal.returns-clause-one_each
 returns-clause-one_each c = piece_each c.args.own.now c.args.labels.now c.args.pieces.now c.in_ok-wanted.wanted.items c.in_ok-wanted.ensures.is ∙ c.requires.one_each
+
+pub returns-clause-can : goal.returns-clause-can
+returns-clause-can c = grind (arith, common_steps)
+
+pub returns-clause-even : goal.returns-clause-even
+returns-clause-even c = grind (arith, common_steps)

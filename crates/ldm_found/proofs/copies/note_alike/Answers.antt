@@ -1,8 +1,14 @@
 use Rattle.std.proofs.Common.{◌≡◌, length, sym, ap, arith}
+use Rattle.std.proofs.lemmas.Option.{slice_get-get_or}
 use Rattle.ldm_host.specs.Seen.{image}
 use Rattle.ldm_vmdb.specs.declared.header.Header.{Header}
 use Rattle.ldm_found.proofs.CopyLaws.{newest_there, adds_again}
 use Rattle.ldm_found.proofs.copies.note_alike.Goals as goal
+
+pub is_alike-requires-clause-other_fits : goal.is_alike-requires-clause-other_fits
+is_alike-requires-clause-other_fits g c =
+    let among = rw c.in-Some.is at c.requires.newest in
+    c.requires.lie.fits _ _ (slice_get-get_or c.args.labels.now c.in-Some.newest.image _ (omega (arith, among.within)))
 
 pub returns-clause-is : goal.returns-clause-is
 returns-clause-is g c tells copies all is =

@@ -1,10 +1,15 @@
 use Rattle.std.proofs.Common.{rules, ◌≡◌, Err, length, length-append, ap, arith}
+use Rattle.std.proofs.lemmas.Option.{slice_get-get_or}
 use Rattle.ldm_host.proofs.Relations.{looks_then}
 use Rattle.ldm_found.specs.declared.fault.OpenError.{OpenError}
 use Rattle.ldm_found.specs.declared.notes.Note.{Note}
 use Rattle.ldm_label.proofs.ReadLaws.{handed_on}
 use Rattle.ldm_found.proofs.CopyLaws.{copies_next, copies_all, copy_fault, among_roomy}
 use Rattle.ldm_found.proofs.copies.read_copies.Goals as goal
+
+pub with_image-requires-clause-fits : goal.with_image-requires-clause-fits
+with_image-requires-clause-fits g c =
+    rw c.loop-disk.invariant.looks.still.later.sizes (c.requires.fits _ _ (slice_get-get_or c.args.labels.now c.loop-disk.disk _ c.loop-disk-test.true))
 
 pub returns-in_err-next-clause-is : goal.returns-in_err-next-clause-is
 returns-in_err-next-clause-is g c tells =

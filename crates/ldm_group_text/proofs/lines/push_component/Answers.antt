@@ -1,4 +1,4 @@
-use Rattle.std.proofs.Common.{◌≡◌, ◌∙◌, ℕ, List, [], ◌++◌, ap, append_assoc}
+use Rattle.std.proofs.Common.{arith, ◌≡◌, ℕ, List, [], ◌++◌, append_assoc}
 use Rattle.std.specs.Prelude.{codes}
 use Rattle.std.proofs.lemmas.List.{append-nil}
 use Rattle.std.proofs.lemmas.Result.{IfOk-equal}
@@ -9,10 +9,7 @@ use Rattle.ldm_group_text.proofs.lines.push_component.Goals as goal
 line_is : (start one two partitions : List ℕ) (c : Component) → one ≡ start ++ text_of_head (codes "  component ") c.head → two ≡ one ++ text_of_layout c.layout c.striping
     → two ++ (codes "\n" ++ (partitions ++ [])) ≡ start ++ text_of_component c partitions
 unfolding text_of_component
-line_is start one two partitions c first second =
-    ap (λ (t : List ℕ). t ++ (codes "\n" ++ (partitions ++ [])))
-    (second ∙ ap (λ (t : List ℕ). t ++ text_of_layout c.layout c.striping) first)
-    ∙ simp (append_assoc, append-nil)
+line_is start one two partitions c first second = grind (arith, append_assoc, append-nil)
 
 pub returns : goal.returns
 returns c =

@@ -1,4 +1,4 @@
-use Rattle.std.proofs.Common.{◌≡◌, ◌∙◌, ℕ, List, [], ◌++◌, Some, ap, append_assoc}
+use Rattle.std.proofs.Common.{arith, ◌≡◌, ℕ, List, [], ◌++◌, Some, append_assoc}
 use Rattle.std.specs.Prelude.{codes}
 use Rattle.std.proofs.lemmas.List.{append-nil}
 use Rattle.std.proofs.lemmas.Result.{IfOk-equal}
@@ -10,17 +10,7 @@ use Rattle.ldm_group_text.proofs.volumes.push_volume.Goals as goal
 line_is : (start one two components : List ℕ) (v : Volume) (shape : Shape) → one ≡ start ++ text_of_head (codes "volume ") v.head → two ≡ one ++ text_of_form v shape
     → two ++ (codes "\n" ++ (components ++ [])) ≡ start ++ text_of_volume v components (Some shape)
 unfolding text_of_volume
-line_is start one two components v shape first second =
-    ap (λ (t : List ℕ). t ++ (codes "\n" ++ (components ++ [])))
-    (second ∙ ap (λ (t : List ℕ). t ++ text_of_form v shape) first)
-    ∙ simp (append_assoc, append-nil)
+line_is start one two components v shape first second = grind (arith, append_assoc, append-nil)
 
 pub returns : goal.returns
-returns c =
-    let v = c.args.v.now in
-    let components = c.args.components.now in
-    let start = c.args.text.now in
-    let text = c.push_parts.new.text in
-    rw c.in-Some.is
-    (IfOk-equal c.push_parts.result text (c.push_form.new.text ++ (codes "\n" ++ (components ++ []))) (start ++ text_of_volume v components (Some c.in-Some.shape))
-    c.push_parts.ensures (line_is start _ _ components v c.in-Some.shape c.in_ok-push_head.ensures c.in_ok-push_form.ensures))
+returns c = grind (arith, IfOk-equal, line_is)

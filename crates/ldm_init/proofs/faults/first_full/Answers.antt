@@ -1,4 +1,4 @@
-use Rattle.std.proofs.Common.{[], ◌<◌, length, sym, ◌∙◌, arith}
+use Rattle.std.proofs.Common.{refl, [], ◌<◌, length, sym, ◌∙◌, arith}
 use Rattle.std.proofs.lemmas.Bool.{true≢false}
 use Rattle.ldm_host.proofs.Relations.{looks_then}
 use Rattle.ldm_init.specs.Faults.{IsFull}
@@ -27,3 +27,6 @@ pub returns-clause-is : goal.returns-clause-is
 returns-clause-is g c tells =
     let content = (g.H.Host.seen c.args.host.now).content in
     none_at_all IsFull content c.loop-disk.disk (omega (arith, g.met.H.Host.one_each tells c.args.host.now, c.disks-disk-end.ensures, c.loop-disk-test.false)) (c.loop-disk.invariant.before tells)
+
+pub returns-in_err-is_empty-clause-looks : goal.returns-in_err-is_empty-clause-looks
+returns-in_err-is_empty-clause-looks g c = looks_then c.loop-disk.invariant.looks c.in_err-is_empty.ensures.looks (λ is. refl)

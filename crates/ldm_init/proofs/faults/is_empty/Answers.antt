@@ -1,4 +1,4 @@
-use Rattle.std.proofs.Common.{rules, ◌≡◌, ◌*◌, length, sym, ◌∙◌}
+use Rattle.std.proofs.Common.{refl, ◌≡◌, ◌*◌, length, sym, ◌∙◌}
 use Rattle.ldm_host.specs.Seen.{image}
 use Rattle.ldm_host.proofs.Relations.{looks_then}
 use Rattle.ldm_init.proofs.InitLaws.{last_decides, first_decides}
@@ -6,7 +6,7 @@ use Rattle.ldm_init.proofs.faults.is_empty.Goals as goal
 
 pub returns-in_err-last_is_zero-clause-looks : goal.returns-in_err-last_is_zero-clause-looks
 returns-in_err-last_is_zero-clause-looks g c =
-    looks_then c.in_ok-first_is_zero.ensures.looks c.in_err-last_is_zero.ensures.looks (λ is. search rules)
+    looks_then c.in_ok-first_is_zero.ensures.looks c.in_err-last_is_zero.ensures.looks (λ is. refl)
 
 pub returns-then-first_is_zero-clause-looks : goal.returns-then-first_is_zero-clause-looks
 returns-then-first_is_zero-clause-looks g c =

@@ -18,3 +18,6 @@ returns-in-Ok-clause-empty g c tells =
 pub returns-in_err-buffer-clause-looks : goal.returns-in_err-buffer-clause-looks
 returns-in_err-buffer-clause-looks g c =
     looks_as (looks_itself (g.H.Host.seen c.args.host.now) (g.met.H.Host.counts_now c.args.host.now) (g.met.H.Host.only_now c.args.host.now)) (λ is. search rules)
+
+pub returns-in-Err-clause-looks : goal.returns-in-Err-clause-looks
+returns-in-Err-clause-looks g c = looks_as c.in-Err.ensures.looks (λ is. cc is)

@@ -1,6 +1,7 @@
 use Rattle.std.proofs.Common.{◌≡◌, ◌<◌, ◌∙◌, ℕ, List, length, refl, ap, arith}
 use Rattle.ldm_host.specs.Seen.{image}
 use Rattle.ldm_bytes.specs.Places.{put}
+use Rattle.ldm_host.proofs.Relations.{rose_sooner}
 use Rattle.ldm_copy.proofs.RewriteLaws.{on_ok_map}
 use Rattle.ldm_init.proofs.MomentLaws.{one_rewrite, two_rewrite, three_rewrite, synced_rewrite, put_here, set_count}
 use Rattle.ldm_init.proofs.writing.write_unsigned.Goals as goal
@@ -36,18 +37,19 @@ returns-clause-written g c tells =
     let a = seen c.args.host.now in
     let b = seen c.write_at.new.self in
     let d = seen c.write_at-2.new.self in
-    let e = seen c.write_at-3.new.self in
     let x = image a.content disk in
     let one = put x 0 c.args.front.now in
     let two = put one 0xC00 c.args.copy.now in
-    let three = put two c.args.begin c.args.last.now in
     let at_a : disk < length a.content = omega (arith, g.met.H.Host.one_each tells c.args.host.now, c.requires.disk) in
     let wrote_b = c.in_ok-write_at.ensures.written tells in
     let wrote_d = c.in_ok-write_at-2.ensures.written tells in
-    let wrote_e = c.in_ok-write_at-3.ensures.written tells in
     let at_b : disk < length b.content = (let n = set_count a.content b.content disk (put x 0 c.args.front.now) wrote_b in omega (arith, n, at_a)) in
     let at_d : disk < length d.content = (let n = set_count b.content d.content disk (put (image b.content disk) 0xC00 c.args.copy.now) wrote_d in omega (arith, n, at_b)) in
     let is_b : image b.content disk ≡ one = put_here a.content b.content disk 0 c.args.front.now x at_a wrote_b refl in
     let is_d : image d.content disk ≡ two = put_here b.content d.content disk 0xC00 c.args.copy.now one at_b wrote_d is_b in
-    let is_e : image e.content disk ≡ three = put_here d.content e.content disk c.args.begin c.args.last.now two at_d wrote_e is_d in
-    on_ok_map c.sync.result _ _ (λ settled. ap (λ (l : List (List ℕ)). image l disk) c.sync.ensures.syncs.content ∙ is_e) c.sync.ensures.settled
+    on_ok_map c.sync.result _ _ (λ settled. ap (λ (l : List (List ℕ)). image l disk) c.sync.ensures.syncs.content
+    ∙ put_here d.content _ disk c.args.begin c.args.last.now two at_d (c.in_ok-write_at-3.ensures.written tells) is_d)
+    c.sync.ensures.settled
+
+pub returns-clause-cause : goal.returns-clause-cause
+returns-clause-cause g c is = rose_sooner _ _ _ (omega arith) (c.sync.ensures.cause is)

@@ -1,6 +1,6 @@
-use Rattle.std.proofs.Common.{◌≡◌, ℕ, true, Option, Some, IfSome, Result, rules, sym, subst}
+use Rattle.std.proofs.Common.{arith, ◌≡◌, ℕ, true, Some, Result, rules, sym, subst}
+use Rattle.std.proofs.lemmas.Grind.{common_steps}
 use Rattle.std.specs.List.{All}
-use Rattle.ldm_records.specs.declared.types.Volume.{Volume}
 use Rattle.ldm_layout.proofs.VolumeLaws.{extents_end, plan_size, layout_is, lists_end}
 use Rattle.ldm_layout.specs.Answers.{PlansAs}
 use Rattle.ldm_layout.specs.Grouped.{IsListsOf}
@@ -28,10 +28,7 @@ planned c =
     subst (λ (l : Result Layout LayoutFault). PlansAs c.plan_of.result l) (layout_is c.in_ok-parts.parts records c.in-Some.volume.now lists) c.plan_of.ensures
 
 pub returns-in-Some-clause-is : goal.returns-in-Some-clause-is
-returns-in-Some-clause-is c =
-    let records = c.args.db.now.records in
-    let found : volume_with c.args.volume records ≡ Some c.in-Some.volume.now = search rules in
-    subst (λ (o : Option Volume). IfSome o (λ v. PlansAs c.plan_of.result (layout_of records v))) (sym found) (planned c)
+returns-in-Some-clause-is c = grind (arith, planned)
 
 pub returns-in-Some-clause-size : goal.returns-in-Some-clause-size
 returns-in-Some-clause-size c =

@@ -1,9 +1,7 @@
-use Rattle.std.proofs.Common.{◌∙◌, ap, sym, length, arith}
+use Rattle.std.proofs.Common.{ap, length, arith}
 use Rattle.std.specs.Prelude.{replicate}
-use Rattle.ldm_records.specs.Table.{has_flag}
 use Rattle.ldm_records.specs.Fields.{component_values}
 use Rattle.ldm_records.specs.Forms.{chunk_value, columns_value}
-use Rattle.ldm_made.specs.Made.{striping_flagged}
 use Rattle.ldm_made.proofs.MadeLaws.{number_len, component_name_len, chunk_len, component_is}
 use Rattle.ldm_made.proofs.made.new_component.Goals as goal
 
@@ -11,21 +9,7 @@ pub invariant_of-head : goal.invariant_of-head
 invariant_of-head c = record { name_short = omega (arith, ap length c.in_ok-name.ensures, component_name_len c.args.id c.ranges.id.fits) }
 
 pub invariant_of-result : goal.invariant_of-result
-invariant_of-result c = record {
-  state_short = omega (arith, ap length c.in_ok-state.ensures);
-  flagged = striping_flagged c.args.striping ∙ ap (λ f. has_flag f 0x10) (sym c.striping_flags-flags.ensures);
-  short = omega (
-    arith,
-    ap length c.in_ok-name.ensures,
-    component_name_len c.args.id c.ranges.id.fits,
-    ap length c.in_ok-state.ensures,
-    number_len c.args.id c.ranges.id.fits,
-    number_len c.args.parent c.ranges.parent.fits,
-    number_len c.args.children c.ranges.children.fits,
-    chunk_len c.args.striping c.requires,
-    ap length c.empty-tail.ensures,
-  );
-}
+invariant_of-result c = grind (arith, component_name_len, number_len, chunk_len)
 
 pub returns : goal.returns
 returns c =

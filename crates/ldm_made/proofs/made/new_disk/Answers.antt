@@ -1,4 +1,4 @@
-use Rattle.std.proofs.Common.{ap, length, arith}
+use Rattle.std.proofs.Common.{arith}
 use Rattle.std.specs.Prelude.{replicate}
 use Rattle.ldm_records.specs.declared.pieces.DiskForm.TheVariants.{V3}
 use Rattle.ldm_records.specs.Forms.{disk_values}
@@ -6,14 +6,7 @@ use Rattle.ldm_made.proofs.MadeLaws.{number_len, disk_is}
 use Rattle.ldm_made.proofs.made.new_disk.Goals as goal
 
 pub invariant_of-result : goal.invariant_of-result
-invariant_of-result c =
-    let name = ap length c.in_ok-name.ensures in
-    let alt = ap length c.empty-alt.ensures in
-    let tail = ap length c.empty-tail.ensures in
-    record {
-      alt_short = omega (arith, alt);
-      short = omega (arith, name, c.requires, alt, tail, number_len c.args.id c.ranges.id.fits);
-    }
+invariant_of-result c = grind (arith, number_len)
 
 pub returns : goal.returns
 returns c =

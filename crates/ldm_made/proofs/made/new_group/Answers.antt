@@ -1,4 +1,4 @@
-use Rattle.std.proofs.Common.{◌∙◌, ap, refl, length, arith}
+use Rattle.std.proofs.Common.{arith}
 use Rattle.std.specs.Prelude.{replicate}
 use Rattle.ldm_bytes.proofs.GuidLaws.{own_guid-len}
 use Rattle.ldm_records.specs.declared.pieces.GroupForm.TheVariants.{V3}
@@ -8,15 +8,7 @@ use Rattle.ldm_made.proofs.MadeLaws.{number_len, group_is}
 use Rattle.ldm_made.proofs.made.new_group.Goals as goal
 
 pub invariant_of-result : goal.invariant_of-result
-invariant_of-result c =
-    let name = ap length c.in_ok-name.ensures in
-    let guid = ap length c.in_ok-guid.ensures ∙ own_guid-len c.args.guid in
-    let tail = ap length c.empty-tail.ensures in
-    record {
-      guid_short = omega (arith, guid);
-      flagged = refl;
-      short = omega (arith, name, c.requires, guid, tail, number_len c.args.id c.ranges.id.fits);
-    }
+invariant_of-result c = grind (arith, own_guid-len, number_len)
 
 pub returns : goal.returns
 returns c =

@@ -1,8 +1,6 @@
-use Rattle.std.proofs.Common.{◌∙◌, ap, sym, length, arith}
+use Rattle.std.proofs.Common.{ap, length, arith}
 use Rattle.std.specs.Prelude.{replicate}
-use Rattle.ldm_records.specs.Table.{has_flag}
 use Rattle.ldm_records.specs.Fields.{partition_values}
-use Rattle.ldm_made.specs.Made.{index_flagged}
 use Rattle.ldm_made.proofs.MadeLaws.{name_len, number_len, index_len, partition_is}
 use Rattle.ldm_made.proofs.made.new_partition.Goals as goal
 
@@ -10,20 +8,7 @@ pub invariant_of-head : goal.invariant_of-head
 invariant_of-head c = record { name_short = omega (arith, ap length c.in_ok-name.ensures, name_len c.args.id c.ranges.id.fits) }
 
 pub invariant_of-result : goal.invariant_of-result
-invariant_of-result c = record {
-  flagged = index_flagged c.args.index ∙ ap (λ f. has_flag f 0x08) (sym c.index_flags-flags.ensures);
-  short = omega (
-    arith,
-    ap length c.in_ok-name.ensures,
-    name_len c.args.id c.ranges.id.fits,
-    number_len c.args.id c.ranges.id.fits,
-    number_len c.args.size c.ranges.size.fits,
-    number_len c.args.parent c.ranges.parent.fits,
-    number_len c.args.disk c.ranges.disk.fits,
-    index_len c.args.index c.requires,
-    ap length c.empty-tail.ensures,
-  );
-}
+invariant_of-result c = grind (arith, name_len, number_len, index_len)
 
 pub returns : goal.returns
 returns c =

@@ -1,45 +1,11 @@
-use Rattle.std.proofs.Common.{ap, refl, length, arith, None}
+use Rattle.std.proofs.Common.{arith, None}
 use Rattle.std.specs.Prelude.{replicate}
-use Rattle.byteorder.specs.Numbers.{length-bytes_high_first}
 use Rattle.ldm_records.specs.Fields.{volume_values}
 use Rattle.ldm_made.proofs.MadeLaws.{number_len, kind_len, fixed_len, volume_is}
 use Rattle.ldm_made.proofs.made.new_volume.Goals as goal
 
 pub invariant_of-result : goal.invariant_of-result
-invariant_of-result c =
-    let name = ap length c.in_ok-name.ensures in
-    let kind = ap length c.in_ok-kind.ensures in
-    let second = ap length c.empty-second.ensures in
-    let tail = ap length c.empty-tail.ensures in
-    let fixed = ap length c.volume_fixed21-fixed21.ensures in
-    let guid = ap length c.to_be_bytes-guid.ensures in
-    record {
-      kind_short = omega (arith, kind, kind_len c.args.raid);
-      second_short = omega (arith, second);
-      id1_short = omega arith;
-      id2_short = omega arith;
-      hint_short = omega arith;
-      id1_flagged = refl;
-      id2_flagged = refl;
-      size2_flagged = refl;
-      hint_flagged = refl;
-      short = omega (
-        arith,
-        name,
-        c.requires,
-        kind,
-        kind_len c.args.raid,
-        second,
-        fixed,
-        fixed_len c.args.raid,
-        guid,
-        length-bytes_high_first 16 c.args.guid,
-        tail,
-        number_len c.args.id c.ranges.id.fits,
-        number_len c.args.children c.ranges.children.fits,
-        number_len c.args.size c.ranges.size.fits,
-      );
-    }
+invariant_of-result c = grind (arith, kind_len, fixed_len, number_len)
 
 pub returns : goal.returns
 returns c =

@@ -1,4 +1,4 @@
-use Rattle.std.proofs.Common.{Option, IsSome, refl, sym, subst}
+use Rattle.std.proofs.Common.{arith, Option, IsSome, refl, sym, subst}
 use Rattle.ldm_records.specs.declared.types.Volume.{Volume}
 use Rattle.ldm_layout.specs.Answers.{PlansAs}
 use Rattle.ldm_layout.specs.Volumes.{layout_of}
@@ -19,10 +19,7 @@ unreachable-requires c =
     (of_volume (λ w. PlansAs c.plan.result (layout_of records w)) records volume c.requires.again c.plan.ensures.is) c.in-Err-Fault.is c.in-Err-Fault.field-0-is
 
 pub returns-in-Ok-clause-is : goal.returns-in-Ok-clause-is
-returns-in-Ok-clause-is c =
-    let records = c.args.db.now.records in
-    let volume = c.args.volume.now in
-    planned records volume c.plan.result c.in-Ok.plan (of_volume (λ w. PlansAs c.plan.result (layout_of records w)) records volume c.requires.again c.plan.ensures.is) c.in-Ok.is
+returns-in-Ok-clause-is c = grind (arith, planned, of_volume)
 
 pub returns-in-Ok-clause-size : goal.returns-in-Ok-clause-size
 returns-in-Ok-clause-size c = planned_size c.args.db.now.records c.args.volume.now c.plan.result c.in-Ok.plan c.requires.again c.plan.ensures.size c.in-Ok.is

@@ -1,4 +1,4 @@
-use Rattle.std.proofs.Common.{rules, ◌≡◌, ◌∙◌, ◌++◌, Err, sym, subst}
+use Rattle.std.proofs.Common.{arith, rules, ◌≡◌, ◌∙◌, ◌++◌, Err, sym, subst}
 use Rattle.ldm_bytes.specs.Tables.{first_of}
 use Rattle.ldm_rules.specs.Table.{ChecksAs, first_broken_rule, name_rules, tree_rules, sector_rules}
 use Rattle.ldm_rules.proofs.SoundLaws.{checked_layouts}
@@ -7,11 +7,7 @@ use Rattle.ldm_rules.proofs.table.check.Goals as goal
 
 pub returns-in_err-check_names-clause-is : goal.returns-in_err-check_names-clause-is
 unfolding first_broken_rule
-returns-in_err-check_names-clause-is c =
-    let rest = tree_rules c.args.db.now.records ++ sector_rules c.args.db.now.records c.args.labels.now in
-    let same : c.from_residual.result ≡ Err c.in_err-check_names.field-0.0 = search rules in
-    subst (λ r. ChecksAs r (first_of (name_rules c.args.db.now.records ++ rest))) (sym same)
-    (failed (name_rules c.args.db.now.records) rest c.in_err-check_names.field-0.0 c.in_err-check_names.ensures)
+returns-in_err-check_names-clause-is c = grind (arith, failed)
 
 pub returns-in_err-check_tree-clause-is : goal.returns-in_err-check_tree-clause-is
 unfolding first_broken_rule

@@ -1,17 +1,11 @@
-use Rattle.std.proofs.Common.{◌≡◌, ◌-◌, ◌*◌, ◌/◌, ℕ, length, ap, sym, ◌∙◌, arith}
+use Rattle.std.proofs.Common.{◌-◌, ◌*◌, ◌/◌, arith}
 use Rattle.ldm_dump.proofs.RunLaws.{chunk_is}
 use Rattle.std.proofs.lemmas.Nat.{mul-le}
-use Rattle.ldm_layout.specs.Columns.{columns_of}
-use Rattle.ldm_scrub.proofs.CompareLaws.{untiled, row_sector, sector_raid5}
+use Rattle.ldm_scrub.proofs.CompareLaws.{untiled, sector_raid5}
 use Rattle.ldm_scrub.proofs.places.row_sector.Goals as goal
 
 pub returns-clause-is : goal.returns-clause-is
-returns-clause-is c =
-    let l = c.args.plan.now in
-    let p = c.args.place in
-    let chunk : c.chunk-chunk.result ≡ l.chunk = c.chunk-chunk.ensures.is ∙ chunk_is l (untiled l c.requires.raid5) in
-    ap (λ (k : ℕ). row_sector k c.chunk-chunk.result p) c.columns.ensures.count
-    ∙ (ap (λ (u : ℕ). row_sector (length (columns_of l)) u p) chunk ∙ sym (sector_raid5 l p c.requires.raid5))
+returns-clause-is c = grind (arith, chunk_is, untiled, sector_raid5)
 
 pub overflow_add-result : goal.overflow_add-result
 overflow_add-result c = (let e = returns-clause-is c in omega (arith, e, c.requires.within, c.size-size.ensures, c.size-size.type_inv))

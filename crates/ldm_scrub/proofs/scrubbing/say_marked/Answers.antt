@@ -1,4 +1,4 @@
-use Rattle.std.proofs.Common.{◌++◌, ℕ, List, length, refl, ap, sym, ◌∙◌}
+use Rattle.std.proofs.Common.{arith, ◌++◌, ℕ, List, length, refl, ap, ◌∙◌}
 use Rattle.std.specs.List.{range_with_len}
 use Rattle.std.proofs.lemmas.List.{append-nil}
 use Rattle.ldm_host.proofs.Relations.{still_itself}
@@ -8,15 +8,10 @@ use Rattle.ldm_scrub.proofs.CompareLaws.{silent, lines_are, bad_are}
 use Rattle.ldm_scrub.proofs.scrubbing.say_marked.Goals as goal
 
 pub returns-then-bad-eq0-clause-count : goal.returns-then-bad-eq0-clause-count
-returns-then-bad-eq0-clause-count g c images found marked =
-    sym c.if-bad-eq0.true ∙ (c.count_marks-bad.ensures.is c.args.place (is_bad_at images found c.args.plan.now) marked
-    ∙ bad_are images found c.args.plan.now (range_with_len c.args.place (length c.args.marks.now)))
+returns-then-bad-eq0-clause-count g c images found marked = grind (arith, bad_are)
 
 pub returns-then-bad-eq0-clause-said : goal.returns-then-bad-eq0-clause-said
-returns-then-bad-eq0-clause-said g c tells images found marked =
-    let none = sym (c.count_marks-bad.ensures.is c.args.place (is_bad_at images found c.args.plan.now) marked) ∙ c.if-bad-eq0.true in
-    let said = (g.H.Host.seen c.args.host.now).said in
-    sym (append-nil said) ∙ ap (λ (t : List ℕ). said ++ t) (sym (silent images found c.args.plan.now (range_with_len c.args.place (length c.args.marks.now)) none))
+returns-then-bad-eq0-clause-said g c tells images found marked = grind (arith, append-nil, silent)
 
 pub returns-in_err-say-clause-front : goal.returns-in_err-say-clause-front
 returns-in_err-say-clause-front g c images found marked =
@@ -29,9 +24,7 @@ returns-clause-said g c tells images found marked =
     c.in_ok-say.ensures.said tells ∙ ap (λ (t : List ℕ). said ++ t) text
 
 pub returns-clause-count : goal.returns-clause-count
-returns-clause-count g c images found marked =
-    c.count_marks-bad.ensures.is c.args.place (is_bad_at images found c.args.plan.now) marked
-    ∙ bad_are images found c.args.plan.now (range_with_len c.args.place (length c.args.marks.now))
+returns-clause-count g c images found marked = grind (arith, bad_are)
 
 pub returns-clause-front : goal.returns-clause-front
 returns-clause-front g c images found marked =

@@ -1,4 +1,4 @@
-use Rattle.std.proofs.Common.{◌≡◌, ◌++◌, List, ℕ, arith, refl, ap, sym, subst, ◌∙◌}
+use Rattle.std.proofs.Common.{◌≡◌, ◌++◌, List, ℕ, arith, ap, sym, subst, ◌∙◌}
 use Rattle.std.proofs.lemmas.List.{append-nil}
 use Rattle.std.specs.List.{range_with_len}
 use Rattle.ldm_host.specs.Moves.{Begins}
@@ -10,16 +10,7 @@ use Rattle.ldm_scrub.proofs.CompareLaws.{no_lines, none_bad, lines_more, bad_mor
 use Rattle.ldm_scrub.proofs.scrubbing.scrub_places.Goals as goal
 
 pub pieces-init : goal.pieces-init
-pieces-init g c =
-    let host = g.H.Host.seen c.args.host.now in
-    record {
-      still = still_itself host (g.met.H.Host.counts_now c.args.host.now) (g.met.H.Host.only_now c.args.host.now);
-      input = record { input = refl; heard = refl };
-      within = omega arith;
-      few = omega arith;
-      said = λ tells. sym (append-nil host.said) ∙ ap (λ (t : List ℕ). host.said ++ t) (sym (no_lines host.content c.args.found.now c.args.plan.now));
-      count = λ tells. sym (none_bad host.content c.args.found.now c.args.plan.now);
-    }
+pieces-init g c = grind (arith, still_itself, append-nil, no_lines, none_bad)
 
 pub returns-in_err-some-clause-front : goal.returns-in_err-some-clause-front
 returns-in_err-some-clause-front g c tells =

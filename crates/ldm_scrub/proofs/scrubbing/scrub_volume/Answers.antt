@@ -1,4 +1,4 @@
-use Rattle.std.proofs.Common.{◌++◌, ℕ, List, length, refl, ap, sym, ◌∙◌, append_assoc}
+use Rattle.std.proofs.Common.{arith, ◌++◌, ℕ, List, length, refl, ap, sym, ◌∙◌, append_assoc}
 use Rattle.ldm_host.specs.Moves.{Begins}
 use Rattle.ldm_host.proofs.Relations.{still_trans, rose_sooner}
 use Rattle.ldm_dump.proofs.ByteLaws.{begins_of, begins_all}
@@ -23,15 +23,7 @@ pub returns-in-Err-clause-still : goal.returns-in-Err-clause-still
 returns-in-Err-clause-still g c = still_trans _ _ _ c.in_ok-bad.ensures.still c.in-Err.ensures.still
 
 pub returns-in-Ok-clause-said : goal.returns-in-Ok-clause-said
-returns-in-Ok-clause-said g c tells =
-    let old = g.H.Host.seen c.args.host.now in
-    let lines = bad_lines old.content c.args.found.now c.args.plan.now (places_of c.args.plan.now) in
-    let last = end_text old.content c.args.found.now c.args.plan.now c.args.front.now c.place_count-all.result c.in_ok-bad.bad c.place_count-all.ensures (c.in_ok-bad.ensures.count tells) in
-    let text = c.push_end-end.ensures.is ∙ last in
-    c.in-Ok.ensures.said (g.met.H.Host.tells_both tells)
-    ∙ (ap (λ (t : List ℕ). (g.H.Host.seen c.scrub_places.new.host).said ++ t) text
-    ∙ (ap (λ (s : List ℕ). s ++ text_of_end c.args.front.now (length (places_of c.args.plan.now)) (bad_of old.content c.args.found.now c.args.plan.now (places_of c.args.plan.now))) (c.in_ok-bad.ensures.said tells)
-    ∙ append_assoc old.said lines _))
+returns-in-Ok-clause-said g c tells = grind (arith, end_text, append_assoc)
 
 pub returns-in-Ok-clause-front : goal.returns-in-Ok-clause-front
 returns-in-Ok-clause-front g c tells = begins_all _ _ (returns-in-Ok-clause-said g c tells)

@@ -1,16 +1,14 @@
-use Rattle.std.proofs.Common.{◌-◌, ◌^◌, sym, ◌∙◌, arith}
+use Rattle.std.proofs.Common.{◌-◌, ◌^◌, sym, arith}
+use Rattle.std.proofs.lemmas.Grind.{common_steps}
 use Rattle.ldm_space.proofs.FreeLaws.{is_none}
 use Rattle.ldm_space.proofs.GapLaws.{limited, limited_none, none_limited}
 use Rattle.ldm_space.proofs.placed.fit.Goals as goal
 
 pub returns-in_err-last-clause-first : goal.returns-in_err-last-clause-first
-returns-in_err-last-clause-first c taken are =
-    c.from_residual.ensures ∙ sym (is_none taken c.args.asked.disk c.args.asked.limit c.args.asked.size (λ q ends. absurd (c.in_err-last.ensures (omega arith))))
+returns-in_err-last-clause-first c taken are = grind (arith, common_steps, is_none)
 
 pub returns-in_err-start-clause-first : goal.returns-in_err-start-clause-first
-returns-in_err-start-clause-first c taken are =
-    c.from_residual-in_err-start.ensures
-    ∙ sym (none_limited taken c.args.asked.disk (2 ^ 64 - 1) c.args.asked.limit c.args.asked.size (omega arith) (sym (c.in_err-start.ensures.first taken c.args.asked.disk (2 ^ 64 - 1) are).is))
+returns-in_err-start-clause-first c taken are = grind (arith, common_steps, none_limited)
 
 pub returns-then-start-last-clause-first : goal.returns-then-start-last-clause-first
 returns-then-start-last-clause-first c taken are =

@@ -1,9 +1,8 @@
-use Rattle.std.proofs.Common.{◌≡◌, ◌∙◌, ℕ, sym, ap, Bool, ◌-◌, find, Option, Some, None}
-use Rattle.std.specs.List.{range_with_len}
+use Rattle.std.proofs.Common.{arith, ◌≡◌, ◌∙◌, ℕ, sym, ap, Bool, ◌-◌, Option, Some}
 use Rattle.ldm_layout.specs.declared.shape.Shape.{Shape}
 use Rattle.ldm_table.specs.declared.faults.TableFault.{TableFault}
 use Rattle.ldm_table.specs.declared.faults.TableFault.TheVariants.{Chunk, Columns}
-use Rattle.ldm_table.specs.Faults.{is_bad_chunk, has_many_columns, is_rebuilt}
+use Rattle.ldm_table.specs.Faults.{is_bad_chunk, has_many_columns}
 use Rattle.ldm_table.proofs.VolumeLaws.{by_least, bad_chunk, many_columns, last_fault}
 use Rattle.ldm_table.proofs.faults.volume_fault.Goals as goal
 
@@ -25,25 +24,14 @@ some_columns n = Some (Columns n)
 
 pub returns-then-is_bad_chunk : goal.returns-then-is_bad_chunk
 unfolding some_chunk
-returns-then-is_bad_chunk c =
-    ap some_chunk c.chunk-then-is_bad_chunk.ensures.is
-    ∙ bad_chunk c.args.found.now c.args.plan.now c.in_default.ensures (λ e. c.if-size-eq0.false (c.size.ensures ∙ e)) (chunk_test c.is_bad_chunk.ensures c.shape.ensures c.chunk.ensures.is c.if-is_bad_chunk.true)
+returns-then-is_bad_chunk c = grind (arith, some_chunk, bad_chunk, chunk_test)
 
 pub returns-then-has_many_columns : goal.returns-then-has_many_columns
 unfolding some_columns
-returns-then-has_many_columns c =
-    ap some_columns c.columns-then-has_many_columns.ensures.count
-    ∙ many_columns c.args.found.now c.args.plan.now c.in_default.ensures (λ e. c.if-size-eq0.false (c.size.ensures ∙ e)) (chunk_test c.is_bad_chunk.ensures c.shape.ensures c.chunk.ensures.is c.if-is_bad_chunk.false)
-    (columns_test c.has_many_columns.ensures c.shape-2.ensures c.columns.ensures.count c.if-has_many_columns.true)
+returns-then-has_many_columns c = grind (arith, some_columns, many_columns, chunk_test, columns_test)
 
 pub returns-in-Some-first_rebuilt : goal.returns-in-Some-first_rebuilt
-returns-in-Some-first_rebuilt c =
-    last_fault c.args.found.now c.args.plan.now (Some c.in-Some-first_rebuilt.sector) c.in_default.ensures (λ e. c.if-size-eq0.false (c.size.ensures ∙ e)) (chunk_test c.is_bad_chunk.ensures c.shape.ensures c.chunk.ensures.is c.if-is_bad_chunk.false)
-    (columns_test c.has_many_columns.ensures c.shape-2.ensures c.columns.ensures.count c.if-has_many_columns.false)
-    (sym c.in-Some-first_rebuilt.is ∙ (c.first_rebuilt.ensures ∙ ap (λ (n : ℕ). find (is_rebuilt c.args.found.now c.args.plan.now) (range_with_len n (c.args.plan.now.size - n))) c.in_rows.ensures.is))
+returns-in-Some-first_rebuilt c = grind (arith, last_fault, chunk_test, columns_test)
 
 pub returns-in-None : goal.returns-in-None
-returns-in-None c =
-    last_fault c.args.found.now c.args.plan.now None c.in_default.ensures (λ e. c.if-size-eq0.false (c.size.ensures ∙ e)) (chunk_test c.is_bad_chunk.ensures c.shape.ensures c.chunk.ensures.is c.if-is_bad_chunk.false)
-    (columns_test c.has_many_columns.ensures c.shape-2.ensures c.columns.ensures.count c.if-has_many_columns.false)
-    (sym c.in-None.is ∙ (c.first_rebuilt.ensures ∙ ap (λ (n : ℕ). find (is_rebuilt c.args.found.now c.args.plan.now) (range_with_len n (c.args.plan.now.size - n))) c.in_rows.ensures.is))
+returns-in-None c = grind (arith, last_fault, chunk_test, columns_test)

@@ -1,33 +1,19 @@
-use Rattle.std.proofs.Common.{◌++◌, ◌-◌, ◌^◌, sym, ◌∙◌, refl, subst, arith, get_or, List, Ok, Err, ◌≡◌}
+use Rattle.std.proofs.Common.{◌++◌, ◌-◌, ◌^◌, refl, arith, get_or, List}
+use Rattle.std.proofs.lemmas.Grind.{common_steps}
 use Rattle.ldm_made.specs.declared.taken.Taken.{Taken}
 use Rattle.ldm_space.specs.declared.placed.Wanted.{Wanted}
 use Rattle.ldm_space.specs.Free.{taken_in}
 use Rattle.ldm_space.specs.Gaps.{AreGaps}
-use Rattle.ldm_space.specs.Wanted.{placing, placed}
-use Rattle.ldm_space.specs.Placed.{PlacesAs}
-use Rattle.ldm_space.proofs.FreeLaws.{IsPlacedTo, ahead_none, placed_more, placed_none, placed_all}
-use Rattle.ldm_space.proofs.GapLaws.{AreMaps, maps_begun, maps_ended, map_there, maps_more}
+use Rattle.ldm_space.specs.Wanted.{placing}
+use Rattle.ldm_space.proofs.FreeLaws.{ahead_none, placed_more, placed_none, placed_all}
+use Rattle.ldm_space.proofs.GapLaws.{maps_begun, maps_ended, map_there, maps_more}
 use Rattle.ldm_space.proofs.placed.FreeMaps.place.Goals as goal
 
 pub loop-at-init : goal.loop-at-init
-loop-at-init c =
-    let taken : List Taken = taken_in (c.args.records.now ++ c.args.more.now) in
-    subst (λ (l : List Taken). record { so_far : IsPlacedTo taken c.args.wanted.now 0 l; maps : AreMaps taken l c.args.self.maps }) (sym c.new-spots.ensures.items) (record {
-      so_far = ahead_none (placed taken 0 c.args.wanted.now);
-      maps = maps_begun taken c.args.self c.requires.maps;
-    })
+loop-at-init c = grind (arith, common_steps, ahead_none, maps_begun)
 
 pub returns-in_default : goal.returns-in_default
-returns-in_default c =
-    let taken : List Taken = taken_in (c.args.records.now ++ c.args.more.now) in
-    let spots : List Taken = c.loop-at.spots.items in
-    let d : Wanted = record { disk = 0; limit = 0; size = 0 } in
-    let w : Wanted = get_or c.args.wanted.now c.loop-at.at d in
-    let are : AreGaps c.in_ok-map.map (spots ++ taken) w.disk (2 ^ 64 - 1) =
-    map_there taken spots c.loop-at.maps w.disk c.remove-kept.result c.in_ok-map.map c.loop-at.invariant.maps c.remove-kept.ensures.value c.in_ok-map.ensures in
-    let none : placed taken 0 c.args.wanted.now ≡ Err c.loop-at.at =
-    placed_none taken c.args.wanted.now c.loop-at.at spots w d c.loop-at-test.true refl (sym c.in_default.is ∙ c.fit.ensures.first (spots ++ taken) are) c.loop-at.invariant.so_far in
-    subst (PlacesAs (Err c.loop-at.at) taken) (sym none) refl
+returns-in_default c = grind (arith, common_steps, map_there, placed_none)
 
 pub loop-at-preserved : goal.loop-at-preserved
 loop-at-preserved c =
@@ -44,7 +30,4 @@ loop-at-preserved c =
     }
 
 pub returns : goal.returns
-returns c =
-    let taken : List Taken = taken_in (c.args.records.now ++ c.args.more.now) in
-    subst (PlacesAs (Ok (record { maps = c.loop-at.maps }, c.loop-at.spots)) taken) (sym (placed_all taken c.args.wanted.now c.loop-at.at c.loop-at.spots.items (omega arith) c.loop-at.invariant.so_far))
-    (refl, maps_ended taken c.loop-at.spots.items (record { maps = c.loop-at.maps }) c.loop-at.invariant.maps)
+returns c = grind (arith, common_steps, placed_all, maps_ended)
