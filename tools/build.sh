@@ -1,6 +1,6 @@
 # shellcheck shell=sh disable=SC2154
-# Read by ./ldm and ./examples, which set `here` (the top of the repository), `crate` (the program's crate) and `me` (the name
-# to speak by). run_program runs the program, built first where the one that is there isn't that of the sources.
+# Read by ./ldm and ./examples, which set `here` (the top of the repository), `crate` (the program's crate), `backend` (llvm, or
+# rattle, which compiles sooner) and `me` (the name to speak by). run_program runs the program, built first where the one that is there isn't that of the sources.
 #
 # A program is built from a copy of its sources. The sum of that copy, the sum of the program and the kit's line go into a file
 # beside the program, so that no other program is ever run. The prover is called on one crate after another, by what crates.txt
@@ -208,7 +208,7 @@ call_prover() {
         fi
     done
     if [ -f src/main.rt ]; then
-        set -- "$@" --toolchain "$kit/toolchain" --backend llvm -o "$room/$name.o" src/main.rt
+        set -- "$@" --toolchain "$kit/toolchain" --backend "$backend" -o "$room/$name.o" src/main.rt
     else
         set -- "$@" --statements -o "$room/$name.rlib" src/lib.rt
     fi
@@ -281,39 +281,44 @@ start_ready() {
 }
 
 # Starts the proof of crate $1. Processes that share a crate do some of its work twice. So it has those that no other crate takes
-# now; where it has most to come it has two at least, and goes before the others.
+# now. But what has most to come has all processors, the next half of them, and so on, and the more crates go before it the further it
+# stands back.
 start() {
     started=$((started + 1))
     say "crate $started of $total: $1 .."
-    jobs=$((processors - $(count_others "$1"))) least=1 back=5
-    if is_first "$1"; then
-        least=$((processors < 2 ? 1 : 2)) back=0
-    fi
+    others=$(others_of "$1")
+    # shellcheck disable=SC2086
+    jobs=$((processors - $(count_of $others)))
+    # shellcheck disable=SC2086
+    before=$(count_before "$1" $others)
+    least=$((processors >> (before < 9 ? before : 9)))
     [ "$jobs" -ge "$least" ] || jobs=$least
+    [ "$jobs" -ge 1 ] || jobs=1
     date +%s >"$room/$1.began"
-    prove "$1" "$jobs" "$back" >"$room/$1.log" 2>&1 &
+    prove "$1" "$jobs" $((before < 6 ? 3 * before : 18)) >"$room/$1.log" 2>&1 &
     pids="$pids $!"
     running="$running$1 "
 }
 
-# How many crates but $1 are at work, or could be.
-count_others() {
-    # shellcheck disable=SC2086
-    others=$(count_of $running)
+# The crates but $1 that are at work, or could be.
+others_of() {
+    echo "$running"
     for other in $left; do
         case " $1 $running$proved" in
         *" $other "*) ;;
-        *) ! are_proved "$(below "$other")" || others=$((others + 1)) ;;
+        *) ! are_proved "$(below "$other")" || echo "$other" ;;
         esac
     done
-    echo "$others"
 }
 
-# Whether no crate that isn't proved has more to come than crate $1.
-is_first() {
-    while read -r _ name_of _ && [ "$name_of" != "$1" ]; do
-        case $proved in *" $name_of "*) ;; *) return 1 ;; esac
+# How many of the other crates have more to come than crate $1, which is the first of these.
+count_before() {
+    me_too=$1 found=0
+    shift
+    while read -r _ name_of _ && [ "$name_of" != "$me_too" ]; do
+        case " $* " in *" $name_of "*) found=$((found + 1)) ;; esac
     done <"$room/plan"
+    echo "$found"
 }
 
 are_proved() {
@@ -407,13 +412,23 @@ let_go() {
     exec 9>&-
 }
 
-# Runs the program with these words, once it is that of the sources.
-run_program() {
+name_files() {
     out=$here/crates/$crate/out
     program=$out/$crate
     stamp=$program.stamp
     kept=$here/build
     room=$kept/now
+}
+
+# Whether the program of $crate is there, and that of the sources.
+is_built() {
+    name_files
+    is_as_stamped || is_current
+}
+
+# Runs the program with these words, once it is that of the sources.
+run_program() {
+    name_files
     ! is_as_stamped || exec "$program" "$@"
     rt_is=$(command -v rt)
     kit_was=$(kit_folder)

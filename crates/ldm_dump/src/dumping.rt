@@ -5,7 +5,7 @@ ghost use Rattle.ldm_host.specs.Moves.{Still, Begins, DiskFailed, TalkFailed, Lo
 ghost use Rattle.ldm_dump.specs.Sources.{is_lost};
 ghost use Rattle.ldm_dump.specs.Bytes.{bytes_of_sectors, bytes_of_volume};
 ghost use Rattle.ldm_dump.specs.Runs.{LiesOn};
-ghost use Rattle.ldm_dump.specs.Saying.{SameInput};
+ghost use Rattle.ldm_host.specs.Moves.{SameInput};
 
 use crate::reading::read_run;
 use crate::runs::run_at;

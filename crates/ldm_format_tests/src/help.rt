@@ -1,5 +1,5 @@
 //! What is said of words without a reading, and that each form of the help has one.
-use ldm_help::{HELP, usage_error};
+use ldm_help::{HELP, Shown, UsageError, usage_error};
 use ldm_words::{Job, read_words};
 use std::alloc::{AllocError, Global};
 use std::test::Fail;
@@ -79,6 +79,13 @@ fn says_what_is_wrong(rt: HostRuntime) -> Result<(), Fail> {
     assert_eq!(rt;
         said.as_str(),
         "\"a\\x0ab\" is no job; the nearest is \"map\""
+    );
+    let other = UsageError::OnlyLooks {
+        word: Shown("edit"),
+    };
+    assert_eq!(rt;
+        format!(in alloc; "{other}")?.as_str(),
+        "\"edit\" is no job of this program, which has disk, records, show, check and map"
     );
     Ok(())
 }

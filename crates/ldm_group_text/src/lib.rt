@@ -6,12 +6,10 @@ mod lines;
 mod map;
 mod mapped;
 mod opening;
-mod reply;
 mod show;
 mod volumes;
 
 pub use check::check_text;
 pub use map::map_text;
 pub use opening::fault_text;
-pub use reply::reply_text;
 pub use show::show_text;

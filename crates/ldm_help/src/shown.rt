@@ -48,6 +48,10 @@ pub enum UsageError<'a> {
     Word(WordError<'a>),
     #[error(transparent)]
     Images(ImagesError),
+    #[error("\"{word}\" is no job of this program, which has disk, records, show, check and map")]
+    OnlyLooks {
+        word: Shown<'a>,
+    },
     #[error("the words have no reading")]
     NoReading,
     #[error("no memory")]

@@ -51,6 +51,11 @@ pub record Quiet (old new : Seen) : Type 0 where
   pub heard : new.heard ≡ old.heard
   pub input : new.input ≡ old.input
 
+-- the input is left as it was
+pub record SameInput (old new : Seen) : Type 0 where
+  pub input : new.input ≡ old.input
+  pub heard : new.heard ≡ old.heard
+
 -- A stop may leave the same of each disk.
 abbrev pub SameLeft : Seen → Seen → Type 0
 SameLeft old new = (disk : ℕ) (c : List ℕ) → new.may_leave disk c ↔ old.may_leave disk c

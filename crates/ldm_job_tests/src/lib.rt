@@ -16,6 +16,8 @@ mod jobs;
 #[cfg(test)]
 mod labels;
 #[cfg(test)]
+mod looking;
+#[cfg(test)]
 mod making;
 #[cfg(test)]
 mod sample;

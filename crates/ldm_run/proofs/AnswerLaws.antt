@@ -1,48 +1,26 @@
--- What is answered to words, which is one answer, and what those of map, dump and scrub are made of.
-use Rattle.std.proofs.Common.{◌≡◌, ℕ, ◌+◌, ◌≤◌, ◌==◌, ◌||◌, nat_lt, Bool, true, false, List, refl, subst, codes, Option, Some, None, Result, Ok, ap, sym, ◌∙◌, if◌then◌else◌, map, Err}
-use Rattle.std.proofs.lemmas.Bool.{ltb-false}
-use Rattle.ldm_found.specs.declared.found.Found.{Found}
-use Rattle.ldm_run.specs.Said.{Answer, HasAnswer, refused}
-use Rattle.ldm_run.specs.Mapping.{is_bad_range, map_answer}
+-- What is answered to words, which is one answer, and what those of dump and scrub are made of.
+use Rattle.std.proofs.Common.{◌≡◌, ℕ, ◌==◌, Bool, true, false, List, codes, Option, Some, None, Result, Ok, ap, sym, ◌∙◌, if◌then◌else◌, map}
 use Rattle.ldm_records.specs.declared.types.Volume.{Volume}
 use Rattle.ldm_group.specs.Looks.{volume_named}
 use Rattle.ldm_layout.specs.Layouts.{Layout}
 use Rattle.ldm_layout.specs.Volumes.{layout_of}
 use Rattle.ldm_layout.specs.declared.shape.LayoutFault.{LayoutFault}
+use Rattle.ldm_label.specs.Fields.{sectors_of}
+use Rattle.ldm_words.specs.declared.job.Job.{Job}
+use Rattle.ldm_words.specs.declared.status.Status.TheVariants.{Done, Refused}
+use Rattle.ldm_words.specs.Jobs.{job_of}
+use Rattle.ldm_found.specs.declared.found.Found.{Found}
 use Rattle.ldm_dump.specs.Sources.{IsLeastLost}
 use Rattle.ldm_dump.proofs.RunLaws.{least_found}
-use Rattle.ldm_run.specs.Streaming.{laid_answer, named_answer, bytes_answer, volume_dump, dump_answer, is_compared, scrub_status, places_answer, volume_scrub, scrub_answer}
 use Rattle.ldm_scrub.specs.Missing.{missing_of}
-use Rattle.ldm_run.specs.declared.running.Status.TheVariants.{Done, Refused}
-use Rattle.ldm_host.specs.Seen.{image}
-use Rattle.ldm_label.specs.declared.Label.{Label}
-use Rattle.ldm_label.specs.declared.LabelFault.{LabelFault}
-use Rattle.ldm_label.specs.LabelOf.{label_of}
-use Rattle.ldm_copy.specs.Copy.{config_area}
-use Rattle.ldm_copy.proofs.OneCopy.{one_copy}
-use Rattle.ldm_words.specs.declared.job.Job.{Job}
-use Rattle.ldm_words.specs.Jobs.{job_of}
-use Rattle.ldm_found.proofs.GroupLaws.{one_group}
-use Rattle.ldm_run.specs.Scripts.{is_long_script, commands_in, try_answer}
-use Rattle.ldm_label.specs.Fields.{sectors_of}
 use Rattle.ldm_init.proofs.InitLaws.{one_fault}
+use Rattle.ldm_look.specs.Said.{Answer, HasAnswer, refused}
+use Rattle.ldm_look.proofs.AnswerLaws.{one_of_group, one_of_look}
+use Rattle.ldm_run.specs.Streaming.{laid_answer, named_answer, bytes_answer, volume_dump, dump_answer, is_compared, scrub_status, places_answer, volume_scrub, scrub_answer}
+use Rattle.ldm_run.specs.Scripts.{is_long_script, commands_in, try_answer}
 use Rattle.ldm_run.specs.Making.{init_answer}
+use Rattle.ldm_run.specs.Answer.{Basis, OfLook, OfGroup, OfScript, OfEmpty, OfSeed, basis_of, IsAnswerBy, IsAnswerToScript, IsReadingAnswer, IsAnswerTo}
 use Rattle.ldm_run.proofs.SampleLaws.{one_sample}
-use Rattle.ldm_run.specs.Answer.{copy_answer, group_answer, Basis, OfLabel, OfCopy, OfGroup, OfScript, OfEmpty, OfSeed, basis_of, IsAnswerBy, IsRecordsAnswer, IsGroupAnswer, IsAnswerToScript, IsReadingAnswer, IsAnswerTo}
-
--- ---- What `map` is asked.
-
--- the answer of a name is that of the same name
-pub same_name : (name other : List ℕ) (first count : ℕ) (found : Found) (answer : Answer) → name ≡ other → answer ≡ map_answer name first count found → answer ≡ map_answer other first count found
-same_name name other first count found answer same is = subst (λ (n : List ℕ). answer ≡ map_answer n first count found) same is
-
--- a range that is not bad lies in the volume
-pub range_fits : (size first count : ℕ) → is_bad_range size first count ≡ false → first + count ≤ size
-range_fits size first count h = go (count == 0) (nat_lt 4096 count) (nat_lt size (first + count)) refl h
-  where
-    go : (a b c : Bool) → nat_lt size (first + count) ≡ c → (a || (b || c)) ≡ false → first + count ≤ size
-    go false false false e f = ltb-false size (first + count) e
-    go a b c e f = absurd cc
 
 -- ---- What is answered where the bytes of a volume are to be said, and where its copies or its rows are to be compared.
 
@@ -92,20 +70,12 @@ scrub_of_places name images found v l r named laid compared missing =
 
 -- ---- There is one answer to the words.
 
-one_records : (label : Result Label LabelFault) (bytes : List ℕ) (a b : Answer) → IsRecordsAnswer label bytes a → IsRecordsAnswer label bytes b → a ≡ b
-one_records (Ok label) bytes a b x y = x.2 ∙ ap copy_answer (one_copy (config_area label bytes) label.area_sectors x.0 y.0 x.1 y.1) ∙ sym y.2
-one_records (Err fault) bytes a b x y = x ∙ sym y
-
-one_of_group : (answer_of : Found → Answer) (images : List (List ℕ)) (a b : Answer) → IsGroupAnswer answer_of images a → IsGroupAnswer answer_of images b → a ≡ b
-one_of_group answer_of images a b x y = x.2 ∙ ap (group_answer answer_of) (one_group images x.0 y.0 x.1 y.1) ∙ sym y.2
-
 one_of_script : (long : Bool) (script : List ℕ) (images : List (List ℕ)) (a b : Answer) → IsAnswerToScript long script images a → IsAnswerToScript long script images b → a ≡ b
 one_of_script true script images a b x y = x ∙ sym y
 one_of_script false script images a b x y = one_of_group (try_answer (commands_in script)) images a b x y
 
 one_by : (basis : Basis) (images : List (List ℕ)) (input : List ℕ) (a b : Answer) → IsAnswerBy basis images input a → IsAnswerBy basis images input b → a ≡ b
-one_by OfLabel images input a b x y = x ∙ sym y
-one_by OfCopy images input a b x y = one_records (label_of (image images 0)) (image images 0) a b x y
+one_by (OfLook job) images input a b x y = one_of_look job images a b x y
 one_by (OfGroup answer_of) images input a b x y = one_of_group (answer_of images) images a b x y
 one_by OfScript images input a b x y = one_of_script (is_long_script input) input images a b x y
 one_by (OfEmpty guids) images input a b x y = x.2 ∙ ap init_answer (one_fault guids (map sectors_of images) images x.0 y.0 x.1 y.1) ∙ sym y.2

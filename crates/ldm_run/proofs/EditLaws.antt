@@ -23,7 +23,7 @@ use Rattle.ldm_found.proofs.GroupLaws.{sound_of}
 use Rattle.ldm_store.specs.Kept.{IsKept, Opens, AlwaysKept}
 use Rattle.ldm_store.specs.Sessions.{Opened, IsApplied, IsEditable, IsSession, IsNextFor, IsTurnOf, Edited, RestsOn, HoldsGroup, HoldsSession, state_in, turn_in}
 use Rattle.ldm_store.proofs.OpensLaws.{kept_opens_found, editable_opens}
-use Rattle.ldm_group_text.specs.Reply.{text_of_reply, text_of_replies}
+use Rattle.ldm_replies.specs.Reply.{text_of_reply, text_of_replies}
 use Rattle.ldm_run.specs.Stops.{answered, Reopens}
 use Rattle.ldm_run.specs.Editing.{turn_on, IsDoing, IsAnswering, AreWritten, EditFails, IsLineDone, DoesLine, AnswersLine, DoesLines}
 use Rattle.ldm_run.proofs.LineLaws.{line_count, line_count-append, one_line, reply_lines, after_lines, no_lines_after, db_more, replies_length, take_before, take_line, draft_more, replies_more, text_more, text_front, ends_in_line}
@@ -39,17 +39,20 @@ use Rattle.ldm_edits.specs.Counting.{is_done}
 use Rattle.ldm_found.specs.Facts.{LieOn}
 use Rattle.ldm_store.specs.Turning.{AllHave}
 use Rattle.ldm_store.proofs.ApplyLaws.{untouched}
-use Rattle.ldm_run.specs.declared.running.Status.{Status}
-use Rattle.ldm_run.specs.Said.{SaysReply, HasAnswer}
+use Rattle.ldm_words.specs.declared.status.Status.{Status}
+use Rattle.ldm_run.specs.Said.{SaysReply}
+use Rattle.ldm_look.specs.Said.{HasAnswer}
 use Rattle.ldm_run.specs.Heard.{TalkFails}
-use Rattle.ldm_run.specs.Kinds.{SameInput, SaysLines}
+use Rattle.ldm_host.specs.Moves.{SameInput}
+use Rattle.ldm_run.specs.Kinds.{SaysLines}
 use Rattle.ldm_run.proofs.Saying.{talk_edits, talk_failing}
 use Rattle.std.specs.List.{list_any}
 use Rattle.std.proofs.lemmas.List.Folds.{list_any-append}
 use Rattle.ldm_store.proofs.CopyLaws.{outside_itself}
-use Rattle.ldm_run.specs.declared.running.Status.TheVariants.{Done, Refused, DiskFault, NoMemory}
+use Rattle.ldm_words.specs.declared.status.Status.TheVariants.{Done, Refused, DiskFault, NoMemory}
 use Rattle.ldm_run.specs.Scripts.{is_refused, status_of}
-pub use Rattle.ldm_run.proofs.Saying.{Failing, failing, failing_since, ends_part, ends_whole, not_fault, has_answer, or_false}
+pub use Rattle.ldm_look.proofs.EndLaws.{Failing, ends_part, not_fault}
+pub use Rattle.ldm_run.proofs.Saying.{failing, failing_since, ends_whole, has_answer, or_false}
 
 -- ---- Images that open as a group, after some lines.
 

@@ -21,16 +21,20 @@ use Rattle.ldm_store.specs.Settling.{IsSettled, KeepsOneGroup}
 use Rattle.ldm_store.proofs.SettleLaws.{kept_from, one_label, same_found, not_none}
 use Rattle.ldm_group_text.specs.Opening.{text_of_open_fault}
 use Rattle.ldm_text.specs.Texts.{text_of_refusal}
-use Rattle.ldm_run.specs.declared.running.Status.{Status}
-use Rattle.ldm_run.specs.declared.running.Status.TheVariants.{Refused, Done, DiskFault, NoMemory, Usage, TalkFault}
-use Rattle.ldm_run.specs.Said.{Answer, SaysNothing, HasAnswer, refused}
+use Rattle.ldm_words.specs.declared.status.Status.{Status}
+use Rattle.ldm_words.specs.declared.status.Status.TheVariants.{Refused, Done, DiskFault, NoMemory, Usage, TalkFault}
+use Rattle.ldm_look.specs.Said.{Answer, SaysNothing, HasAnswer, refused}
 use Rattle.ldm_run.specs.Scripts.{replies_from, unless_blocked, try_answer, is_long_script, commands_in}
-use Rattle.ldm_run.specs.Answer.{IsGroupAnswer, IsJobAnswer, IsReadingAnswer}
+use Rattle.ldm_look.specs.Looks.{IsGroupAnswer}
+use Rattle.ldm_run.specs.Answer.{IsJobAnswer, IsReadingAnswer}
 use Rattle.ldm_run.specs.Kinds.{NothingPending, Kind, Reads, Streams, Hears as Tries, Edits, job_kind, writes, JobInput, JobSays, JobTalk}
 use Rattle.ldm_run.specs.Stops.{answered, Reopens, EveryStopReopens, EveryStopSinceSyncs, JobStops, JobSinceSyncs, lines_unless}
-use Rattle.ldm_run.specs.Runs.{OnlyReads, DoesJob, Ends, HasImages, OfJob, Streams as Streaming, Replies, Answers, Causes, Completes, IsUnread, NoFault}
+use Rattle.ldm_look.specs.Runs.{OnlyReads, Ends, HasImages, Answers, Causes, Completes, NoFault}
+use Rattle.ldm_run.specs.Runs.{DoesJob, OfJob, Streams as Streaming, Replies}
+use Rattle.ldm_look.specs.Said.{IsUnread}
 use Rattle.ldm_run.specs.Editing.{AreWritten, DoesLines, DoesGroup}
-use Rattle.ldm_run.proofs.Saying.{Failing, ends_first, ends_silent, failing, says_first, talk_failing, heard_script, unheard_script, complete}
+use Rattle.ldm_look.proofs.EndLaws.{Failing, ends_first, ends_silent, says_first, complete}
+use Rattle.ldm_run.proofs.Saying.{failing, talk_failing, heard_script, unheard_script}
 use Rattle.ldm_run.proofs.EditLaws.{IsNow, lines_sooner, outside_trans, reopens_first}
 use Rattle.std.proofs.lemmas.List.{same_lists, get_or_default, append-nil}
 use Rattle.ldm_label.specs.Fields.{sectors_of}

@@ -8,7 +8,7 @@ use Rattle.ldm_edits.specs.declared.reply.Refusal.{Refusal}
 use Rattle.ldm_edits.specs.declared.reply.Refusal.TheVariants.{PieceCount, NoDisk, NoSpace, TooLong, NoRoom}
 use Rattle.ldm_edits.specs.declared.reply.Reply.{Reply}
 use Rattle.ldm_edits.specs.declared.reply.Reply.TheVariants.{Done, Held, Dropped, Refused}
-use Rattle.ldm_group_text.specs.Reply.{text_of_reason, text_of_reply, text_of_replies}
+use Rattle.ldm_replies.specs.Reply.{text_of_reason, text_of_reply, text_of_replies}
 use Rattle.std.proofs.Math.Seq.{take-append_seam, take-append-add}
 use Rattle.std.proofs.lemmas.List.{append-nil}
 use Rattle.ldm_label.specs.declared.Label.{Label}
@@ -21,8 +21,9 @@ use Rattle.std.specs.List.{list_any}
 use Rattle.ldm_words.specs.Lines.{lines_of}
 use Rattle.ldm_run.specs.Scripts.{command_in, commands_in, is_refused, is_long_script, try_answer}
 use Rattle.std.proofs.lemmas.Bool.{lt-ltb, le-ltb}
-use Rattle.ldm_run.specs.Said.{Answer, refused}
-use Rattle.ldm_run.specs.Answer.{IsGroupAnswer, IsAnswerToScript}
+use Rattle.ldm_look.specs.Said.{Answer, refused}
+use Rattle.ldm_look.specs.Looks.{IsGroupAnswer}
+use Rattle.ldm_run.specs.Answer.{IsAnswerToScript}
 
 -- ---- How many lines a text of replies has: each reply is one.
 

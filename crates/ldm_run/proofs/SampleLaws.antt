@@ -38,15 +38,16 @@ use Rattle.ldm_found.specs.declared.found.Found.{Found}
 use Rattle.ldm_found.specs.Opening.{IsGroupIn}
 use Rattle.ldm_found.proofs.GroupLaws.{one_group}
 use Rattle.ldm_store.proofs.SettleLaws.{same_found}
-use Rattle.ldm_group_text.specs.Reply.{text_of_replies}
+use Rattle.ldm_replies.specs.Reply.{text_of_replies}
 use Rattle.ldm_vmdb.specs.declared.header.Header.{Header}
 use Rattle.ldm_vmdb.specs.Sectors.{IsKeptHeader}
 use Rattle.ldm_vectors.specs.Sample.{AreSampleImages, IsSampleGroup, IsSampleDatabase}
 use Rattle.ldm_vectors.specs.Script.{script_of}
-use Rattle.ldm_run.specs.declared.running.Status.{Status}
-use Rattle.ldm_run.specs.declared.running.Status.TheVariants.{Done}
-use Rattle.ldm_run.specs.Said.{Answer, HasAnswer}
-use Rattle.ldm_run.specs.Answer.{group_answer, IsAnswerToScript}
+use Rattle.ldm_words.specs.declared.status.Status.{Status}
+use Rattle.ldm_words.specs.declared.status.Status.TheVariants.{Done}
+use Rattle.ldm_look.specs.Said.{Answer, HasAnswer}
+use Rattle.ldm_look.specs.Looks.{group_answer}
+use Rattle.ldm_run.specs.Answer.{IsAnswerToScript}
 use Rattle.ldm_run.specs.Stops.{lines_unless, commands_of, answered, Reopens}
 use Rattle.ldm_run.specs.Written.{HoldsAfter}
 use Rattle.ldm_run.specs.Runs.{DoesJob}

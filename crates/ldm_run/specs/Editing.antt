@@ -12,16 +12,17 @@ use Rattle.ldm_found.specs.Labels.{AreSameOutside}
 use Rattle.ldm_store.specs.Kept.{IsCurrent, Opens}
 use Rattle.ldm_store.specs.Turning.{AllSettled, AllHave}
 use Rattle.ldm_store.specs.Sessions.{Opened, Edited, RestsOn, HoldsSession, IsTurnOf, state_in}
-use Rattle.ldm_group_text.specs.Reply.{text_of_reply}
-use Rattle.ldm_run.specs.declared.running.Status.{Status}
-use Rattle.ldm_run.specs.declared.running.Status.TheVariants.{DiskFault, NoMemory, TalkFault}
-use Rattle.ldm_run.specs.Said.{HasAnswer}
+use Rattle.ldm_replies.specs.Reply.{text_of_reply}
+use Rattle.ldm_words.specs.declared.status.Status.{Status}
+use Rattle.ldm_words.specs.declared.status.Status.TheVariants.{DiskFault, NoMemory, TalkFault}
+use Rattle.ldm_look.specs.Said.{HasAnswer}
 use Rattle.ldm_run.specs.Scripts.{replies_from, try_answer}
-use Rattle.ldm_run.specs.Answer.{IsGroupAnswer}
-use Rattle.ldm_run.specs.Kinds.{SameInput, SaysLines, NothingPending}
+use Rattle.ldm_look.specs.Looks.{IsGroupAnswer}
+use Rattle.ldm_host.specs.Moves.{SameInput}
+use Rattle.ldm_run.specs.Kinds.{SaysLines, NothingPending}
 use Rattle.ldm_run.specs.Stops.{Reopens, EveryStopReopens, EveryStopSinceSyncs}
 use Rattle.ldm_run.specs.Written.{EditsDisks}
-use Rattle.ldm_run.specs.Runs.{Ends}
+use Rattle.ldm_look.specs.Runs.{Ends}
 
 -- a disk or the talk failed, or memory did
 abbrev pub EditFails : Seen → Seen → Status → Type 0

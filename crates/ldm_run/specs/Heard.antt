@@ -2,9 +2,9 @@
 use Rattle.std.specs.Prelude.{◌≡◌, ◌≢◌, ◌⊎◌, ℕ, ◌<◌, ◌≤◌, List, [], ◌++◌, length, Option, Some, None}
 use Rattle.ldm_host.specs.Seen.{Seen}
 use Rattle.ldm_host.specs.Moves.{Rose, Still}
-use Rattle.ldm_run.specs.Said.{HasAnswer}
-use Rattle.ldm_run.specs.declared.running.Status.{Status}
-use Rattle.ldm_run.specs.declared.running.Status.TheVariants.{DiskFault, NoMemory, TalkFault}
+use Rattle.ldm_look.specs.Said.{HasAnswer}
+use Rattle.ldm_words.specs.declared.status.Status.{Status}
+use Rattle.ldm_words.specs.declared.status.Status.TheVariants.{DiskFault, NoMemory, TalkFault}
 
 -- The bytes that were heard stood at the front of the input. They are at most one more than a script may have.
 pub record Takes (old new : Seen) (taken : List ℕ) : Type 0 where

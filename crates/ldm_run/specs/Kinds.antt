@@ -2,11 +2,11 @@
 use Rattle.std.specs.Prelude.{◌≡◌, ◌⊎◌, ℕ, List, [], ◌∷◌, ◌++◌}
 use Rattle.ldm_host.specs.Seen.{Seen}
 pub use Rattle.ldm_init.specs.Images.{NothingPending}
-pub use Rattle.ldm_dump.specs.Saying.{SameInput}
+use Rattle.ldm_host.specs.Moves.{SameInput}
 pub use Rattle.ldm_words.specs.Jobs.{Kind, Reads, Streams, Hears, Edits, Does, Makes, job_kind, writes}
-use Rattle.ldm_run.specs.declared.running.Status.{Status}
-use Rattle.ldm_run.specs.declared.running.Status.TheVariants.{DiskFault, NoMemory}
-use Rattle.ldm_run.specs.Said.{SaysNothing}
+use Rattle.ldm_words.specs.declared.status.Status.{Status}
+use Rattle.ldm_words.specs.declared.status.Status.TheVariants.{DiskFault, NoMemory}
+use Rattle.ldm_look.specs.Said.{SaysNothing}
 use Rattle.ldm_run.specs.Heard.{HearsScript}
 
 -- What is left of the input, also where the host tells it: all of it, by a job that hears no script. One that hears a

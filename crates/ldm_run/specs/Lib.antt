@@ -1,5 +1,4 @@
 pub mod Said
-pub mod Mapping
 pub mod Streaming
 pub mod Tabling
 pub mod Scripts

@@ -8,9 +8,9 @@ use Rattle.ldm_init.specs.declared.faults.InitFault.TheVariants.{SameGuid, TooSm
 use Rattle.ldm_init.specs.Beside.{AreUntouched}
 use Rattle.ldm_init.specs.Faults.{IsInitFault}
 use Rattle.ldm_init.specs.Images.{AreNewImages, HoldNewGroup, LackSignature, NothingPending}
-use Rattle.ldm_run.specs.Said.{Answer, refused}
-use Rattle.ldm_run.specs.declared.running.Status.{Status}
-use Rattle.ldm_run.specs.declared.running.Status.TheVariants.{Done, Refused, NoMemory}
+use Rattle.ldm_look.specs.Said.{Answer, refused}
+use Rattle.ldm_words.specs.declared.status.Status.{Status}
+use Rattle.ldm_words.specs.declared.status.Status.TheVariants.{Done, Refused, NoMemory}
 
 abbrev pub text_of_init_fault : InitFault → List ℕ
 text_of_init_fault (SameGuid i j) = ((codes "GUIDs " ++ decimal i) ++ (codes " and " ++ decimal j)) ++ codes " are one"

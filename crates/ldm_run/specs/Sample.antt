@@ -10,11 +10,11 @@ use Rattle.ldm_edits.specs.Counting.{is_done}
 use Rattle.ldm_edits.specs.Steps.{group_after, replies_to}
 use Rattle.ldm_found.specs.declared.found.Found.{Found}
 use Rattle.ldm_found.specs.Opening.{IsGroupIn}
-use Rattle.ldm_group_text.specs.Reply.{text_of_replies}
+use Rattle.ldm_replies.specs.Reply.{text_of_replies}
 use Rattle.ldm_vectors.specs.Sample.{AreSampleImages, IsSampleGroup}
 use Rattle.ldm_vectors.specs.Script.{script_of}
-use Rattle.ldm_run.specs.declared.running.Status.TheVariants.{Done}
-use Rattle.ldm_run.specs.Said.{Answer}
+use Rattle.ldm_words.specs.declared.status.Status.TheVariants.{Done}
+use Rattle.ldm_look.specs.Said.{Answer}
 use Rattle.ldm_run.specs.Scripts.{commands_in, is_refused}
 use Rattle.ldm_run.specs.Kinds.{NothingPending}
 use Rattle.ldm_run.specs.Stops.{Reopens}

@@ -15,10 +15,10 @@ use Rattle.ldm_scrub.specs.Compare.{places_of}
 use Rattle.ldm_scrub.specs.Lines.{bad_of, text_of_scrub}
 use Rattle.ldm_scrub.specs.Missing.{missing_of}
 use Rattle.ldm_words.specs.Names.{esc}
-use Rattle.ldm_run.specs.Said.{Answer, refused}
-use Rattle.ldm_run.specs.declared.running.Status.{Status}
+use Rattle.ldm_look.specs.Said.{Answer, refused}
+use Rattle.ldm_words.specs.declared.status.Status.{Status}
 use Rattle.ldm_run.specs.declared.scrub.Buffers.{Buffers}
-use Rattle.ldm_run.specs.declared.running.Status.TheVariants.{Done, Refused}
+use Rattle.ldm_words.specs.declared.status.Status.TheVariants.{Done, Refused}
 
 -- by its layout, which each volume of a group that was found has
 abbrev pub laid_answer : (Layout → Answer) → Result Layout LayoutFault → Answer

@@ -7,9 +7,9 @@ use Rattle.ldm_layout.specs.Volumes.{layout_of}
 use Rattle.ldm_found.specs.declared.found.Found.{Found}
 use Rattle.ldm_table.specs.declared.faults.TableFault.{TableFault}
 use Rattle.ldm_table.specs.Faults.{table_text, text_of_fault}
-use Rattle.ldm_run.specs.Said.{Answer, refused}
+use Rattle.ldm_look.specs.Said.{Answer, refused}
 use Rattle.ldm_run.specs.Streaming.{laid_answer, named_answer}
-use Rattle.ldm_run.specs.declared.running.Status.TheVariants.{Done}
+use Rattle.ldm_words.specs.declared.status.Status.TheVariants.{Done}
 
 -- the table, or why there is none
 abbrev pub text_answer : Result (List ℕ) TableFault → Answer

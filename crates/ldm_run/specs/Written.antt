@@ -10,12 +10,12 @@ use Rattle.ldm_found.specs.declared.found.Found.{Found}
 use Rattle.ldm_found.specs.Opening.{IsGroupIn}
 use Rattle.ldm_store.specs.Kept.{IsCurrent, HoldsNone}
 use Rattle.ldm_store.specs.Turning.{AllHave, AreRewritten}
-use Rattle.ldm_run.specs.Said.{HasAnswer}
+use Rattle.ldm_look.specs.Said.{HasAnswer}
 use Rattle.ldm_run.specs.Scripts.{is_long_script}
 use Rattle.ldm_run.specs.Kinds.{NothingPending}
 use Rattle.ldm_run.specs.Making.{MakesDisks}
 use Rattle.ldm_run.specs.Stops.{commands_of}
-use Rattle.ldm_run.specs.declared.running.Status.{Status}
+use Rattle.ldm_words.specs.declared.status.Status.{Status}
 
 -- The copy on each disk is open with the group after these lines, and nothing is pending. A copy that was rewritten since
 -- the images held that group is just the one after the lines: its header carries the bytes that were found.

@@ -9,14 +9,15 @@ ghost use Rattle.ldm_words.specs.declared.job.Job.TheVariants as jobs;
 ghost use Rattle.ldm_run.specs.Runs.{DoesJob, Streams};
 ghost use Rattle.ldm_run.specs.Streaming.{dump_answer};
 
-use crate::running::{Status, open_group, say_made};
 use ldm_bytes::{Bytes, NoMemory};
 use ldm_dump::{DumpError, dump_volume, lost, volumes_lie_on_images};
 use ldm_found::Found;
 use ldm_host::Host;
 use ldm_layout::Plan;
+use ldm_look::{open_group, say_made};
 use ldm_rules::sound_plan;
 use ldm_text::{Text, push_number, refusal_text};
+use ldm_words::Status;
 use std::alloc::Global;
 
 // How many bytes are read and said at a time.

@@ -12,13 +12,13 @@ ghost use Rattle.ldm_run.specs.Runs.{DoesJob};
 ghost use Rattle.ldm_run.specs.Editing.{DoesLine, AnswersLine, DoesLines, DoesGroup};
 
 use crate::replying::{is_refused, say_reply, status_of};
-use crate::running::{Status, refuse_opening};
 use ldm_bytes::NoMemory;
 use ldm_edits::{Refusal, Reply};
 use ldm_found::OpenError;
 use ldm_host::Host;
+use ldm_look::refuse_opening;
 use ldm_store::{ApplyError, Session, settle};
-use ldm_words::{Command, LineError, front_line, read_line};
+use ldm_words::{Command, LineError, Status, front_line, read_line};
 use std::alloc::Global;
 
 // Does a line on all disks. A line without a reading changes nothing.

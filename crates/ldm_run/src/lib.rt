@@ -6,7 +6,6 @@
 mod dump;
 mod editing;
 mod making;
-mod mapping;
 mod replying;
 mod running;
 mod sample;
@@ -14,5 +13,6 @@ mod script;
 mod scrub;
 mod tabling;
 
-pub use running::{Status, run};
+pub use ldm_words::Status;
+pub use running::run;
 pub use sample::sample_host;

@@ -2,16 +2,17 @@
 ghost use Rattle.std.specs.Prelude.{◌≡◌, ◌≢◌, ◌++◌, length, codes, decimal, IfOk};
 ghost use Rattle.ldm_words.specs.NewGroup as words;
 ghost use Rattle.ldm_words.specs.declared.job.Job.TheVariants as jobs;
-ghost use Rattle.ldm_run.specs.Said.{refused};
+ghost use Rattle.ldm_look.specs.Said.{refused};
 ghost use Rattle.ldm_run.specs.Making.{text_of_init_fault, made_text};
-ghost use Rattle.ldm_run.specs.Runs.{DoesJob, OnlyReads};
+ghost use Rattle.ldm_run.specs.Runs.{DoesJob};
+ghost use Rattle.ldm_look.specs.Runs.{OnlyReads};
 
-use crate::running::{Status, say_made};
 use ldm_bytes::{Bytes, NoMemory};
 use ldm_host::Host;
 use ldm_init::{InitError, InitFault};
+use ldm_look::say_made;
 use ldm_text::{Text, image_fault_text, push_number, refusal_text};
-use ldm_words::Guids;
+use ldm_words::{Guids, Status};
 use std::alloc::Global;
 
 // Two places of one GUID.

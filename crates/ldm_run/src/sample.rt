@@ -3,17 +3,19 @@ ghost use Rattle.std.specs.Prelude.{◌≡◌, ◌==◌, ◌≤◌, count_by, le
 ghost use Rattle.ldm_found.specs.declared.found.Found.{Found};
 ghost use Rattle.ldm_vectors.specs.Script.{script_of};
 ghost use Rattle.ldm_words.specs.declared.job.Job.TheVariants as jobs;
-ghost use Rattle.ldm_run.specs.declared.running.Status.{Status as Ending};
+ghost use Rattle.ldm_words.specs.declared.status.Status.{Status as Ending};
 ghost use Rattle.ldm_run.specs.Runs.{DoesJob};
 ghost use Rattle.ldm_run.specs.Sample.{text_of_counts, text_of_sample, text_of_summary};
 ghost use Rattle.ldm_run.specs.Sample.{IsSampleAnswer, IsSampleHost, IsSampleStart};
 
-use crate::running::{Status, edit, say_made};
+use crate::running::edit;
 use ldm_bytes::{Bytes, NoMemory};
 use ldm_edits::sequence_counts_lines;
 use ldm_found::find_group;
 use ldm_host::{Host, MemoryHost};
+use ldm_look::say_made;
 use ldm_vectors::{sample_images, sample_script};
+use ldm_words::Status;
 use std::alloc::Global;
 
 // A host of three sample images, with the sample script of a seed still to be heard.

@@ -2,9 +2,9 @@
 ghost use Rattle.std.specs.Prelude.{◌≤◌, List, ℕ, length, IfOk, IfSome, IfErr};
 ghost use Rattle.ldm_run.specs.Heard.{Hears, IsScript, TalkFails};
 
-use crate::running::Status;
 use ldm_bytes::{Bytes, NoMemory};
 use ldm_host::Host;
+use ldm_words::Status;
 use std::alloc::Global;
 
 // The longest script, in bytes.

@@ -10,15 +10,16 @@ ghost use Rattle.ldm_words.specs.declared.job.Job.TheVariants as jobs;
 ghost use Rattle.ldm_run.specs.Runs.{DoesJob, Streams};
 ghost use Rattle.ldm_run.specs.Streaming.{is_compared, scrub_status, scrub_answer, FitsScrub};
 
-use crate::running::{Status, open_group, say_made};
 use ldm_bytes::{Bytes, NoMemory};
 use ldm_dump::volumes_lie_on_images;
 use ldm_found::Found;
 use ldm_host::Host;
 use ldm_layout::{Plan, Shape};
+use ldm_look::{open_group, say_made};
 use ldm_rules::sound_plan;
 use ldm_scrub::{LINE, ScrubError, missing_disk, scrub_volume};
 use ldm_text::{Text, push_name, push_number, refusal_text};
+use ldm_words::Status;
 use std::alloc::Global;
 
 // How many sectors of a disk are compared at a time.

@@ -5,21 +5,21 @@ ghost use Rattle.ldm_dump.specs.Runs.{LiesOn, RowsLieOn};
 ghost use Rattle.ldm_words.specs.declared.job.Job.TheVariants as jobs;
 ghost use Rattle.ldm_table.specs.Faults.{text_of_fault};
 ghost use Rattle.ldm_text.specs.Texts.{text_of_refusal};
-ghost use Rattle.ldm_run.specs.Said.{HasAnswer};
+ghost use Rattle.ldm_look.specs.Said.{HasAnswer};
 ghost use Rattle.ldm_run.specs.Runs.{DoesJob};
 ghost use Rattle.ldm_run.specs.Tabling.{table_answer, volume_table};
 
-use crate::running::{Status, open_group, say_made};
 use ldm_bytes::{Bytes, NoMemory};
 use ldm_dump::volumes_lie_on_images;
 use ldm_found::Found;
 use ldm_host::Host;
 use ldm_layout::Plan;
+use ldm_look::{open_group, say_made};
 use ldm_records::Volume;
 use ldm_rules::sound_plan;
 use ldm_table::{TableFault, fault_text, table_text};
 use ldm_text::refusal_text;
-use ldm_words::Names;
+use ldm_words::{Names, Status};
 use std::alloc::Global;
 
 // The line that refuses for a fault of a table.

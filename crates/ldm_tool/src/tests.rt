@@ -2,13 +2,15 @@
 ghost use Rattle.std.specs.Prelude.{◌<◌, ◌≤◌, ◌+◌, ◌*◌, length, slice_index, IsTrue};
 
 use super::*;
-use ldm_files::{DiskCall, Progress};
+use ldm_edge::Fault;
+use ldm_files::{DiskCall, ImageFile, Progress};
+use ldm_help::UsageError;
 use ldm_host::{Failed, Host, MemoryHost};
 use ldm_vectors::sample_images;
-use std::fs;
 use std::fs::File;
 use std::path::PathBuf;
 use std::test::Fail;
+use std::{env, fs};
 
 // A new folder of its own, for files of this name.
 fn folder_for(rt: &HostRuntime, name: &str) -> Result<PathBuf, Fail> {

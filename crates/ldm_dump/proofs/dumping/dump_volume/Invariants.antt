@@ -1,7 +1,7 @@
 use Rattle.std.proofs.Common.{◌≡◌, ◌-◌, ◌≤◌, ◌++◌}
 use Rattle.ldm_host.specs.Moves.{Still}
 use Rattle.ldm_dump.specs.Bytes.{bytes_of_sectors}
-use Rattle.ldm_dump.specs.Saying.{SameInput}
+use Rattle.ldm_host.specs.Moves.{SameInput}
 use Rattle.ldm_dump.proofs.dumping.dump_volume.Given as goal
 
 abbrev pub invariant-pieces : goal.invariant-pieces

@@ -1,7 +1,8 @@
 use Rattle.std.proofs.Common.{refl, ap, Err}
 use Rattle.ldm_dump.specs.declared.dumping.DumpError.{DumpError}
-use Rattle.ldm_run.specs.declared.running.Status.TheVariants.{DiskFault, TalkFault}
-use Rattle.ldm_run.proofs.Saying.{failing, says_all, says_part}
+use Rattle.ldm_words.specs.declared.status.Status.TheVariants.{DiskFault, TalkFault}
+use Rattle.ldm_run.proofs.Saying.{failing, says_all}
+use Rattle.ldm_look.proofs.EndLaws.{says_part}
 use Rattle.ldm_run.proofs.dump.dump_plan.Goals as goal
 
 pub returns-in-Ok-dump_volume : goal.returns-in-Ok-dump_volume

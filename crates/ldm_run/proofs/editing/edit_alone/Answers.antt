@@ -1,7 +1,7 @@
 use Rattle.std.proofs.Common.{[], rules, ◌≡◌, if◌then◌else◌, Bool, true, false, List, ◌∷◌, Option, Some, sym, refl, ◌∙◌}
 use Rattle.ldm_words.specs.declared.command.Command.{Command}
-use Rattle.ldm_run.specs.declared.running.Status.{Status}
-use Rattle.ldm_run.specs.declared.running.Status.TheVariants.{Done, Refused, DiskFault}
+use Rattle.ldm_words.specs.declared.status.Status.{Status}
+use Rattle.ldm_words.specs.declared.status.Status.TheVariants.{Done, Refused, DiskFault}
 use Rattle.ldm_run.proofs.EditLaws.{now_of, edited_none, ended, line_fails, line_done}
 use Rattle.ldm_run.proofs.editing.edit_alone.Goals as goal
 

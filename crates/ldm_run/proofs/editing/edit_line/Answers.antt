@@ -1,7 +1,7 @@
 use Rattle.std.proofs.Common.{rules, ◌≡◌, Result, Err, sym, subst}
 use Rattle.ldm_edits.specs.declared.reply.Reply.{Reply}
 use Rattle.ldm_store.specs.Sessions.{Edited}
-use Rattle.ldm_run.specs.declared.running.Status.{Status}
+use Rattle.ldm_words.specs.declared.status.Status.{Status}
 use Rattle.ldm_run.specs.Editing.{AnswersLine}
 use Rattle.ldm_run.proofs.EditLaws.{now_of, line_undone, line_answered, line_unanswered}
 use Rattle.ldm_run.proofs.editing.edit_line.Goals as goal

@@ -1,6 +1,6 @@
 use Rattle.std.proofs.Common.{rules, ⊎_elim, inr}
 use Rattle.ldm_host.proofs.Relations.{works_as}
-use Rattle.ldm_run.specs.declared.running.Status.TheVariants.{DiskFault, NoMemory}
+use Rattle.ldm_words.specs.declared.status.Status.TheVariants.{DiskFault, NoMemory}
 use Rattle.ldm_run.proofs.Saying.{failing}
 use Rattle.ldm_run.proofs.JobLaws.{unopened, refused_group}
 use Rattle.ldm_run.proofs.editing.open_session.Goals as goal

@@ -1,6 +1,6 @@
 use Rattle.std.proofs.Common.{rules, arith, ⊎_elim}
 use Rattle.ldm_words.specs.declared.job.Job.TheVariants.{Init}
-use Rattle.ldm_run.specs.declared.running.Status.TheVariants.{NoMemory}
+use Rattle.ldm_words.specs.declared.status.Status.TheVariants.{NoMemory}
 use Rattle.ldm_run.proofs.JobLaws.{undone, fails_making, refuses, makes}
 use Rattle.ldm_run.proofs.Saying.{failing}
 use Rattle.ldm_run.proofs.making.make_group.Goals as goal

@@ -1,5 +1,5 @@
 use Rattle.std.proofs.Common.{rules}
-use Rattle.ldm_run.proofs.Saying.{talk_failed}
+use Rattle.ldm_look.proofs.EndLaws.{talk_failed}
 use Rattle.ldm_run.proofs.making.say_done.Goals as goal
 
 pub returns-in-Err-clause-says : goal.returns-in-Err-clause-says

@@ -1,6 +1,6 @@
 use Rattle.std.proofs.Common.{◌∙◌, refl}
 use Rattle.ldm_host.proofs.Relations.{still_itself}
-use Rattle.ldm_group_text.specs.Reply.{text_of_reply}
+use Rattle.ldm_replies.specs.Reply.{text_of_reply}
 use Rattle.ldm_run.proofs.Saying.{reply_part}
 use Rattle.ldm_run.proofs.replying.say_reply.Goals as goal
 

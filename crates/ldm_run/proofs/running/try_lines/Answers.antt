@@ -1,6 +1,7 @@
 use Rattle.std.proofs.Common.{Ok}
 use Rattle.ldm_run.specs.Scripts.{commands_in, try_answer}
-use Rattle.ldm_run.proofs.Saying.{says_at_once, says_first}
+use Rattle.ldm_run.proofs.Saying.{says_at_once}
+use Rattle.ldm_look.proofs.EndLaws.{says_first}
 use Rattle.ldm_run.proofs.running.try_lines.Goals as goal
 
 pub returns-in-Err : goal.returns-in-Err

@@ -1,11 +1,12 @@
 use Rattle.std.proofs.Common.{refl, sym, subst}
 use Rattle.ldm_host.proofs.Relations.{looks_itself}
 use Rattle.ldm_words.specs.declared.job.Job.TheVariants.{Sample}
-use Rattle.ldm_run.specs.declared.running.Status.TheVariants.{NoMemory}
-use Rattle.ldm_run.specs.Said.{Answer}
+use Rattle.ldm_words.specs.declared.status.Status.TheVariants.{NoMemory}
+use Rattle.ldm_look.specs.Said.{Answer}
 use Rattle.ldm_run.specs.Sample.{IsSampleAnswer}
 use Rattle.ldm_run.proofs.JobLaws.{reads_job}
-use Rattle.ldm_run.proofs.Saying.{failing, says_as, says_nothing}
+use Rattle.ldm_run.proofs.Saying.{failing, says_as}
+use Rattle.ldm_look.proofs.EndLaws.{says_nothing}
 use Rattle.ldm_run.proofs.sample.sample.Goals as goal
 
 pub returns-in-Err : goal.returns-in-Err

@@ -1,6 +1,6 @@
 use Rattle.std.proofs.Common.{sym, subst, ◌∙◌, ⊎_elim}
-use Rattle.ldm_run.specs.declared.running.Status.{Status}
-use Rattle.ldm_run.specs.Said.{HasAnswer}
+use Rattle.ldm_words.specs.declared.status.Status.{Status}
+use Rattle.ldm_look.specs.Said.{HasAnswer}
 use Rattle.ldm_run.proofs.SampleLaws.{sampled, holds_now}
 use Rattle.ldm_run.proofs.sample.sample_host.Goals as goal
 

@@ -1,7 +1,7 @@
 use Rattle.std.proofs.Common.{◌≡◌, ℕ, ◌-◌, List, Result, Ok, Err, IfOk, ap, ◌∙◌, arith}
 use Rattle.ldm_vmdb.specs.declared.header.Header.{Header}
 use Rattle.ldm_group.specs.Room.{need_of}
-use Rattle.ldm_run.specs.declared.running.Status.TheVariants.{Done}
+use Rattle.ldm_words.specs.declared.status.Status.TheVariants.{Done}
 use Rattle.ldm_run.specs.Sample.{text_of_summary, IsSampleAnswer}
 use Rattle.ldm_run.proofs.LineLaws.{line_count}
 use Rattle.ldm_run.proofs.SampleLaws.{some_disk, holds_now, sequence_is, lines_are_enough, summarized}

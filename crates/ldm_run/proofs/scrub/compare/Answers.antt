@@ -1,10 +1,11 @@
 use Rattle.std.proofs.Common.{ℕ, Err, ap, sym, ◌∙◌, subst}
 use Rattle.ldm_scrub.specs.declared.scrubbing.ScrubError.{ScrubError}
-use Rattle.ldm_run.specs.Said.{HasAnswer}
+use Rattle.ldm_look.specs.Said.{HasAnswer}
 use Rattle.ldm_run.specs.Streaming.{scrub_status}
 use Rattle.ldm_run.proofs.AnswerLaws.{status_answers}
-use Rattle.ldm_run.specs.declared.running.Status.TheVariants.{DiskFault, TalkFault}
-use Rattle.ldm_run.proofs.Saying.{failing, says_all, says_part}
+use Rattle.ldm_words.specs.declared.status.Status.TheVariants.{DiskFault, TalkFault}
+use Rattle.ldm_run.proofs.Saying.{failing, says_all}
+use Rattle.ldm_look.proofs.EndLaws.{says_part}
 use Rattle.ldm_run.proofs.scrub.compare.Goals as goal
 
 pub returns-in-Ok : goal.returns-in-Ok

@@ -2,7 +2,8 @@ use Rattle.std.proofs.Common.{refl, ℕ, List, Ok, ap, ◌∙◌}
 use Rattle.ldm_words.specs.declared.job.Job.TheVariants.{Scrub}
 use Rattle.ldm_run.specs.Streaming.{scrub_answer}
 use Rattle.ldm_run.proofs.JobLaws.{streams_job}
-use Rattle.ldm_run.proofs.Saying.{says_at_once, says_first}
+use Rattle.ldm_run.proofs.Saying.{says_at_once}
+use Rattle.ldm_look.proofs.EndLaws.{says_first}
 use Rattle.ldm_run.proofs.scrub.scrub.Goals as goal
 
 pub returns-in-Err : goal.returns-in-Err

@@ -2,7 +2,7 @@ use Rattle.std.proofs.Common.{codes, decimal, ◌≡◌, ◌++◌, true, false, 
 use Rattle.ldm_text.specs.Texts.{text_of_refusal}
 use Rattle.ldm_layout.specs.declared.shape.Shape.{Shape}
 use Rattle.ldm_run.specs.Runs.{Streams}
-use Rattle.ldm_run.specs.Said.{Answer}
+use Rattle.ldm_look.specs.Said.{Answer}
 use Rattle.ldm_run.specs.Streaming.{is_compared}
 use Rattle.ldm_run.proofs.Saying.{says_as, says_at_once}
 use Rattle.ldm_run.proofs.AnswerLaws.{no_scrub, scrub_of_other, scrub_of_places}

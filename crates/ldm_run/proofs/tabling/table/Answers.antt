@@ -2,7 +2,7 @@ use Rattle.std.proofs.Common.{refl, ℕ, List, Ok, ap, ◌∙◌}
 use Rattle.ldm_words.specs.declared.job.Job.TheVariants.{Table}
 use Rattle.ldm_run.specs.Tabling.{table_answer}
 use Rattle.ldm_run.proofs.JobLaws.{reads_job}
-use Rattle.ldm_run.proofs.Saying.{says_first}
+use Rattle.ldm_look.proofs.EndLaws.{says_first}
 use Rattle.ldm_run.proofs.tabling.table.Goals as goal
 
 pub returns-in-Err : goal.returns-in-Err

@@ -1,7 +1,7 @@
 use Rattle.std.proofs.Common.{◌≡◌, ◌-◌, ◌≤◌, ◌++◌}
 use Rattle.std.specs.List.{range_with_len}
 use Rattle.ldm_host.specs.Moves.{Still}
-use Rattle.ldm_dump.specs.Saying.{SameInput}
+use Rattle.ldm_host.specs.Moves.{SameInput}
 use Rattle.ldm_scrub.specs.Lines.{bad_lines, bad_of}
 use Rattle.ldm_scrub.proofs.scrubbing.scrub_places.Given as goal
 

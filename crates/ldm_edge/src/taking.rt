@@ -1,0 +1,75 @@
+//! The words of a command line, and the images that they name.
+ghost use Rattle.std.specs.Prelude.{◌≡◌, IfOk, length, vec_len};
+
+use crate::stop::Stop;
+use ldm_files::{Access, ImageError, ImageFile};
+use ldm_help::{Shown, UsageError};
+use std::alloc::Global;
+use std::env;
+use std::io::ErrorKind;
+
+/// The words of the command line, without the program's name. A word that isn't UTF-8 has no
+/// reading.
+pub fn words_of(alloc: Global, rt: &HostRuntime) -> Result<Vec<String>, Stop<'static>> {
+    let args = match env::args(rt) {
+        Ok(args) => args,
+        Err(error) if error.kind() == ErrorKind::OutOfMemory => return Err(Stop::NoMemory(None)),
+        Err(_) => return Err(Stop::Usage(UsageError::NotUtf8)),
+    };
+    let mut words = Vec::new(alloc);
+    for word in args.skip(1) {
+        if words.push(word).is_err() {
+            return Err(Stop::NoMemory(None));
+        }
+    }
+    Ok(words)
+}
+
+// Opens an image. One that is to be edited is locked, but where it is among those that are already
+// open.
+fn open_image(
+    rt: &HostRuntime,
+    path: &str,
+    access: Access,
+    others: &[ImageFile],
+) -> Result<ImageFile, ImageError> {
+    let image = ImageFile::open(rt, path, access)?;
+    if access == Access::Edit {
+        image.lock_beside(rt, others)?;
+    }
+    Ok(image)
+}
+
+// Why the image of this number and name isn't open.
+fn stop_unopened(image: usize, name: &str, error: ImageError) -> Stop<'_> {
+    match error {
+        ImageError::NoMemory => Stop::NoMemory(None),
+        error => Stop::CannotOpen {
+            image,
+            name: Shown(name),
+            error,
+        },
+    }
+}
+
+/// Opens the images of these names, in their order, and locks those that are to be edited.
+pub fn open_images<'a>(
+    alloc: Global,
+    rt: &HostRuntime,
+    names: &'a [String],
+    access: Access,
+) -> Result<Vec<ImageFile>, Stop<'a>>
+    ensures all { IfOk result (λ images. vec_len images ≡ length names.now) }
+{
+    let mut images = Vec::new(alloc);
+    for name in names {
+        let image = match open_image(rt, name.as_str(), access, images.as_slice()) {
+            Ok(image) => image,
+            Err(error) => return Err(stop_unopened(images.len(), name.as_str(), error)),
+        };
+        if images.push(image).is_err() {
+            return Err(Stop::NoMemory(None));
+        }
+    }
+    Ok(images)
+}

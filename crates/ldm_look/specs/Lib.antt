@@ -1,0 +1,4 @@
+pub mod Said
+pub mod Mapping
+pub mod Looks
+pub mod Runs

@@ -1,0 +1,185 @@
+//! The jobs that look, and `look`, which does the one that words ask for.
+ghost use Rattle.std.specs.Prelude.{◌≡◌, ◌≢◌, ◌↔◌, ◌<◌, length, slice_index, IfOk};
+ghost use Rattle.std.specs.Prelude.{IfErr, OnOk, None, Ok, is_some};
+ghost use Rattle.ldm_host.specs.Seen.{image};
+ghost use Rattle.ldm_label.specs.LabelOf.{label_of, Fits};
+ghost use Rattle.ldm_host.specs.Moves.{Looks};
+ghost use Rattle.ldm_words.specs.Jobs.{texts, job_of, HasCount};
+ghost use Rattle.ldm_words.specs.declared.job.Job.TheVariants as jobs;
+ghost use Rattle.ldm_found.specs.declared.found.Found.{Found};
+ghost use Rattle.ldm_found.specs.Opening.{IsGroupIn};
+ghost use Rattle.ldm_found.specs.Facts.{IsSoundGroup, LieOn};
+ghost use Rattle.ldm_look.specs.Said.{Answer, IsUnread};
+ghost use Rattle.ldm_look.specs.Looks.{IsCopyAnswer, IsGroupAnswer, IsLookAnswer, IsLookAt};
+ghost use Rattle.ldm_look.specs.Looks.{look_in, look_of};
+ghost use Rattle.ldm_look.specs.Runs.{Completes, HasImages, NoFault, OfLook, OnlyReads};
+
+use crate::mapping::mapped;
+use crate::saying::{refuse_copy, refuse_label, refuse_opening, say_made};
+use ldm_bytes::{Bytes, NoMemory};
+use ldm_copy::{CopyError, read_copy};
+use ldm_found::{Found, OpenError, find_group};
+use ldm_group_text::{check_text, show_text};
+use ldm_host::Host;
+use ldm_label::{Label, LabelError, read_label};
+use ldm_text::{label_text, records_text};
+use ldm_words::{Job, Status, WordsError, read_words};
+use std::alloc::Global;
+
+/// disk on IMAGE
+pub fn disk<H: Host>(alloc: Global, host: &mut H) -> Status
+    requires { length (H.seen host.old).sizes ≡ 1 }
+    ensures { OnlyReads H.tells_disks (H.seen host.old) (H.seen host.new)
+        (IsLookAnswer jobs.Disk (H.seen host.old).content) result }
+{
+    match read_label(host, 0) {
+        Err(LabelError::Disk) => Status::DiskFault,
+        Err(LabelError::Fault(fault)) => refuse_label(alloc, host, fault),
+        Ok(label) => say_made(host, label_text(alloc, &label), Status::Done),
+    }
+}
+
+// The copy in the config area of image 0, whose label this is.
+fn copy_of_label<H: Host>(alloc: Global, host: &mut H, label: &Label) -> Status
+    requires one { length (H.seen host.old).sizes ≡ 1 }
+    requires fits { Fits label.now (slice_index (H.seen host.old).sizes 0) }
+    requires label { H.tells_disks → label_of (image (H.seen host.old).content 0) ≡ Ok label.now }
+    ensures { OnlyReads H.tells_disks (H.seen host.old) (H.seen host.new)
+        (IsCopyAnswer label.now (image (H.seen host.old).content 0)) result }
+{
+    match read_copy(alloc, host, 0, label) {
+        Err(CopyError::Disk) => Status::DiskFault,
+        Err(CopyError::NoMemory) => Status::NoMemory,
+        Err(CopyError::Fault(fault)) => refuse_copy(alloc, host, fault),
+        Ok(state) => say_made(host, records_text(alloc, &state), Status::Done),
+    }
+}
+
+/// records on IMAGE
+pub fn records<H: Host>(alloc: Global, host: &mut H) -> Status
+    requires { length (H.seen host.old).sizes ≡ 1 }
+    ensures { OnlyReads H.tells_disks (H.seen host.old) (H.seen host.new)
+        (IsLookAnswer jobs.Records (H.seen host.old).content) result }
+{
+    match read_label(host, 0) {
+        Err(LabelError::Disk) => Status::DiskFault,
+        Err(LabelError::Fault(fault)) => refuse_label(alloc, host, fault),
+        Ok(label) => copy_of_label(alloc, host, &label),
+    }
+}
+
+/// The group that the images hold, and nothing was said; or how the run ends where there is none.
+pub fn open_group<H: Host>(alloc: Global, host: &mut H) -> Result<Found, Status>
+    requires { 0 < length (H.seen host.old).sizes }
+    ensures found { H.tells_disks → IfOk result (λ found. IsGroupIn
+        (H.seen host.old).content (Ok found)) }
+    ensures sound { IfOk result (λ found. IsSoundGroup found) }
+    ensures lies { IfOk result (λ found. LieOn found.labels (H.seen host.new).sizes) }
+    ensures looks { OnOk result (Looks (H.seen host.old) (H.seen host.new) ⊥) }
+    ensures fault { IfErr result (λ status. (answer_of : Found → Answer)
+        → OnlyReads H.tells_disks (H.seen host.old) (H.seen host.new)
+        (IsGroupAnswer answer_of (H.seen host.old).content) status) }
+{
+    match find_group(alloc, host) {
+        Ok(found) => Ok(found),
+        Err(OpenError::Disk) => Err(Status::DiskFault),
+        Err(OpenError::NoMemory) => Err(Status::NoMemory),
+        Err(OpenError::Fault(fault)) => Err(refuse_opening(alloc, host, &fault)),
+    }
+}
+
+/// show on IMAGE...
+pub fn show<H: Host>(alloc: Global, host: &mut H) -> Status
+    requires { 0 < length (H.seen host.old).sizes }
+    ensures { OnlyReads H.tells_disks (H.seen host.old) (H.seen host.new)
+        (IsLookAnswer jobs.Show (H.seen host.old).content) result }
+{
+    match open_group(alloc, host) {
+        Err(status) => status,
+        Ok(found) => say_made(host, show_text(alloc, &found), Status::Done),
+    }
+}
+
+/// check on IMAGE...
+pub fn check<H: Host>(alloc: Global, host: &mut H) -> Status
+    requires { 0 < length (H.seen host.old).sizes }
+    ensures { OnlyReads H.tells_disks (H.seen host.old) (H.seen host.new)
+        (IsLookAnswer jobs.Check (H.seen host.old).content) result }
+{
+    match open_group(alloc, host) {
+        Err(status) => status,
+        Ok(found) => say_made(host, check_text(alloc, &found), Status::Done),
+    }
+}
+
+/// map NAME FIRST COUNT on IMAGE...
+pub fn map<H: Host>(alloc: Global, host: &mut H, name: &Bytes, first: u64, count: u64) -> Status
+    requires { 0 < length (H.seen host.old).sizes }
+    ensures { OnlyReads H.tells_disks (H.seen host.old) (H.seen host.new)
+        (IsLookAnswer (jobs.Map name.now first count) (H.seen host.old).content) result }
+{
+    let found = match open_group(alloc, host) {
+        Err(status) => return status,
+        Ok(found) => found,
+    };
+    match mapped(alloc, &found, name.as_slice(), first, count) {
+        Err(NoMemory) => Status::NoMemory,
+        Ok((text, status)) => say_made(host, Ok(text), status),
+    }
+}
+
+/// Whether a job is one that looks.
+pub fn is_look(job: &Job) -> bool
+    ensures { result ≡ is_some (look_in job.now) }
+{
+    matches!(
+        job,
+        Job::Disk | Job::Records | Job::Show | Job::Check | Job::Map { .. }
+    )
+}
+
+// Does a job that looks, and makes no call of the host for another.
+fn look_job<H: Host>(alloc: Global, job: Job, host: &mut H) -> Status
+    requires { HasCount job (length (H.seen host.old).sizes) }
+    ensures { OfLook (look_in job) (IsUnread result × (host.new ≡ host.old))
+        (λ look. OnlyReads H.tells_disks (H.seen host.old) (H.seen host.new)
+        (IsLookAnswer look (H.seen host.old).content) result) }
+{
+    match job {
+        Job::Disk => disk(alloc, host),
+        Job::Records => records(alloc, host),
+        Job::Show => show(alloc, host),
+        Job::Check => check(alloc, host),
+        Job::Map { name, first, count } => map(alloc, host, &name, first, count),
+        _ => Status::Usage,
+    }
+}
+
+/// Runs a command line whose job looks at the images that it names: the disks of the host, in their
+/// order. Words of another job are as words without a reading.
+#[tactic(auto, using(crate::proofs::AnswerLaws::one_look))]
+pub fn look<H: Host>(alloc: Global, words: &[String], host: &mut H) -> Status
+    requires { HasImages (job_of (texts words.now)) (H.seen host.old) }
+    // Usage comes exactly where the words have no reading as a job that looks.
+    ensures usage { result ≢ Status.NoMemory → (result ≡ Status.Usage)
+        ↔ (look_of (job_of (texts words.now)) ≡ None) }
+    // No call of the host is made there. Else the disks are only read, and then the answer is said,
+    // or there is a fault that has its cause.
+    ensures reads { OfLook (look_of (job_of (texts words.now))) (host.new ≡ host.old)
+        (λ job. OnlyReads H.tells_disks (H.seen host.old) (H.seen host.new)
+        (IsLookAnswer job (H.seen host.old).content) result) }
+    // There is one answer.
+    ensures one { (a b : Answer) → IsLookAt (texts words.now) (H.seen host.old).content a
+        → IsLookAt (texts words.now) (H.seen host.old).content b → a ≡ b }
+    // Where no count rose, it comes, or NoMemory.
+    ensures complete { H.tells_disks → NoFault (H.seen host.old) (H.seen host.new)
+        → result ≢ Status.NoMemory
+        → Completes (H.seen host.old) (H.seen host.new)
+        (IsLookAt (texts words.now) (H.seen host.old).content) result }
+{
+    match read_words(alloc, words) {
+        Err(WordsError::Usage) => Status::Usage,
+        Err(WordsError::NoMemory) => Status::NoMemory,
+        Ok((job, _)) => look_job(alloc, job, host),
+    }
+}
