@@ -1,6 +1,7 @@
 # shellcheck shell=sh disable=SC2154
 # Read by ./ldm and ./examples, which set `here` (the top of the repository), `crate` (the program's crate), `backend` (llvm, or
-# rattle, which compiles sooner) and `me` (the name to speak by). run_program runs the program, built first where the one that is there isn't that of the sources.
+# rattle, which compiles sooner) and `me` (the name to speak by). run_program runs the program, built first where the one that is
+# there isn't that of the sources.
 #
 # A program is built from a copy of its sources. The sum of that copy, the sum of the program and the kit's line go into a file
 # beside the program, so that no other program is ever run. The prover is called on one crate after another, by what crates.txt
@@ -27,9 +28,9 @@ kit_line() {
     found=$(kit_folder) && head -n 1 "$found/KIT-ID"
 }
 
-# The crates that $crate stands on and itself, by crates.txt below $1. For each a line: the lines of code from this crate on to
-# the program, by which the time that a crate takes goes best, its name, and the names of all crates below it. $2 has the lines
-# of each crate. Those with most to come are first.
+# The crates that $crate stands on and itself, by crates.txt below $1. For each a line: the lines from this crate on to the
+# program, its proofs among them, its name, and the names of all crates below it. $2 has the lines of each crate. Those with
+# most to come are first.
 plan_of() {
     sed 's/#.*//; s/[:,]/ /g; /^ *$/d' "$1/crates.txt" | awk -v top="$crate" '
         function need(name, count, words, i) {
@@ -281,8 +282,8 @@ start_ready() {
 }
 
 # Starts the proof of crate $1. Processes that share a crate do some of its work twice. So it has those that no other crate takes
-# now. But what has most to come has all processors, the next half of them, and so on, and the more crates go before it the further it
-# stands back.
+# now. But what has most to come has all processors, the next half of them, and so on, and the more crates go before it the
+# further it stands back.
 start() {
     started=$((started + 1))
     say "crate $started of $total: $1 .."
@@ -375,7 +376,7 @@ build() {
         return 1
     }
     for it in "$room"/source/crates/*; do
-        echo "= $(basename "$it") $(find "$it/src" -type f -exec cat {} + | wc -l)"
+        echo "= $(basename "$it") $(find "$it" -type f -exec cat {} + | wc -l)"
     done >"$room/sizes"
     plan_of "$room/source" "$room/sizes" >"$room/plan"
     kit_is=$(kit_line)

@@ -5,3 +5,4 @@ pub mod GuidLaws
 pub mod PlaceLaws
 pub mod ByteLaws
 pub mod PutLaws
+pub mod FindLaws

@@ -6,9 +6,9 @@ use Rattle.std.proofs.lemmas.List.{append-nil, take-append-drop, take_all, take_
 use Rattle.std.proofs.lemmas.List.Elements.{filter-append, All-map, All-contains, Contains-get_or}
 use Rattle.std.proofs.lemmas.List.Sorted.{IsPermutation-trans, IsPermutation-append_comm, IsPermutation-filter_both, All-permutation, IsPermutation-map, IsPermutation-sym}
 use Rattle.ldm_records.specs.declared.types.Record.{Record}
-use Rattle.ldm_copy.specs.Body.{Stored, stored_at, placed_of, Store, IsBodyOf, counts_of}
+use Rattle.ldm_body.specs.Body.{Stored, stored_at, placed_of, Store, IsBodyOf, counts_of}
 use Rattle.ldm_changed.specs.Plan.{has_record, lacks, one_of, Weaves, record_stays, block_differs, changed_numbers}
-use Rattle.ldm_copy.proofs.BodyLaws.{stored_push, head_of, rest_of, body_with, begun_is, stored_again}
+use Rattle.ldm_body.proofs.BodyLaws.{stored_push, head_of, rest_of, body_with, begun_is, stored_again}
 use Rattle.ldm_changed.proofs.PlanLaws.{filter_step, kept_records_of, number_there}
 use Rattle.std.proofs.lemmas.Slice.Eq.{bytes_eq-Decides}
 use Rattle.std.proofs.lemmas.Bool.{cases_Bool, cases_lt, not_from_false}

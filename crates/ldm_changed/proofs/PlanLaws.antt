@@ -15,14 +15,14 @@ use Rattle.ldm_group.specs.Room.{own_len, need_of}
 use Rattle.ldm_changed.specs.Plan.{block_differs, has_record, record_stays, record_goes, Avoids, KeepsOrFrees, lacks, slots_from, LeavesOrAdds, is_spelled_as, touched_blocks, changed_numbers}
 use Rattle.std.proofs.lemmas.List.Elements.{All-cons, All-nil, All-head, All-tail, All-push, filter_more, filter-append, All-map, All-append, All-contains, All-filter, Contains-get_or}
 use Rattle.std.proofs.lemmas.List.Sorted.{IsPermutation-map, IsPermutation-middle, IsPermutation-sym, IsPermutation-trans, IsPermutation-append_comm, IsPermutation-filter_both, sum_by-IsPermutation}
-use Rattle.ldm_copy.specs.Body.{Stored, placed_of, stored_at, Store}
+use Rattle.ldm_body.specs.Body.{Stored, placed_of, stored_at, Store}
 use Rattle.ldm_frags.proofs.WriteLaws.{number_within as field_within}
 use Rattle.ldm_frags.proofs.HoldEdits.{hold_permuted, hold_less, hold_more, few, few_sum, numbers_apart, number_within, slots_in}
 use Rattle.std.specs.List.Sorted.{IsPermutation}
 use Rattle.std.proofs.Math.Seq.{take-add}
 use Rattle.std.proofs.lemmas.List.Sums.{sum_by_push, sum_by-append, sum_by-cons}
 use Rattle.byteorder.specs.Endian.{big_number}
-use Rattle.ldm_copy.proofs.BodyLaws.{stored_push, stored_records, record_of, all_mapped}
+use Rattle.ldm_body.proofs.BodyLaws.{stored_push, stored_records, record_of, all_mapped}
 use Rattle.std.proofs.lemmas.List.Kept.{AllPairs-filter}
 use Rattle.ldm_group.specs.Order.{kind_of, id_of, place_of, Rising}
 use Rattle.ldm_group.specs.Looks.{by_id}

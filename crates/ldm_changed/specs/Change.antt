@@ -3,8 +3,8 @@ use Rattle.std.specs.Prelude.{◌≡◌, ◌≢◌, ℕ, ◌+◌, ◌*◌, ◌/�
 use Rattle.ldm_vmdb.specs.Headers.{written}
 use Rattle.ldm_group.specs.Database.{Database}
 use Rattle.ldm_copy.specs.Copy.{header_sector}
-use Rattle.ldm_copy.specs.Body.{IsBodyOf, counts_of}
-use Rattle.ldm_copy.specs.Table.{IsTabled}
+use Rattle.ldm_body.specs.Body.{IsBodyOf, counts_of}
+use Rattle.ldm_body.specs.Table.{IsTabled}
 
 -- the new body, and the numbers of the blocks to write
 pub record Changed : Type 0 where

@@ -9,7 +9,7 @@ use Rattle.ldm_records.specs.Views.{plain_of}
 use Rattle.ldm_group.specs.Order.{kind_of, id_of}
 use Rattle.ldm_group.specs.Looks.{by_id}
 use Rattle.ldm_group.specs.Room.{own_len, need_of}
-use Rattle.ldm_copy.specs.Body.{Stored, placed_of}
+use Rattle.ldm_body.specs.Body.{Stored, placed_of}
 
 abbrev pub is_spelled_as : Record → Option Record → Bool
 is_spelled_as r None = false

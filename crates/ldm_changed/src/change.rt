@@ -11,15 +11,15 @@ ghost use Rattle.ldm_records.specs.Views.{plain_of};
 ghost use Rattle.ldm_group.specs.Order.{kind_of};
 ghost use Rattle.ldm_group.specs.Room.{IsFitting, need_of, FitsHeader};
 ghost use Rattle.ldm_copy.specs.Copy.{header_sector};
-ghost use Rattle.ldm_copy.specs.Body.{placed_of, Store, IsBodyOf, IsSomeBody, count_of, counts_of};
+ghost use Rattle.ldm_body.specs.Body.{placed_of, Store, IsBodyOf, IsSomeBody, count_of, counts_of};
 ghost use Rattle.ldm_changed.specs.Plan.{added_blocks, touched_blocks, changed_numbers};
-ghost use Rattle.ldm_copy.specs.Body.{stored_at};
+ghost use Rattle.ldm_body.specs.Body.{stored_at};
 ghost use Rattle.ldm_changed.specs.Change.{ChangesFrom, IsNextBody};
 
 use crate::planning::{changed, rewrite_blocks};
 use crate::weaving::weave;
+use ldm_body::{Body, counts_of, joined};
 use ldm_bytes::{Bytes, NoMemory};
-use ldm_copy::{Body, counts_of, joined};
 use ldm_frags::{Slots, with_unused};
 use ldm_group::Db;
 use ldm_vmdb::write_header;

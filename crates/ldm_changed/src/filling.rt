@@ -5,11 +5,11 @@ ghost use Rattle.ldm_host.specs.Moves.{Settled, Writes, Changes, DiskFailed};
 ghost use Rattle.ldm_host.specs.Seen.{image};
 ghost use Rattle.ldm_label.specs.LabelOf.{Fits};
 ghost use Rattle.ldm_copy.specs.Copy.{gate_at};
-ghost use Rattle.ldm_copy.specs.Body.{HasBody};
+ghost use Rattle.ldm_body.specs.Body.{HasBody};
 ghost use Rattle.ldm_changed.specs.Change.{ChangesFrom};
 
 use crate::change::Change;
-use ldm_copy::gate_at;
+use ldm_body::gate_at;
 use ldm_host::{Failed, Host};
 use ldm_label::Label;
 

@@ -5,15 +5,15 @@ ghost use Rattle.ldm_host.specs.Seen.{image};
 ghost use Rattle.ldm_label.specs.LabelOf.{Fits};
 ghost use Rattle.ldm_group.specs.Database.{Database};
 ghost use Rattle.ldm_copy.specs.Copy.{config_area, IsOpen};
-ghost use Rattle.ldm_copy.specs.Rewriting.{Rewrites};
-ghost use Rattle.ldm_copy.specs.Body.{HasBody, IsBodyOn};
+ghost use Rattle.ldm_body.specs.Rewriting.{Rewrites};
+ghost use Rattle.ldm_body.specs.Body.{HasBody, IsBodyOn};
 ghost use Rattle.ldm_changed.specs.Change.{Changed, ChangesFrom};
 ghost use Rattle.ldm_changed.specs.Nexts.{bytes_in, most_in};
 ghost use Rattle.ldm_changed.specs.declared.nexts.Next.TheVariants as nexts;
 
 use crate::change::Change;
 use crate::rewriting::rewrite_changed;
-use ldm_copy::{Body, rewrite};
+use ldm_body::{Body, rewrite};
 use ldm_host::{Failed, Host};
 use ldm_label::Label;
 

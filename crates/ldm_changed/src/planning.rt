@@ -7,11 +7,10 @@ ghost use Rattle.ldm_frags.specs.Written.{parts_of, block_at, IsInUse, IsPlaced,
 ghost use Rattle.ldm_records.specs.Plain.{own_spelling, IsRecord};
 ghost use Rattle.ldm_records.specs.Views.{plain_of};
 ghost use Rattle.ldm_group.specs.Room.{own_len, IsFitting, need_of};
-ghost use Rattle.ldm_copy.specs.Body.{Stored, placed_of, Store};
+ghost use Rattle.ldm_body.specs.Body.{Stored, placed_of, Store, stored_at};
 ghost use Rattle.ldm_changed.specs.Plan.{has_record, lacks, touched_blocks, record_stays};
 ghost use Rattle.ldm_changed.specs.Plan.{record_goes, Avoids, AreFreed, KeepsOrFrees, slots_from};
 ghost use Rattle.ldm_changed.specs.Plan.{IsAdded, LeavesOrAdds, block_differs, changed_numbers};
-ghost use Rattle.ldm_copy.specs.Body.{stored_at};
 ghost use Rattle.ldm_frags.specs.Free.{is_free, free_numbers};
 
 use ldm_bytes::{NoMemory, get_u16};

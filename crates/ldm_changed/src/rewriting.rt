@@ -4,14 +4,14 @@ ghost use Rattle.ldm_host.specs.Moves.{Settled};
 ghost use Rattle.ldm_host.specs.Seen.{image};
 ghost use Rattle.ldm_label.specs.LabelOf.{Fits};
 ghost use Rattle.ldm_group.specs.Database.{Database};
-ghost use Rattle.ldm_copy.specs.Copy.{config_area, IsOpen};
-ghost use Rattle.ldm_copy.specs.Rewriting.{Rewrites};
-ghost use Rattle.ldm_copy.specs.Body.{HasBody, IsBodyOn, IsShut};
+ghost use Rattle.ldm_copy.specs.Copy.{config_area, IsOpen, IsShut};
+ghost use Rattle.ldm_body.specs.Rewriting.{Rewrites};
+ghost use Rattle.ldm_body.specs.Body.{HasBody, IsBodyOn};
 ghost use Rattle.ldm_changed.specs.Change.{ChangesFrom};
 
 use crate::change::Change;
 use crate::filling::fill_changed;
-use ldm_copy::{close, unseal};
+use ldm_body::{close, unseal};
 use ldm_host::{Failed, Host};
 use ldm_label::Label;
 

@@ -1,7 +1,7 @@
 //! The blocks of kept and made records, in the order of the records.
 ghost use Rattle.std.specs.Prelude.{◌≡◌, ◌≤◌, ◌<◌, ◌++◌, length, filter, IsPermutation, IfOk};
 ghost use Rattle.ldm_changed.specs.Plan.{has_record, lacks, Weaves, one_of};
-ghost use Rattle.ldm_copy.specs.Body.{stored_at};
+ghost use Rattle.ldm_body.specs.Body.{stored_at};
 
 use crate::planning::has;
 use ldm_bytes::NoMemory;

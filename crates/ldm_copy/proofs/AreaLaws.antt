@@ -5,7 +5,7 @@ use Rattle.std.proofs.lemmas.List.{take-take, drop-drop, drop-take, get_or-take,
 use Rattle.ldm_bytes.proofs.PlaceLaws.{same_range}
 use Rattle.ldm_label.specs.declared.Label.{Label}
 use Rattle.ldm_copy.specs.Alike.{sectors_from, in_use, AreAlike}
-use Rattle.ldm_copy.specs.Copy.{header_sector, config_area, gate_at, blocks_in_use, IsCopyOf}
+use Rattle.ldm_copy.specs.Copy.{header_sector, config_area, gate_at, blocks_in_use, IsCopyOf, IsWritten}
 use Rattle.std.specs.Prelude.{IsTrue}
 use Rattle.ldm_vmdb.specs.Sectors.{last_of}
 use Rattle.ldm_vmdb.specs.Headers.{vmdb_fault, IsHeaderOf}
@@ -14,7 +14,6 @@ use Rattle.ldm_host.specs.declared.host.Failed.{Failed}
 use Rattle.ldm_group.specs.Database.{Database}
 use Rattle.ldm_copy.specs.declared.answer.CopyState.TheVariants.{Valid}
 use Rattle.ldm_copy.specs.Records.{HoldRecords}
-use Rattle.ldm_copy.specs.Body.{IsWritten}
 
 -- ---- The parts of an area, by their places on the disk.
 

@@ -8,7 +8,7 @@ use Rattle.ldm_vmdb.specs.Headers.{vmdb_fault, IsHeaderOf}
 use Rattle.ldm_frags.specs.Faults.{first_block_fault}
 use Rattle.ldm_records.specs.declared.types.Record.{Record}
 use Rattle.ldm_group.specs.Order.{IsLeastTwice}
-use Rattle.ldm_group.specs.Database.{IsDatabaseOf}
+use Rattle.ldm_group.specs.Database.{Database, IsDatabaseOf}
 use Rattle.ldm_copy.specs.declared.answer.CopyState.{CopyState}
 use Rattle.ldm_copy.specs.declared.answer.CopyState.TheVariants.{Closed, Valid}
 use Rattle.ldm_copy.specs.declared.answer.CopyFault.{CopyFault}
@@ -57,3 +57,13 @@ IsCopyOf area sectors (Err (SameId kind id)) =
 IsCopyOf area sectors (Ok (Valid db)) =
     HasHeader area sectors × IsHeaderOf db.header (header_sector area)
     × ((records : List Record) × HoldRecords (blocks_in_use area) records × IsDatabaseOf db db.header records)
+
+-- ---- on a disk
+
+-- the copy is closed
+abbrev pub IsShut : Label → List ℕ → Type 0
+IsShut label image = IsCopyOf (config_area label image) label.area_sectors (Ok Closed)
+
+-- the copy is that of the database
+abbrev pub IsWritten : Label → Database → List ℕ → Type 0
+IsWritten label db image = IsCopyOf (config_area label image) label.area_sectors (Ok (Valid db))

@@ -1,10 +1,6 @@
 pub mod Records
 pub mod Copy
-pub mod Body
 pub mod Answers
 pub mod Errors
 pub mod Steps
 pub mod Alike
-pub mod Table
-pub mod Finding
-pub mod Rewriting

@@ -5,7 +5,7 @@ ghost use Rattle.ldm_host.specs.Moves.{Looks};
 ghost use Rattle.ldm_host.specs.Seen.{image};
 ghost use Rattle.ldm_label.specs.LabelOf.{Fits};
 ghost use Rattle.ldm_group.specs.Database.{Database};
-ghost use Rattle.ldm_copy.specs.Body.{IsWritten};
+ghost use Rattle.ldm_copy.specs.Copy.{IsWritten};
 ghost use Rattle.ldm_copy.specs.Alike.{sectors_from, AreAlike};
 
 use ldm_host::{Failed, Host};

@@ -7,20 +7,9 @@
 
 mod alike;
 mod answer;
-mod bodies;
-mod body;
 mod database;
-mod finding;
-mod gate;
-mod laws;
 mod reading;
-mod rewriting;
 
 pub use alike::is_alike;
 pub use answer::{CopyError, CopyFault, CopyState};
-pub use bodies::{BodyError, read_body};
-pub use body::{Body, body_of, counts_of, joined};
-pub use gate::{close, fill, gate_at, unseal};
-pub use laws::bodies_are_copies;
 pub use reading::read_copy;
-pub use rewriting::{refill, rewrite};

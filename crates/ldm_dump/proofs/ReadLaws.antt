@@ -3,13 +3,14 @@
 use Rattle.std.proofs.Common.{◌≡◌, ℕ, ◌+◌, ◌-◌, ◌*◌, ◌<◌, ◌≤◌, ◌==◌, if◌then◌else◌, Bool, true, false, List, [], ◌∷◌, ◌++◌, map, fold, bit_xor, slice_index, refl, ap, sym, subst, ◌∙◌, arith, add-one, Option, Some, None, is_some, is_none, Result, Ok, Err, OnOk, filter_map, inl, inr, length, get_or, slice_get, option_and_then, unwrap_or, zero, suc, cond, ltb}
 use Rattle.std.specs.List.{range_with_len, position_or_len, cons_option}
 use Rattle.std.specs.Option.{option_map, option_to_list}
-use Rattle.ldm_layout.specs.Layouts.{Layout, copies_of, place_in, is_tiled, fewest, plex_capacity, place_at, copies_by, plex_spot, place_at as place_sector}
+use Rattle.ldm_places.specs.Layouts.{Layout, copies_of, place_in, is_tiled, fewest, plex_capacity, place_at, copies_by, plex_spot, place_at as place_sector}
 use Rattle.std.proofs.lemmas.Bool.{eqb-true, not-false, cases_lt, ltb-false, lt-ltb, cond-true, eq-eqb, false_from_ne_true, false≢true}
-use Rattle.ldm_layout.specs.Columns.{own_column, column_in, columns_of, column_spot, IsColumned}
-use Rattle.ldm_layout.specs.declared.shape.Place.{Place}
-use Rattle.ldm_layout.specs.declared.shape.Shape.TheVariants.{Raid5}
-use Rattle.ldm_found.specs.declared.found.Found.{Found}
-use Rattle.ldm_found.specs.Labels.{image_of, IsLabelOf}
+use Rattle.ldm_places.specs.Columns.{own_column, column_in, columns_of, column_spot, IsColumned}
+use Rattle.ldm_places.specs.declared.shape.Place.{Place}
+use Rattle.ldm_places.specs.declared.shape.Shape.TheVariants.{Raid5}
+use Rattle.ldm_findings.specs.declared.found.Found.{Found}
+use Rattle.ldm_found.specs.Labels.{IsLabelOf}
+use Rattle.ldm_findings.specs.Images.{image_of}
 use Rattle.ldm_dump.specs.Sources.{is_here, data_start, spot_of, spot_at, first_copy, copy_spot, other_spot, other_spots, can_rebuild, sources_by, sources_of, is_lost}
 use Rattle.ldm_dump.specs.Bytes.{byte_at, joined_byte, joined_sector, sector_of}
 use Rattle.ldm_dump.specs.Runs.{behind, IsOn, HasBytes, LiesOn, RowsLieOn}
@@ -25,19 +26,19 @@ use Rattle.ldm_records.specs.declared.types.Disk.{Disk}
 use Rattle.ldm_group.specs.Looks.{by_id, disk_in}
 use Rattle.ldm_label.specs.declared.Label.{Label}
 use Rattle.ldm_label.specs.LabelOf.{Fits}
-use Rattle.ldm_layout.proofs.SpotLaws.{none, sizes, least_at, place_by}
-use Rattle.ldm_layout.proofs.PlaceLaws.{raid5_inside}
+use Rattle.ldm_places.proofs.SpotLaws.{none, sizes, least_at, place_by}
+use Rattle.ldm_places.proofs.PlaceLaws.{raid5_inside}
 use Rattle.ldm_layout.proofs.VolumeLaws.{IsExtentOf}
-use Rattle.ldm_layout.specs.Parts.{least}
-use Rattle.ldm_layout.specs.Places.{raid5_capacity, raid5_offset}
-use Rattle.ldm_layout.specs.declared.parts.Extent.{Extent}
-use Rattle.ldm_layout.specs.declared.shape.Shape.{Shape}
+use Rattle.ldm_places.specs.Extents.{least}
+use Rattle.ldm_places.specs.Places.{raid5_capacity, raid5_offset}
+use Rattle.ldm_places.specs.declared.extent.Extent.{Extent}
+use Rattle.ldm_places.specs.declared.shape.Shape.{Shape}
 use Rattle.ldm_rules.proofs.GroupLaws.{not_broken}
-use Rattle.ldm_rules.proofs.PresentLaws.{label_at_image}
+use Rattle.ldm_label.proofs.PresentLaws.{label_at_image}
 use Rattle.ldm_rules.proofs.SoundLaws.{copy_facts, sector_spot, plex_at, parts_at, sound_parts}
 use Rattle.ldm_rules.specs.Disjoint.{HasLayout}
-use Rattle.ldm_rules.specs.Ends.{sectors_by, data_size}
-use Rattle.ldm_rules.specs.Present.{has_guid, image_with, label_with}
+use Rattle.ldm_rules.specs.Ends.{data_size}
+use Rattle.ldm_label.specs.Present.{sectors_by, has_guid, image_with, label_with}
 use Rattle.ldm_rules.specs.Rules.{passes_end}
 use Rattle.ldm_found.specs.Facts.{IsSoundGroup, LieOn}
 use Rattle.std.proofs.lemmas.List.Sums.{position_or_len_is}

@@ -5,22 +5,22 @@ use Rattle.std.specs.Prelude.{◌&&◌, ◌||◌}
 use Rattle.std.specs.List.{range_with_len, list_all}
 use Rattle.std.specs.Option.{option_map, option_to_list}
 use Rattle.std.proofs.lemmas.Bool.{cases_lt, and_parts, eqb-true, eq-eqb, or_from, or_left, or_right, ne_eqb, false_from_ne_true, or_parts, true≢false}
-use Rattle.ldm_layout.specs.Layouts.{Layout, copies_of, copies_by, place_in, is_tiled, plex_spot, place_at}
-use Rattle.ldm_layout.specs.Columns.{columns_of, own_column, column_in, moved, IsStretch, chunk_of, IsColumned}
-use Rattle.ldm_layout.specs.declared.shape.Place.{Place}
-use Rattle.ldm_layout.specs.declared.shape.Shape.{Shape}
-use Rattle.ldm_layout.specs.declared.shape.Shape.TheVariants.{Span, Stripe, Mirror, Raid5}
-use Rattle.ldm_found.specs.declared.found.Found.{Found}
-use Rattle.ldm_found.specs.Labels.{image_of}
+use Rattle.ldm_places.specs.Layouts.{Layout, copies_of, copies_by, place_in, is_tiled, plex_spot, place_at}
+use Rattle.ldm_places.specs.Columns.{columns_of, own_column, column_in, moved, IsStretch, chunk_of, IsColumned}
+use Rattle.ldm_places.specs.declared.shape.Place.{Place}
+use Rattle.ldm_places.specs.declared.shape.Shape.{Shape}
+use Rattle.ldm_places.specs.declared.shape.Shape.TheVariants.{Span, Stripe, Mirror, Raid5}
+use Rattle.ldm_findings.specs.declared.found.Found.{Found}
+use Rattle.ldm_findings.specs.Images.{image_of}
 use Rattle.ldm_dump.specs.Sources.{is_here, data_start, spot_at, first_copy, copy_spot, other_spot, other_spots, is_beside, is_raid5, can_rebuild, sources_by, sources_of, is_lost, IsLeastLost}
 use Rattle.ldm_dump.specs.Runs.{behind, IsRun}
 use Rattle.ldm_dump.specs.declared.spots.Spot.{Spot}
 use Rattle.ldm_dump.proofs.RangeLaws.{find_first, find_nothing, all_in, all_but, all_at, made_moved, not_all, all_same_in}
 use Rattle.std.proofs.Math.Nat.{mod-eq_of_lt, div-eq_of_lt, add-mod_right, mul-div-le}
 use Rattle.std.proofs.lemmas.Nat.{div-mul-add, mod_below, mul-le}
-use Rattle.ldm_layout.proofs.SpotLaws.{place_by}
-use Rattle.ldm_layout.specs.Places.{stripe_column, stripe_offset, raid5_offset}
-use Rattle.ldm_layout.specs.declared.parts.Extent.{Extent}
+use Rattle.ldm_places.proofs.SpotLaws.{place_by}
+use Rattle.ldm_places.specs.Places.{stripe_column, stripe_offset, raid5_offset}
+use Rattle.ldm_places.specs.declared.extent.Extent.{Extent}
 use Rattle.ldm_dump.specs.declared.runs.Run.{Run}
 
 -- ---- A run of sectors: where they can be read moves along with them.

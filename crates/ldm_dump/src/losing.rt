@@ -1,6 +1,6 @@
 //! The least sector of a volume that is lost.
 ghost use Rattle.std.specs.Prelude.{◌≡◌, ◌<◌, true, false};
-ghost use Rattle.ldm_layout.specs.Layouts.{is_tiled};
+ghost use Rattle.ldm_places.specs.Layouts.{is_tiled};
 ghost use Rattle.ldm_dump.specs.Sources.{is_lost, IsLeastLost};
 
 use crate::runs::{is_run_lost, run_at};

@@ -3,8 +3,8 @@ ghost use Rattle.std.specs.Prelude.{◌≡◌, ◌*◌, ◌<◌, ◌≤◌, ℕ,
 ghost use Rattle.std.specs.Prelude.{slice_index, false, OnOk, IsErr, Some};
 ghost use Rattle.std.specs.Option.{option_to_list};
 ghost use Rattle.ldm_host.specs.Moves.{Looks};
-ghost use Rattle.ldm_layout.specs.Columns.{columns_of};
-ghost use Rattle.ldm_layout.specs.declared.shape.Shape.TheVariants.{Raid5};
+ghost use Rattle.ldm_places.specs.Columns.{columns_of};
+ghost use Rattle.ldm_places.specs.declared.shape.Shape.TheVariants.{Raid5};
 ghost use Rattle.ldm_dump.specs.declared.spots.Spot.{Spot as Place};
 ghost use Rattle.ldm_dump.specs.Sources.{other_spot, other_spots, sources_of, is_lost};
 ghost use Rattle.ldm_dump.specs.Bytes.{byte_at, joined_byte, sector_of};

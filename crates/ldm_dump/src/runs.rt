@@ -1,6 +1,6 @@
 //! Sectors of a volume that are read together.
 ghost use Rattle.std.specs.Prelude.{◌≡◌, ◌<◌};
-ghost use Rattle.ldm_layout.specs.declared.shape.Shape.TheVariants.{Raid5};
+ghost use Rattle.ldm_places.specs.declared.shape.Shape.TheVariants.{Raid5};
 ghost use Rattle.ldm_dump.specs.Sources.{can_rebuild, is_lost};
 ghost use Rattle.ldm_dump.specs.Runs.{IsRun};
 

@@ -1,4 +1,7 @@
 //! How a run ends.
+ghost use Rattle.std.specs.Prelude.{◌≡◌, ◌⊎◌, IfOk, Ok};
+ghost use Rattle.ldm_words.specs.declared.status.Status.TheVariants.{Done, Refused, TalkFault};
+ghost use Rattle.ldm_edge.specs.Ends.{end_status};
 
 use crate::stop::{Fault, Stop};
 use ldm_files::Failure;
@@ -14,7 +17,10 @@ pub fn ending<'a>(
     names: &'a [String],
     failure: Option<Failure>,
     answered: Option<u64>,
-) -> Result<Status, Stop<'a>> {
+) -> Result<Status, Stop<'a>>
+    ensures same { end_status result ≡ status }
+    ensures answer { IfOk result (λ status. (status ≡ Done) ⊎ (status ≡ Refused)) }
+{
     let fault = Fault {
         failure,
         names,
@@ -33,6 +39,7 @@ pub fn ending<'a>(
 pub fn tell<O: Write>(mut output: O, text: &str) -> Result<Status, Stop<'static>>
 where
     O: Drop,
+    ensures { (result ≡ Ok Done) ⊎ (end_status result ≡ TalkFault) }
 {
     match output.write_all(text.as_bytes()) {
         Ok(()) => Ok(Status::Done),

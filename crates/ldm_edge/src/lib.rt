@@ -8,4 +8,4 @@ mod taking;
 
 pub use ends::{ending, exit_code, tell};
 pub use stop::{Fault, Stop};
-pub use taking::{open_images, words_of};
+pub use taking::{open_images, stop_unopened, words_of};

@@ -1,4 +1,7 @@
 //! How the program ends where it isn't with an answer, and what is said of it on standard error.
+ghost use Rattle.std.specs.Prelude.{◌≡◌};
+ghost use Rattle.ldm_edge.specs.Ends.{stop_status};
+
 use ldm_files::{DiskCall, Failure, ImageError};
 use ldm_help::{Shown, UsageError};
 use ldm_words::Status;
@@ -28,8 +31,13 @@ pub enum Stop<'a> {
 }
 
 impl Stop<'_> {
+    ghost use Rattle.std.specs.Prelude.{◌≡◌};
+    ghost use Rattle.ldm_edge.specs.Ends.{stop_status};
+
     /// The exit status.
-    pub fn status(&self) -> Status {
+    pub fn status(&self) -> Status
+        ensures { result ≡ stop_status self.now }
+    {
         match self {
             Stop::Usage(_) => Status::Usage,
             Stop::CannotOpen { .. } | Stop::Disk(_) => Status::DiskFault,

@@ -1,5 +1,7 @@
 //! The words of a command line, and the images that they name.
-ghost use Rattle.std.specs.Prelude.{◌≡◌, IfOk, length, vec_len};
+ghost use Rattle.std.specs.Prelude.{◌≡◌, ◌⊎◌, IfOk, length, vec_len};
+ghost use Rattle.ldm_words.specs.declared.status.Status.TheVariants.{DiskFault, NoMemory};
+ghost use Rattle.ldm_edge.specs.Ends.{stop_status};
 
 use crate::stop::Stop;
 use ldm_files::{Access, ImageError, ImageFile};
@@ -25,23 +27,10 @@ pub fn words_of(alloc: Global, rt: &HostRuntime) -> Result<Vec<String>, Stop<'st
     Ok(words)
 }
 
-// Opens an image. One that is to be edited is locked, but where it is among those that are already
-// open.
-fn open_image(
-    rt: &HostRuntime,
-    path: &str,
-    access: Access,
-    others: &[ImageFile],
-) -> Result<ImageFile, ImageError> {
-    let image = ImageFile::open(rt, path, access)?;
-    if access == Access::Edit {
-        image.lock_beside(rt, others)?;
-    }
-    Ok(image)
-}
-
-// Why the image of this number and name isn't open.
-fn stop_unopened(image: usize, name: &str, error: ImageError) -> Stop<'_> {
+/// The end of a run whose image of this number and name can't be had.
+pub fn stop_unopened(image: usize, name: &str, error: ImageError) -> Stop<'_>
+    ensures { (stop_status result ≡ DiskFault) ⊎ (stop_status result ≡ NoMemory) }
+{
     match error {
         ImageError::NoMemory => Stop::NoMemory(None),
         error => Stop::CannotOpen {
@@ -52,7 +41,7 @@ fn stop_unopened(image: usize, name: &str, error: ImageError) -> Stop<'_> {
     }
 }
 
-/// Opens the images of these names, in their order, and locks those that are to be edited.
+/// Opens the images of these names, in their order.
 pub fn open_images<'a>(
     alloc: Global,
     rt: &HostRuntime,
@@ -63,7 +52,7 @@ pub fn open_images<'a>(
 {
     let mut images = Vec::new(alloc);
     for name in names {
-        let image = match open_image(rt, name.as_str(), access, images.as_slice()) {
+        let image = match ImageFile::open(rt, name.as_str(), access) {
             Ok(image) => image,
             Err(error) => return Err(stop_unopened(images.len(), name.as_str(), error)),
         };

@@ -18,9 +18,9 @@ use Rattle.ldm_records.specs.declared.types.Partition.{Partition}
 use Rattle.ldm_bytes.specs.Tables.{first_of, unless}
 use Rattle.ldm_vmdb.specs.Headers.{grown_to}
 use Rattle.ldm_label.specs.declared.Label.{Label}
-use Rattle.ldm_rules.specs.Ends.{data_size, sectors_by}
+use Rattle.ldm_rules.specs.Ends.{data_size}
+use Rattle.ldm_label.specs.Present.{sectors_by, label_with}
 use Rattle.ldm_rules.specs.Facts.{IsSoundOn}
-use Rattle.ldm_rules.specs.Present.{label_with}
 use Rattle.ldm_words.specs.declared.command.NewLayout.{NewLayout}
 use Rattle.ldm_words.specs.Limits.{IsCreate}
 use Rattle.ldm_frags.specs.Written.{parts_of as blocks_in}

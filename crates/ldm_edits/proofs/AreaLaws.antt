@@ -1,6 +1,6 @@
 -- The least of the config areas.
 use Rattle.std.proofs.Common.{◌≡◌, ℕ, zero, suc, ◌-◌, ◌≤◌, List, [], ◌∷◌, length, min, refl, ap, arith, Contains, get_or, take, drop, fold}
-use Rattle.ldm_layout.proofs.SortLaws.{least_whole}
+use Rattle.ldm_places.proofs.LeastLaws.{least_whole}
 use Rattle.ldm_label.specs.declared.Label.{Label}
 use Rattle.ldm_edits.specs.Changes.{least_area, most_blocks, AreasFit}
 

@@ -15,7 +15,7 @@ use Rattle.ldm_space.proofs.FreeLaws.{ahead, ahead_none, ahead_front, placed_fit
 use Rattle.ldm_edits.specs.declared.reply.Refusal.TheVariants as refusals
 use Rattle.ldm_edits.specs.Spots.{by_place, refused_or, and_then, wanted_by, open_wanted, spots_for, ArePlaced}
 use Rattle.ldm_records.specs.declared.types.Record.TheVariants as kinds
-use Rattle.ldm_group.proofs.LookLaws.{find_there}
+use Rattle.ldm_bytes.proofs.FindLaws.{find_there}
 use Rattle.std.specs.Prelude.{sum_by, is_some, option_copied}
 use Rattle.std.proofs.lemmas.Bool.{false_from_ne_true, false≢true, or_parts, eqb-false, ltb-false}
 use Rattle.std.proofs.lemmas.List.Folds.{list_any_at}

@@ -21,9 +21,9 @@ use Rattle.ldm_group.specs.Looks.{is_child, is_volume_named, max_id}
 use Rattle.ldm_group.proofs.InOrder.{in_order_rises, pairs_append, member_next, stays_next, made_next, max_above}
 use Rattle.ldm_group.proofs.KinLaws.{kin_are}
 use Rattle.ldm_label.specs.declared.Label.{Label}
-use Rattle.ldm_layout.specs.declared.parts.Extent.{Extent}
+use Rattle.ldm_places.specs.declared.extent.Extent.{Extent}
 use Rattle.ldm_layout.specs.declared.parts.Plex.{Plex}
-use Rattle.ldm_layout.specs.Layouts.{Layout}
+use Rattle.ldm_places.specs.Layouts.{Layout}
 use Rattle.ldm_layout.specs.Parts.{extent_of, extent_in, extents_of, plex_of, plexes_of}
 use Rattle.ldm_layout.specs.Volumes.{layout_of, is_basic}
 use Rattle.ldm_layout.proofs.VolumeLaws.{extents_by}

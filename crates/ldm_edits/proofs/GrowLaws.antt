@@ -19,7 +19,7 @@ use Rattle.ldm_group.specs.Room.{IsFitting, own_len, need_of}
 use Rattle.ldm_group.proofs.InOrder.{max_above}
 use Rattle.ldm_group.proofs.KinLaws.{filter_has}
 use Rattle.ldm_label.specs.declared.Label.{Label}
-use Rattle.ldm_layout.specs.declared.shape.Shape.TheVariants.{Mirror}
+use Rattle.ldm_places.specs.declared.shape.Shape.TheVariants.{Mirror}
 use Rattle.ldm_layout.specs.Volumes.{layout_of}
 use Rattle.ldm_rules.proofs.CarryLaws.{component_kept}
 use Rattle.ldm_rules.proofs.SoundLaws.{sound_parts}

@@ -16,7 +16,7 @@ use Rattle.ldm_records.specs.declared.types.Partition.{Partition}
 use Rattle.ldm_made.specs.Made.{with_children, new_partition}
 use Rattle.ldm_group.specs.Looks.{is_child}
 use Rattle.ldm_group.proofs.KindLaws.{child_component, child_partition}
-use Rattle.ldm_layout.specs.declared.parts.Extent.{Extent}
+use Rattle.ldm_places.specs.declared.extent.Extent.{Extent}
 use Rattle.ldm_layout.specs.Parts.{extent_of, extent_in, extents_of, by_offset, tile_key}
 use Rattle.ldm_layout.proofs.VolumeLaws.{extents_by, rising_sum}
 use Rattle.ldm_made.specs.declared.taken.Taken.{Taken}

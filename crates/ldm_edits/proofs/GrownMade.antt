@@ -15,7 +15,7 @@ use Rattle.ldm_records.specs.Views.{plain_of}
 use Rattle.ldm_made.specs.Made.{resized}
 use Rattle.ldm_made.proofs.MadeLaws.{MakesChildren, makes_children, MakesPartition, makes_partition}
 use Rattle.ldm_group.specs.Looks.{is_child, max_id}
-use Rattle.ldm_layout.specs.declared.parts.Extent.{Extent}
+use Rattle.ldm_places.specs.declared.extent.Extent.{Extent}
 use Rattle.ldm_layout.specs.Parts.{extent_of}
 use Rattle.ldm_made.specs.declared.taken.Taken.{Taken}
 use Rattle.ldm_space.specs.Free.{taken_of}

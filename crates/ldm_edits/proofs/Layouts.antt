@@ -6,8 +6,9 @@ use Rattle.std.proofs.lemmas.List.Sums.{sum-map, AllPass-from_list_all, list_all
 use Rattle.std.proofs.lemmas.List.Elements.{All-cons, All-nil, All-tail, All-contains, All-map, Contains-get_or}
 use Rattle.std.proofs.lemmas.Bool.{and_from, eq-eqb, le-leb, le-ltb, ltb-false, ne_eqb}
 use Rattle.ldm_records.specs.declared.types.Partition.{Partition}
-use Rattle.ldm_layout.specs.declared.parts.Extent.{Extent}
-use Rattle.ldm_layout.specs.Parts.{extent_of, tiles, tiles_from, rises_from, by_offset, by_index, least, plexes_of, extents_of, plex_of, in_rising}
+use Rattle.ldm_places.specs.declared.extent.Extent.{Extent}
+use Rattle.ldm_layout.specs.Parts.{extent_of, by_offset, by_index, plexes_of, extents_of, plex_of, in_rising}
+use Rattle.ldm_places.specs.Extents.{tiles, tiles_from, rises_from, least}
 use Rattle.ldm_made.specs.declared.taken.Taken.{Taken}
 use Rattle.ldm_space.specs.Free.{taken_of}
 use Rattle.std.proofs.lemmas.List.{length-map}
@@ -23,16 +24,16 @@ use Rattle.std.specs.Option.{option_map}
 use Rattle.ldm_bytes.specs.Tables.{first_fault, unless}
 use Rattle.ldm_records.specs.declared.types.Volume.{Volume}
 use Rattle.ldm_layout.specs.declared.parts.Plex.{Plex}
-use Rattle.ldm_layout.specs.declared.shape.LayoutFault.TheVariants.{Gap, Chunk, Columns, Short}
-use Rattle.ldm_layout.specs.declared.shape.Shape.{Shape}
-use Rattle.ldm_layout.specs.declared.shape.Shape.TheVariants.{Span, Stripe, Mirror, Raid5}
-use Rattle.ldm_layout.specs.Layouts.{Layout, has_gap, lacks_chunk, lacks_columns, has_columns, is_short, is_tiled, plex_capacity, capacity_of, fewest}
+use Rattle.ldm_places.specs.declared.shape.LayoutFault.TheVariants.{Gap, Chunk, Columns, Short}
+use Rattle.ldm_places.specs.declared.shape.Shape.{Shape}
+use Rattle.ldm_places.specs.declared.shape.Shape.TheVariants.{Span, Stripe, Mirror, Raid5}
+use Rattle.ldm_places.specs.Layouts.{Layout, has_gap, lacks_chunk, lacks_columns, has_columns, is_short, is_tiled, plex_capacity, capacity_of, fewest}
 use Rattle.ldm_layout.specs.Volumes.{layout_of, shape_of, striping_of, laid_out, draft_of, checked, is_basic}
-use Rattle.ldm_layout.proofs.SpotLaws.{has_none}
+use Rattle.ldm_places.proofs.SpotLaws.{has_none}
 use Rattle.ldm_layout.proofs.VolumeLaws.{laid_out_volume, by_offset_more}
 use Rattle.ldm_edits.specs.Mirroring.{held_in}
 use Rattle.std.proofs.Math.Nat.{mul_assoc}
-use Rattle.ldm_layout.specs.Places.{stripe_capacity, raid5_capacity}
+use Rattle.ldm_places.specs.Places.{stripe_capacity, raid5_capacity}
 use Rattle.ldm_layout.proofs.SortLaws.{AtLeast, Climbs, climbs_rises, stable_is}
 
 -- ---- The partitions that take given sectors, as a layout reads them: tiles one after the other, or columns side by side.

@@ -17,7 +17,7 @@ use Rattle.ldm_edits.specs.Changes.{Change, need_in, most_blocks, when, long_id,
 use Rattle.std.proofs.lemmas.List.{append-nil, map-append}
 use Rattle.std.proofs.lemmas.List.Elements.{filter_more, Contains-get_or, All-contains}
 use Rattle.ldm_group.specs.Order.{id_of, in_order, Rising}
-use Rattle.ldm_layout.specs.Parts.{least}
+use Rattle.ldm_places.specs.Extents.{least}
 use Rattle.std.specs.List.{All}
 use Rattle.std.proofs.lemmas.List.Sorted.{sum_by-IsPermutation}
 use Rattle.ldm_records.specs.Plain.{own_spelling}

@@ -20,17 +20,19 @@ use Rattle.ldm_group.specs.Database.{Database}
 use Rattle.ldm_group.specs.Room.{IsFitting}
 use Rattle.ldm_group.proofs.InOrder.{next_rises, max_above, pairs_append, member_next, stays_next, made_next}
 use Rattle.ldm_group.proofs.KinLaws.{filter_has, filter_keeps, kin_are}
-use Rattle.ldm_group.proofs.LookLaws.{one_record, find_there}
+use Rattle.ldm_group.proofs.LookLaws.{one_record}
+use Rattle.ldm_bytes.proofs.FindLaws.{find_there}
 use Rattle.ldm_group.proofs.Rise.{tested}
 use Rattle.ldm_label.specs.declared.Label.{Label}
 use Rattle.ldm_layout.specs.declared.parts.Plex.{Plex}
-use Rattle.ldm_layout.specs.declared.parts.Extent.{Extent}
-use Rattle.ldm_layout.specs.declared.shape.Shape.{Shape}
-use Rattle.ldm_layout.specs.Layouts.{Layout, is_tiled}
-use Rattle.ldm_layout.specs.Parts.{plex_of, plex_in, plexes_of, extent_of, extents_of, by_offset, tiles, tiles_from, least, tile_key}
+use Rattle.ldm_places.specs.declared.extent.Extent.{Extent}
+use Rattle.ldm_places.specs.declared.shape.Shape.{Shape}
+use Rattle.ldm_places.specs.Layouts.{Layout, is_tiled}
+use Rattle.ldm_layout.specs.Parts.{plex_of, plex_in, plexes_of, extent_of, extents_of, by_offset, tile_key}
+use Rattle.ldm_places.specs.Extents.{tiles, tiles_from, least}
 use Rattle.ldm_layout.specs.Volumes.{layout_of, shape_of, is_basic}
 use Rattle.ldm_layout.proofs.VolumeLaws.{plexes_by, plex_there, tiles_append, by_offset_more, some_tiles, rising_sum, few_by, many_extents, one_component, IsExtentOf, extents_are}
-use Rattle.ldm_layout.proofs.SpotLaws.{tiles_zero}
+use Rattle.ldm_places.proofs.SpotLaws.{tiles_zero}
 use Rattle.ldm_rules.proofs.CarryLaws.{KeepsVolume, volume_kept, component_kept, partition_kept}
 use Rattle.ldm_rules.proofs.GroupLaws.{names_kept}
 use Rattle.ldm_rules.proofs.SoundLaws.{EachRule, sound_parts}
@@ -47,7 +49,7 @@ use Rattle.ldm_edits.proofs.Shares.{Below, map_there, each_mapped, mapped, each_
 use Rattle.std.specs.Option.{option_map}
 use Rattle.ldm_made.proofs.MadeLaws.{MakesChildren, MakesSize, makes_size, makes_children}
 use Rattle.ldm_group.proofs.KindLaws.{child_component}
-use Rattle.ldm_layout.specs.declared.shape.Shape.TheVariants.{Span, Mirror}
+use Rattle.ldm_places.specs.declared.shape.Shape.TheVariants.{Span, Mirror}
 use Rattle.ldm_rules.specs.Facts.{IsSoundOn}
 use Rattle.ldm_made.specs.declared.taken.Taken.{Taken}
 use Rattle.ldm_space.specs.declared.placed.Wanted.{Wanted}

@@ -24,7 +24,8 @@ use Rattle.ldm_group.specs.Order.{Rising, kind_of, in_order, place_of, place, co
 use Rattle.ldm_group.proofs.InOrder.{in_order_same, made_next, member_next, stays_next}
 use Rattle.ldm_group.proofs.KindLaws.{child_component, child_partition, named_volume}
 use Rattle.ldm_group.proofs.KinLaws.{filter_has, filter_keeps, kin_same, once_at, same_there}
-use Rattle.ldm_group.proofs.LookLaws.{find_none, find_there, found_again, none_found, one_record}
+use Rattle.ldm_group.proofs.LookLaws.{find_none, found_again, none_found, one_record}
+use Rattle.ldm_bytes.proofs.FindLaws.{find_there}
 use Rattle.ldm_group.proofs.OrderLaws.{count_kept}
 use Rattle.ldm_group.proofs.Rise.{count_no, count_yes, tested, two_places}
 use Rattle.ldm_layout.specs.declared.parts.Plex.{Plex}

@@ -21,7 +21,7 @@ use Rattle.ldm_group.proofs.KindLaws.{child_component, child_partition}
 use Rattle.ldm_group.proofs.Rise.{tested}
 use Rattle.ldm_label.specs.declared.Label.{Label}
 use Rattle.ldm_layout.specs.declared.parts.Plex.{Plex}
-use Rattle.ldm_layout.specs.Layouts.{Layout}
+use Rattle.ldm_places.specs.Layouts.{Layout}
 use Rattle.ldm_layout.specs.Parts.{plex_of, plex_in, plexes_of, extent_of, extent_in, extents_of}
 use Rattle.ldm_layout.specs.Volumes.{layout_of}
 use Rattle.ldm_layout.proofs.VolumeLaws.{plexes_by, extents_by}

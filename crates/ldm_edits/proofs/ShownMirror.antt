@@ -19,9 +19,9 @@ use Rattle.ldm_label.specs.declared.Label.{Label}
 use Rattle.ldm_group.specs.Database.{Database}
 use Rattle.ldm_group.specs.Looks.{is_child, max_id}
 use Rattle.ldm_group.specs.Order.{Rising, in_order}
-use Rattle.ldm_layout.specs.declared.parts.Extent.{Extent}
+use Rattle.ldm_places.specs.declared.extent.Extent.{Extent}
 use Rattle.ldm_layout.specs.declared.parts.Plex.{Plex}
-use Rattle.ldm_layout.specs.declared.shape.Shape.TheVariants.{Mirror}
+use Rattle.ldm_places.specs.declared.shape.Shape.TheVariants.{Mirror}
 use Rattle.ldm_layout.specs.Parts.{by_offset, extent_in, plex_of, plexes_of}
 use Rattle.ldm_layout.specs.Volumes.{layout_of, shape_of}
 use Rattle.ldm_layout.proofs.VolumeLaws.{extents_by, plex_there}

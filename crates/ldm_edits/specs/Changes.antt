@@ -9,7 +9,7 @@ use Rattle.ldm_group.specs.Order.{id_of, in_order}
 use Rattle.ldm_group.specs.Database.{Database}
 use Rattle.ldm_group.specs.Looks.{max_id}
 use Rattle.ldm_group.specs.Room.{own_len, need_of, last_for}
-use Rattle.ldm_layout.specs.Parts.{least}
+use Rattle.ldm_places.specs.Extents.{least}
 use Rattle.ldm_edits.specs.declared.reply.Refusal.{Refusal}
 use Rattle.ldm_edits.specs.declared.reply.Refusal.TheVariants as refusals
 

@@ -11,11 +11,11 @@ use Rattle.ldm_made.specs.Made.{resized, with_children}
 use Rattle.ldm_label.specs.declared.Label.{Label}
 use Rattle.ldm_group.specs.Database.{Database}
 use Rattle.ldm_group.specs.Looks.{is_at, is_child, max_id}
-use Rattle.ldm_layout.specs.declared.shape.Shape.{Shape}
-use Rattle.ldm_layout.specs.declared.shape.Shape.TheVariants.{Span}
-use Rattle.ldm_layout.specs.declared.shape.LayoutFault.{LayoutFault}
+use Rattle.ldm_places.specs.declared.shape.Shape.{Shape}
+use Rattle.ldm_places.specs.declared.shape.Shape.TheVariants.{Span}
+use Rattle.ldm_places.specs.declared.shape.LayoutFault.{LayoutFault}
 use Rattle.ldm_layout.specs.Parts.{plexes_of}
-use Rattle.ldm_layout.specs.Layouts.{Layout, capacity_of}
+use Rattle.ldm_places.specs.Layouts.{Layout, capacity_of}
 use Rattle.ldm_layout.specs.Volumes.{layout_of, shape_of}
 use Rattle.ldm_rules.specs.Ends.{data_size}
 use Rattle.ldm_made.specs.declared.taken.Taken.{Taken}

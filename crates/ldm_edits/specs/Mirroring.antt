@@ -10,8 +10,8 @@ use Rattle.ldm_made.specs.Made.{resized, with_children, new_partition}
 use Rattle.ldm_label.specs.declared.Label.{Label}
 use Rattle.ldm_group.specs.Database.{Database}
 use Rattle.ldm_group.specs.Looks.{is_at, is_child, max_id}
-use Rattle.ldm_layout.specs.declared.parts.Extent.{Extent}
-use Rattle.ldm_layout.specs.declared.shape.Shape.TheVariants.{Mirror}
+use Rattle.ldm_places.specs.declared.extent.Extent.{Extent}
+use Rattle.ldm_places.specs.declared.shape.Shape.TheVariants.{Mirror}
 use Rattle.ldm_layout.specs.Parts.{plexes_of, extents_of, by_offset}
 use Rattle.ldm_layout.specs.Volumes.{layout_of, shape_of}
 use Rattle.ldm_rules.specs.Ends.{data_size}

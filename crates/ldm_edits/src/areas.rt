@@ -1,6 +1,6 @@
 //! How many blocks the config areas of the images hold.
 ghost use Rattle.std.specs.Prelude.{◌≡◌, ◌+◌, ◌*◌, ◌-◌, ◌<◌, ◌≤◌, ◌^◌, length, map, min, fold};
-ghost use Rattle.ldm_layout.specs.Parts.{least};
+ghost use Rattle.ldm_places.specs.Extents.{least};
 ghost use Rattle.ldm_edits.specs.Changes.{least_area, most_blocks, AreasFit};
 
 use ldm_label::Label;

@@ -1,7 +1,6 @@
 //! `extend`: more pieces at the end of a span or a mirror, or the first refusal.
 ghost use Rattle.std.specs.Prelude.{◌≡◌, ◌+◌, ◌++◌, ◌-◌, ◌^◌, ◌<◌, ◌≤◌, Some, Ok, find};
-ghost use Rattle.std.specs.Prelude.{length, List};
-ghost use Rattle.std.specs.Prelude.{option_copied, sum_by, true, is_some, IfOk};
+ghost use Rattle.std.specs.Prelude.{length, List, option_copied, sum_by, true, is_some, IfOk};
 ghost use Rattle.ldm_records.specs.declared.types.Record.{Record as AnyRecord};
 ghost use Rattle.ldm_made.specs.Made.{resized, with_children};
 ghost use Rattle.ldm_group.specs.Looks.{is_child, max_id, volume_named};
@@ -21,7 +20,7 @@ ghost use Rattle.ldm_edits.specs.Changes.{AreasFit, change_to};
 ghost use Rattle.ldm_edits.specs.Spots.{open_wanted, CanBePlaced};
 ghost use Rattle.ldm_edits.specs.Extending.{component_in, held, longer_parts, lengthened};
 ghost use Rattle.ldm_edits.specs.Extending.{against_longer, MayExtend, longer_span, extended_span};
-ghost use Rattle.ldm_layout.specs.declared.shape.Shape.TheVariants as shapes;
+ghost use Rattle.ldm_places.specs.declared.shape.Shape.TheVariants as shapes;
 ghost use Rattle.ldm_edits.specs.Extended.{extended_mirror, extended};
 
 use crate::additions::Additions;

@@ -2,7 +2,7 @@
 ghost use Rattle.std.specs.Prelude.{◌≡◌, ◌+◌, ◌-◌, ◌^◌, ◌≤◌, false, length, map, Some, is_some};
 ghost use Rattle.std.specs.Prelude.{◌++◌, IfOk};
 ghost use Rattle.ldm_group.specs.Looks.{max_id};
-ghost use Rattle.ldm_layout.specs.declared.shape.Shape.TheVariants.{Mirror};
+ghost use Rattle.ldm_places.specs.declared.shape.Shape.TheVariants.{Mirror};
 ghost use Rattle.ldm_group.specs.Order.{in_order};
 ghost use Rattle.ldm_layout.specs.Parts.{plexes_of};
 ghost use Rattle.ldm_layout.specs.Volumes.{layout_of, shape_of};

@@ -8,7 +8,7 @@ ghost use Rattle.ldm_rules.specs.Table.{IsSound};
 ghost use Rattle.ldm_group.specs.Looks.{is_volume_named, volume_named};
 ghost use Rattle.ldm_group.specs.Order.{in_order};
 ghost use Rattle.ldm_group.specs.Partitions.{EndsInRange};
-ghost use Rattle.ldm_layout.specs.Layouts.{Layout};
+ghost use Rattle.ldm_places.specs.Layouts.{Layout};
 ghost use Rattle.ldm_layout.specs.Volumes.{layout_of, volume_with};
 ghost use Rattle.ldm_edits.specs.Additions.{AreAdditions};
 ghost use Rattle.ldm_edits.specs.Replacing.{AreFront, ShowsNamed};

@@ -1,9 +1,8 @@
 //! Images that are open for their disks.
-ghost use Rattle.std.specs.Prelude.{◌<◌, ◌^◌, ◌≤ℤ◌};
+ghost use Rattle.std.specs.Prelude.{◌≡◌, ◌<◌, ◌^◌, ◌≤ℤ◌};
 ghost use Rattle.std.specs.Fd.{file_raw_fd};
 ghost use Rattle.ldm_files.specs.declared.streams.TheConstants.{STREAMS};
 
-use crate::device::{has_byte_locks, hindrance};
 use crate::streams::STREAMS;
 use std::fs::{File, Metadata, TryLockError};
 use std::io::{self, ErrorKind, Seek, SeekFrom};
@@ -64,9 +63,9 @@ impl From<io::Error> for ImageError {
 
 /// A file by the device that it is on, and its number there.
 #[derive(Clone, Copy, PartialEq, Eq)]
-struct FileId {
-    device: u64,
-    number: u64,
+pub struct FileId {
+    pub device: u64,
+    pub number: u64,
 }
 
 /// An image that is open for its disk, and how long it is. It is on no standard stream.
@@ -96,71 +95,45 @@ fn require_disk(metadata: &Metadata) -> Result<(), ImageError> {
     }))
 }
 
-// The system doesn't tell who uses an image, or there is no memory for it.
-fn untold(error: io::Error) -> ImageError {
-    if error.kind() == ErrorKind::OutOfMemory {
-        ImageError::NoMemory
-    } else {
-        ImageError::Untold
-    }
-}
-
-// Refuses a block device that is used or may not be written.
-fn require_unused(rt: &HostRuntime, metadata: &Metadata) -> Result<(), ImageError> {
-    if !metadata.file_type().is_block_device() {
-        return Ok(());
-    }
-    match hindrance(rt, metadata.rdev()) {
-        Ok(None) => Ok(()),
-        Ok(Some(error)) => Err(error),
-        Err(error) => Err(untold(error)),
-    }
-}
-
-// Refuses an open file that holds no disk, and one that the job may not edit.
-fn require_fit(rt: &HostRuntime, file: &File, access: Access) -> Result<(), ImageError> {
-    let metadata = file.metadata()?;
-    require_disk(&metadata)?;
-    match access {
-        Access::Read => Ok(()),
-        Access::Edit => require_unused(rt, &metadata),
-    }
-}
-
 impl ImageFile {
+    ghost use Rattle.std.specs.Prelude.{◌≡◌};
+
     /// Opens an image for reading, and for writing too where the job edits. What holds no disk
     /// isn't even opened, since a named pipe would wait for a writer; what was opened is looked at
-    /// again, since the name may stand for another file by then. A block device that is to be
-    /// edited may be used by nothing else.
+    /// again, since the name may stand for another file by then.
     pub fn open(rt: &HostRuntime, path: &str, access: Access) -> Result<ImageFile, ImageError> {
         require_disk(&std::fs::metadata(rt, path)?)?;
         let file = File::options()
             .read(true)
             .write(access == Access::Edit)
             .open(rt, path)?;
-        require_fit(rt, &file, access)?;
+        require_disk(&file.metadata()?)?;
         ImageFile::of(file)
     }
 
-    /// Locks the image against other programs that edit, for as long as it is open, and fails where
-    /// one of them holds it, or where any program holds bytes of it. An image that is among those
-    /// already open is left to the lock of the first, so that it is found to be named twice.
-    pub fn lock_beside(&self, rt: &HostRuntime, others: &[ImageFile]) -> Result<(), ImageError> {
-        if others.iter().any(|other| other.id == self.id) {
-            return Ok(());
-        }
-        match self.file.try_lock() {
-            Ok(()) => self.require_no_byte_locks(rt),
-            Err(TryLockError::Error(error)) => Err(ImageError::from(error)),
-            Err(TryLockError::WouldBlock) => Err(ImageError::Held),
+    /// Which file it is.
+    pub fn id(&self) -> FileId
+        ensures { result ≡ self.now.id }
+    {
+        self.id
+    }
+
+    /// The number of the block device that it is, where it is one.
+    pub fn block_device(&self) -> Result<Option<u64>, ImageError> {
+        let metadata = self.file.metadata()?;
+        if metadata.file_type().is_block_device() {
+            Ok(Some(metadata.rdev()))
+        } else {
+            Ok(None)
         }
     }
 
-    fn require_no_byte_locks(&self, rt: &HostRuntime) -> Result<(), ImageError> {
-        match has_byte_locks(rt, self.id.device, self.id.number) {
-            Ok(false) => Ok(()),
-            Ok(true) => Err(ImageError::Held),
-            Err(error) => Err(untold(error)),
+    /// Locks the file for as long as it is open, and fails where another program has locked it.
+    pub fn try_lock(&self) -> Result<(), ImageError> {
+        match self.file.try_lock() {
+            Ok(()) => Ok(()),
+            Err(TryLockError::Error(error)) => Err(ImageError::from(error)),
+            Err(TryLockError::WouldBlock) => Err(ImageError::Held),
         }
     }
 

@@ -5,13 +5,12 @@
 //! calls do to them is trusted.
 #![tactic(auto)]
 
-mod device;
 mod file_host;
 mod image;
 mod meter;
 mod streams;
 
 pub use file_host::{DiskCall, Failure, FileHost};
-pub use image::{Access, ImageError, ImageFile};
+pub use image::{Access, FileId, ImageError, ImageFile};
 pub use meter::{Counted, Meter, Progress, Watch};
 pub use streams::{STREAMS, take_closed_streams};

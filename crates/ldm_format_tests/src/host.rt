@@ -1,6 +1,7 @@
 //! Hosts in memory: what is handed to them, and which of their calls fail.
 use crate::made::check;
-use ldm_host::{Failed, Host, MemoryHost};
+use ldm_host::{Failed, Host};
+use ldm_memory::MemoryHost;
 use std::alloc::Global;
 use std::process::Abort;
 

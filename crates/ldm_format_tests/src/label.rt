@@ -1,9 +1,10 @@
 //! Labels: usual ones, each first fault, and what is written and read back.
 use crate::made::{bytes_of, check};
 use ldm_bytes::put_bytes;
-use ldm_host::{Host, MemoryHost};
+use ldm_host::Host;
 use ldm_label::LabelFault::*;
 use ldm_label::{Label, LabelError, LabelFault, read_label, write_label};
+use ldm_memory::MemoryHost;
 use std::alloc::{AllocError, Global};
 use std::process::Abort;
 

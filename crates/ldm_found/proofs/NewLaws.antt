@@ -12,11 +12,11 @@ use Rattle.ldm_rules.specs.Table.{first_broken_rule}
 use Rattle.ldm_rules.proofs.CarryLaws.{new_sound, new_own, none_absent, no_position}
 use Rattle.ldm_copy.specs.declared.answer.CopyState.{CopyState}
 use Rattle.ldm_copy.specs.declared.answer.CopyState.TheVariants.{Valid}
-use Rattle.ldm_copy.specs.Body.{IsWritten}
-use Rattle.ldm_found.specs.declared.fault.OpenFault.{OpenFault}
-use Rattle.ldm_found.specs.declared.fault.OpenFault.TheVariants as faults
-use Rattle.ldm_found.specs.declared.notes.Note.{Note}
-use Rattle.ldm_found.specs.declared.notes.Note.TheVariants as notes
+use Rattle.ldm_copy.specs.Copy.{IsWritten}
+use Rattle.ldm_findings.specs.declared.fault.OpenFault.{OpenFault}
+use Rattle.ldm_findings.specs.declared.fault.OpenFault.TheVariants as faults
+use Rattle.ldm_findings.specs.declared.notes.Note.{Note}
+use Rattle.ldm_findings.specs.declared.notes.Note.TheVariants as notes
 use Rattle.ldm_found.specs.Gathers.{Gathers, IsFirst}
 use Rattle.ldm_found.specs.Labels.{IsLabelOf, AreApart}
 use Rattle.ldm_found.specs.Copies.{IsCopyIn, newer, newest, Disagrees, note_of}

@@ -1,21 +1,14 @@
 -- What the labels of all images say together.
-use Rattle.std.specs.Prelude.{◌≡◌, ◌⊎◌, ℕ, ◌<◌, ◌≤◌, List, Option, Some, None, Result, option_and_then, slice_get}
+use Rattle.std.specs.Prelude.{◌≡◌, ◌⊎◌, ℕ, ◌<◌, ◌≤◌, List, Option, Some, None, Result, slice_get}
 use Rattle.ldm_host.specs.Seen.{image}
-use Rattle.ldm_records.specs.declared.types.Record.{Record}
-use Rattle.ldm_group.specs.Looks.{by_id, disk_in}
 use Rattle.ldm_label.specs.declared.Label.{Label}
 use Rattle.ldm_label.specs.declared.LabelFault.{LabelFault}
 use Rattle.ldm_label.specs.LabelOf.{label_of, SameOutsideArea}
-use Rattle.ldm_rules.specs.Present.{image_with}
 pub use Rattle.ldm_rules.specs.Facts.{AreOneDisk, AreApart, stranger}
 
 -- the label of an image, or its first fault
 abbrev pub IsLabelOf : List ℕ → Result Label LabelFault → Type 0
 IsLabelOf image label = label_of image ≡ label
-
--- the first image of the disk record of this id
-abbrev pub image_of : ℕ → List Record → List Label → Option ℕ
-image_of disk records labels = option_and_then (λ d. image_with d.guid labels) (disk_in (by_id 2 disk records))
 
 -- no two images are of one disk, or these are the first two: the first has the least number of all that a later image is
 -- of one disk with, and the second the least of these

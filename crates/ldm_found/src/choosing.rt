@@ -11,9 +11,8 @@ ghost use Rattle.ldm_found.specs.Steps.{ChecksGroup, GivesGroup, newest_faults, 
 
 use crate::copies::Newest;
 use crate::editing::blocked;
-use crate::fault::{OpenError, OpenFault};
-use crate::found::Found;
-use crate::notes::Notes;
+use crate::fault::OpenError;
+use ldm_findings::{Found, Notes, OpenFault};
 use ldm_group::Db;
 use ldm_label::{Label, Labels};
 use ldm_rules::{RuleError, check};

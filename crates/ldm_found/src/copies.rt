@@ -12,9 +12,9 @@ ghost use Rattle.ldm_found.specs.Gathers.{Gathers};
 ghost use Rattle.ldm_found.specs.Steps.{Adds, ReadsCopy, ReadsNext, ReadsCopies, IsNewestOf};
 ghost use Rattle.ldm_found.specs.Steps.{IsAmong, IsRoomy};
 
-use crate::fault::{OpenError, OpenFault};
-use crate::notes::{Note, Notes};
+use crate::fault::OpenError;
 use ldm_copy::{CopyError, CopyState, is_alike, read_copy};
+use ldm_findings::{Note, Notes, OpenFault};
 use ldm_group::Db;
 use ldm_host::Host;
 use ldm_label::Label;

@@ -7,10 +7,10 @@ ghost use Rattle.ldm_found.specs.Labels.{AreApart, AreTwins};
 ghost use Rattle.ldm_found.specs.Facts.{LieOn};
 ghost use Rattle.ldm_found.specs.Steps.{ReadsLabel, ReadsLabels, ReadsDisks};
 
-use crate::fault::{OpenError, OpenFault};
+use crate::fault::OpenError;
+use ldm_findings::OpenFault;
 use ldm_host::Host;
-use ldm_label::{Label, LabelError, Labels, read_label};
-use ldm_rules::image_with;
+use ldm_label::{Label, LabelError, Labels, image_with, read_label};
 use std::alloc::Global;
 
 // The label of one image.

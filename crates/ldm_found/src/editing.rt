@@ -5,11 +5,10 @@ ghost use Rattle.ldm_group.specs.Order.{id_of};
 ghost use Rattle.ldm_rules.specs.Present.{is_absent};
 ghost use Rattle.ldm_found.specs.Editing.{is_small, clashes, blocked_in};
 
-use crate::fault::OpenFault;
+use ldm_findings::OpenFault;
 use ldm_group::{Db, id_of};
-use ldm_label::Label;
+use ldm_label::{Label, image_with};
 use ldm_records::Record;
-use ldm_rules::image_with;
 
 fn is_absent(labels: &[Label], r: &Record) -> bool
     ensures { result ≡ is_absent labels.now r.now }

@@ -10,13 +10,10 @@ mod disks;
 mod editing;
 mod fault;
 mod finding;
-mod found;
 mod laws;
-mod notes;
 
 pub use disks::twins;
-pub use fault::{OpenError, OpenFault};
+pub use fault::OpenError;
 pub use finding::find_group;
-pub use found::Found;
 pub use laws::{disks_alone, group_alone, new_groups_open};
-pub use notes::{Note, Notes};
+pub use ldm_findings::{Found, Note, Notes, OpenFault};

@@ -3,18 +3,10 @@ use Rattle.std.proofs.Common.{◌≡◌, ℕ, zero, suc, ◌+◌, ◌*◌, ◌^�
 use Rattle.std.proofs.lemmas.Bool.{and_parts, cases_lt, eqb-true, eq-eqb}
 use Rattle.std.proofs.lemmas.Option.{slice_get_within, slice_get-get_or}
 use Rattle.std.proofs.lemmas.List.{get_or_default}
+use Rattle.ldm_bytes.proofs.FindLaws.{find_there}
 use Rattle.ldm_records.specs.declared.types.Record.{Record}
 use Rattle.ldm_group.specs.Order.{Rising, kind_of, id_of, place_of}
 use Rattle.ldm_group.specs.Looks.{is_at, by_id}
-
--- what passes a test first is there, and passes it
-pub find_there : {X : Type 0} (t : X → Bool) (xs : List X) (x : X) → find t xs ≡ Some x → Contains xs x × (t x ≡ true)
-find_there t [] x e = absurd cc
-find_there {X} t (y ∷ ys) x e = go (t y) refl e (λ f. find_there t ys x f)
-  where
-    go : (b : Bool) → t y ≡ b → cond b (Some y) (find t ys) ≡ Some x → (find t ys ≡ Some x → Contains ys x × (t x ≡ true)) → Contains (y ∷ ys) x × (t x ≡ true)
-    go true h f later = let same : y ≡ x = cc in ((0, omega arith, same), ap t (sym same) ∙ h)
-    go false h f later = let found = later f in ((suc found.0.0, omega (arith, found.0.1), found.0.2), found.1)
 
 -- nothing is found only where no element passes
 pub none_found : {X : Type 0} (t : X → Bool) (xs : List X) (k : ℕ) (d : X) → find t xs ≡ None → k < length xs → t (get_or xs k d) ≡ false

@@ -8,6 +8,7 @@
 mod catalog;
 mod db;
 mod error;
+mod fault;
 mod index;
 mod looks;
 mod order;
@@ -18,6 +19,7 @@ mod used;
 
 pub use db::Db;
 pub use error::DbError;
+pub use fault::RuleFault;
 pub use order::{id_of, kind_of};
 pub use records::Records;
 pub use room::{last_for, own_len};

@@ -1,6 +1,6 @@
 //! What a stop leaves of a copy that is rewritten, and bodies that are read back.
 ghost use Rattle.std.specs.Prelude.{◌<◌, length, slice_index, IfOk};
-ghost use Rattle.ldm_host.specs.Memory.{memory_seen};
+ghost use Rattle.ldm_memory.specs.Memory.{memory_seen};
 ghost use Rattle.ldm_host.specs.Moves.{Settled};
 ghost use Rattle.ldm_host.specs.Seen.{image};
 ghost use Rattle.ldm_label.specs.LabelOf.{Fits};
@@ -8,12 +8,14 @@ ghost use Rattle.ldm_copy.specs.Answers.{FitsHeader};
 ghost use Rattle.ldm_copy.specs.Copy.{config_area, IsOpen};
 
 use crate::made::put;
+use ldm_body::{body_of, rewrite};
 use ldm_bytes::{put_bytes, put_u16, put_u32};
-use ldm_copy::{CopyState, body_of, read_copy, rewrite};
+use ldm_copy::{CopyState, read_copy};
 use ldm_group::Db;
-use ldm_host::{Filling, Host, MemoryHost};
+use ldm_host::Host;
 use ldm_images::usual_images;
 use ldm_label::{Label, read_label};
+use ldm_memory::{Filling, MemoryHost};
 use ldm_vectors::sample_images;
 use std::alloc::Global;
 use std::test::Fail;

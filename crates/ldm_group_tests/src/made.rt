@@ -1,7 +1,7 @@
 //! Rows of the tests: records, databases and hosts from short texts.
 use ldm_bytes::{put_bytes, put_u16, put_u32, put_u64};
 use ldm_group::{Db, DbError, id_of, kind_of};
-use ldm_host::MemoryHost;
+use ldm_memory::MemoryHost;
 use ldm_payloads::read_record;
 use ldm_records::Record;
 use ldm_vectors::sample_images;

@@ -1,6 +1,7 @@
 //! The images of the sample group, byte by byte.
 use ldm_found::find_group;
-use ldm_host::{Host, MemoryHost};
+use ldm_host::Host;
+use ldm_memory::MemoryHost;
 use ldm_vectors::sample_images;
 use std::alloc::Global;
 use std::test::Fail;

@@ -4,7 +4,7 @@ use Rattle.ldm_records.specs.declared.types.Record.{Record}
 use Rattle.ldm_layout.specs.Parts.{plexes_at, plexes_of}
 use Rattle.ldm_layout.specs.Grouped.{Lists, IsListsOf}
 use Rattle.ldm_layout.specs.Volumes.{shape_of}
-use Rattle.ldm_layout.specs.declared.shape.Shape.{Shape}
+use Rattle.ldm_places.specs.declared.shape.Shape.{Shape}
 use Rattle.ldm_group_text.specs.Volumes.{text_of_partitions, text_of_components, text_of_volumes, text_of_all_volumes}
 
 same_shapes : (lists : Lists) (records : List Record) → IsListsOf lists records

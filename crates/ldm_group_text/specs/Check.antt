@@ -1,10 +1,10 @@
 -- The text that says what each image holds, and whether the group may be edited.
 use Rattle.std.specs.Prelude.{ℕ, List, ◌++◌, flat_map, codes, decimal, Option, Some, None}
 use Rattle.std.specs.List.{enumerate_from}
-use Rattle.ldm_found.specs.declared.fault.OpenFault.{OpenFault}
-use Rattle.ldm_found.specs.declared.notes.Note.{Note}
-use Rattle.ldm_found.specs.declared.notes.Note.TheVariants.{Closed, Sequence}
-use Rattle.ldm_found.specs.declared.found.Found.{Found}
+use Rattle.ldm_findings.specs.declared.fault.OpenFault.{OpenFault}
+use Rattle.ldm_findings.specs.declared.notes.Note.{Note}
+use Rattle.ldm_findings.specs.declared.notes.Note.TheVariants.{Closed, Sequence}
+use Rattle.ldm_findings.specs.declared.found.Found.{Found}
 use Rattle.ldm_group_text.specs.Opening.{text_of_open_fault}
 
 -- image I sequence S, or image I closed

@@ -6,10 +6,10 @@ use Rattle.ldm_records.specs.declared.types.Record.{Record}
 use Rattle.ldm_records.specs.declared.types.Disk.{Disk}
 use Rattle.ldm_group.specs.Looks.{by_id, disk_in}
 use Rattle.ldm_label.specs.declared.Label.{Label}
-use Rattle.ldm_layout.specs.Layouts.{Layout, copies_of, place_in, parity_in}
-use Rattle.ldm_layout.specs.declared.shape.Place.{Place}
-use Rattle.ldm_rules.specs.Present.{data_start_with}
-use Rattle.ldm_found.specs.declared.found.Found.{Found}
+use Rattle.ldm_places.specs.Layouts.{Layout, copies_of, place_in, parity_in}
+use Rattle.ldm_places.specs.declared.shape.Place.{Place}
+use Rattle.ldm_label.specs.Present.{data_start_with}
+use Rattle.ldm_findings.specs.declared.found.Found.{Found}
 use Rattle.ldm_group_text.specs.declared.mapped.MappedDisk.{MappedDisk}
 use Rattle.ldm_words.specs.Names.{esc}
 

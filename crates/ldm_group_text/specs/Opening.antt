@@ -1,7 +1,7 @@
 -- The texts of the faults of a group. Images are counted from 0.
 use Rattle.std.specs.Prelude.{ℕ, List, ◌++◌, codes, decimal}
-use Rattle.ldm_found.specs.declared.fault.OpenFault.{OpenFault}
-use Rattle.ldm_found.specs.declared.fault.OpenFault.TheVariants.{Label, SameDisk, Copy, NoCopy, Split, Stranger, Rule, Absent, FewDisks, AreaSmall, AreaClash}
+use Rattle.ldm_findings.specs.declared.fault.OpenFault.{OpenFault}
+use Rattle.ldm_findings.specs.declared.fault.OpenFault.TheVariants.{Label, SameDisk, Copy, NoCopy, Split, Stranger, Rule, Absent, FewDisks, AreaSmall, AreaClash}
 use Rattle.ldm_text.specs.Texts.{text_of_label_fault, text_of_image_fault}
 use Rattle.ldm_text.specs.Records.{text_of_copy_fault}
 

@@ -8,9 +8,8 @@ use Rattle.ldm_group.specs.Database.{Database}
 use Rattle.ldm_group.specs.Partitions.{used_on}
 use Rattle.ldm_group.specs.Room.{need_of, room_of}
 use Rattle.ldm_label.specs.declared.Label.{Label}
-use Rattle.ldm_rules.specs.Ends.{sectors_by}
-use Rattle.ldm_rules.specs.Present.{image_with}
-use Rattle.ldm_found.specs.declared.found.Found.{Found}
+use Rattle.ldm_label.specs.Present.{sectors_by, image_with}
+use Rattle.ldm_findings.specs.declared.found.Found.{Found}
 use Rattle.ldm_words.specs.Names.{esc}
 use Rattle.ldm_group_text.specs.Volumes.{text_of_all_volumes}
 

@@ -10,8 +10,8 @@ use Rattle.ldm_records.specs.declared.types.Component.{Component}
 use Rattle.ldm_records.specs.declared.types.Partition.{Partition}
 use Rattle.ldm_layout.specs.Parts.{plexes_of}
 use Rattle.ldm_layout.specs.Volumes.{shape_of}
-use Rattle.ldm_layout.specs.declared.shape.Shape.{Shape}
-use Rattle.ldm_layout.specs.declared.shape.Shape.TheVariants.{Span, Stripe, Mirror, Raid5}
+use Rattle.ldm_places.specs.declared.shape.Shape.{Shape}
+use Rattle.ldm_places.specs.declared.shape.Shape.TheVariants.{Span, Stripe, Mirror, Raid5}
 use Rattle.ldm_words.specs.Names.{esc}
 use Rattle.ldm_text.specs.Texts.{guid_of_volume}
 

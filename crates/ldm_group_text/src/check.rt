@@ -5,7 +5,7 @@ ghost use Rattle.ldm_group_text.specs.Check.{text_of_note, text_of_blocked, text
 
 use crate::opening::fault_text;
 use ldm_bytes::{Bytes, NoMemory};
-use ldm_found::{Found, Note, OpenFault};
+use ldm_findings::{Found, Note, OpenFault};
 use ldm_text::{Text, push_number};
 use std::alloc::Global;
 

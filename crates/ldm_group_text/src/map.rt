@@ -2,14 +2,14 @@
 ghost use Rattle.std.specs.Prelude.{◌≡◌, ◌++◌, ◌+◌, ◌<◌, ◌≤◌, nat_eq, OnOk, IfOk, flat_map};
 ghost use Rattle.std.specs.HashMap as hash;
 ghost use Rattle.std.specs.List.{range_with_len};
-ghost use Rattle.ldm_layout.specs.Layouts.{copies_of};
+ghost use Rattle.ldm_places.specs.Layouts.{copies_of};
 ghost use Rattle.ldm_group_text.specs.Map.{text_of_image_sector, text_of_sector_on};
 ghost use Rattle.ldm_group_text.specs.Map.{text_of_copy_number, text_of_parity, text_of_sector};
 ghost use Rattle.ldm_group_text.specs.Map.{text_of_sectors, text_of_map};
 
 use crate::mapped::{MappedDisk, mapped_disks};
 use ldm_bytes::{Bytes, NoMemory};
-use ldm_found::Found;
+use ldm_findings::Found;
 use ldm_layout::Plan;
 use ldm_text::{Text, push_name, push_number};
 use std::alloc::Global;

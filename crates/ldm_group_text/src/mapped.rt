@@ -2,13 +2,12 @@
 ghost use Rattle.std.specs.Prelude.{◌≡◌, ◌==◌, ℕ, nat_eq, OnOk, IfOk, Some, None, if◌then◌else◌};
 ghost use Rattle.std.specs.HashMap as hash;
 ghost use Rattle.std.specs.Option.{option_or};
-ghost use Rattle.ldm_rules.specs.Present.{data_start_with};
+ghost use Rattle.ldm_label.specs.Present.{data_start_with};
 ghost use Rattle.ldm_group_text.specs.Map.{mapped_disk, mapped_at};
 
 use ldm_bytes::{Bytes, NoMemory};
-use ldm_label::Label;
+use ldm_label::{Label, label_with};
 use ldm_records::{Disk, Record};
-use ldm_rules::label_with;
 use std::alloc::Global;
 use std::collections::HashMap;
 

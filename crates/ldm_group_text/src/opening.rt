@@ -6,9 +6,9 @@ ghost use Rattle.ldm_group_text.specs.Opening.{text_of_images, text_of_open_faul
 
 use ldm_bytes::{Bytes, NoMemory};
 use ldm_copy::CopyFault;
-use ldm_found::OpenFault;
+use ldm_findings::OpenFault;
+use ldm_group::RuleFault;
 use ldm_label::LabelFault;
-use ldm_rules::RuleFault;
 use ldm_text::{Text, copy_fault_text, image_fault_text, label_fault_text, push_number, said_text};
 use std::alloc::Global;
 

@@ -4,16 +4,14 @@ ghost use Rattle.std.specs.Prelude.{OnOk, IfOk, unwrap_or, codes, decimal};
 ghost use Rattle.indexmap.specs.IndexMap as map;
 ghost use Rattle.ldm_group.specs.Partitions.{used_on};
 ghost use Rattle.ldm_group.specs.Room.{IsFitting, need_of, room_of};
-ghost use Rattle.ldm_rules.specs.Ends.{sectors_by};
-ghost use Rattle.ldm_found.specs.Facts.{IsSoundGroup};
-ghost use Rattle.ldm_rules.specs.Present.{image_with};
+ghost use Rattle.ldm_label.specs.Present.{sectors_by, image_with};
 ghost use Rattle.ldm_group_text.specs.Show.{text_of_group, text_of_place, text_of_disk_at};
 ghost use Rattle.ldm_group_text.specs.Show.{text_of_disks, text_of_show};
 
 use crate::volumes::push_all_volumes;
 use indexmap::IndexMap;
 use ldm_bytes::{Bytes, NoMemory};
-use ldm_found::Found;
+use ldm_findings::Found;
 use ldm_group::{Db, used_of, used_sectors};
 use ldm_label::{Label, Labels};
 use ldm_records::{Disk, Record};
@@ -125,7 +123,7 @@ fn push_disks(alloc: Global, text: &mut Text, found: &Found) -> Result<(), NoMem
 /// The text that shows a group: its name, sequence and blocks, a line for each disk, and the
 /// volumes with their components and partitions.
 pub fn show_text(alloc: Global, found: &Found) -> Result<Bytes, NoMemory>
-    requires { IsSoundGroup found.now }
+    requires { All IsFitting found.now.db.records }
     ensures { IfOk result (λ text. text ≡ text_of_show found.now) }
 {
     let mut text = Text::new(alloc);

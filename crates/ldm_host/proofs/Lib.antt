@@ -1,6 +1,2 @@
 pub mod Relations
 pub mod ChangeLaws
-pub mod CallLaws
-pub mod DoneLaws
-pub mod HeldLaws
-pub mod LeftLaws

@@ -1,10 +1,24 @@
 -- How relations between states of a host follow one another.
-use Rattle.std.proofs.Common.{[], ◌≡◌, ◌≢◌, inl, inr, ⊎_elim, ◌↔◌, ℕ, ◌+◌, ◌<◌, ◌≤◌, List, ◌++◌, length, set, slice_index, refl, sym, ◌∙◌, ap, subst, arith, append_assoc}
-use Rattle.std.proofs.lemmas.List.{get_or-set_same, get_or-set_other, length-set}
+use Rattle.std.proofs.Common.{[], ◌≡◌, ◌≢◌, inl, inr, ⊎_elim, ◌↔◌, ℕ, ◌+◌, ◌<◌, ◌≤◌, List, ◌∷◌, ◌++◌, length, set, slice_index, refl, sym, ◌∙◌, ap, subst, arith, append_assoc}
+use Rattle.std.proofs.Math.Nat.{suc-ne-zero}
+use Rattle.std.proofs.lemmas.List.{get_or-set_same, get_or-set_other, length-set, append-nil, append_cancel_left}
 use Rattle.std.proofs.lemmas.Bool.{cases_eq}
 use Rattle.ldm_host.specs.Seen.{Seen, Leaves, image}
-use Rattle.ldm_host.specs.StoryLaws.{begins_itself, begins_both}
 use Rattle.ldm_host.specs.Moves.{Rose, DiskFailed, Begins, Torn, TornAt, Later, Quiet, Still, Looks, Works, AtEachMoment, Writes, Syncs, Settles}
+
+pub begins_itself : (x : List ℕ) → Begins x x
+begins_itself x = ([], sym (append-nil x))
+
+-- two texts of which each begins with the other
+pub begins_both : (x y : List ℕ) → Begins x y → Begins y x → y ≡ x
+begins_both x y one two = one.1 ∙ ap (λ (l : List ℕ). x ++ l) (empty one.0 two.0 none) ∙ append-nil x
+  where
+    none : one.0 ++ two.0 ≡ []
+    none = append_cancel_left x (one.0 ++ two.0) [] (sym (append_assoc x one.0 two.0) ∙ sym (ap (λ (l : List ℕ). l ++ two.0) one.1) ∙ sym two.1 ∙ sym (append-nil x))
+
+    empty : (a b : List ℕ) → a ++ b ≡ [] → a ≡ []
+    empty [] b is = refl
+    empty (n ∷ a) b is = absurd (suc-ne-zero (length (a ++ b)) (ap length is))
 
 pub rose_sooner : (a b c : ℕ) → a ≤ b → Rose b c → Rose a c
 rose_sooner a b c le (inl less) = inl (omega arith)

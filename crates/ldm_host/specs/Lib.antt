@@ -3,12 +3,3 @@ pub mod Seen
 pub mod Moves
 pub mod Acts
 pub mod Images
-pub mod Plan
-pub mod Story
-pub mod StoryLaws
-pub mod Kept
-pub mod Memory
-pub mod Ending
-pub mod Steps
-pub mod Left
-pub mod Laws

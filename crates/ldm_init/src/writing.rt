@@ -7,7 +7,7 @@ ghost use Rattle.ldm_bytes.specs.Places.{put};
 ghost use Rattle.ldm_label.specs.Laws.{IsClearOfLabel};
 ghost use Rattle.ldm_label.specs.Written.{written_sectors};
 ghost use Rattle.ldm_group.specs.Database.{Database};
-ghost use Rattle.ldm_copy.specs.Body.{IsBodyOn};
+ghost use Rattle.ldm_body.specs.Body.{IsBodyOn};
 ghost use Rattle.ldm_init.specs.Moments.{CanTake, IsReadyToSign};
 ghost use Rattle.ldm_init.specs.Bytes.{IsLast, IsUnsignedImage};
 ghost use Rattle.ldm_init.specs.Beside.{IsBeside, ChangesBeside};

@@ -1,7 +1,8 @@
 //! Sessions of jobs on the disks of a small group: each job is run on what the jobs before it left.
 use crate::group::change_images;
 use crate::jobs::{letters_of, named_images, place_of, run_over, sample_group, words_in};
-use ldm_host::{Host, MemoryHost};
+use ldm_host::Host;
+use ldm_memory::MemoryHost;
 use std::alloc::Global;
 use std::process::Abort;
 use std::test::Fail;

@@ -1,8 +1,9 @@
 //! How many bytes jobs hand to the disks of groups whose copies are tidy.
 use crate::group::change_images;
 use crate::jobs::{run_over, sample_group, words_in};
-use ldm_host::{Host, MemoryHost};
+use ldm_host::Host;
 use ldm_images::usual_images;
+use ldm_memory::MemoryHost;
 use ldm_run::Status;
 use std::alloc::Global;
 use std::process::Abort;

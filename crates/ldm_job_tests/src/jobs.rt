@@ -1,5 +1,6 @@
 //! How jobs are run over the images of a small group, and what is compared.
-use ldm_host::{Host, MemoryHost};
+use ldm_host::Host;
+use ldm_memory::MemoryHost;
 use ldm_run::{Status, run};
 use ldm_vectors::sample_images;
 use ldm_words::{WordsError, read_words};

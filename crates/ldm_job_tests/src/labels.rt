@@ -1,6 +1,7 @@
 //! The job `disk`: the label of an image, or its first fault.
 use crate::jobs::{Case, expect, expect_cases, expect_fault, image_with, run_over, words_in};
-use ldm_host::{Host, MemoryHost};
+use ldm_host::Host;
+use ldm_memory::MemoryHost;
 use ldm_run::Status;
 use std::alloc::Global;
 use std::process::Abort;

@@ -1,7 +1,8 @@
 //! What `look` says of the sample group, and that it leaves other jobs alone.
 use crate::jobs::{named_images, sample_group, words_in};
-use ldm_host::{Host, MemoryHost};
+use ldm_host::Host;
 use ldm_look::look;
+use ldm_memory::MemoryHost;
 use ldm_run::Status;
 use ldm_words::read_words;
 use std::alloc::Global;

@@ -1,6 +1,6 @@
 //! A new group on empty disks: its images, what disks are refused, and what a stop leaves.
 use crate::jobs::{answer_of, expect, put, run_over, sample_group, words_in};
-use ldm_host::{Filling, MemoryHost};
+use ldm_memory::{Filling, MemoryHost};
 use ldm_run::Status;
 use std::alloc::Global;
 use std::process::Abort;

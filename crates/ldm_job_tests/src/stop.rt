@@ -1,7 +1,8 @@
 //! What a stop at each call of an edit leaves of a group, and edits that begin again where calls
 //! failed.
 use crate::jobs::{run_over, sample_group, words_in};
-use ldm_host::{Filling, Host, MemoryHost};
+use ldm_host::Host;
+use ldm_memory::{Filling, MemoryHost};
 use ldm_run::Status;
 use std::alloc::Global;
 use std::process::Abort;

@@ -1,7 +1,8 @@
 //! Tables of volumes, spelled.
 use crate::edit::play;
 use crate::jobs::{expect, named_images, run_over, sample_group, words_in};
-use ldm_host::{Host, MemoryHost};
+use ldm_host::Host;
+use ldm_memory::MemoryHost;
 use ldm_run::Status;
 use std::alloc::Global;
 use std::test::Fail;

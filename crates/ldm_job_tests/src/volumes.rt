@@ -1,8 +1,9 @@
 //! Jobs on the bytes of volumes.
 use crate::edit::play;
 use crate::jobs::{answer_of, named_images, put, run_over, sample_group, words_in};
-use ldm_host::{Host, MemoryHost};
+use ldm_host::Host;
 use ldm_images::usual_images;
+use ldm_memory::MemoryHost;
 use ldm_run::Status;
 use std::alloc::Global;
 use std::process::Abort;

@@ -1,3 +1,4 @@
 pub mod ReadLaws
 pub mod OkLaws
 pub mod WrittenLaws
+pub mod PresentLaws

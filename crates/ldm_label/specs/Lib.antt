@@ -4,3 +4,4 @@ pub mod LabelOf
 pub mod Parts
 pub mod Laws
 pub mod Written
+pub mod Present

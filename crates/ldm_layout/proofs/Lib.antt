@@ -1,4 +1,2 @@
-pub mod PlaceLaws
 pub mod SortLaws
-pub mod SpotLaws
 pub mod VolumeLaws

@@ -1,33 +1,13 @@
--- Lists of parts in their order: sorts by a number, the part of a list with one number, and the
--- least of some numbers.
-use Rattle.std.proofs.Common.{◌≡◌, ℕ, ◌≤◌, min, List, [], ◌∷◌, length, get_or, take, drop, ◌-◌, refl, ap, ◌∙◌, arith, map, fold, zero, suc, ◌<◌, ◌==◌, ◌&&◌, not, inl, inr, Bool, true, false, cond, sym, subst, leb, ltb}
+-- Lists of parts in their order: sorts by a number, and the part of a list with one number.
+use Rattle.std.proofs.Common.{◌≡◌, ℕ, ◌≤◌, List, [], ◌∷◌, length, get_or, take, drop, ◌-◌, refl, ap, ◌∙◌, arith, zero, suc, ◌<◌, ◌==◌, ◌&&◌, not, inl, inr, Bool, true, false, cond, sym, subst, leb, ltb}
 use Rattle.std.proofs.lemmas.Grind.{common_steps}
-use Rattle.std.proofs.lemmas.List.{take_rest}
-use Rattle.ldm_layout.specs.Parts.{least, insert_by, in_rising}
+use Rattle.ldm_layout.specs.Parts.{insert_by, in_rising}
 use Rattle.std.proofs.lemmas.Bool.{cases_lt, cases_Bool, eq-eqb, ne_eqb, eqb-true, cond-true, cond-false, leb-true, leb-false}
 use Rattle.std.specs.List.{filter, slice_range}
 use Rattle.std.specs.List.Sorted.{IsNonDecreasingBy, IsStableByKey, IsPartitionPoint}
 use Rattle.std.specs.Ordering.{is_lt, nat_cmp}
 use Rattle.std.proofs.lemmas.List.Elements.{filter_agree}
-use Rattle.ldm_layout.specs.declared.parts.Extent.{Extent}
-
--- ---- The least of some numbers, as a fold, and that none is less.
-
-least_head : (a b : ℕ) (ns : List ℕ) → least (min a b ∷ ns) ≡ min a (least (b ∷ ns))
-least_head a b ns = grind (arith, common_steps)
-
-pub least_fold : {X : Type 0} (f : X → ℕ) (a : ℕ) (xs : List X) → fold (λ m x. min m (f x)) a xs ≡ least (a ∷ map f xs)
-least_fold f a [] = refl
-least_fold f a (x ∷ xs) = least_fold f (min a (f x)) xs ∙ least_head a (f x) (map f xs)
-
--- of a list that isn't empty
-pub least_list : {X : Type 0} (f : X → ℕ) (xs : List X) (d : X) → 1 ≤ length xs → least (f (get_or xs 0 d) ∷ map f (drop 1 xs)) ≡ least (map f xs)
-least_list f xs d h = grind (arith, common_steps)
-
--- what a walk from the first to the last finds
-pub least_whole : {X : Type 0} (f : X → ℕ) (xs ys : List X) (first d : X) (a r : ℕ) → 1 ≤ length xs → first ≡ get_or xs 0 d → a ≡ f first
-    → r ≡ fold (λ m x. min m (f x)) a (take (length xs - 1) (drop 1 xs)) → xs ≡ ys → r ≡ least (map f ys)
-least_whole {X} f xs ys first d a r some at start walked same = grind (arith, common_steps, take_rest, least_fold, least_list)
+use Rattle.ldm_places.specs.declared.extent.Extent.{Extent}
 
 -- ---- A stable sort by a number gives one list: it doesn't fall, and keeps the order of those of one number.
 

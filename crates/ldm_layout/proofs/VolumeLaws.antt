@@ -11,11 +11,12 @@ use Rattle.ldm_records.specs.declared.types.Volume.{Volume}
 use Rattle.ldm_records.specs.declared.types.Component.{Component}
 use Rattle.ldm_group.specs.Looks.{is_child}
 use Rattle.ldm_group.proofs.KinLaws.{filter_keeps, named_there}
-use Rattle.ldm_layout.specs.declared.shape.Shape.{Shape}
+use Rattle.ldm_places.specs.declared.shape.Shape.{Shape}
 use Rattle.ldm_layout.specs.declared.parts.Plex.{Plex}
-use Rattle.ldm_layout.specs.declared.parts.Extent.{Extent}
-use Rattle.ldm_layout.specs.Parts.{plex_of, extent_of, plex_in, plexes_of, extent_in, extents_of, plexes_at, extents_at, insert_by, in_rising, by_offset, by_index, tile_key, is_partition_of, tiles, tiles_from}
-use Rattle.ldm_layout.specs.Layouts.{Layout, is_tiled, layout_fault, copies_by}
+use Rattle.ldm_places.specs.declared.extent.Extent.{Extent}
+use Rattle.ldm_layout.specs.Parts.{plex_of, extent_of, plex_in, plexes_of, extent_in, extents_of, plexes_at, extents_at, insert_by, in_rising, by_offset, by_index, tile_key, is_partition_of}
+use Rattle.ldm_places.specs.Extents.{tiles, tiles_from}
+use Rattle.ldm_places.specs.Layouts.{Layout, is_tiled, layout_fault, copies_by}
 use Rattle.ldm_layout.specs.Volumes.{layout_of, shape_of, draft_of, checked, laid_out, striping_of, fault_of, fault_at}
 use Rattle.std.proofs.lemmas.List.Kept.{AllPairs-filter, AllPairs-cons}
 use Rattle.ldm_group.specs.Order.{Rising, place_of}
@@ -23,15 +24,16 @@ use Rattle.ldm_group.proofs.LookLaws.{one_record}
 use Rattle.std.proofs.lemmas.List.{length-map}
 use Rattle.std.proofs.lemmas.List.Elements.{All-cons, All-filter, filter_passes, All-tail, filter-append, Contains-get_or}
 use Rattle.ldm_records.specs.declared.types.Partition.{Partition}
-use Rattle.ldm_layout.proofs.SpotLaws.{some_same, first_tile, tiles_rise}
-use Rattle.ldm_layout.specs.Answers.{AllEnd, PlansAs, IsPlan}
+use Rattle.ldm_places.proofs.SpotLaws.{some_same, first_tile, tiles_rise}
+use Rattle.ldm_layout.specs.Answers.{PlansAs}
+use Rattle.ldm_places.specs.Plans.{AllEnd, IsPlan}
 use Rattle.ldm_layout.specs.Grouped.{Lists, IsListsOf}
-use Rattle.ldm_layout.specs.declared.shape.LayoutFault.{LayoutFault}
+use Rattle.ldm_places.specs.declared.shape.LayoutFault.{LayoutFault}
 use Rattle.ldm_layout.specs.declared.faulty.VolumeFault.{VolumeFault}
 use Rattle.std.proofs.lemmas.List.Folds.{list_any_at}
 use Rattle.ldm_bytes.specs.Tables.{unless}
 use Rattle.ldm_group.specs.Partitions.{EndsInRange}
-use Rattle.ldm_layout.specs.declared.shape.LayoutError.{LayoutError}
+use Rattle.ldm_places.specs.declared.shape.LayoutError.{LayoutError}
 use Rattle.std.proofs.lemmas.List.Sums.{sum_by-cons}
 use Rattle.ldm_layout.proofs.SortLaws.{rising_numbers, stable_is}
 use Rattle.std.proofs.lemmas.Option.{slice_get_within, get_or_from_slice_get, same_Some}

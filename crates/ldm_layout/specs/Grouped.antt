@@ -3,7 +3,7 @@ use Rattle.std.specs.Prelude.{◌≡◌, ℕ, List}
 use Rattle.ldm_records.specs.declared.types.Record.{Record}
 use Rattle.ldm_layout.specs.Parts.{plexes_at, plexes_of, extents_at, extents_of}
 use Rattle.ldm_layout.specs.declared.parts.Plex.{Plex}
-use Rattle.ldm_layout.specs.declared.parts.Extent.{Extent}
+use Rattle.ldm_places.specs.declared.extent.Extent.{Extent}
 
 pub record Lists : Type 0 where
   pub plexes : List Plex

@@ -6,7 +6,7 @@ use Rattle.ldm_records.specs.declared.types.Record.TheVariants as kinds
 use Rattle.ldm_records.specs.declared.types.Component.{Component}
 use Rattle.ldm_records.specs.declared.types.Partition.{Partition}
 use Rattle.ldm_layout.specs.declared.parts.Plex.{Plex}
-use Rattle.ldm_layout.specs.declared.parts.Extent.{Extent}
+use Rattle.ldm_places.specs.declared.extent.Extent.{Extent}
 
 -- what a layout reads of a component: its volume, id, layout type, and chunk and columns
 abbrev pub plex_of : Component → Plex
@@ -58,27 +58,6 @@ by_offset es = in_rising tile_key es
 
 abbrev pub by_index : List Extent → List Extent
 by_index es = in_rising (λ e. e.index) es
-
--- each begins where the one before ends, and the first at a place
-abbrev pub tiles_from : ℕ → List Extent → Bool
-tiles_from at [] = true
-tiles_from at (e ∷ es) = (e.offset == at) && tiles_from (at + e.size) es
-
--- there are some, and they tile from 0 on
-abbrev pub tiles : List Extent → Bool
-tiles [] = false
-tiles (e ∷ es) = tiles_from 0 (e ∷ es)
-
--- the indexes rise, from a number on, so that no two have one index
-abbrev pub rises_from : ℕ → List Extent → Bool
-rises_from n [] = true
-rises_from n (e ∷ es) = nat_le n e.index && rises_from (e.index + 1) es
-
--- the least of some numbers
-abbrev pub least : List ℕ → ℕ
-least [] = 0
-least (n ∷ []) = n
-least (n ∷ (m ∷ ns)) = min n (least (m ∷ ns))
 
 -- a partition of one of the components of this volume
 abbrev pub is_partition_of : ℕ → List Record → Record → Bool

@@ -10,14 +10,14 @@ use Rattle.ldm_records.specs.declared.types.Record.TheVariants as kinds
 use Rattle.ldm_records.specs.declared.types.Volume.{Volume}
 use Rattle.ldm_group.specs.Looks.{by_id, volume_in}
 use Rattle.ldm_layout.specs.Parts.{plexes_of, extents_of, by_offset, by_index}
-use Rattle.ldm_layout.specs.Layouts.{Layout, is_tiled, layout_fault, place_in, parity_in}
+use Rattle.ldm_places.specs.Layouts.{Layout, is_tiled, layout_fault, place_in, parity_in}
 use Rattle.ldm_layout.specs.declared.parts.Plex.{Plex}
-use Rattle.ldm_layout.specs.declared.parts.Extent.{Extent}
-use Rattle.ldm_layout.specs.declared.shape.Place.{Place}
-use Rattle.ldm_layout.specs.declared.shape.Shape.{Shape}
-use Rattle.ldm_layout.specs.declared.shape.Shape.TheVariants.{Span, Stripe, Mirror, Raid5}
-use Rattle.ldm_layout.specs.declared.shape.LayoutFault.{LayoutFault}
-use Rattle.ldm_layout.specs.declared.shape.LayoutFault.TheVariants.{Unknown}
+use Rattle.ldm_places.specs.declared.extent.Extent.{Extent}
+use Rattle.ldm_places.specs.declared.shape.Place.{Place}
+use Rattle.ldm_places.specs.declared.shape.Shape.{Shape}
+use Rattle.ldm_places.specs.declared.shape.Shape.TheVariants.{Span, Stripe, Mirror, Raid5}
+use Rattle.ldm_places.specs.declared.shape.LayoutFault.{LayoutFault}
+use Rattle.ldm_places.specs.declared.shape.LayoutFault.TheVariants.{Unknown}
 use Rattle.ldm_layout.specs.declared.faulty.VolumeFault.{VolumeFault}
 
 abbrev pub is_basic : Plex → Bool

@@ -7,9 +7,9 @@ ghost use Rattle.ldm_layout.specs.Volumes.{draft_of, checked, fault_of, fault_at
 
 use crate::laying::draft_of;
 use crate::parts::Parts;
-use crate::shape::LayoutFault;
 use ldm_bytes::NoMemory;
 use ldm_group::Db;
+use ldm_places::LayoutFault;
 use ldm_records::{Record, Volume};
 use std::alloc::Global;
 

@@ -4,10 +4,9 @@ ghost use Rattle.std.specs.List.{list_all};
 ghost use Rattle.ldm_layout.specs.Parts.{plexes_at, extents_at, tile_key, in_rising};
 ghost use Rattle.ldm_layout.specs.Volumes.{shape_of, striping_of, laid_out, draft_of, is_basic};
 
-use crate::draft::{Draft, Extents, is_tiled};
-use crate::parts::{Extent, Parts, Plex};
-use crate::shape::Shape;
+use crate::parts::{Parts, Plex};
 use ldm_bytes::NoMemory;
+use ldm_places::{Draft, Extent, Extents, Shape, is_tiled};
 use ldm_records::{Striping, Volume};
 use std::alloc::Global;
 

@@ -1,21 +1,14 @@
-//! The layout of a volume: its shape, its first fault, and the disk and sector at which each of its
-//! sectors lies.
+//! The layout of a volume, as the records of a group say it: its shape, its first fault, and the plan
+//! by which its sectors are found.
 #![tactic(auto)]
 
-mod columns;
-mod draft;
 mod faulty;
 mod laying;
 mod parts;
-mod places;
 mod planning;
-mod shape;
-mod stretches;
-mod tiles;
 
 pub use faulty::{VolumeFault, faults};
 pub use laying::shape_of;
-pub use parts::{Extent, Parts, Plex};
-pub use places::Plan;
+pub use ldm_places::{Extent, LayoutError, LayoutFault, Place, Plan, Shape};
+pub use parts::{Parts, Plex};
 pub use planning::plan;
-pub use shape::{LayoutError, LayoutFault, Place, Shape};

@@ -6,6 +6,7 @@ ghost use Rattle.ldm_layout.specs.Parts.{plex_in, extent_in, plexes_at, extents_
 ghost use Rattle.ldm_layout.specs.Grouped.{Lists, IsListsOf};
 
 use ldm_bytes::NoMemory;
+use ldm_places::Extent;
 use ldm_records::{Record, Striping};
 use std::alloc::Global;
 use std::marker::Model;
@@ -17,17 +18,6 @@ pub struct Plex {
     pub id: u64,
     pub layout: u8,
     pub striping: Option<Striping>,
-}
-
-/// What a layout reads of a partition. An absent index is 0.
-#[derive(Clone, Copy)]
-pub struct Extent {
-    pub component: u64,
-    pub disk: u64,
-    pub start: u64,
-    pub size: u64,
-    pub offset: u64,
-    pub index: u64,
 }
 
 /// The components of all volumes, and the partitions of all components, side by side.

@@ -3,13 +3,13 @@ ghost use Rattle.std.specs.Prelude.{◌≡◌, true, IsSome, All, IfOk, IfSome, 
 ghost use Rattle.ldm_group.specs.Partitions.{EndsInRange};
 ghost use Rattle.ldm_layout.specs.Parts.{is_partition_of, plexes_at, extents_at};
 ghost use Rattle.ldm_layout.specs.Volumes.{draft_of, checked, layout_of, volume_with};
-ghost use Rattle.ldm_layout.specs.Answers.{PlansAs, AllEnd};
+ghost use Rattle.ldm_layout.specs.Answers.{PlansAs};
+ghost use Rattle.ldm_places.specs.Plans.{AllEnd};
 
 use crate::laying::draft_of;
 use crate::parts::Parts;
-use crate::places::Plan;
-use crate::shape::{LayoutError, LayoutFault};
 use ldm_group::Db;
+use ldm_places::{LayoutError, LayoutFault, Plan};
 use ldm_records::{Record, Volume};
 use std::alloc::Global;
 

@@ -13,13 +13,13 @@ use Rattle.ldm_words.specs.declared.job.Job.TheVariants.{Disk, Records, Show, Ch
 use Rattle.ldm_words.specs.declared.status.Status.{Status}
 use Rattle.ldm_words.specs.declared.status.Status.TheVariants.{Usage, NoMemory}
 use Rattle.ldm_words.specs.Jobs.{job_of}
-use Rattle.ldm_found.specs.declared.found.Found.{Found}
+use Rattle.ldm_findings.specs.declared.found.Found.{Found}
 use Rattle.ldm_found.proofs.GroupLaws.{one_group}
 use Rattle.ldm_look.specs.Said.{Answer, IsUnread}
 use Rattle.ldm_look.specs.Mapping.{is_bad_range, map_answer}
 use Rattle.ldm_look.specs.Looks.{copy_answer, group_answer, show_answer, check_answer, look_of, IsRecordsAnswer, IsGroupAnswer, IsLookAnswer, IsAnswerOf, IsLookAt}
 use Rattle.ldm_look.specs.Runs.{Completes, NoFault, OfLook, OnlyReads}
-use Rattle.ldm_look.proofs.EndLaws.{complete}
+use Rattle.ldm_look.proofs.EndLaws.{complete, unread_is}
 
 -- ---- What `map` is asked.
 
@@ -66,13 +66,8 @@ module _ (tells : Type 0) {A : Type 0} (seen : A → Seen) (old new : A) (status
   abbrev pub IsDone : Option Job → Type 0
   IsDone job = OfLook job (IsUnread status × (new ≡ old)) (λ look. OnlyReads tells (seen old) (seen new) (IsLookAnswer look (seen old).content) status)
 
-  is_usage : (status : Status) → IsUnread status → status ≢ NoMemory → status ≡ Usage
-  is_usage Usage unread memory = refl
-  is_usage NoMemory unread memory = absurd (memory refl)
-  is_usage other unread memory = absurd unread
-
   pub usage_is : (job : Option Job) → IsDone job → status ≢ NoMemory → (status ≡ Usage) ↔ (job ≡ None)
-  usage_is None done memory = (λ is. refl, λ none. is_usage status done.0 memory)
+  usage_is None done memory = (λ is. refl, λ none. (unread_is status done.0).is_usage memory)
   usage_is (Some job) done memory = (λ is. absurd (done.ends.no_usage is), λ none. absurd cc)
 
   pub reads_of : (job : Option Job) → IsDone job → OfLook job (new ≡ old) (λ look. OnlyReads tells (seen old) (seen new) (IsLookAnswer look (seen old).content) status)
@@ -84,6 +79,6 @@ module _ (tells : Type 0) {A : Type 0} (seen : A → Seen) (old new : A) (status
   usage_completes (Some job) done is = absurd (done.ends.no_usage is)
 
   pub completes : (job : Option Job) → IsDone job → tells → NoFault (seen old) (seen new) → status ≢ NoMemory → Completes (seen old) (seen new) (IsAnswerOf job (seen old).content) status
-  completes None done told none memory = usage_completes None done (is_usage status done.0 memory)
+  completes None done told none memory = usage_completes None done ((unread_is status done.0).is_usage memory)
   completes (Some job) done told none memory =
       complete (seen old) (seen new) (IsLookAnswer job (seen old).content) status (usage_completes (Some job) done) (done.ends.answers told) done.ends.causes none memory

@@ -6,7 +6,7 @@ use Rattle.ldm_host.specs.Moves.{Begins, Later, Looks, Rose, SameInput, Still}
 use Rattle.ldm_host.proofs.Relations.{rose_sooner, still_trans}
 use Rattle.ldm_words.specs.declared.status.Status.{Status}
 use Rattle.ldm_words.specs.declared.status.Status.TheVariants.{Done, Refused, Usage, DiskFault, NoMemory, TalkFault}
-use Rattle.ldm_look.specs.Said.{Answer, HasAnswer}
+use Rattle.ldm_look.specs.Said.{Answer, HasAnswer, IsUnread}
 use Rattle.ldm_look.specs.Runs.{Answers, Completes, Causes, Ends, NoFault, OnlyReads, Says}
 
 -- a fault since a later state is one since the old
@@ -118,3 +118,15 @@ pub talk_failed : {tells : Type 0} {old new : Seen} {text : List ℕ} {wanted : 
     → SameInput old new → OnlyReads tells old new (λ answer. answer ≡ (text, wanted)) TalkFault
 talk_failed {tells} {old} {new} {text} {wanted} n said rose still input =
     says_part (λ silent. silent) (record { none = λ has. has; no_usage = λ is. cc; causes = record { disk = λ is. absurd cc; talk = λ is. rose } }) (λ told. part_begins old.said text new.said n said) still input
+
+-- words without a reading end so
+pub record Unread (status : Status) : Type 0 where
+  pub none : HasAnswer status → ⊥
+  pub no_disk : status ≢ DiskFault
+  pub no_talk : status ≢ TalkFault
+  pub is_usage : status ≢ NoMemory → status ≡ Usage
+
+pub unread_is : (status : Status) → IsUnread status → Unread status
+unread_is Usage unread = record { none = λ has. has; no_disk = λ is. cc; no_talk = λ is. cc; is_usage = λ other. refl }
+unread_is NoMemory unread = record { none = λ has. has; no_disk = λ is. cc; no_talk = λ is. cc; is_usage = λ other. absurd (other refl) }
+unread_is other unread = absurd unread

@@ -2,10 +2,10 @@
 use Rattle.std.specs.Prelude.{ℕ, ◌+◌, ◌==◌, ◌||◌, nat_lt, Bool, List, [], codes, Option, Some, None, Result, Ok, Err, if◌then◌else◌}
 use Rattle.ldm_records.specs.declared.types.Volume.{Volume}
 use Rattle.ldm_group.specs.Looks.{volume_named}
-use Rattle.ldm_layout.specs.declared.shape.LayoutFault.{LayoutFault}
-use Rattle.ldm_layout.specs.Layouts.{Layout}
+use Rattle.ldm_places.specs.declared.shape.LayoutFault.{LayoutFault}
+use Rattle.ldm_places.specs.Layouts.{Layout}
 use Rattle.ldm_layout.specs.Volumes.{layout_of}
-use Rattle.ldm_found.specs.declared.found.Found.{Found}
+use Rattle.ldm_findings.specs.declared.found.Found.{Found}
 use Rattle.ldm_group_text.specs.Map.{text_of_map}
 use Rattle.ldm_look.specs.Said.{Answer, refused}
 use Rattle.ldm_words.specs.declared.status.Status.TheVariants.{Done}

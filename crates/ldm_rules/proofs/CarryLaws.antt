@@ -16,7 +16,7 @@ use Rattle.ldm_group.specs.Looks.{is_at, is_child, is_volume_named, children_of,
 use Rattle.ldm_group.proofs.KinLaws.{filter_count, kin_same, counted_there, there_counted}
 use Rattle.ldm_group.proofs.KindLaws.{at_volume, at_component, child_component, child_partition}
 use Rattle.ldm_label.specs.declared.Label.{Label}
-use Rattle.ldm_layout.specs.Layouts.{Layout}
+use Rattle.ldm_places.specs.Layouts.{Layout}
 use Rattle.ldm_layout.specs.Parts.{plexes_of}
 use Rattle.ldm_layout.specs.Volumes.{layout_of}
 use Rattle.ldm_layout.specs.declared.parts.Plex.{Plex}
@@ -34,7 +34,8 @@ use Rattle.std.proofs.lemmas.Option.{get_or_from_slice_get}
 use Rattle.ldm_group.proofs.Rise.{tested, two_places}
 use Rattle.ldm_rules.specs.Facts.{AreApart, stranger}
 use Rattle.ldm_rules.specs.New.{IsNewOn}
-use Rattle.ldm_rules.specs.Present.{image_with, has_guid, is_absent}
+use Rattle.ldm_rules.specs.Present.{is_absent}
+use Rattle.ldm_label.specs.Present.{image_with, has_guid}
 use Rattle.ldm_rules.specs.Table.{IsSound}
 
 -- ---- A change carries the rules of a group over: a record of the next group that was there has the same kin as before, and one that is

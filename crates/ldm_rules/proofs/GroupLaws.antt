@@ -24,11 +24,11 @@ use Rattle.ldm_group.specs.Looks.{is_at, is_disk_with, is_volume_named, disk_in,
 use Rattle.ldm_group.proofs.KinLaws.{kin_same, kin_count, kin_found, kin_named, once_from, once_at}
 use Rattle.ldm_group.proofs.KindLaws.{named_volume}
 use Rattle.ldm_label.specs.declared.Label.{Label}
-use Rattle.ldm_layout.specs.Layouts.{Layout}
+use Rattle.ldm_places.specs.Layouts.{Layout}
 use Rattle.ldm_layout.specs.Volumes.{layout_of}
-use Rattle.ldm_layout.specs.declared.shape.LayoutFault.{LayoutFault}
-use Rattle.ldm_rules.specs.Ends.{data_size, sectors_by}
-use Rattle.ldm_rules.specs.Present.{label_with}
+use Rattle.ldm_places.specs.declared.shape.LayoutFault.{LayoutFault}
+use Rattle.ldm_rules.specs.Ends.{data_size}
+use Rattle.ldm_label.specs.Present.{sectors_by, label_with}
 use Rattle.ldm_group.specs.Partitions.{meets, EndsInRange}
 
 -- ---- In a group that rises, whose partitions don't meet, one sector of a disk is of one partition.

@@ -6,7 +6,7 @@ use Rattle.std.proofs.lemmas.Bool.{ltb-false}
 use Rattle.std.proofs.lemmas.List.Folds.{find_at}
 use Rattle.std.proofs.lemmas.Option.{slice_get_past}
 use Rattle.ldm_label.specs.declared.Label.{Label}
-use Rattle.ldm_rules.specs.Present.{has_guid, image_with, label_with}
+use Rattle.ldm_label.specs.Present.{has_guid, image_with, label_with}
 use Rattle.std.specs.Prelude.{position, is_none}
 use Rattle.ldm_records.specs.declared.types.Record.{Record}
 use Rattle.ldm_records.specs.declared.types.Record.TheVariants as kinds
@@ -14,18 +14,6 @@ use Rattle.ldm_group.specs.Order.{kind_of}
 use Rattle.ldm_group.specs.Looks.{is_disk_with, disk_in, disk_with, HasSameDisks}
 use Rattle.ldm_group.proofs.KinLaws.{same_found}
 use Rattle.ldm_rules.specs.Facts.{stranger}
-
--- ---- The label of a disk is that of its first image.
-
-pub label_at_image : (guid : ℕ) (labels : List Label) → label_with guid labels ≡ option_and_then (λ image. slice_get labels image) (image_with guid labels)
-label_at_image guid labels = find_at (has_guid guid) labels ∙ by (ltb at (length labels)) refl
-  where
-    at : ℕ
-    at = position_or_len (has_guid guid) labels
-
-    by : (b : Bool) → ltb at (length labels) ≡ b → slice_get labels at ≡ option_and_then {T = ℕ} {U = Label} (λ image. slice_get labels image) (cond b (Some at) None)
-    by true e = refl
-    by false e = slice_get_past labels at (ltb-false at (length labels) e)
 
 -- ---- What depends on the disk records of a group alone: the disk of a GUID, and so the first image of a strange disk.
 

@@ -10,20 +10,20 @@ use Rattle.std.proofs.lemmas.Option.{slice_get-get_or}
 use Rattle.ldm_records.specs.declared.types.Record.{Record}
 use Rattle.ldm_records.specs.declared.types.Record.TheVariants as kinds
 use Rattle.ldm_records.specs.declared.types.Volume.{Volume}
-use Rattle.ldm_layout.proofs.SpotLaws.{none, HasNone, PlexFacts, plex_facts, has_none, IsInside, plex_spot_inside, parity_inside, plex_spot_apart, parity_beside, parity_spot_shared, parity_spot_same}
+use Rattle.ldm_places.proofs.SpotLaws.{none, HasNone, PlexFacts, plex_facts, has_none, IsInside, plex_spot_inside, parity_inside, plex_spot_apart, parity_beside, parity_spot_shared, parity_spot_same}
 use Rattle.ldm_layout.proofs.VolumeLaws.{IsLaidOut, laid_out_volume, laid_all, IsExtentOf, extents_are, plexes_are, one_plex, plex_once, one_volume}
-use Rattle.ldm_layout.specs.Layouts.{Layout, is_tiled, plex_spot, parity_at, spot_in, parity_spot_in, place_in, parity_in, place_at, copies_by, copies_of, parity_spot}
+use Rattle.ldm_places.specs.Layouts.{Layout, is_tiled, plex_spot, parity_at, spot_in, parity_spot_in, place_in, parity_in, place_at, copies_by, copies_of, parity_spot}
 use Rattle.ldm_layout.specs.Parts.{plexes_of, extents_of, extent_of}
 use Rattle.ldm_layout.specs.Volumes.{shape_of, laid_out, volume_place, parity_of, layout_of, volume_with}
-use Rattle.ldm_layout.specs.declared.parts.Extent.{Extent}
+use Rattle.ldm_places.specs.declared.extent.Extent.{Extent}
 use Rattle.ldm_layout.specs.declared.parts.Plex.{Plex}
-use Rattle.ldm_layout.specs.declared.shape.LayoutFault.{LayoutFault}
-use Rattle.ldm_layout.specs.declared.shape.Shape.{Shape}
-use Rattle.ldm_layout.specs.declared.shape.Shape.TheVariants.{Raid5}
+use Rattle.ldm_places.specs.declared.shape.LayoutFault.{LayoutFault}
+use Rattle.ldm_places.specs.declared.shape.Shape.{Shape}
+use Rattle.ldm_places.specs.declared.shape.Shape.TheVariants.{Raid5}
 use Rattle.ldm_rules.specs.Disjoint.{HasLayout, IsSector, IsRaid5Sector, LiesInOwn, IsSameRow, AllLaidOut, HasDisjointPlaces}
 use Rattle.ldm_records.specs.declared.types.Partition.{Partition}
 use Rattle.ldm_group.specs.Order.{Rising}
-use Rattle.ldm_layout.specs.declared.shape.Place.{Place}
+use Rattle.ldm_places.specs.declared.shape.Place.{Place}
 use Rattle.ldm_rules.proofs.GroupLaws.{one_spot, all_end, data_low, not_broken}
 use Rattle.ldm_rules.specs.Rules.{first_broken, meets_another, group_id, group_fault, has_twin_guid, has_namesake, lacks_volume, lacks_component, lacks_disk, miscounts_components, miscounts_partitions, fails, is_short_fault, has_no_sectors, passes_end, has_layout_fault, passes_layout}
 use Rattle.std.specs.Prelude.{count_by}
@@ -36,8 +36,8 @@ use Rattle.ldm_rules.specs.Table.{broken_at, first_broken_rule, name_rules, tree
 use Rattle.ldm_rules.specs.declared.fault.RuleError.{RuleError}
 use Rattle.ldm_rules.specs.declared.fault.RuleError.TheVariants.{Fault, NoMemory}
 use Rattle.ldm_layout.specs.Answers.{PlansAs}
-use Rattle.ldm_layout.specs.declared.shape.LayoutError.{LayoutError}
-use Rattle.ldm_layout.specs.declared.shape.LayoutError.TheVariants as layout_errors
+use Rattle.ldm_places.specs.declared.shape.LayoutError.{LayoutError}
+use Rattle.ldm_places.specs.declared.shape.LayoutError.TheVariants as layout_errors
 use Rattle.std.proofs.lemmas.List.Sums.{AllPass-from_list_all}
 
 -- ---- What the spots of a volume's sectors stand on: a component of the volume, and a partition of it.

@@ -7,11 +7,11 @@ use Rattle.ldm_records.specs.declared.types.Component.{Component}
 use Rattle.ldm_records.specs.declared.types.Partition.{Partition}
 use Rattle.ldm_group.specs.Order.{Rising}
 use Rattle.ldm_label.specs.declared.Label.{Label}
-use Rattle.ldm_layout.specs.Layouts.{Layout, copies_of}
+use Rattle.ldm_places.specs.Layouts.{Layout, copies_of}
 use Rattle.ldm_group.specs.Partitions.{EndsInRange}
 use Rattle.ldm_layout.specs.Volumes.{layout_of, volume_place, parity_of}
-use Rattle.ldm_layout.specs.declared.shape.Place.{Place}
-use Rattle.ldm_layout.specs.declared.shape.Shape.TheVariants.{Raid5}
+use Rattle.ldm_places.specs.declared.shape.Place.{Place}
+use Rattle.ldm_places.specs.declared.shape.Shape.TheVariants.{Raid5}
 use Rattle.ldm_rules.specs.Table.{IsSound}
 
 -- a volume of the group has this layout

@@ -8,10 +8,10 @@ use Rattle.ldm_records.specs.declared.types.Record.TheVariants as kinds
 use Rattle.ldm_records.specs.declared.types.Partition.{Partition}
 use Rattle.ldm_group.specs.Order.{id_of}
 use Rattle.ldm_group.specs.Partitions.{meets}
-use Rattle.ldm_layout.specs.Layouts.{Layout}
+use Rattle.ldm_places.specs.Layouts.{Layout}
 use Rattle.ldm_layout.specs.Volumes.{layout_of}
-use Rattle.ldm_layout.specs.declared.shape.LayoutFault.{LayoutFault}
-use Rattle.ldm_layout.specs.declared.shape.LayoutFault.TheVariants.{Short}
+use Rattle.ldm_places.specs.declared.shape.LayoutFault.{LayoutFault}
+use Rattle.ldm_places.specs.declared.shape.LayoutFault.TheVariants.{Short}
 
 -- the least id at which a rule is broken: the records rise by kind and id, and each rule is about records of one kind
 abbrev pub first_broken : (Record → Bool) → List Record → Option ℕ

@@ -2,12 +2,11 @@
 ghost use Rattle.std.specs.Prelude.{◌≡◌, All, false, None};
 ghost use Rattle.ldm_group.specs.Partitions.{EndsInRange};
 ghost use Rattle.ldm_rules.specs.Rules.{first_broken, passes_end};
-ghost use Rattle.ldm_rules.specs.Ends.{sectors_by, data_size};
-ghost use Rattle.ldm_rules.specs.Present.{label_with};
+ghost use Rattle.ldm_rules.specs.Ends.{data_size};
+ghost use Rattle.ldm_label.specs.Present.{sectors_by, label_with};
 
-use crate::present::label_with;
 use ldm_group::{Db, id_of};
-use ldm_label::{Label, Labels};
+use ldm_label::{Label, Labels, label_with};
 use ldm_records::Record;
 
 /// The sectors of the disk of this GUID, as its label says; of an absent disk, the most that a

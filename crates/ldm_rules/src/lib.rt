@@ -13,15 +13,14 @@ mod laws;
 mod layouts;
 mod meetings;
 mod plans;
-mod present;
 mod single;
 mod table;
 mod tree;
 mod twins;
 
 pub use ends::sectors_of;
-pub use fault::{RuleError, RuleFault};
+pub use fault::RuleError;
 pub use laws::{new_groups_are_sound, places_are_disjoint};
+pub use ldm_group::RuleFault;
 pub use plans::sound_plan;
-pub use present::{image_with, label_with};
 pub use table::check;

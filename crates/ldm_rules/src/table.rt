@@ -12,11 +12,11 @@ ghost use Rattle.ldm_rules.specs.declared.fault.RuleError.TheVariants.{Fault};
 
 use crate::broken::{RecordRule, first_broken};
 use crate::ends::over_the_end;
-use crate::fault::{RuleError, RuleFault};
+use crate::fault::RuleError;
 use crate::layouts::{faulty, too_large};
 use crate::meetings::meeting;
 use crate::single::not_one_group;
-use ldm_group::Db;
+use ldm_group::{Db, RuleFault};
 use ldm_label::Labels;
 use ldm_layout::{VolumeFault, faults};
 use std::alloc::Global;

@@ -14,7 +14,7 @@ use Rattle.ldm_rules.specs.Disjoint.{HasDisjointPlaces}
 use Rattle.ldm_rules.proofs.SoundLaws.{disjoint}
 use Rattle.ldm_words.specs.declared.command.Command.{Command}
 use Rattle.ldm_edits.specs.Steps.{group_after, replies_to, State, verdict_of, turn_by, turns_of}
-use Rattle.ldm_found.specs.declared.found.Found.{Found}
+use Rattle.ldm_findings.specs.declared.found.Found.{Found}
 use Rattle.ldm_found.specs.Copies.{HasCopy, IsCopyIn}
 use Rattle.ldm_found.specs.Labels.{AreSameOutside}
 use Rattle.ldm_found.specs.Opening.{IsGroupIn}
@@ -27,9 +27,8 @@ use Rattle.ldm_replies.specs.Reply.{text_of_reply, text_of_replies}
 use Rattle.ldm_run.specs.Stops.{answered, Reopens}
 use Rattle.ldm_run.specs.Editing.{turn_on, IsDoing, IsAnswering, AreWritten, EditFails, IsLineDone, DoesLine, AnswersLine, DoesLines}
 use Rattle.ldm_run.proofs.LineLaws.{line_count, line_count-append, one_line, reply_lines, after_lines, no_lines_after, db_more, replies_length, take_before, take_line, draft_more, replies_more, text_more, text_front, ends_in_line}
-use Rattle.ldm_host.specs.Moves.{AtEachMoment, Begins, Quiet, Still, Works, Later}
-use Rattle.ldm_host.specs.StoryLaws.{begins_both}
-use Rattle.ldm_host.proofs.Relations.{later_trans, moments_trans, begins_trans, later_itself}
+use Rattle.ldm_host.specs.Moves.{AtEachMoment, Begins, Quiet, Still, Works, Later, SameInput}
+use Rattle.ldm_host.proofs.Relations.{begins_both, later_trans, moments_trans, begins_trans, later_itself}
 use Rattle.ldm_edits.specs.declared.batch.Turn.{Turn as Verdict}
 use Rattle.ldm_edits.specs.declared.batch.Turn.TheVariants as verdicts
 use Rattle.ldm_edits.specs.declared.reply.Refusal.TheVariants.{BadLine}
@@ -43,7 +42,6 @@ use Rattle.ldm_words.specs.declared.status.Status.{Status}
 use Rattle.ldm_run.specs.Said.{SaysReply}
 use Rattle.ldm_look.specs.Said.{HasAnswer}
 use Rattle.ldm_run.specs.Heard.{TalkFails}
-use Rattle.ldm_host.specs.Moves.{SameInput}
 use Rattle.ldm_run.specs.Kinds.{SaysLines}
 use Rattle.ldm_run.proofs.Saying.{talk_edits, talk_failing}
 use Rattle.std.specs.List.{list_any}

@@ -3,13 +3,13 @@ use Rattle.std.proofs.Common.{[], ◌≡◌, ◌⊎◌, inl, inr, ⊎_elim, ℕ,
 use Rattle.std.specs.Prelude.{count_by, min, drop, ◌==◌}
 use Rattle.ldm_host.specs.Seen.{Seen, Leaves, image}
 use Rattle.ldm_host.specs.Moves.{Settles, Works, AtEachMoment, Begins, Later, Looks, Quiet, Rose, Still}
-use Rattle.ldm_host.proofs.Relations.{later_trans, moments_trans, still_trans, leaves_still}
+use Rattle.ldm_host.proofs.Relations.{later_trans, moments_trans, still_trans, leaves_still, begins_both, begins_itself}
 use Rattle.ldm_label.specs.declared.Label.{Label}
 use Rattle.ldm_group.specs.Database.{Database}
 use Rattle.ldm_words.specs.declared.command.Command.{Command}
 use Rattle.ldm_edits.specs.Steps.{group_after, replies_to}
-use Rattle.ldm_found.specs.declared.fault.OpenFault.{OpenFault}
-use Rattle.ldm_found.specs.declared.found.Found.{Found}
+use Rattle.ldm_findings.specs.declared.fault.OpenFault.{OpenFault}
+use Rattle.ldm_findings.specs.declared.found.Found.{Found}
 use Rattle.ldm_found.specs.Labels.{AreSameOutside}
 use Rattle.ldm_found.specs.Opening.{IsGroupIn}
 use Rattle.ldm_found.proofs.FoundLaws.{holds_group, one_image}
@@ -22,8 +22,8 @@ use Rattle.ldm_store.proofs.SettleLaws.{kept_from, one_label, same_found, not_no
 use Rattle.ldm_group_text.specs.Opening.{text_of_open_fault}
 use Rattle.ldm_text.specs.Texts.{text_of_refusal}
 use Rattle.ldm_words.specs.declared.status.Status.{Status}
-use Rattle.ldm_words.specs.declared.status.Status.TheVariants.{Refused, Done, DiskFault, NoMemory, Usage, TalkFault}
-use Rattle.ldm_look.specs.Said.{Answer, SaysNothing, HasAnswer, refused}
+use Rattle.ldm_words.specs.declared.status.Status.TheVariants.{Refused, Done, DiskFault, NoMemory, Usage}
+use Rattle.ldm_look.specs.Said.{Answer, SaysNothing, HasAnswer, refused, IsUnread}
 use Rattle.ldm_run.specs.Scripts.{replies_from, unless_blocked, try_answer, is_long_script, commands_in}
 use Rattle.ldm_look.specs.Looks.{IsGroupAnswer}
 use Rattle.ldm_run.specs.Answer.{IsJobAnswer, IsReadingAnswer}
@@ -31,9 +31,8 @@ use Rattle.ldm_run.specs.Kinds.{NothingPending, Kind, Reads, Streams, Hears as T
 use Rattle.ldm_run.specs.Stops.{answered, Reopens, EveryStopReopens, EveryStopSinceSyncs, JobStops, JobSinceSyncs, lines_unless}
 use Rattle.ldm_look.specs.Runs.{OnlyReads, Ends, HasImages, Answers, Causes, Completes, NoFault}
 use Rattle.ldm_run.specs.Runs.{DoesJob, OfJob, Streams as Streaming, Replies}
-use Rattle.ldm_look.specs.Said.{IsUnread}
 use Rattle.ldm_run.specs.Editing.{AreWritten, DoesLines, DoesGroup}
-use Rattle.ldm_look.proofs.EndLaws.{Failing, ends_first, ends_silent, says_first, complete}
+use Rattle.ldm_look.proofs.EndLaws.{Failing, ends_first, ends_silent, says_first, complete, unread_is}
 use Rattle.ldm_run.proofs.Saying.{failing, talk_failing, heard_script, unheard_script}
 use Rattle.ldm_run.proofs.EditLaws.{IsNow, lines_sooner, outside_trans, reopens_first}
 use Rattle.std.proofs.lemmas.List.{same_lists, get_or_default, append-nil}
@@ -44,7 +43,6 @@ use Rattle.ldm_init.specs.Faults.{IsInitFault}
 use Rattle.ldm_init.specs.Images.{AreNewImages, HoldNewGroup, IsInitMoment}
 use Rattle.ldm_init.proofs.InitLaws.{one_fault, still_moment}
 use Rattle.ldm_run.specs.Making.{text_of_init_fault, made_text, IsInitAnswer, MakesDisks, MakesAtMoment}
-use Rattle.ldm_host.specs.StoryLaws.{begins_both, begins_itself}
 use Rattle.ldm_words.specs.declared.job.Job.{Job}
 use Rattle.ldm_words.specs.Jobs.{job_of, HasCount}
 use Rattle.ldm_words.proofs.JobLaws.{reading_counts}
@@ -574,18 +572,6 @@ script_edit {tells} {talks} {old} {mid} {new} {script} {status} does hears both 
             nothing disk (subst (λ (l : List ℕ). disk < length l) hears.1.still.later.sizes lt) x ((hears.1.still.left disk x).0 left) ∙ ap (λ (l : List (List ℕ)). image l disk) (sym hears.1.still.content)
 
 -- ---- How a run ends, by what was done of its words.
-
--- words without a reading end so
-record Unread (status : Status) : Type 0 where
-  pub none : HasAnswer status → ⊥
-  pub no_disk : status ≢ DiskFault
-  pub no_talk : status ≢ TalkFault
-  pub is_usage : status ≢ NoMemory → status ≡ Usage
-
-unread_is : (status : Status) → IsUnread status → Unread status
-unread_is Usage unread = record { none = λ has. has; no_disk = λ is. cc; no_talk = λ is. cc; is_usage = λ other. refl }
-unread_is NoMemory unread = record { none = λ has. has; no_disk = λ is. cc; no_talk = λ is. cc; is_usage = λ other. absurd (other refl) }
-unread_is other unread = absurd unread
 
 module _ (tells talks : Type 0) {A : Type 0} (seen : A → Seen) (old new : A) (status : Status) where
   -- What is done of words.

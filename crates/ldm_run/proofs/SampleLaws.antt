@@ -27,14 +27,14 @@ use Rattle.ldm_run.specs.Sample.{sample_lines, text_of_summary, summary_of, IsSa
 use Rattle.ldm_run.proofs.LineLaws.{line_count, line_count-append, decimal_no_end, reply_lines, replies_length}
 use Rattle.std.proofs.Props.{props}
 use mathlib.Core.HLevel.{is_prop→PathP}
-use Rattle.ldm_host.specs.declared.memory.MemoryHost.{MemoryHost}
+use Rattle.ldm_memory.specs.declared.memory.MemoryHost.{MemoryHost}
 use Rattle.ldm_host.specs.Moves.{Settled}
-use Rattle.ldm_host.specs.Memory.{memory_seen, host_counts}
-use Rattle.ldm_host.specs.Laws.{law_counts_now, law_one_each, law_may_stay}
+use Rattle.ldm_memory.specs.Memory.{memory_seen, host_counts}
+use Rattle.ldm_memory.specs.Laws.{law_counts_now, law_one_each, law_may_stay}
 use Rattle.ldm_group.specs.Room.{need_of, room_of}
 use Rattle.ldm_words.specs.declared.job.Job.TheVariants.{Edit}
-use Rattle.ldm_found.specs.declared.fault.OpenFault.{OpenFault}
-use Rattle.ldm_found.specs.declared.found.Found.{Found}
+use Rattle.ldm_findings.specs.declared.fault.OpenFault.{OpenFault}
+use Rattle.ldm_findings.specs.declared.found.Found.{Found}
 use Rattle.ldm_found.specs.Opening.{IsGroupIn}
 use Rattle.ldm_found.proofs.GroupLaws.{one_group}
 use Rattle.ldm_store.proofs.SettleLaws.{same_found}

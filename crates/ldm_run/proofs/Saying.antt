@@ -2,9 +2,8 @@
 use Rattle.std.proofs.Common.{[], ◌≡◌, ◌≢◌, inr, ℕ, List, ◌++◌, take, refl, sym, ◌∙◌, ap, subst, append_assoc, Bool, true, false, ◌||◌, if◌then◌else◌, ◌⊎◌, ◌+◌, ◌<◌, ◌≤◌, length, arith}
 use Rattle.std.proofs.lemmas.List.{append-nil, nil_from_length, length-append, length-take-le}
 use Rattle.ldm_host.specs.Seen.{Seen}
-use Rattle.ldm_host.specs.Moves.{Begins, Later, Still, Quiet}
-use Rattle.ldm_host.specs.StoryLaws.{begins_itself}
-use Rattle.ldm_host.proofs.Relations.{rose_sooner, still_trans}
+use Rattle.ldm_host.specs.Moves.{Begins, Later, Still, Quiet, SameInput}
+use Rattle.ldm_host.proofs.Relations.{begins_itself, rose_sooner, still_trans}
 use Rattle.ldm_edits.specs.declared.reply.Reply.{Reply}
 use Rattle.ldm_replies.specs.Reply.{text_of_reply, text_of_replies}
 use Rattle.ldm_words.specs.declared.status.Status.{Status}
@@ -13,7 +12,6 @@ use Rattle.ldm_look.specs.Said.{Answer, HasAnswer, SaysNothing}
 use Rattle.ldm_run.specs.Said.{SaysReply}
 use Rattle.ldm_look.proofs.EndLaws.{causes_since, not_fault, Failing, answers_as, says_part, part_begins}
 use Rattle.ldm_run.specs.Heard.{TalkFails, Takes, Hears, HearsScript}
-use Rattle.ldm_host.specs.Moves.{SameInput}
 use Rattle.ldm_run.specs.Editing.{EditFails}
 use Rattle.ldm_look.specs.Runs.{Ends, OnlyReads, Says}
 use Rattle.ldm_run.specs.Runs.{Replies}

@@ -1,14 +1,14 @@
 -- The sample: the sample script of a seed, done as an edit to the group of three sample images, in memory.
 use Rattle.std.specs.Prelude.{◌≡◌, ℕ, List, [], ◌++◌, codes, decimal, count_by, Option, Ok}
-use Rattle.ldm_host.specs.declared.memory.MemoryHost.{MemoryHost}
-use Rattle.ldm_host.specs.Memory.{memory_seen, host_counts}
+use Rattle.ldm_memory.specs.declared.memory.MemoryHost.{MemoryHost}
+use Rattle.ldm_memory.specs.Memory.{memory_seen, host_counts}
 use Rattle.ldm_group.specs.Database.{Database}
 use Rattle.ldm_group.specs.Room.{need_of, room_of}
 use Rattle.ldm_words.specs.declared.command.Command.{Command}
 use Rattle.ldm_edits.specs.declared.reply.Reply.{Reply}
 use Rattle.ldm_edits.specs.Counting.{is_done}
 use Rattle.ldm_edits.specs.Steps.{group_after, replies_to}
-use Rattle.ldm_found.specs.declared.found.Found.{Found}
+use Rattle.ldm_findings.specs.declared.found.Found.{Found}
 use Rattle.ldm_found.specs.Opening.{IsGroupIn}
 use Rattle.ldm_replies.specs.Reply.{text_of_replies}
 use Rattle.ldm_vectors.specs.Sample.{AreSampleImages, IsSampleGroup}

@@ -3,12 +3,12 @@ use Rattle.std.specs.Prelude.{ℕ, ◌≡◌, ◌+◌, ◌*◌, ◌<◌, ◌≤�
 use Rattle.std.specs.List.{range_with_len}
 use Rattle.ldm_records.specs.declared.types.Volume.{Volume}
 use Rattle.ldm_group.specs.Looks.{volume_named}
-use Rattle.ldm_layout.specs.Layouts.{Layout}
+use Rattle.ldm_places.specs.Layouts.{Layout}
 use Rattle.ldm_layout.specs.Volumes.{layout_of}
-use Rattle.ldm_layout.specs.declared.shape.LayoutFault.{LayoutFault}
-use Rattle.ldm_layout.specs.declared.shape.Shape.{Shape}
-use Rattle.ldm_layout.specs.declared.shape.Shape.TheVariants.{Mirror, Raid5}
-use Rattle.ldm_found.specs.declared.found.Found.{Found}
+use Rattle.ldm_places.specs.declared.shape.LayoutFault.{LayoutFault}
+use Rattle.ldm_places.specs.declared.shape.Shape.{Shape}
+use Rattle.ldm_places.specs.declared.shape.Shape.TheVariants.{Mirror, Raid5}
+use Rattle.ldm_findings.specs.declared.found.Found.{Found}
 use Rattle.ldm_dump.specs.Sources.{is_lost}
 use Rattle.ldm_dump.specs.Bytes.{bytes_of_volume}
 use Rattle.ldm_scrub.specs.Compare.{places_of}

@@ -1,6 +1,6 @@
 //! The sample: a script from a seed, done to a group of three images in memory.
 ghost use Rattle.std.specs.Prelude.{◌≡◌, ◌==◌, ◌≤◌, count_by, length, IfOk, string_bytes};
-ghost use Rattle.ldm_found.specs.declared.found.Found.{Found};
+ghost use Rattle.ldm_findings.specs.declared.found.Found.{Found};
 ghost use Rattle.ldm_vectors.specs.Script.{script_of};
 ghost use Rattle.ldm_words.specs.declared.job.Job.TheVariants as jobs;
 ghost use Rattle.ldm_words.specs.declared.status.Status.{Status as Ending};
@@ -12,8 +12,9 @@ use crate::running::edit;
 use ldm_bytes::{Bytes, NoMemory};
 use ldm_edits::sequence_counts_lines;
 use ldm_found::find_group;
-use ldm_host::{Host, MemoryHost};
+use ldm_host::Host;
 use ldm_look::say_made;
+use ldm_memory::MemoryHost;
 use ldm_vectors::{sample_images, sample_script};
 use ldm_words::Status;
 use std::alloc::Global;

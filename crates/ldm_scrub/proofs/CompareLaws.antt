@@ -3,14 +3,14 @@
 use Rattle.std.proofs.Common.{◌≡◌, ℕ, ◌+◌, ◌-◌, ◌*◌, ◌/◌, ◌%◌, ◌<◌, ◌≤◌, Bool, false, length, refl, ap, sym, ◌∙◌, arith, Option, Some, if◌then◌else◌, slice_get, List, true, not, ◌||◌, [], ◌∷◌, ◌++◌, map, take, drop, slice_index, add-one, zero, suc, ◌==◌, get_or, replicate, filter_map, inl, inr, min, cond, filter, flat_map, count_by, append_assoc, zero-add}
 use Rattle.std.specs.Option.{option_map, option_to_list}
 use Rattle.std.proofs.lemmas.Nat.{div-add-mod', div-mul-add, mod-mul-add, mod_below, mul-le}
-use Rattle.ldm_layout.specs.Places.{raid5_offset}
-use Rattle.ldm_layout.specs.Layouts.{Layout, place_at, copies_of, place_in, copies_by, is_tiled}
-use Rattle.ldm_layout.specs.Columns.{columns_of, IsColumned, column_in, moved}
-use Rattle.ldm_layout.specs.declared.parts.Extent.{Extent}
-use Rattle.ldm_layout.specs.declared.shape.Place.{Place}
-use Rattle.ldm_layout.specs.declared.shape.Shape.{Shape}
-use Rattle.ldm_layout.specs.declared.shape.Shape.TheVariants.{Raid5}
-use Rattle.ldm_found.specs.declared.found.Found.{Found}
+use Rattle.ldm_places.specs.Places.{raid5_offset}
+use Rattle.ldm_places.specs.Layouts.{Layout, place_at, copies_of, place_in, copies_by, is_tiled}
+use Rattle.ldm_places.specs.Columns.{columns_of, IsColumned, column_in, moved}
+use Rattle.ldm_places.specs.declared.extent.Extent.{Extent}
+use Rattle.ldm_places.specs.declared.shape.Place.{Place}
+use Rattle.ldm_places.specs.declared.shape.Shape.{Shape}
+use Rattle.ldm_places.specs.declared.shape.Shape.TheVariants.{Raid5}
+use Rattle.ldm_findings.specs.declared.found.Found.{Found}
 use Rattle.ldm_dump.specs.Sources.{is_raid5, spot_at, copy_spot}
 use Rattle.ldm_dump.specs.Runs.{behind, IsOn, HasBytes, RowsLieOn, LiesOn}
 use Rattle.ldm_dump.specs.declared.spots.Spot.{Spot}
@@ -34,7 +34,7 @@ use Rattle.std.proofs.lemmas.List.Sums.{sum_by-append}
 use Rattle.std.proofs.lemmas.Grind.{common_steps, flat_map-append}
 use Rattle.ldm_host.specs.Moves.{Begins}
 use Rattle.ldm_scrub.specs.Lines.{text_of_differing, text_of_failing, bad_line, bad_lines, bad_of, text_of_end}
-use Rattle.ldm_layout.proofs.SpotLaws.{spot_along, place_along}
+use Rattle.ldm_places.proofs.SpotLaws.{spot_along, place_along}
 
 -- ---- Places of a RAID-5: what lies beside them in the columns.
 

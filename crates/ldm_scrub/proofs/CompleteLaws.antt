@@ -8,7 +8,8 @@ use Rattle.ldm_records.specs.declared.types.Record.TheVariants as kinds
 use Rattle.ldm_records.specs.declared.types.Component.{Component}
 use Rattle.ldm_group.specs.Looks.{by_id, is_at, disk_in}
 use Rattle.ldm_group.specs.Order.{Rising, kind_of, id_of}
-use Rattle.ldm_group.proofs.LookLaws.{find_there, found_again, none_found}
+use Rattle.ldm_group.proofs.LookLaws.{found_again, none_found}
+use Rattle.ldm_bytes.proofs.FindLaws.{find_there}
 use Rattle.ldm_layout.specs.Parts.{plex_of, plexes_of, is_partition_of}
 use Rattle.ldm_layout.specs.declared.parts.Plex.{Plex}
 use Rattle.ldm_layout.proofs.VolumeLaws.{plex_there, plexes_are, one_component, IsExtentOf}
@@ -18,21 +19,22 @@ use Rattle.ldm_records.specs.declared.types.Volume.{Volume}
 use Rattle.ldm_records.specs.declared.types.Disk.{Disk}
 use Rattle.ldm_records.specs.declared.types.Partition.{Partition}
 use Rattle.ldm_group.proofs.KinLaws.{counted_there}
-use Rattle.ldm_layout.proofs.SpotLaws.{none}
-use Rattle.ldm_layout.specs.Layouts.{Layout, is_tiled, place_at, copies_of, copies_by, place_in}
-use Rattle.ldm_layout.specs.Columns.{columns_of, column_spot, column_in}
-use Rattle.ldm_layout.specs.Places.{raid5_offset}
-use Rattle.ldm_layout.specs.declared.parts.Extent.{Extent}
-use Rattle.ldm_layout.specs.declared.shape.Shape.{Shape}
-use Rattle.ldm_layout.specs.declared.shape.Shape.TheVariants.{Raid5}
+use Rattle.ldm_places.proofs.SpotLaws.{none}
+use Rattle.ldm_places.specs.Layouts.{Layout, is_tiled, place_at, copies_of, copies_by, place_in}
+use Rattle.ldm_places.specs.Columns.{columns_of, column_spot, column_in}
+use Rattle.ldm_places.specs.Places.{raid5_offset}
+use Rattle.ldm_places.specs.declared.extent.Extent.{Extent}
+use Rattle.ldm_places.specs.declared.shape.Shape.{Shape}
+use Rattle.ldm_places.specs.declared.shape.Shape.TheVariants.{Raid5}
 use Rattle.ldm_rules.proofs.GroupLaws.{not_broken}
 use Rattle.ldm_rules.proofs.SoundLaws.{copy_facts, sector_spot, plex_at, parts_at, no_plex, sound_parts}
 use Rattle.ldm_rules.specs.Disjoint.{HasLayout}
-use Rattle.ldm_rules.specs.Present.{image_with, is_absent}
+use Rattle.ldm_rules.specs.Present.{is_absent}
+use Rattle.ldm_label.specs.Present.{image_with}
 use Rattle.ldm_rules.specs.Rules.{lacks_disk}
-use Rattle.ldm_found.specs.declared.found.Found.{Found}
+use Rattle.ldm_findings.specs.declared.found.Found.{Found}
 use Rattle.ldm_found.specs.Facts.{IsSoundGroup}
-use Rattle.ldm_found.specs.Labels.{image_of}
+use Rattle.ldm_findings.specs.Images.{image_of}
 use Rattle.ldm_dump.specs.Sources.{is_here}
 use Rattle.ldm_dump.specs.Redundant.{IsComplete}
 use Rattle.std.proofs.lemmas.Option.{slice_get-get_or}

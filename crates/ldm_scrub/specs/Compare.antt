@@ -3,10 +3,10 @@ use Rattle.std.specs.Prelude.{◌≡◌, ℕ, ◌+◌, ◌-◌, ◌*◌, ◌/◌
 use Rattle.std.specs.List.{list_any, range_with_len}
 use Rattle.std.specs.Option.{option_map, option_to_list}
 use Rattle.std.specs.Str.{bytes_eq}
-use Rattle.ldm_layout.specs.Layouts.{Layout, copies_of, place_in}
-use Rattle.ldm_layout.specs.Columns.{columns_of, IsColumned, moved}
-use Rattle.ldm_layout.specs.declared.shape.Shape.TheVariants.{Raid5}
-use Rattle.ldm_found.specs.declared.found.Found.{Found}
+use Rattle.ldm_places.specs.Layouts.{Layout, copies_of, place_in}
+use Rattle.ldm_places.specs.Columns.{columns_of, IsColumned, moved}
+use Rattle.ldm_places.specs.declared.shape.Shape.TheVariants.{Raid5}
+use Rattle.ldm_findings.specs.declared.found.Found.{Found}
 use Rattle.ldm_dump.specs.Sources.{is_raid5, copy_spot}
 use Rattle.ldm_dump.specs.Bytes.{joined_sector}
 use Rattle.ldm_dump.specs.Redundant.{row_spots, IsRedundant}

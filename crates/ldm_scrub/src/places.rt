@@ -1,7 +1,7 @@
 //! The places of a volume that are compared.
 ghost use Rattle.std.specs.Prelude.{◌≡◌, ◌-◌, ◌%◌, ◌/◌, ◌<◌, length};
-ghost use Rattle.ldm_layout.specs.Columns.{columns_of, IsColumned};
-ghost use Rattle.ldm_layout.specs.declared.shape.Shape.TheVariants.{Raid5};
+ghost use Rattle.ldm_places.specs.Columns.{columns_of, IsColumned};
+ghost use Rattle.ldm_places.specs.declared.shape.Shape.TheVariants.{Raid5};
 ghost use Rattle.ldm_scrub.specs.Compare.{place_sector, IsCount, IsCommonRun};
 
 use ldm_layout::{Plan, Shape};

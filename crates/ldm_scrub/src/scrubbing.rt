@@ -2,12 +2,11 @@
 ghost use Rattle.std.specs.Prelude.{◌≡◌, ◌++◌, ◌+◌, ◌*◌, ◌<◌, ◌≤◌, ◌^◌, ℕ, List, length};
 ghost use Rattle.std.specs.Prelude.{slice_index, false, IfOk, OnOk, IsErr, IsErrOf};
 ghost use Rattle.std.specs.List.{range_with_len};
-ghost use Rattle.ldm_host.specs.Moves.{Still, Begins, DiskFailed, TalkFailed, Looks};
-ghost use Rattle.ldm_layout.specs.declared.shape.Shape.TheVariants.{Raid5};
+ghost use Rattle.ldm_host.specs.Moves.{Still, Begins, DiskFailed, TalkFailed, Looks, SameInput};
+ghost use Rattle.ldm_places.specs.declared.shape.Shape.TheVariants.{Raid5};
 ghost use Rattle.ldm_dump.specs.Sources.{is_raid5};
 ghost use Rattle.ldm_dump.specs.Runs.{LiesOn, RowsLieOn};
-ghost use Rattle.ldm_host.specs.Moves.{SameInput};
-ghost use Rattle.ldm_found.specs.declared.found.Found.{Found};
+ghost use Rattle.ldm_findings.specs.declared.found.Found.{Found};
 ghost use Rattle.ldm_scrub.specs.Compare.{is_bad_at, places_of, IsCount, mark};
 ghost use Rattle.ldm_scrub.specs.Lines.{bad_lines, bad_of, text_of_scrub};
 

@@ -7,10 +7,10 @@ use Rattle.ldm_label.specs.LabelOf.{SameOutsideArea}
 use Rattle.ldm_group.specs.Database.{Database}
 use Rattle.ldm_copy.specs.declared.answer.CopyState.{CopyState}
 use Rattle.ldm_copy.specs.declared.answer.CopyState.TheVariants.{Closed, Valid}
-use Rattle.ldm_copy.specs.Copy.{config_area, IsCopyOf, IsOpen, gate_at}
+use Rattle.ldm_copy.specs.Copy.{config_area, IsCopyOf, IsOpen, gate_at, IsWritten}
 use Rattle.ldm_found.specs.Copies.{IsCopyIn, HasCopy, IsKnown, note_of}
 use Rattle.ldm_store.specs.Kept.{IsCurrent, IsKept, AlwaysKept}
-use Rattle.ldm_copy.specs.Body.{IsBetween, HasBody, IsWritten}
+use Rattle.ldm_body.specs.Body.{IsBetween, HasBody}
 use Rattle.std.proofs.lemmas.Bool.{cases_eq, cases_lt}
 use Rattle.std.proofs.lemmas.Option.{slice_get_within}
 use Rattle.ldm_store.specs.Turning.{AllSettled, AllHave, IsTurned}
@@ -19,9 +19,9 @@ use Rattle.ldm_host.proofs.Relations.{moments_trans}
 use Rattle.std.specs.Prelude.{nat_lt}
 use Rattle.std.proofs.lemmas.Bool.Decides.{nat_tests}
 use Rattle.ldm_copy.proofs.OneCopy.{one_copy}
-use Rattle.ldm_found.specs.declared.found.Found.{Found}
-use Rattle.ldm_found.specs.declared.notes.Note.{Note}
-use Rattle.ldm_found.specs.declared.notes.Note.TheVariants as notes
+use Rattle.ldm_findings.specs.declared.found.Found.{Found}
+use Rattle.ldm_findings.specs.declared.notes.Note.{Note}
+use Rattle.ldm_findings.specs.declared.notes.Note.TheVariants as notes
 use Rattle.ldm_store.specs.Healing.{IsHealed, HasNote, is_behind, AreSpared}
 use Rattle.ldm_found.proofs.FoundLaws.{HoldsGroup, copy_known, holder}
 

@@ -14,15 +14,15 @@ use Rattle.ldm_group.specs.Database.{Database, Core, IsSameCore, IsSameHeader}
 use Rattle.ldm_copy.specs.declared.answer.CopyState.{CopyState}
 use Rattle.ldm_copy.specs.declared.answer.CopyState.TheVariants.{Closed, Valid}
 use Rattle.ldm_copy.specs.Copy.{header_sector, config_area, gate_at, IsCopyOf, IsOpen}
-use Rattle.ldm_copy.specs.Body.{HasBody, IsBodyOf, IsBodyOn, IsSomeBody, Store}
-use Rattle.ldm_copy.specs.Table.{IsCoreBody, body_bytes, IsNoBody}
+use Rattle.ldm_body.specs.Body.{HasBody, IsBodyOf, IsBodyOn, IsSomeBody, Store}
+use Rattle.ldm_body.specs.Table.{IsCoreBody, body_bytes, IsNoBody}
 use Rattle.ldm_copy.proofs.AreaLaws.{area_byte, area_length, gate_of}
-use Rattle.ldm_copy.proofs.RewriteLaws.{area_on}
+use Rattle.ldm_body.proofs.RewriteLaws.{area_on}
 use Rattle.ldm_copy.proofs.OneCopy.{one_copy, one_header}
 use Rattle.ldm_copy.proofs.RoomLaws.{last_fits}
-use Rattle.ldm_copy.proofs.BodyLaws.{begun_is}
-use Rattle.ldm_found.specs.declared.found.Found.{Found}
-use Rattle.ldm_found.specs.declared.notes.Note.{Note}
+use Rattle.ldm_body.proofs.BodyLaws.{begun_is}
+use Rattle.ldm_findings.specs.declared.found.Found.{Found}
+use Rattle.ldm_findings.specs.declared.notes.Note.{Note}
 use Rattle.ldm_found.specs.Facts.{LieOn}
 use Rattle.ldm_found.specs.Copies.{IsCopyIn, note_of, HasCopy, IsKnown}
 use Rattle.ldm_found.proofs.FoundLaws.{HoldsGroup as HoldsFound, copy_known, holder, holds_group, one_image}

@@ -4,14 +4,14 @@ use Rattle.ldm_host.specs.Seen.{image}
 use Rattle.ldm_label.specs.declared.Label.{Label}
 use Rattle.ldm_group.specs.Database.{Database}
 use Rattle.ldm_copy.specs.Copy.{gate_at}
-use Rattle.ldm_copy.specs.Body.{IsSomeBody}
-use Rattle.ldm_copy.specs.Table.{body_bytes, IsNoBody}
+use Rattle.ldm_body.specs.Body.{IsSomeBody}
+use Rattle.ldm_body.specs.Table.{body_bytes, IsNoBody}
 use Rattle.ldm_changed.specs.Change.{Changed, ChangesFrom}
 use Rattle.ldm_changed.specs.Plan.{touched_blocks, added_blocks}
 use Rattle.ldm_changed.specs.declared.nexts.Next.{Next}
 use Rattle.ldm_changed.specs.declared.nexts.Next.TheVariants as nexts
-use Rattle.ldm_found.specs.declared.found.Found.{Found}
-use Rattle.ldm_found.specs.declared.notes.Note.{Note}
+use Rattle.ldm_findings.specs.declared.found.Found.{Found}
+use Rattle.ldm_findings.specs.declared.notes.Note.{Note}
 use Rattle.ldm_store.specs.Healing.{is_behind}
 
 -- the copy on an image begins with these bytes, the first of which is its gate

@@ -6,7 +6,7 @@ use Rattle.ldm_label.specs.declared.Label.{Label}
 use Rattle.ldm_group.specs.Database.{Database}
 use Rattle.ldm_copy.specs.declared.answer.CopyState.{CopyState}
 use Rattle.ldm_copy.specs.declared.answer.CopyState.TheVariants.{Valid}
-use Rattle.ldm_copy.specs.Body.{IsBodyOn}
+use Rattle.ldm_body.specs.Body.{IsBodyOn}
 use Rattle.ldm_found.specs.Copies.{HasCopy}
 use Rattle.ldm_found.specs.Labels.{AreSameOutside}
 use Rattle.ldm_store.specs.Kept.{IsCurrent, AlwaysKept}

@@ -6,7 +6,7 @@ ghost use Rattle.ldm_host.specs.Seen.{image};
 ghost use Rattle.ldm_label.specs.declared.Label.{Label};
 ghost use Rattle.ldm_group.specs.Database.{Database};
 ghost use Rattle.ldm_copy.specs.declared.answer.CopyState.{CopyState};
-ghost use Rattle.ldm_copy.specs.Body.{HasBody};
+ghost use Rattle.ldm_body.specs.Body.{HasBody};
 ghost use Rattle.ldm_changed.specs.Change.{Changed, ChangesFrom};
 ghost use Rattle.ldm_changed.specs.Nexts.{bytes_in, most_in};
 ghost use Rattle.ldm_changed.specs.declared.nexts.Next.TheVariants as nexts;

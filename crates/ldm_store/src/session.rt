@@ -1,15 +1,15 @@
 //! A group that is being edited, one command after another.
 ghost use Rattle.std.specs.Prelude.{◌≡◌, ◌+◌, ◌*◌, ◌≤◌, ℕ, List, Some, length, IfOk, IfSome};
 ghost use Rattle.ldm_group.specs.Room.{FitsHeader};
-ghost use Rattle.ldm_copy.specs.Body.{IsBodyOf};
-ghost use Rattle.ldm_copy.specs.Table.{IsCoreBody};
+ghost use Rattle.ldm_body.specs.Body.{IsBodyOf};
+ghost use Rattle.ldm_body.specs.Table.{IsCoreBody};
 ghost use Rattle.ldm_changed.specs.Nexts.{bytes_in, most_in};
 ghost use Rattle.ldm_store.specs.Bodies.{IsFrom, changed_blocks};
 
 use crate::rewriting::rewrite_all;
+use ldm_body::{Body, body_of};
 use ldm_bytes::NoMemory;
 use ldm_changed::{Next, next_body};
-use ldm_copy::{Body, body_of};
 use ldm_edits::{Answer, Draft, Reply, take_turn};
 use ldm_found::Found;
 use ldm_group::Db;
@@ -88,8 +88,8 @@ impl Session {
     ghost use Rattle.std.specs.Prelude.{option_copied};
     ghost use Rattle.std.specs.Option.{ForSome};
     ghost use Rattle.ldm_host.specs.Moves.{Still, Works};
-    ghost use Rattle.ldm_copy.specs.Body.{IsBodyOf};
-    ghost use Rattle.ldm_copy.specs.Table.{IsCoreBody};
+    ghost use Rattle.ldm_body.specs.Body.{IsBodyOf};
+    ghost use Rattle.ldm_body.specs.Table.{IsCoreBody};
     ghost use Rattle.ldm_changed.specs.Nexts.{bytes_in, most_in};
     ghost use Rattle.ldm_edits.specs.Changes.{AreasFit};
     ghost use Rattle.ldm_edits.specs.Steps.{IsDraftOf};

@@ -5,10 +5,10 @@ ghost use Rattle.ldm_host.specs.Moves.{Settled, Settles, DiskFailed, Looks, Work
 ghost use Rattle.ldm_host.specs.Seen.{image};
 ghost use Rattle.ldm_label.specs.LabelOf.{Fits};
 ghost use Rattle.ldm_group.specs.Database.{Database};
-ghost use Rattle.ldm_copy.specs.Body.{IsBodyOn};
-ghost use Rattle.ldm_copy.specs.Rewriting.{Rewrites};
-ghost use Rattle.ldm_found.specs.declared.fault.OpenFault.{OpenFault};
-ghost use Rattle.ldm_found.specs.declared.found.Found.{Found};
+ghost use Rattle.ldm_body.specs.Body.{IsBodyOn};
+ghost use Rattle.ldm_body.specs.Rewriting.{Rewrites};
+ghost use Rattle.ldm_findings.specs.declared.fault.OpenFault.{OpenFault};
+ghost use Rattle.ldm_findings.specs.declared.found.Found.{Found};
 ghost use Rattle.ldm_found.specs.Facts.{LieOn};
 ghost use Rattle.ldm_found.specs.Opening.{IsGroupIn};
 ghost use Rattle.ldm_store.specs.Kept.{AlwaysKept, HoldsNone, HoldsNoneFor, HoldsEditable};
@@ -19,7 +19,7 @@ ghost use Rattle.ldm_store.specs.Settling.{HealsAll};
 
 use crate::session::Session;
 use crate::sharing::{healing_body, is_behind};
-use ldm_copy::{Body, refill, rewrite};
+use ldm_body::{Body, refill, rewrite};
 use ldm_found::{Found, Note, OpenError, find_group};
 use ldm_host::{Failed, Host};
 use ldm_label::Label;

@@ -5,10 +5,10 @@ use Rattle.std.proofs.lemmas.Grind.{common_steps}
 use Rattle.std.specs.List.{range_with_len, list_all}
 use Rattle.std.specs.Option.{option_map, option_to_list}
 use Rattle.std.proofs.lemmas.Bool.{cases_lt, cond-true, cond-false, eqb-true, eqb-false, cases_Bool, ne_eqb}
-use Rattle.ldm_layout.specs.Layouts.{Layout, copies_of, place_in, is_tiled, place_at, copies_by}
-use Rattle.ldm_layout.specs.declared.shape.Place.{Place}
-use Rattle.ldm_found.specs.declared.found.Found.{Found}
-use Rattle.ldm_found.specs.Labels.{image_of}
+use Rattle.ldm_places.specs.Layouts.{Layout, copies_of, place_in, is_tiled, place_at, copies_by}
+use Rattle.ldm_places.specs.declared.shape.Place.{Place}
+use Rattle.ldm_findings.specs.declared.found.Found.{Found}
+use Rattle.ldm_findings.specs.Images.{image_of}
 use Rattle.ldm_dump.specs.Sources.{is_here, data_start, spot_at, first_copy, copy_spot, sources_of, is_lost, IsLeastLost, other_spot, other_spots, is_beside, is_raid5, can_rebuild, sources_by}
 use Rattle.ldm_dump.specs.Runs.{behind, IsRun}
 use Rattle.ldm_dump.specs.declared.spots.Spot.{Spot}
@@ -19,12 +19,12 @@ use Rattle.ldm_table.specs.Tables.{one_sector, data_columns, row_sectors, whole_
 use Rattle.ldm_table.specs.Runs.{IsStretchOf}
 use Rattle.std.proofs.Math.Nat.{mul-le-mul_left}
 use Rattle.std.proofs.lemmas.Nat.{div-add-mod', div-mul-add, mod-mul-add}
-use Rattle.ldm_layout.specs.Columns.{columns_of, chunk_of, IsColumned, column_in, moved, own_column}
-use Rattle.ldm_layout.specs.Places.{stripe_column, stripe_offset, raid5_column, raid5_offset}
-use Rattle.ldm_layout.specs.declared.parts.Extent.{Extent}
-use Rattle.ldm_layout.specs.declared.shape.Shape.{Shape}
-use Rattle.ldm_layout.specs.declared.shape.Shape.TheVariants.{Stripe, Raid5}
-use Rattle.ldm_layout.proofs.SpotLaws.{place_by}
+use Rattle.ldm_places.specs.Columns.{columns_of, chunk_of, IsColumned, column_in, moved, own_column}
+use Rattle.ldm_places.specs.Places.{stripe_column, stripe_offset, raid5_column, raid5_offset}
+use Rattle.ldm_places.specs.declared.extent.Extent.{Extent}
+use Rattle.ldm_places.specs.declared.shape.Shape.{Shape}
+use Rattle.ldm_places.specs.declared.shape.Shape.TheVariants.{Stripe, Raid5}
+use Rattle.ldm_places.proofs.SpotLaws.{place_by}
 use Rattle.ldm_bytes.specs.Tables.{first_of}
 use Rattle.ldm_dump.proofs.RunLaws.{least_found, here_moved, spot_moved, chunk_is}
 use Rattle.ldm_table.specs.declared.faults.TableFault.{TableFault}

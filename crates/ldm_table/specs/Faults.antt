@@ -5,11 +5,11 @@ use Rattle.std.specs.Option.{option_map}
 use Rattle.std.specs.Int.{is_power_of_two}
 use Rattle.ldm_bytes.specs.Tables.{first_of, unless}
 use Rattle.ldm_records.specs.declared.types.Volume.{Volume}
-use Rattle.ldm_layout.specs.Layouts.{Layout}
-use Rattle.ldm_layout.specs.Columns.{columns_of, chunk_of}
-use Rattle.ldm_layout.specs.declared.shape.Shape.{Shape}
-use Rattle.ldm_layout.specs.declared.shape.Shape.TheVariants.{Stripe, Raid5}
-use Rattle.ldm_found.specs.declared.found.Found.{Found}
+use Rattle.ldm_places.specs.Layouts.{Layout}
+use Rattle.ldm_places.specs.Columns.{columns_of, chunk_of}
+use Rattle.ldm_places.specs.declared.shape.Shape.{Shape}
+use Rattle.ldm_places.specs.declared.shape.Shape.TheVariants.{Stripe, Raid5}
+use Rattle.ldm_findings.specs.declared.found.Found.{Found}
 use Rattle.ldm_words.specs.Names.{is_plain}
 use Rattle.ldm_dump.specs.Sources.{first_copy, is_lost}
 use Rattle.ldm_table.specs.declared.parts.Member.{Member}

@@ -1,9 +1,9 @@
 -- That the device of a volume has its sectors.
 use Rattle.std.specs.Prelude.{◌≡◌, ℕ, ◌+◌, ◌<◌, false, List, [], ◌∷◌, Option, None}
 use Rattle.std.specs.Option.{option_map}
-use Rattle.ldm_layout.specs.Layouts.{Layout, is_tiled}
-use Rattle.ldm_layout.specs.Columns.{IsColumned}
-use Rattle.ldm_found.specs.declared.found.Found.{Found}
+use Rattle.ldm_places.specs.Layouts.{Layout, is_tiled}
+use Rattle.ldm_places.specs.Columns.{IsColumned}
+use Rattle.ldm_findings.specs.declared.found.Found.{Found}
 use Rattle.ldm_dump.specs.Bytes.{joined_sector, sector_of}
 use Rattle.ldm_table.specs.Targets.{Line, spots_in}
 use Rattle.ldm_table.specs.Tables.{table_of}

@@ -4,12 +4,12 @@ use Rattle.std.specs.List.{filter_map, range_with_len}
 use Rattle.std.specs.Option.{option_map}
 use Rattle.ldm_records.specs.declared.types.Record.{Record}
 use Rattle.ldm_records.specs.declared.types.Record.TheVariants as kinds
-use Rattle.ldm_layout.specs.Layouts.{Layout}
-use Rattle.ldm_layout.specs.Columns.{columns_of, chunk_of}
-use Rattle.ldm_layout.specs.declared.shape.Place.{Place}
-use Rattle.ldm_layout.specs.declared.shape.Shape.{Shape}
-use Rattle.ldm_layout.specs.declared.shape.Shape.TheVariants.{Stripe, Raid5}
-use Rattle.ldm_found.specs.declared.found.Found.{Found}
+use Rattle.ldm_places.specs.Layouts.{Layout}
+use Rattle.ldm_places.specs.Columns.{columns_of, chunk_of}
+use Rattle.ldm_places.specs.declared.shape.Place.{Place}
+use Rattle.ldm_places.specs.declared.shape.Shape.{Shape}
+use Rattle.ldm_places.specs.declared.shape.Shape.TheVariants.{Stripe, Raid5}
+use Rattle.ldm_findings.specs.declared.found.Found.{Found}
 use Rattle.ldm_dump.specs.Sources.{spot_at, sources_of}
 use Rattle.ldm_dump.specs.declared.spots.Spot.{Spot}
 use Rattle.ldm_table.specs.declared.parts.Member.{Member}

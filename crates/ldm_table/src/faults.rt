@@ -3,7 +3,7 @@ ghost use Rattle.std.specs.Prelude.{◌≡◌, ◌-◌, ◌<◌, ◌+◌, ◌≤
 ghost use Rattle.std.specs.Prelude.{length};
 ghost use Rattle.std.specs.List.{range_with_len, list_all, list_any};
 ghost use Rattle.ldm_words.specs.Names.{is_plain};
-ghost use Rattle.ldm_layout.specs.Columns.{columns_of};
+ghost use Rattle.ldm_places.specs.Columns.{columns_of};
 ghost use Rattle.ldm_dump.specs.Sources.{is_lost};
 ghost use Rattle.ldm_table.specs.Tables.{in_rows, array_of};
 ghost use Rattle.ldm_table.specs.Faults.{is_bad_chunk, has_many_columns, is_rebuilt, is_colon};

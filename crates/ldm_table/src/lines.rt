@@ -3,8 +3,8 @@ ghost use Rattle.std.specs.Prelude.{◌≡◌, ◌≢◌, ◌++◌, ◌+◌, ◌
 ghost use Rattle.std.specs.Prelude.{List, false, OnOk, IfOk, flat_map, length, map, slice_get};
 ghost use Rattle.std.specs.Prelude.{decimal, codes};
 ghost use Rattle.std.specs.List.{range_with_len};
-ghost use Rattle.ldm_layout.specs.Columns.{columns_of, chunk_of};
-ghost use Rattle.ldm_layout.specs.declared.shape.Shape.TheVariants.{Stripe, Raid5};
+ghost use Rattle.ldm_places.specs.Columns.{columns_of, chunk_of};
+ghost use Rattle.ldm_places.specs.declared.shape.Shape.TheVariants.{Stripe, Raid5};
 ghost use Rattle.ldm_dump.specs.Sources.{first_copy};
 ghost use Rattle.ldm_dump.specs.Runs.{LiesOn};
 ghost use Rattle.ldm_table.specs.Targets.{linear, striped, raid5_ls};

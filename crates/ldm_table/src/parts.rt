@@ -2,8 +2,8 @@
 ghost use Rattle.std.specs.Prelude.{◌≡◌, ◌*◌, ◌<◌, Some, IfOk, length, option_copied, map, find};
 ghost use Rattle.std.specs.Prelude.{false};
 ghost use Rattle.std.specs.List.{range_with_len};
-ghost use Rattle.ldm_layout.specs.Columns.{columns_of};
-ghost use Rattle.ldm_layout.specs.declared.shape.Shape.TheVariants.{Raid5};
+ghost use Rattle.ldm_places.specs.Columns.{columns_of};
+ghost use Rattle.ldm_places.specs.declared.shape.Shape.TheVariants.{Raid5};
 ghost use Rattle.ldm_dump.specs.Sources.{spot_of};
 ghost use Rattle.ldm_dump.specs.Runs.{IsOn, RowsLieOn};
 ghost use Rattle.ldm_dump.specs.declared.spots.Spot.{Spot as Sector};

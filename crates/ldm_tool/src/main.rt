@@ -6,9 +6,10 @@
 #![tactic(auto)]
 
 use ldm_bytes::NoMemory;
-use ldm_edge::{Stop, ending, exit_code, open_images, tell, words_of};
-use ldm_files::{Access, Counted, Failure, FileHost, Meter, Watch, take_closed_streams};
+use ldm_edge::{Stop, ending, exit_code, open_images, stop_unopened, tell, words_of};
+use ldm_files::{Access, Counted, Failure, FileHost, ImageFile, Meter, Watch, take_closed_streams};
 use ldm_help::{HELP, VERSION, usage_error};
+use ldm_locks::hold;
 use ldm_run::run;
 use ldm_words::{Job, Status, WordsError, read_words};
 use std::io;
@@ -85,6 +86,21 @@ fn watch_of<'a>(rt: &'a HostRuntime, needs: Needs, terminals: Terminals) -> Watc
     }
 }
 
+// Holds the images of these names for a job that writes, in their order.
+fn hold_images<'a>(
+    rt: &HostRuntime,
+    images: &[ImageFile],
+    names: &'a [String],
+) -> Result<(), Stop<'a>> {
+    for (i, image) in images.iter().enumerate() {
+        if let Err(error) = hold(rt, image, &images[..i]) {
+            let name = names.get(i).map_or("", |name| name.as_str());
+            return Err(stop_unopened(i, name, error));
+        }
+    }
+    Ok(())
+}
+
 // Opens the images, and runs the words over them and these streams. All images are open, and locked
 // where the job writes, before the first of its calls.
 fn run_words<'a, I, O>(
@@ -106,6 +122,9 @@ where
     };
     let names = &words[words.len() - count..];
     let images = open_images(alloc, rt, names, needs.access)?;
+    if needs.access == Access::Edit {
+        hold_images(rt, images.as_slice(), names)?;
+    }
     if let Err(error) = try_output(needs, &mut output) {
         let failure = Some(Failure::Output(error));
         return ending(Status::TalkFault, names, failure, None);

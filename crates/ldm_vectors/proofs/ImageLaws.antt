@@ -15,12 +15,12 @@ use Rattle.ldm_label.specs.LabelOf.{label_of, Fits}
 use Rattle.ldm_label.specs.Laws.{WrittenLabelsRead}
 use Rattle.ldm_label.specs.Written.{HasLabel, SameOutsideLabel, IsOutsideLabel, label_places}
 use Rattle.ldm_group.specs.Database.{Database}
-use Rattle.ldm_copy.specs.Copy.{gate_at}
-use Rattle.ldm_copy.specs.Body.{IsBodyOf, IsBodyOn, HasBody, IsWritten}
-use Rattle.ldm_found.specs.declared.fault.OpenFault.TheVariants as faults
-use Rattle.ldm_found.specs.declared.found.Found.{Found}
-use Rattle.ldm_found.specs.declared.notes.Note.{Note}
-use Rattle.ldm_found.specs.declared.notes.Note.TheVariants as notes
+use Rattle.ldm_copy.specs.Copy.{gate_at, IsWritten}
+use Rattle.ldm_body.specs.Body.{IsBodyOf, IsBodyOn, HasBody}
+use Rattle.ldm_findings.specs.declared.fault.OpenFault.TheVariants as faults
+use Rattle.ldm_findings.specs.declared.found.Found.{Found}
+use Rattle.ldm_findings.specs.declared.notes.Note.{Note}
+use Rattle.ldm_findings.specs.declared.notes.Note.TheVariants as notes
 use Rattle.ldm_found.specs.New.{HoldCopies, NewOpens, NewIsEditable}
 use Rattle.ldm_found.specs.Opening.{IsGroupIn, found_with}
 use Rattle.ldm_sample_disks.specs.Disks.{sample_label, sample_labels, IsZeros}

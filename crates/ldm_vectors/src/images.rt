@@ -1,14 +1,14 @@
 //! The images of the sample group.
 ghost use Rattle.std.specs.Prelude.{◌≡◌, ◌*◌, ◌<◌, ◌≤◌, All, IfOk, Result, length, vec_len};
 ghost use Rattle.ldm_host.specs.Images.{items_of};
-ghost use Rattle.ldm_found.specs.declared.found.Found.{Found};
+ghost use Rattle.ldm_findings.specs.declared.found.Found.{Found};
 ghost use Rattle.ldm_found.specs.Opening.{IsGroupIn};
 ghost use Rattle.ldm_sample_disks.specs.Disks.{sample_label, IsZeros};
 ghost use Rattle.ldm_vectors.specs.Sample.{IsSampleDatabase, IsSampleImage, AreImagesWith};
 ghost use Rattle.ldm_vectors.specs.Sample.{AreSampleImages, IsSampleGroup};
 
+use ldm_body::{Body, bodies_are_copies, body_of};
 use ldm_bytes::{NoMemory, put_bytes};
-use ldm_copy::{Body, bodies_are_copies, body_of};
 use ldm_found::new_groups_open;
 use ldm_group::Db;
 use ldm_init::new_database;

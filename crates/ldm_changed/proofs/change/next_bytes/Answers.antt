@@ -8,9 +8,9 @@ use Rattle.ldm_vmdb.specs.Sectors.{last_of}
 use Rattle.ldm_group.specs.Order.{Rising}
 use Rattle.ldm_group.specs.Room.{room_of}
 use Rattle.ldm_copy.specs.Copy.{header_sector}
-use Rattle.ldm_copy.specs.Body.{placed_of, stored_at, Store}
-use Rattle.ldm_copy.specs.Table.{IsTabled}
-use Rattle.ldm_copy.proofs.BodyLaws.{few_records}
+use Rattle.ldm_body.specs.Body.{placed_of, stored_at, Store}
+use Rattle.ldm_body.specs.Table.{IsTabled}
+use Rattle.ldm_body.proofs.BodyLaws.{few_records}
 use Rattle.ldm_changed.specs.Change.{IsNextBody}
 use Rattle.ldm_changed.proofs.NextLaws.{same_records, next_is}
 use Rattle.ldm_changed.proofs.change.next_bytes.Goals as goal

@@ -4,7 +4,7 @@ use Rattle.ldm_host.specs.Seen.{image}
 use Rattle.ldm_host.specs.Moves.{Writes}
 use Rattle.ldm_host.proofs.ChangeLaws.{writes_change, changes_trans, changes_syncs}
 use Rattle.ldm_copy.specs.Copy.{gate_at}
-use Rattle.ldm_copy.proofs.RewriteLaws.{on_ok_map}
+use Rattle.ldm_body.proofs.RewriteLaws.{on_ok_map}
 use Rattle.ldm_changed.specs.Change.{Changed, IsChangedBody, ChangesFrom}
 use Rattle.ldm_changed.proofs.FillLaws.{HasAllBut, all_there, run_within, filled_first, filled_step, same_change}
 use Rattle.ldm_changed.proofs.filling.fill_changed.Goals as goal

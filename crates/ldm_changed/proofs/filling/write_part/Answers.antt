@@ -1,6 +1,6 @@
 use Rattle.std.proofs.Common.{rules}
 use Rattle.std.proofs.lemmas.List.{places}
-use Rattle.ldm_copy.proofs.RewriteLaws.{on_ok_map}
+use Rattle.ldm_body.proofs.RewriteLaws.{on_ok_map}
 use Rattle.ldm_changed.proofs.filling.write_part.Goals as goal
 
 pub returns-clause-written : goal.returns-clause-written

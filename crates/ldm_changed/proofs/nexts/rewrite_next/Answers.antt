@@ -1,7 +1,7 @@
 use Rattle.std.proofs.Common.{sym, subst}
 use Rattle.ldm_group.specs.Database.{Database}
-use Rattle.ldm_copy.specs.Body.{IsBodyOn}
-use Rattle.ldm_copy.specs.Rewriting.{Rewrites}
+use Rattle.ldm_body.specs.Body.{IsBodyOn}
+use Rattle.ldm_body.specs.Rewriting.{Rewrites}
 use Rattle.ldm_changed.specs.declared.nexts.Next.{Next}
 use Rattle.ldm_changed.specs.Nexts.{bytes_in, most_in}
 use Rattle.ldm_changed.proofs.nexts.rewrite_next.Goals as goal

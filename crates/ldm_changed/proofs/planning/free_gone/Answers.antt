@@ -1,9 +1,9 @@
 use Rattle.std.proofs.Common.{◌≤◌, length, sym, arith}
 use Rattle.std.specs.Prelude.{filter}
 use Rattle.std.proofs.lemmas.List.{append-nil, take_all, drop_all}
-use Rattle.ldm_copy.specs.Body.{Stored, stored_at}
+use Rattle.ldm_body.specs.Body.{Stored, stored_at}
 use Rattle.ldm_changed.specs.Plan.{record_stays}
-use Rattle.ldm_copy.proofs.BodyLaws.{stored_length, stored_get}
+use Rattle.ldm_body.proofs.BodyLaws.{stored_length, stored_get}
 use Rattle.ldm_changed.proofs.PlanLaws.{freed_step, slots_used}
 use Rattle.ldm_changed.proofs.planning.free_gone.Goals as goal
 

@@ -1,4 +1,4 @@
-use Rattle.ldm_copy.specs.Body.{stored_at}
+use Rattle.ldm_body.specs.Body.{stored_at}
 use Rattle.ldm_changed.proofs.PlanLaws.{IsFreedUpTo}
 use Rattle.ldm_changed.proofs.planning.free_gone.Given as goal
 

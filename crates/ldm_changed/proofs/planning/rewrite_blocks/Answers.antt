@@ -8,7 +8,7 @@ use Rattle.ldm_records.specs.Views.{plain_of}
 use Rattle.ldm_frags.specs.Blocks.{count, numbers_from}
 use Rattle.ldm_frags.specs.Written.{Holds, IsInUse, block_at}
 use Rattle.ldm_group.specs.Room.{need_of}
-use Rattle.ldm_copy.specs.Body.{Stored, placed_of, stored_at}
+use Rattle.ldm_body.specs.Body.{Stored, placed_of, stored_at}
 use Rattle.ldm_changed.specs.Plan.{has_record, lacks, record_stays, record_goes, Avoids}
 use Rattle.ldm_frags.specs.Free.{is_free, free_numbers}
 use Rattle.ldm_frags.proofs.HoldEdits.{enough_free, free_within, numbers_apart}

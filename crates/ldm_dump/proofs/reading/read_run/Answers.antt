@@ -1,5 +1,5 @@
 use Rattle.std.proofs.Common.{◌≡◌, [], ◌∷◌, length, sym, ap, ◌∙◌, Option, Some}
-use Rattle.ldm_layout.specs.declared.shape.Place.{Place}
+use Rattle.ldm_places.specs.declared.shape.Place.{Place}
 use Rattle.ldm_dump.specs.Sources.{is_here, spot_at, copy_spot, other_spot, other_spots}
 use Rattle.ldm_dump.proofs.ReadLaws.{on_ok, copy_there, here_spot, copy_sources, made_raid5, made_sources, bytes_as, run_bytes}
 use Rattle.ldm_dump.proofs.reading.read_run.Goals as goal

@@ -1,6 +1,6 @@
 use Rattle.std.proofs.Common.{◌≡◌, ℕ, ◌+◌, ap, sym, subst, ◌∙◌, arith, Option}
-use Rattle.ldm_layout.specs.Layouts.{copies_of}
-use Rattle.ldm_layout.specs.declared.shape.Place.{Place}
+use Rattle.ldm_places.specs.Layouts.{copies_of}
+use Rattle.ldm_places.specs.declared.shape.Place.{Place}
 use Rattle.ldm_dump.specs.Sources.{is_here}
 use Rattle.ldm_dump.proofs.RunLaws.{Along, AllAbsent, along_more, absent_more, run_found, run_none}
 use Rattle.ldm_dump.proofs.runs.run_at.Goals as goal

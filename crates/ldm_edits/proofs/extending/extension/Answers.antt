@@ -1,6 +1,6 @@
 use Rattle.std.proofs.Common.{◌∙◌, ◌++◌, ap, sym, subst, Option, Some}
 use Rattle.ldm_group.specs.Order.{in_order}
-use Rattle.ldm_layout.specs.declared.shape.Shape.{Shape}
+use Rattle.ldm_places.specs.declared.shape.Shape.{Shape}
 use Rattle.ldm_layout.proofs.VolumeLaws.{laid_out_volume}
 use Rattle.ldm_edits.specs.Additions.{with_added}
 use Rattle.ldm_edits.specs.Extended.{extended_as}

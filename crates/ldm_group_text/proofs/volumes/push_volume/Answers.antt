@@ -3,7 +3,7 @@ use Rattle.std.specs.Prelude.{codes}
 use Rattle.std.proofs.lemmas.List.{append-nil}
 use Rattle.std.proofs.lemmas.Result.{IfOk-equal}
 use Rattle.ldm_records.specs.declared.types.Volume.{Volume}
-use Rattle.ldm_layout.specs.declared.shape.Shape.{Shape}
+use Rattle.ldm_places.specs.declared.shape.Shape.{Shape}
 use Rattle.ldm_group_text.specs.Volumes.{text_of_head, text_of_form, text_of_volume}
 use Rattle.ldm_group_text.proofs.volumes.push_volume.Goals as goal
 

@@ -1,6 +1,6 @@
 use Rattle.std.proofs.Common.{◌∙◌, ◌<◌, ◌≤◌, ℕ, List, map, refl, length, inl, Some, None, Result, is_err, sym, ap, subst, arith}
 use Rattle.ldm_host.proofs.Relations.{looks_settles, looks_works, works_then, moments_trans}
-use Rattle.ldm_copy.proofs.RewriteLaws.{on_ok_map}
+use Rattle.ldm_body.proofs.RewriteLaws.{on_ok_map}
 use Rattle.ldm_label.specs.Fields.{sectors_of}
 use Rattle.ldm_init.specs.Images.{IsInitMoment, NothingPending}
 use Rattle.ldm_init.specs.declared.faults.InitError.{InitError}

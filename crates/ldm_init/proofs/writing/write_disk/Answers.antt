@@ -3,7 +3,7 @@ use Rattle.ldm_host.specs.Seen.{image}
 use Rattle.ldm_label.specs.declared.writing.LabelSectors.{LabelSectors}
 use Rattle.ldm_label.specs.LabelOf.{Fits}
 use Rattle.ldm_label.specs.Written.{written_header}
-use Rattle.ldm_copy.proofs.RewriteLaws.{on_ok_map}
+use Rattle.ldm_body.proofs.RewriteLaws.{on_ok_map}
 use Rattle.ldm_init.specs.Bytes.{IsFront, unsigned_image}
 use Rattle.ldm_init.specs.Beside.{IsBeside, ChangesBeside}
 use Rattle.ldm_init.specs.Moments.{IsReadyToSign}

@@ -2,7 +2,7 @@ use Rattle.std.proofs.Common.{◌≡◌, ◌<◌, ◌∙◌, ℕ, List, length, 
 use Rattle.ldm_host.specs.Seen.{image}
 use Rattle.ldm_bytes.specs.Places.{put}
 use Rattle.ldm_host.proofs.Relations.{rose_sooner}
-use Rattle.ldm_copy.proofs.RewriteLaws.{on_ok_map}
+use Rattle.ldm_body.proofs.RewriteLaws.{on_ok_map}
 use Rattle.ldm_init.proofs.MomentLaws.{one_rewrite, two_rewrite, three_rewrite, synced_rewrite, put_here, set_count}
 use Rattle.ldm_init.proofs.writing.write_unsigned.Goals as goal
 

@@ -2,7 +2,7 @@ use Rattle.std.proofs.Common.{ℕ, rules, arith}
 use Rattle.std.proofs.lemmas.List.Sorted.{IsNonDecreasingBy-from_sort_by_key, answers_always}
 use Rattle.ldm_layout.proofs.SortLaws.{stable_is, stable_numbers}
 use Rattle.ldm_layout.specs.Parts.{tile_key}
-use Rattle.ldm_layout.specs.declared.parts.Extent.{Extent}
+use Rattle.ldm_places.specs.declared.extent.Extent.{Extent}
 use Rattle.ldm_layout.proofs.laying.by_offset.Goals as goal
 
 pub returns : goal.returns

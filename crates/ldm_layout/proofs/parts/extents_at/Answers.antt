@@ -1,7 +1,7 @@
 use Rattle.std.proofs.Common.{◌≤◌, rules, leb, ltb}
 use Rattle.std.proofs.lemmas.List.Sorted.{IsPartitionPoint-from_clause, IsPartitionedBy-leb, IsPartitionedBy-ltb}
 use Rattle.ldm_layout.proofs.SortLaws.{range_of_points, range_order, range_is}
-use Rattle.ldm_layout.specs.declared.parts.Extent.{Extent}
+use Rattle.ldm_places.specs.declared.extent.Extent.{Extent}
 use Rattle.ldm_layout.proofs.parts.extents_at.Goals as goal
 
 pub slice_bounds-result-count : goal.slice_bounds-result-count

@@ -1,7 +1,7 @@
 use Rattle.std.proofs.Common.{ℕ, rules, refl}
 use Rattle.std.proofs.lemmas.List.Sorted.{IsNonDecreasingBy-from_sort_by_key, answers_always}
 use Rattle.ldm_layout.proofs.SortLaws.{stable_numbers}
-use Rattle.ldm_layout.specs.declared.parts.Extent.{Extent}
+use Rattle.ldm_places.specs.declared.extent.Extent.{Extent}
 use Rattle.ldm_layout.proofs.parts.extents_by_component.Goals as goal
 
 pub returns-clause-rising : goal.returns-clause-rising

@@ -4,11 +4,11 @@ use Rattle.std.specs.List.{All}
 use Rattle.ldm_layout.proofs.VolumeLaws.{extents_end, plan_size, layout_is, lists_end}
 use Rattle.ldm_layout.specs.Answers.{PlansAs}
 use Rattle.ldm_layout.specs.Grouped.{IsListsOf}
-use Rattle.ldm_layout.specs.Layouts.{Layout}
+use Rattle.ldm_places.specs.Layouts.{Layout}
 use Rattle.ldm_group.specs.Partitions.{EndsInRange}
 use Rattle.ldm_layout.specs.Parts.{is_partition_of}
 use Rattle.ldm_layout.specs.Volumes.{layout_of, volume_with}
-use Rattle.ldm_layout.specs.declared.shape.LayoutFault.{LayoutFault}
+use Rattle.ldm_places.specs.declared.shape.LayoutFault.{LayoutFault}
 use Rattle.ldm_layout.proofs.planning.plan.Goals as goal
 use Rattle.ldm_layout.proofs.planning.plan.Goals.{After-drop-parts-inside-in-Some}
 

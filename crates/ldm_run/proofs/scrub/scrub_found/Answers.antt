@@ -1,6 +1,6 @@
 use Rattle.std.proofs.Common.{codes, decimal, ◌≡◌, ◌++◌, true, false, Some, None, ap, sym, subst, ◌∙◌}
 use Rattle.ldm_text.specs.Texts.{text_of_refusal}
-use Rattle.ldm_layout.specs.declared.shape.Shape.{Shape}
+use Rattle.ldm_places.specs.declared.shape.Shape.{Shape}
 use Rattle.ldm_run.specs.Runs.{Streams}
 use Rattle.ldm_look.specs.Said.{Answer}
 use Rattle.ldm_run.specs.Streaming.{is_compared}

@@ -1,6 +1,6 @@
 use Rattle.std.proofs.Common.{Some, sym, ◌∙◌}
 use Rattle.ldm_host.proofs.Relations.{looks_itself, looks_as}
-use Rattle.ldm_layout.specs.Columns.{column_in}
+use Rattle.ldm_places.specs.Columns.{column_in}
 use Rattle.ldm_dump.proofs.ReadLaws.{list_of}
 use Rattle.ldm_scrub.proofs.comparing.join_column.Goals as goal
 

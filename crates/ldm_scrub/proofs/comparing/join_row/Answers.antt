@@ -1,7 +1,7 @@
 use Rattle.std.proofs.Common.{◌<◌, ℕ, List, Option, arith, length, map, fold, bit_xor, slice_index, ap, sym, subst, refl, ◌∙◌}
 use Rattle.std.specs.Option.{option_to_list}
 use Rattle.ldm_host.proofs.Relations.{looks_then, looks_as}
-use Rattle.ldm_layout.specs.Columns.{column_in}
+use Rattle.ldm_places.specs.Columns.{column_in}
 use Rattle.ldm_dump.specs.Sources.{spot_at}
 use Rattle.ldm_dump.specs.Bytes.{byte_at}
 use Rattle.ldm_dump.specs.declared.spots.Spot.{Spot}

@@ -1,7 +1,7 @@
 use Rattle.std.proofs.Common.{◌≡◌, ℕ, ◌<◌, length, slice_index}
 use Rattle.std.specs.List.{range_with_len, filter_map}
 use Rattle.ldm_host.specs.Moves.{Looks}
-use Rattle.ldm_layout.specs.Columns.{column_in}
+use Rattle.ldm_places.specs.Columns.{column_in}
 use Rattle.ldm_dump.specs.Sources.{spot_at}
 use Rattle.ldm_dump.specs.Bytes.{joined_byte}
 use Rattle.ldm_scrub.proofs.comparing.join_row.Given as goal

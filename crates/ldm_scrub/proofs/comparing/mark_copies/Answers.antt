@@ -3,7 +3,7 @@ use Rattle.std.specs.List.{list_any, range_with_len}
 use Rattle.std.specs.Option.{option_to_list}
 use Rattle.std.specs.Str.{bytes_eq}
 use Rattle.ldm_host.proofs.Relations.{looks_then, looks_as}
-use Rattle.ldm_layout.specs.Layouts.{copies_of}
+use Rattle.ldm_places.specs.Layouts.{copies_of}
 use Rattle.ldm_dump.specs.Sources.{copy_spot}
 use Rattle.ldm_dump.specs.Bytes.{joined_byte}
 use Rattle.ldm_dump.specs.Runs.{LiesOn}

@@ -1,7 +1,7 @@
 use Rattle.std.proofs.Common.{◌≡◌, ◌+◌, ◌*◌, ℕ, List, not, length, slice_index, replicate, arith, ap, sym, ◌∙◌}
 use Rattle.std.specs.Str.{bytes_eq}
 use Rattle.ldm_host.proofs.Relations.{looks_as}
-use Rattle.ldm_layout.specs.Columns.{column_in}
+use Rattle.ldm_places.specs.Columns.{column_in}
 use Rattle.ldm_dump.specs.Sources.{spot_at}
 use Rattle.ldm_dump.specs.Bytes.{joined_byte, joined_sector}
 use Rattle.ldm_dump.specs.Redundant.{row_spots}

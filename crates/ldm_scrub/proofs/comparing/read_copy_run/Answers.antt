@@ -1,6 +1,6 @@
 use Rattle.std.proofs.Common.{length, Some, sym, ◌∙◌}
 use Rattle.ldm_host.proofs.Relations.{looks_itself, looks_as}
-use Rattle.ldm_layout.specs.Layouts.{place_in}
+use Rattle.ldm_places.specs.Layouts.{place_in}
 use Rattle.ldm_dump.proofs.ReadLaws.{list_of}
 use Rattle.ldm_scrub.proofs.CompareLaws.{copy_bytes}
 use Rattle.ldm_scrub.proofs.comparing.read_copy_run.Goals as goal

@@ -1,5 +1,5 @@
 use Rattle.std.proofs.Common.{◌≡◌, ℕ, ◌+◌, sym, subst, arith}
-use Rattle.ldm_layout.specs.Layouts.{copies_of}
+use Rattle.ldm_places.specs.Layouts.{copies_of}
 use Rattle.ldm_dump.proofs.RunLaws.{Along, along_more}
 use Rattle.ldm_scrub.proofs.CompareLaws.{common_along}
 use Rattle.ldm_scrub.proofs.places.common_run.Goals as goal

@@ -1,6 +1,6 @@
 use Rattle.std.proofs.Common.{◌≡◌, ◌+◌, ◌-◌, ◌*◌, ◌/◌, ℕ, length, ap, sym, subst, ◌∙◌}
 use Rattle.ldm_dump.proofs.RunLaws.{chunk_is}
-use Rattle.ldm_layout.specs.Columns.{columns_of}
+use Rattle.ldm_places.specs.Columns.{columns_of}
 use Rattle.ldm_scrub.specs.Compare.{IsCount}
 use Rattle.ldm_scrub.proofs.CompareLaws.{rows_in, count_rows, untiled}
 use Rattle.ldm_scrub.proofs.places.count_rows.Goals as goal

@@ -5,7 +5,7 @@ use Rattle.ldm_host.proofs.Relations.{works_itself, works_then, works_as}
 use Rattle.ldm_host.proofs.ChangeLaws.{changes_works}
 use Rattle.ldm_label.specs.declared.Label.{Label}
 use Rattle.ldm_label.specs.LabelOf.{Fits}
-use Rattle.ldm_copy.specs.Body.{HasBody}
+use Rattle.ldm_body.specs.Body.{HasBody}
 use Rattle.ldm_found.specs.Facts.{LieOn}
 use Rattle.ldm_store.proofs.CopyLaws.{no_label, current_open, settled_step, body_step, outside_step, turned_none, turning_always, turned_step, wrote_below, wrote_above, wrote_each, wrote_all}
 use Rattle.ldm_changed.specs.Nexts.{bytes_in, most_in}

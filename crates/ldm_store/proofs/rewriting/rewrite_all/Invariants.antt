@@ -3,7 +3,7 @@ use Rattle.ldm_host.specs.Seen.{image}
 use Rattle.ldm_host.specs.Moves.{Works}
 use Rattle.ldm_label.specs.declared.Label.{Label}
 use Rattle.ldm_group.specs.Database.{Database}
-use Rattle.ldm_copy.specs.Body.{HasBody}
+use Rattle.ldm_body.specs.Body.{HasBody}
 use Rattle.ldm_store.specs.Kept.{IsCurrent}
 use Rattle.ldm_store.specs.Turning.{IsBodyOnEach, AllSettled, AllHave, IsTurned}
 use Rattle.ldm_changed.specs.Nexts.{bytes_in, most_in}

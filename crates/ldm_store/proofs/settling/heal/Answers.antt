@@ -1,5 +1,5 @@
 use Rattle.std.proofs.Common.{arith}
-use Rattle.ldm_copy.proofs.RewriteLaws.{rewrites_most}
+use Rattle.ldm_body.proofs.RewriteLaws.{rewrites_most}
 use Rattle.ldm_store.proofs.settling.heal.Goals as goal
 
 pub returns-in-Closed : goal.returns-in-Closed

@@ -6,10 +6,10 @@ use Rattle.ldm_host.proofs.Relations.{looks_itself, looks_then, looks_as}
 use Rattle.ldm_label.specs.declared.Label.{Label}
 use Rattle.ldm_label.specs.LabelOf.{Fits}
 use Rattle.ldm_group.specs.Database.{Database}
-use Rattle.ldm_found.specs.declared.notes.Note.{Note}
-use Rattle.ldm_found.specs.declared.notes.Note.TheVariants as notes
+use Rattle.ldm_findings.specs.declared.notes.Note.{Note}
+use Rattle.ldm_findings.specs.declared.notes.Note.TheVariants as notes
 use Rattle.ldm_store.specs.Healing.{is_behind}
-use Rattle.ldm_copy.specs.Table.{body_bytes}
+use Rattle.ldm_body.specs.Table.{body_bytes}
 use Rattle.ldm_store.specs.Bodies.{LacksBody, KeepsBody}
 use Rattle.ldm_store.proofs.CopyLaws.{no_label}
 use Rattle.ldm_store.proofs.ResultLaws.{fails, same_error, no_error, true_not_false}

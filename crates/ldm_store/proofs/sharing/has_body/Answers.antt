@@ -1,6 +1,6 @@
 use Rattle.std.proofs.Common.{◌≡◌, inl, inr, List, ℕ, Bool, Option, Some, IfSome, IsTrue, false, sym, subst, ◌∙◌}
 use Rattle.ldm_host.specs.Seen.{image}
-use Rattle.ldm_copy.specs.Table.{body_bytes}
+use Rattle.ldm_body.specs.Table.{body_bytes}
 use Rattle.ldm_store.proofs.sharing.has_body.Goals as goal
 
 not_true : (b : Bool) → IsTrue b → b ≡ false → ⊥

@@ -1,5 +1,5 @@
 use Rattle.std.proofs.Common.{◌≡◌, Bool, Result, Ok, Err, IfOk, false, sym, ◌∙◌}
-use Rattle.ldm_copy.specs.declared.bodies.BodyError.{BodyError}
+use Rattle.ldm_body.specs.declared.bodies.BodyError.{BodyError}
 use Rattle.ldm_store.proofs.sharing.keeps_body.Goals as goal
 
 both : (r : Result Bool BodyError) (P Q : Type 0) → Q → IfOk r (λ b. b ≡ false → P) → IfOk r (λ b. b ≡ false → Q × P)

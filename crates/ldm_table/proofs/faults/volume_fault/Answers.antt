@@ -1,5 +1,5 @@
 use Rattle.std.proofs.Common.{arith, ◌≡◌, ◌∙◌, ℕ, sym, ap, Bool, ◌-◌, Option, Some}
-use Rattle.ldm_layout.specs.declared.shape.Shape.{Shape}
+use Rattle.ldm_places.specs.declared.shape.Shape.{Shape}
 use Rattle.ldm_table.specs.declared.faults.TableFault.{TableFault}
 use Rattle.ldm_table.specs.declared.faults.TableFault.TheVariants.{Chunk, Columns}
 use Rattle.ldm_table.specs.Faults.{is_bad_chunk, has_many_columns}

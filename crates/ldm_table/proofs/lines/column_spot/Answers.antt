@@ -1,5 +1,5 @@
 use Rattle.std.proofs.Common.{◌*◌, ap, ◌∙◌, Option, false, arith}
-use Rattle.ldm_layout.specs.declared.shape.Place.{Place}
+use Rattle.ldm_places.specs.declared.shape.Place.{Place}
 use Rattle.ldm_dump.specs.Sources.{spot_at}
 use Rattle.ldm_table.proofs.VolumeLaws.{stripe_begins, stripe_first, one_copy}
 use Rattle.ldm_table.proofs.lines.column_spot.Goals as goal

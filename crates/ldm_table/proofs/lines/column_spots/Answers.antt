@@ -1,6 +1,6 @@
 use Rattle.std.proofs.Common.{◌≡◌, ℕ, length, map, arith, subst}
 use Rattle.std.specs.List.{range_with_len}
-use Rattle.ldm_layout.specs.Columns.{columns_of}
+use Rattle.ldm_places.specs.Columns.{columns_of}
 use Rattle.ldm_table.specs.Tables.{column_begin}
 use Rattle.ldm_table.proofs.LineLaws.{more_made}
 use Rattle.ldm_table.proofs.lines.column_spots.Goals as goal

@@ -1,5 +1,5 @@
 use Rattle.std.proofs.Common.{ap, ◌∙◌, Option}
-use Rattle.ldm_layout.specs.declared.shape.Place.{Place}
+use Rattle.ldm_places.specs.declared.shape.Place.{Place}
 use Rattle.ldm_dump.specs.Sources.{spot_at}
 use Rattle.ldm_table.proofs.VolumeLaws.{some_sector}
 use Rattle.ldm_table.proofs.parts.member_at.Goals as goal

@@ -1,5 +1,5 @@
 use Rattle.std.proofs.Common.{◌≡◌, sym, ap, ◌∙◌, Option, Some}
-use Rattle.ldm_layout.specs.declared.shape.Place.{Place}
+use Rattle.ldm_places.specs.declared.shape.Place.{Place}
 use Rattle.ldm_dump.specs.Sources.{is_here, spot_at, copy_spot}
 use Rattle.ldm_dump.proofs.ReadLaws.{copy_there, here_spot}
 use Rattle.ldm_table.proofs.VolumeLaws.{run_stretch}

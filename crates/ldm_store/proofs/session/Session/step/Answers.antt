@@ -3,7 +3,7 @@ use Rattle.ldm_host.proofs.Relations.{works_as}
 use Rattle.ldm_label.specs.declared.Label.{Label}
 use Rattle.ldm_vmdb.specs.declared.header.Header.{Header}
 use Rattle.ldm_changed.specs.Nexts.{bytes_in}
-use Rattle.ldm_copy.specs.Body.{IsBodyOf}
+use Rattle.ldm_body.specs.Body.{IsBodyOf}
 use Rattle.ldm_edits.specs.declared.reply.Reply.TheVariants.{Done}
 use Rattle.ldm_found.specs.Facts.{LieOn}
 use Rattle.ldm_found.proofs.ClearLaws.{clear_of}

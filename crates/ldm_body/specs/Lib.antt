@@ -1,0 +1,4 @@
+pub mod Body
+pub mod Table
+pub mod Finding
+pub mod Rewriting

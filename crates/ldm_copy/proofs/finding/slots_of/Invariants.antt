@@ -1,6 +1,0 @@
-use Rattle.std.proofs.Common.{◌≡◌, map, take}
-use Rattle.ldm_copy.specs.declared.finding.Found.{Found}
-use Rattle.ldm_copy.proofs.finding.slots_of.Given as goal
-
-abbrev pub invariant-loop-f : goal.invariant-loop-f
-invariant-loop-f l = l.table.items ≡ map (λ (f : Found). f.slots) (take l.f-index l.found)

@@ -1,5 +1,0 @@
-use Rattle.ldm_copy.proofs.BodyLaws.{begun_is, written_is}
-use Rattle.ldm_copy.proofs.laws.bodies_are_copies.Goals as goal
-
-pub returns : goal.returns
-returns c = record { begun = begun_is; written = written_is }

@@ -1,6 +1,0 @@
-use Rattle.std.proofs.Common.{◌≡◌, drop}
-use Rattle.ldm_layout.specs.Parts.{rises_from}
-use Rattle.ldm_layout.proofs.columns.rises.Given as goal
-
-abbrev pub invariant-loop-e : goal.invariant-loop-e
-invariant-loop-e l = rises_from 0 l.extents ≡ rises_from l.next (drop l.e-index l.extents)

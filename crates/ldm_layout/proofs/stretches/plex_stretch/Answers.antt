@@ -1,7 +1,0 @@
-use Rattle.std.proofs.Common.{arith}
-use Rattle.std.proofs.lemmas.Grind.{common_steps}
-use Rattle.ldm_layout.proofs.SpotLaws.{chunked_along}
-use Rattle.ldm_layout.proofs.stretches.plex_stretch.Goals as goal
-
-pub returns-else-is_tiled-clause-spots : goal.returns-else-is_tiled-clause-spots
-returns-else-is_tiled-clause-spots c = grind (arith, chunked_along)

@@ -1,7 +1,0 @@
-use Rattle.std.proofs.Common.{arith}
-use Rattle.std.proofs.lemmas.Grind.{common_steps}
-use Rattle.ldm_layout.proofs.SpotLaws.{tile_along}
-use Rattle.ldm_layout.proofs.stretches.tile_stretch.Goals as goal
-
-pub returns : goal.returns
-returns c = grind (arith, tile_along)

@@ -1,5 +1,0 @@
-use Rattle.ldm_layout.proofs.SpotLaws.{Walked}
-use Rattle.ldm_layout.proofs.tiles.tiles.Given as goal
-
-abbrev pub invariant-loop-e : goal.invariant-loop-e
-invariant-loop-e l = Walked l.extents l.e-index l.end

@@ -1,0 +1,4 @@
+pub mod CallLaws
+pub mod DoneLaws
+pub mod HeldLaws
+pub mod LeftLaws

@@ -1,0 +1,9 @@
+pub mod Plan
+pub mod Story
+pub mod StoryLaws
+pub mod Kept
+pub mod Memory
+pub mod Ending
+pub mod Steps
+pub mod Left
+pub mod Laws

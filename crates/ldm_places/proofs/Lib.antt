@@ -1,0 +1,3 @@
+pub mod LeastLaws
+pub mod PlaceLaws
+pub mod SpotLaws

@@ -1,0 +1,5 @@
+pub mod Places
+pub mod Extents
+pub mod Layouts
+pub mod Columns
+pub mod Plans
