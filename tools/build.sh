@@ -28,9 +28,8 @@ kit_line() {
     found=$(kit_folder) && head -n 1 "$found/KIT-ID"
 }
 
-# The crates that $crate stands on and itself, by crates.txt below $1. For each a line: the lines from this crate on to the
-# program, its proofs among them, its name, and the names of all crates below it. $2 has the lines of each crate. Those with
-# most to come are first.
+# The crates that $crate stands on and itself, by crates.txt below $1. For each a line: the lines of code from this crate on to
+# the program, its name, and the names of all crates below it. $2 has the lines of each crate. Those with most to come are first.
 plan_of() {
     sed 's/#.*//; s/[:,]/ /g; /^ *$/d' "$1/crates.txt" | awk -v top="$crate" '
         function need(name, count, words, i) {
@@ -282,8 +281,8 @@ start_ready() {
 }
 
 # Starts the proof of crate $1. Processes that share a crate do some of its work twice. So it has those that no other crate takes
-# now. But what has most to come has all processors, the next half of them, and so on, and the more crates go before it the
-# further it stands back.
+# now. But what has most to come has at least half of the processors, the next a quarter, and so on, and the more crates go
+# before it the further it stands back.
 start() {
     started=$((started + 1))
     say "crate $started of $total: $1 .."
@@ -292,11 +291,11 @@ start() {
     jobs=$((processors - $(count_of $others)))
     # shellcheck disable=SC2086
     before=$(count_before "$1" $others)
-    least=$((processors >> (before < 9 ? before : 9)))
+    least=$((processors >> (before < 9 ? before + 1 : 9)))
     [ "$jobs" -ge "$least" ] || jobs=$least
     [ "$jobs" -ge 1 ] || jobs=1
     date +%s >"$room/$1.began"
-    prove "$1" "$jobs" $((before < 6 ? 3 * before : 18)) >"$room/$1.log" 2>&1 &
+    prove "$1" "$jobs" $((before < 4 ? 5 * before : 19)) >"$room/$1.log" 2>&1 &
     pids="$pids $!"
     running="$running$1 "
 }
@@ -376,7 +375,7 @@ build() {
         return 1
     }
     for it in "$room"/source/crates/*; do
-        echo "= $(basename "$it") $(find "$it" -type f -exec cat {} + | wc -l)"
+        echo "= $(basename "$it") $(find "$it/src" -type f -exec cat {} + | wc -l)"
     done >"$room/sizes"
     plan_of "$room/source" "$room/sizes" >"$room/plan"
     kit_is=$(kit_line)

@@ -4,3 +4,4 @@ pub mod Answers
 pub mod Errors
 pub mod Steps
 pub mod Alike
+pub mod Images

@@ -7,7 +7,7 @@ use Rattle.std.proofs.lemmas.List.FromFn.{length-map-range_with_len, get_or-map-
 use Rattle.std.proofs.lemmas.Grind.{flat_map-append, fold-append}
 use Rattle.ldm_host.specs.Seen.{image}
 use Rattle.ldm_places.specs.Layouts.{Layout}
-use Rattle.ldm_findings.specs.declared.found.Found.{Found}
+use Rattle.ldm_copy.specs.declared.found.Found.{Found}
 use Rattle.ldm_dump.specs.Sources.{sources_of}
 use Rattle.ldm_dump.specs.Bytes.{byte_at, xor_all, joined_byte, joined_sector, sector_of, bytes_of, bytes_of_sectors}
 use Rattle.ldm_dump.specs.Runs.{behind}

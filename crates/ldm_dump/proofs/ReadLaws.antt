@@ -8,9 +8,9 @@ use Rattle.std.proofs.lemmas.Bool.{eqb-true, not-false, cases_lt, ltb-false, lt-
 use Rattle.ldm_places.specs.Columns.{own_column, column_in, columns_of, column_spot, IsColumned}
 use Rattle.ldm_places.specs.declared.shape.Place.{Place}
 use Rattle.ldm_places.specs.declared.shape.Shape.TheVariants.{Raid5}
-use Rattle.ldm_findings.specs.declared.found.Found.{Found}
+use Rattle.ldm_copy.specs.declared.found.Found.{Found}
 use Rattle.ldm_found.specs.Labels.{IsLabelOf}
-use Rattle.ldm_findings.specs.Images.{image_of}
+use Rattle.ldm_copy.specs.Images.{image_of}
 use Rattle.ldm_dump.specs.Sources.{is_here, data_start, spot_of, spot_at, first_copy, copy_spot, other_spot, other_spots, can_rebuild, sources_by, sources_of, is_lost}
 use Rattle.ldm_dump.specs.Bytes.{byte_at, joined_byte, joined_sector, sector_of}
 use Rattle.ldm_dump.specs.Runs.{behind, IsOn, HasBytes, LiesOn, RowsLieOn}

@@ -10,8 +10,8 @@ use Rattle.ldm_places.specs.Columns.{columns_of, own_column, column_in, moved, I
 use Rattle.ldm_places.specs.declared.shape.Place.{Place}
 use Rattle.ldm_places.specs.declared.shape.Shape.{Shape}
 use Rattle.ldm_places.specs.declared.shape.Shape.TheVariants.{Span, Stripe, Mirror, Raid5}
-use Rattle.ldm_findings.specs.declared.found.Found.{Found}
-use Rattle.ldm_findings.specs.Images.{image_of}
+use Rattle.ldm_copy.specs.declared.found.Found.{Found}
+use Rattle.ldm_copy.specs.Images.{image_of}
 use Rattle.ldm_dump.specs.Sources.{is_here, data_start, spot_at, first_copy, copy_spot, other_spot, other_spots, is_beside, is_raid5, can_rebuild, sources_by, sources_of, is_lost, IsLeastLost}
 use Rattle.ldm_dump.specs.Runs.{behind, IsRun}
 use Rattle.ldm_dump.specs.declared.spots.Spot.{Spot}

@@ -3,9 +3,9 @@ ghost use Rattle.std.specs.Prelude.{◌≡◌, ◌⊎◌, IfOk, Ok};
 ghost use Rattle.ldm_words.specs.declared.status.Status.TheVariants.{Done, Refused, TalkFault};
 ghost use Rattle.ldm_edge.specs.Ends.{end_status};
 
+use crate::shown::UsageError;
 use crate::stop::{Fault, Stop};
 use ldm_files::Failure;
-use ldm_help::UsageError;
 use ldm_words::Status;
 use std::io::Write;
 use std::process::ExitCode;

@@ -2,8 +2,8 @@
 ghost use Rattle.std.specs.Prelude.{◌≡◌};
 ghost use Rattle.ldm_edge.specs.Ends.{stop_status};
 
+use crate::shown::{Shown, UsageError};
 use ldm_files::{DiskCall, Failure, ImageError};
-use ldm_help::{Shown, UsageError};
 use ldm_words::Status;
 use std::fmt;
 

@@ -3,9 +3,9 @@ ghost use Rattle.std.specs.Prelude.{◌≡◌, ◌⊎◌, IfOk, length, vec_len}
 ghost use Rattle.ldm_words.specs.declared.status.Status.TheVariants.{DiskFault, NoMemory};
 ghost use Rattle.ldm_edge.specs.Ends.{stop_status};
 
+use crate::shown::{Shown, UsageError};
 use crate::stop::Stop;
 use ldm_files::{Access, ImageError, ImageFile};
-use ldm_help::{Shown, UsageError};
 use std::alloc::Global;
 use std::env;
 use std::io::ErrorKind;

@@ -1,5 +1,5 @@
 //! What is said of words without a reading, and that each form of the help has one.
-use ldm_help::{HELP, Shown, UsageError, usage_error};
+use ldm_edge::{HELP, Shown, UsageError, usage_error};
 use ldm_words::{Job, read_words};
 use std::alloc::{AllocError, Global};
 use std::test::Fail;

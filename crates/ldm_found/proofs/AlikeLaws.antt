@@ -6,10 +6,10 @@ use Rattle.ldm_group.specs.Database.{Database, Core, IsSameCore}
 use Rattle.ldm_label.specs.declared.Label.{Label}
 use Rattle.ldm_copy.specs.declared.answer.CopyState.{CopyState}
 use Rattle.ldm_copy.specs.declared.answer.CopyState.TheVariants.{Closed, Valid}
-use Rattle.ldm_findings.specs.declared.fault.OpenFault.{OpenFault}
-use Rattle.ldm_findings.specs.declared.fault.OpenFault.TheVariants as faults
-use Rattle.ldm_findings.specs.declared.notes.Note.{Note}
-use Rattle.ldm_findings.specs.declared.found.Found.{Found}
+use Rattle.ldm_copy.specs.declared.fault.OpenFault.{OpenFault}
+use Rattle.ldm_copy.specs.declared.fault.OpenFault.TheVariants as faults
+use Rattle.ldm_copy.specs.declared.notes.Note.{Note}
+use Rattle.ldm_copy.specs.declared.found.Found.{Found}
 use Rattle.ldm_found.specs.Gathers.{IsFirst}
 use Rattle.ldm_found.specs.Copies.{newer, newest, Disagrees, note_of}
 use Rattle.ldm_found.specs.Editing.{reasons, blocked_in}

@@ -12,8 +12,8 @@ use Rattle.ldm_label.proofs.OkLaws.{label_stays}
 use Rattle.ldm_group.specs.Order.{id_of, kind_of}
 use Rattle.ldm_group.specs.Database.{Database}
 use Rattle.ldm_rules.specs.Present.{is_absent}
-use Rattle.ldm_findings.specs.declared.fault.OpenFault.{OpenFault}
-use Rattle.ldm_findings.specs.declared.fault.OpenFault.TheVariants as faults
+use Rattle.ldm_copy.specs.declared.fault.OpenFault.{OpenFault}
+use Rattle.ldm_copy.specs.declared.fault.OpenFault.TheVariants as faults
 use Rattle.ldm_found.specs.Editing.{reasons, is_small, clashes, blocked_in, AreLarge}
 use Rattle.ldm_found.specs.Gathers.{Gathers}
 use Rattle.ldm_found.specs.Labels.{IsLabelOf, AreSameOutside}

@@ -20,11 +20,11 @@ use Rattle.std.proofs.lemmas.Slice.Zip.{length-zip, get_or-zip}
 use Rattle.ldm_host.specs.Seen.{image}
 use Rattle.ldm_label.specs.declared.Label.{Label}
 use Rattle.ldm_copy.specs.Answers.{FitsHeader}
-use Rattle.ldm_findings.specs.declared.fault.OpenFault.TheVariants as faults
+use Rattle.ldm_copy.specs.declared.fault.OpenFault.TheVariants as faults
 use Rattle.ldm_found.specs.declared.fault.OpenError.{OpenError}
 use Rattle.ldm_found.specs.declared.fault.OpenError.TheVariants.{Fault, Disk, NoMemory}
-use Rattle.ldm_findings.specs.declared.notes.Note.{Note}
-use Rattle.ldm_findings.specs.declared.notes.Note.TheVariants.{Sequence}
+use Rattle.ldm_copy.specs.declared.notes.Note.{Note}
+use Rattle.ldm_copy.specs.declared.notes.Note.TheVariants.{Sequence}
 use Rattle.ldm_found.specs.declared.copies.Copies.{Copies}
 
 -- ---- The first of a list that has a property.

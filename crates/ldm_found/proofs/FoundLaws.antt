@@ -12,9 +12,9 @@ use Rattle.ldm_group.proofs.EqualLaws.{same_core}
 use Rattle.ldm_copy.specs.declared.answer.CopyState.{CopyState}
 use Rattle.ldm_copy.specs.declared.answer.CopyState.TheVariants.{Closed, Valid}
 use Rattle.ldm_copy.specs.declared.answer.CopyFault.{CopyFault}
-use Rattle.ldm_findings.specs.declared.found.Found.{Found}
-use Rattle.ldm_findings.specs.declared.fault.OpenFault.{OpenFault}
-use Rattle.ldm_findings.specs.declared.notes.Note.{Note}
+use Rattle.ldm_copy.specs.declared.found.Found.{Found}
+use Rattle.ldm_copy.specs.declared.fault.OpenFault.{OpenFault}
+use Rattle.ldm_copy.specs.declared.notes.Note.{Note}
 use Rattle.ldm_found.specs.Gathers.{Gathers, IsFirst}
 use Rattle.ldm_found.specs.Labels.{IsLabelOf, AreApart, AreTwins}
 use Rattle.ldm_found.specs.Copies.{IsCopyIn, newer, newest, Disagrees, note_of, HasCopy, IsKnown}

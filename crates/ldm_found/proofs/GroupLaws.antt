@@ -11,12 +11,12 @@ use Rattle.ldm_copy.specs.declared.answer.CopyState.{CopyState}
 use Rattle.ldm_copy.specs.declared.answer.CopyFault.{CopyFault}
 use Rattle.ldm_copy.specs.Copy.{config_area}
 use Rattle.ldm_copy.proofs.OneCopy.{one_copy}
-use Rattle.ldm_findings.specs.declared.fault.OpenFault.{OpenFault}
-use Rattle.ldm_findings.specs.declared.fault.OpenFault.TheVariants as faults
+use Rattle.ldm_copy.specs.declared.fault.OpenFault.{OpenFault}
+use Rattle.ldm_copy.specs.declared.fault.OpenFault.TheVariants as faults
 use Rattle.ldm_found.specs.declared.fault.OpenError.{OpenError}
 use Rattle.ldm_found.specs.declared.fault.OpenError.TheVariants.{Fault, Disk, NoMemory}
-use Rattle.ldm_findings.specs.declared.notes.Note.{Note}
-use Rattle.ldm_findings.specs.declared.found.Found.{Found}
+use Rattle.ldm_copy.specs.declared.notes.Note.{Note}
+use Rattle.ldm_copy.specs.declared.found.Found.{Found}
 use Rattle.ldm_found.specs.declared.copies.Newest.{Newest}
 use Rattle.ldm_found.specs.declared.copies.Copies.{Copies}
 use Rattle.ldm_rules.specs.Table.{first_broken_rule, IsSound}

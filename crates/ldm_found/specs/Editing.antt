@@ -6,8 +6,8 @@ use Rattle.ldm_group.specs.Order.{id_of}
 use Rattle.ldm_group.specs.Database.{Database}
 use Rattle.ldm_label.specs.declared.Label.{Label}
 use Rattle.ldm_rules.specs.Present.{is_absent}
-use Rattle.ldm_findings.specs.declared.fault.OpenFault.{OpenFault}
-use Rattle.ldm_findings.specs.declared.fault.OpenFault.TheVariants as faults
+use Rattle.ldm_copy.specs.declared.fault.OpenFault.{OpenFault}
+use Rattle.ldm_copy.specs.declared.fault.OpenFault.TheVariants as faults
 
 -- the area is too small for a database whose last VBLK sequence is this
 abbrev pub is_small : ℕ → Label → Bool

@@ -3,7 +3,7 @@ use Rattle.std.specs.Prelude.{◌≡◌, ℕ, List, length, slice_index, slice_g
 use Rattle.ldm_label.specs.declared.Label.{Label}
 use Rattle.ldm_label.specs.LabelOf.{Fits}
 pub use Rattle.ldm_rules.specs.Facts.{IsSoundOn}
-use Rattle.ldm_findings.specs.declared.found.Found.{Found}
+use Rattle.ldm_copy.specs.declared.found.Found.{Found}
 use Rattle.ldm_found.specs.Editing.{blocked_in}
 
 -- of a found group: there is a note for each label, and the reason that it may not be edited is the first

@@ -5,8 +5,8 @@ use Rattle.ldm_label.specs.declared.Label.{Label}
 use Rattle.ldm_group.specs.Database.{Database}
 use Rattle.ldm_rules.specs.New.{IsNewOn}
 use Rattle.ldm_copy.specs.Copy.{IsWritten}
-use Rattle.ldm_findings.specs.declared.fault.OpenFault.TheVariants as faults
-use Rattle.ldm_findings.specs.declared.notes.Note.TheVariants as notes
+use Rattle.ldm_copy.specs.declared.fault.OpenFault.TheVariants as faults
+use Rattle.ldm_copy.specs.declared.notes.Note.TheVariants as notes
 use Rattle.ldm_found.specs.Labels.{IsLabelOf, AreApart}
 use Rattle.ldm_found.specs.Editing.{is_small, clashes, blocked_in}
 use Rattle.ldm_found.specs.Opening.{found_with, IsGroupIn}

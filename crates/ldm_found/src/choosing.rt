@@ -12,7 +12,7 @@ ghost use Rattle.ldm_found.specs.Steps.{ChecksGroup, GivesGroup, newest_faults, 
 use crate::copies::Newest;
 use crate::editing::blocked;
 use crate::fault::OpenError;
-use ldm_findings::{Found, Notes, OpenFault};
+use ldm_copy::{Found, Notes, OpenFault};
 use ldm_group::Db;
 use ldm_label::{Label, Labels};
 use ldm_rules::{RuleError, check};

@@ -13,8 +13,7 @@ ghost use Rattle.ldm_found.specs.Steps.{Adds, ReadsCopy, ReadsNext, ReadsCopies,
 ghost use Rattle.ldm_found.specs.Steps.{IsAmong, IsRoomy};
 
 use crate::fault::OpenError;
-use ldm_copy::{CopyError, CopyState, is_alike, read_copy};
-use ldm_findings::{Note, Notes, OpenFault};
+use ldm_copy::{CopyError, CopyState, Note, Notes, OpenFault, is_alike, read_copy};
 use ldm_group::Db;
 use ldm_host::Host;
 use ldm_label::Label;

@@ -8,7 +8,7 @@ ghost use Rattle.ldm_found.specs.Facts.{LieOn};
 ghost use Rattle.ldm_found.specs.Steps.{ReadsLabel, ReadsLabels, ReadsDisks};
 
 use crate::fault::OpenError;
-use ldm_findings::OpenFault;
+use ldm_copy::OpenFault;
 use ldm_host::Host;
 use ldm_label::{Label, LabelError, Labels, image_with, read_label};
 use std::alloc::Global;

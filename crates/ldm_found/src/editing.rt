@@ -5,7 +5,7 @@ ghost use Rattle.ldm_group.specs.Order.{id_of};
 ghost use Rattle.ldm_rules.specs.Present.{is_absent};
 ghost use Rattle.ldm_found.specs.Editing.{is_small, clashes, blocked_in};
 
-use ldm_findings::OpenFault;
+use ldm_copy::OpenFault;
 use ldm_group::{Db, id_of};
 use ldm_label::{Label, image_with};
 use ldm_records::Record;

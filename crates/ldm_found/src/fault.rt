@@ -3,7 +3,7 @@ ghost use Rattle.std.specs.Prelude.{◌≡◌};
 ghost use Rattle.ldm_found.specs.declared.fault.OpenError.TheVariants as errors;
 
 use ldm_bytes::NoMemory;
-use ldm_findings::OpenFault;
+use ldm_copy::OpenFault;
 use ldm_host::Failed;
 use std::alloc::AllocFailed;
 

@@ -1,8 +1,8 @@
 //! The group that the images of a host hold.
 ghost use Rattle.std.specs.Prelude.{◌≡◌, ◌<◌, length, IfOk, IsErrOf, Result};
 ghost use Rattle.ldm_host.specs.Moves.{Looks};
-ghost use Rattle.ldm_findings.specs.declared.fault.OpenFault.{OpenFault};
-ghost use Rattle.ldm_findings.specs.declared.found.Found.{Found};
+ghost use Rattle.ldm_copy.specs.declared.fault.OpenFault.{OpenFault};
+ghost use Rattle.ldm_copy.specs.declared.found.Found.{Found};
 ghost use Rattle.ldm_found.specs.Opening.{IsGroupIn};
 ghost use Rattle.ldm_found.specs.Facts.{IsSoundGroup, LieOn};
 ghost use Rattle.ldm_found.specs.Answers.{FindsIn};
@@ -11,7 +11,7 @@ use crate::choosing::choose;
 use crate::copies::read_copies;
 use crate::disks::read_disks;
 use crate::fault::OpenError;
-use ldm_findings::Found;
+use ldm_copy::Found;
 use ldm_host::Host;
 use std::alloc::Global;
 

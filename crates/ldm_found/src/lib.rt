@@ -16,4 +16,4 @@ pub use disks::twins;
 pub use fault::OpenError;
 pub use finding::find_group;
 pub use laws::{disks_alone, group_alone, new_groups_open};
-pub use ldm_findings::{Found, Note, Notes, OpenFault};
+pub use ldm_copy::{Found, Note, Notes, OpenFault};

@@ -29,9 +29,9 @@ use Rattle.ldm_host.specs.Moves.{Works, AtEachMoment}
 use Rattle.ldm_label.specs.Written.{IsWritable, written_mbr, written_header}
 use Rattle.ldm_rules.specs.New.{IsNewOn}
 use Rattle.ldm_body.specs.Body.{IsBodyOn}
-use Rattle.ldm_findings.specs.declared.notes.Note.{Note}
-use Rattle.ldm_findings.specs.declared.notes.Note.TheVariants as notes
-use Rattle.ldm_findings.specs.declared.fault.OpenFault.TheVariants as faults
+use Rattle.ldm_copy.specs.declared.notes.Note.{Note}
+use Rattle.ldm_copy.specs.declared.notes.Note.TheVariants as notes
+use Rattle.ldm_copy.specs.declared.fault.OpenFault.TheVariants as faults
 use Rattle.ldm_found.specs.New.{HasOwnArea, NewIsEditable}
 use Rattle.ldm_found.specs.Opening.{IsGroupIn}
 use Rattle.ldm_found.proofs.NewLaws.{new_opens}

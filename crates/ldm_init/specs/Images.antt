@@ -8,9 +8,9 @@ use Rattle.ldm_label.specs.Written.{HasLabel, IsOutsideLabel}
 use Rattle.ldm_group.specs.Database.{Database}
 use Rattle.ldm_copy.specs.Copy.{gate_at}
 use Rattle.ldm_body.specs.Body.{IsBodyOf, IsMadeOf}
-use Rattle.ldm_findings.specs.declared.found.Found.{Found}
-use Rattle.ldm_findings.specs.declared.fault.OpenFault.TheVariants as faults
-use Rattle.ldm_findings.specs.declared.notes.Note.TheVariants as notes
+use Rattle.ldm_copy.specs.declared.found.Found.{Found}
+use Rattle.ldm_copy.specs.declared.fault.OpenFault.TheVariants as faults
+use Rattle.ldm_copy.specs.declared.notes.Note.TheVariants as notes
 use Rattle.ldm_found.specs.Opening.{IsGroupIn}
 use Rattle.ldm_init.specs.Beside.{AreUntouched}
 use Rattle.ldm_init.specs.NewGroup.{new_label, new_labels, IsNewGroup}

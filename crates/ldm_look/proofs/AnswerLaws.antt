@@ -13,7 +13,7 @@ use Rattle.ldm_words.specs.declared.job.Job.TheVariants.{Disk, Records, Show, Ch
 use Rattle.ldm_words.specs.declared.status.Status.{Status}
 use Rattle.ldm_words.specs.declared.status.Status.TheVariants.{Usage, NoMemory}
 use Rattle.ldm_words.specs.Jobs.{job_of}
-use Rattle.ldm_findings.specs.declared.found.Found.{Found}
+use Rattle.ldm_copy.specs.declared.found.Found.{Found}
 use Rattle.ldm_found.proofs.GroupLaws.{one_group}
 use Rattle.ldm_look.specs.Said.{Answer, IsUnread}
 use Rattle.ldm_look.specs.Mapping.{is_bad_range, map_answer}

@@ -1,2 +1,5 @@
+pub mod ShowLaws
+pub mod MapLaws
+pub mod VolumeLaws
 pub mod EndLaws
 pub mod AnswerLaws

@@ -1,3 +1,8 @@
+pub mod Opening
+pub mod Check
+pub mod Show
+pub mod Map
+pub mod Volumes
 pub mod Said
 pub mod Mapping
 pub mod Looks

@@ -10,14 +10,14 @@ use Rattle.ldm_copy.specs.Copy.{IsCopyOf, config_area}
 use Rattle.ldm_words.specs.declared.job.Job.{Job}
 use Rattle.ldm_words.specs.declared.job.Job.TheVariants.{Disk, Records, Show, Check, Map}
 use Rattle.ldm_words.specs.Jobs.{job_of}
-use Rattle.ldm_findings.specs.declared.fault.OpenFault.{OpenFault}
-use Rattle.ldm_findings.specs.declared.found.Found.{Found}
+use Rattle.ldm_copy.specs.declared.fault.OpenFault.{OpenFault}
+use Rattle.ldm_copy.specs.declared.found.Found.{Found}
 use Rattle.ldm_found.specs.Opening.{IsGroupIn}
 use Rattle.ldm_text.specs.Texts.{text_of_label, text_of_label_fault, text_of_image_fault, text_of_refusal}
 use Rattle.ldm_text.specs.Records.{text_of_copy, text_of_copy_fault}
-use Rattle.ldm_group_text.specs.Opening.{text_of_open_fault}
-use Rattle.ldm_group_text.specs.Show.{text_of_show}
-use Rattle.ldm_group_text.specs.Check.{text_of_check}
+use Rattle.ldm_look.specs.Opening.{text_of_open_fault}
+use Rattle.ldm_look.specs.Show.{text_of_show}
+use Rattle.ldm_look.specs.Check.{text_of_check}
 use Rattle.ldm_look.specs.Mapping.{map_answer}
 use Rattle.ldm_look.specs.Said.{Answer}
 use Rattle.ldm_words.specs.declared.status.Status.TheVariants.{Done, Refused, Usage}

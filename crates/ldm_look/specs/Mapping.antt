@@ -5,8 +5,8 @@ use Rattle.ldm_group.specs.Looks.{volume_named}
 use Rattle.ldm_places.specs.declared.shape.LayoutFault.{LayoutFault}
 use Rattle.ldm_places.specs.Layouts.{Layout}
 use Rattle.ldm_layout.specs.Volumes.{layout_of}
-use Rattle.ldm_findings.specs.declared.found.Found.{Found}
-use Rattle.ldm_group_text.specs.Map.{text_of_map}
+use Rattle.ldm_copy.specs.declared.found.Found.{Found}
+use Rattle.ldm_look.specs.Map.{text_of_map}
 use Rattle.ldm_look.specs.Said.{Answer, refused}
 use Rattle.ldm_words.specs.declared.status.Status.TheVariants.{Done}
 

@@ -6,7 +6,7 @@ ghost use Rattle.ldm_label.specs.LabelOf.{label_of, Fits};
 ghost use Rattle.ldm_host.specs.Moves.{Looks};
 ghost use Rattle.ldm_words.specs.Jobs.{texts, job_of, HasCount};
 ghost use Rattle.ldm_words.specs.declared.job.Job.TheVariants as jobs;
-ghost use Rattle.ldm_findings.specs.declared.found.Found.{Found};
+ghost use Rattle.ldm_copy.specs.declared.found.Found.{Found};
 ghost use Rattle.ldm_found.specs.Opening.{IsGroupIn};
 ghost use Rattle.ldm_found.specs.Facts.{IsSoundGroup, LieOn};
 ghost use Rattle.ldm_look.specs.Said.{Answer, IsUnread};
@@ -14,12 +14,13 @@ ghost use Rattle.ldm_look.specs.Looks.{IsCopyAnswer, IsGroupAnswer, IsLookAnswer
 ghost use Rattle.ldm_look.specs.Looks.{look_in, look_of};
 ghost use Rattle.ldm_look.specs.Runs.{Completes, HasImages, NoFault, OfLook, OnlyReads};
 
+use crate::check_text::check_text;
 use crate::mapping::mapped;
 use crate::saying::{refuse_copy, refuse_label, refuse_opening, say_made};
+use crate::show_text::show_text;
 use ldm_bytes::{Bytes, NoMemory};
 use ldm_copy::{CopyError, read_copy};
 use ldm_found::{Found, OpenError, find_group};
-use ldm_group_text::{check_text, show_text};
 use ldm_host::Host;
 use ldm_label::{Label, LabelError, read_label};
 use ldm_text::{label_text, records_text};

@@ -4,9 +4,9 @@ ghost use Rattle.ldm_found.specs.Facts.{IsSoundGroup};
 ghost use Rattle.ldm_look.specs.Said.{HasAnswer};
 ghost use Rattle.ldm_look.specs.Mapping.{is_bad_range, map_answer};
 
+use crate::map_text::map_text;
 use ldm_bytes::{Bytes, NoMemory};
 use ldm_found::Found;
-use ldm_group_text::map_text;
 use ldm_rules::sound_plan;
 use ldm_text::refusal_text;
 use ldm_words::Status;

@@ -2,15 +2,15 @@
 ghost use Rattle.std.specs.Prelude.{◌≡◌, ◌≢◌, List, ℕ, IfOk};
 ghost use Rattle.ldm_text.specs.Texts.{text_of_label_fault, text_of_image_fault, text_of_refusal};
 ghost use Rattle.ldm_text.specs.Records.{text_of_copy_fault};
-ghost use Rattle.ldm_group_text.specs.Opening.{text_of_open_fault};
+ghost use Rattle.ldm_look.specs.Opening.{text_of_open_fault};
 ghost use Rattle.ldm_look.specs.Said.{HasAnswer};
 ghost use Rattle.ldm_look.specs.Looks.{refusal};
 ghost use Rattle.ldm_look.specs.Runs.{OnlyReads};
 
+use crate::opening::fault_text;
 use ldm_bytes::{Bytes, NoMemory};
 use ldm_copy::CopyFault;
 use ldm_found::OpenFault;
-use ldm_group_text::fault_text;
 use ldm_host::Host;
 use ldm_label::LabelFault;
 use ldm_text::{copy_fault_text, image_fault_text, label_fault_text, refusal_text};

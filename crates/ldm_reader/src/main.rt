@@ -7,9 +7,8 @@
 #![tactic(auto)]
 
 use ldm_bytes::NoMemory;
-use ldm_edge::{Stop, ending, exit_code, open_images, words_of};
+use ldm_edge::{Shown, Stop, UsageError, ending, exit_code, open_images, usage_error, words_of};
 use ldm_files::{Access, FileHost, take_closed_streams};
-use ldm_help::{Shown, UsageError, usage_error};
 use ldm_look::{is_look, look};
 use ldm_words::{Status, WordsError, read_words};
 use std::process::ExitCode;

@@ -9,7 +9,7 @@ use Rattle.ldm_label.specs.Fields.{sectors_of}
 use Rattle.ldm_words.specs.declared.job.Job.{Job}
 use Rattle.ldm_words.specs.declared.status.Status.TheVariants.{Done, Refused}
 use Rattle.ldm_words.specs.Jobs.{job_of}
-use Rattle.ldm_findings.specs.declared.found.Found.{Found}
+use Rattle.ldm_copy.specs.declared.found.Found.{Found}
 use Rattle.ldm_dump.specs.Sources.{IsLeastLost}
 use Rattle.ldm_dump.proofs.RunLaws.{least_found}
 use Rattle.ldm_scrub.specs.Missing.{missing_of}

@@ -14,7 +14,7 @@ use Rattle.ldm_rules.specs.Disjoint.{HasDisjointPlaces}
 use Rattle.ldm_rules.proofs.SoundLaws.{disjoint}
 use Rattle.ldm_words.specs.declared.command.Command.{Command}
 use Rattle.ldm_edits.specs.Steps.{group_after, replies_to, State, verdict_of, turn_by, turns_of}
-use Rattle.ldm_findings.specs.declared.found.Found.{Found}
+use Rattle.ldm_copy.specs.declared.found.Found.{Found}
 use Rattle.ldm_found.specs.Copies.{HasCopy, IsCopyIn}
 use Rattle.ldm_found.specs.Labels.{AreSameOutside}
 use Rattle.ldm_found.specs.Opening.{IsGroupIn}

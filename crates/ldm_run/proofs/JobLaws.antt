@@ -8,8 +8,8 @@ use Rattle.ldm_label.specs.declared.Label.{Label}
 use Rattle.ldm_group.specs.Database.{Database}
 use Rattle.ldm_words.specs.declared.command.Command.{Command}
 use Rattle.ldm_edits.specs.Steps.{group_after, replies_to}
-use Rattle.ldm_findings.specs.declared.fault.OpenFault.{OpenFault}
-use Rattle.ldm_findings.specs.declared.found.Found.{Found}
+use Rattle.ldm_copy.specs.declared.fault.OpenFault.{OpenFault}
+use Rattle.ldm_copy.specs.declared.found.Found.{Found}
 use Rattle.ldm_found.specs.Labels.{AreSameOutside}
 use Rattle.ldm_found.specs.Opening.{IsGroupIn}
 use Rattle.ldm_found.proofs.FoundLaws.{holds_group, one_image}
@@ -19,7 +19,7 @@ use Rattle.ldm_store.specs.Healing.{OnlyStill, OneGroup}
 use Rattle.ldm_store.specs.Sessions.{Edited, Opened, IsOpenedFrom}
 use Rattle.ldm_store.specs.Settling.{IsSettled, KeepsOneGroup}
 use Rattle.ldm_store.proofs.SettleLaws.{kept_from, one_label, same_found, not_none}
-use Rattle.ldm_group_text.specs.Opening.{text_of_open_fault}
+use Rattle.ldm_look.specs.Opening.{text_of_open_fault}
 use Rattle.ldm_text.specs.Texts.{text_of_refusal}
 use Rattle.ldm_words.specs.declared.status.Status.{Status}
 use Rattle.ldm_words.specs.declared.status.Status.TheVariants.{Refused, Done, DiskFault, NoMemory, Usage}

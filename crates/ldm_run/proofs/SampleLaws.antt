@@ -33,8 +33,8 @@ use Rattle.ldm_memory.specs.Memory.{memory_seen, host_counts}
 use Rattle.ldm_memory.specs.Laws.{law_counts_now, law_one_each, law_may_stay}
 use Rattle.ldm_group.specs.Room.{need_of, room_of}
 use Rattle.ldm_words.specs.declared.job.Job.TheVariants.{Edit}
-use Rattle.ldm_findings.specs.declared.fault.OpenFault.{OpenFault}
-use Rattle.ldm_findings.specs.declared.found.Found.{Found}
+use Rattle.ldm_copy.specs.declared.fault.OpenFault.{OpenFault}
+use Rattle.ldm_copy.specs.declared.found.Found.{Found}
 use Rattle.ldm_found.specs.Opening.{IsGroupIn}
 use Rattle.ldm_found.proofs.GroupLaws.{one_group}
 use Rattle.ldm_store.proofs.SettleLaws.{same_found}

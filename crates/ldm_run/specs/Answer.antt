@@ -4,7 +4,7 @@ use Rattle.ldm_words.specs.declared.job.Job.{Job}
 use Rattle.ldm_words.specs.declared.job.Job.TheVariants.{Disk, Records, Show, Check, Map, Dump, Scrub, Table, Try, Edit, One, Init, Sample}
 use Rattle.ldm_words.specs.declared.status.Status.TheVariants.{Usage}
 use Rattle.ldm_words.specs.Jobs.{job_of}
-use Rattle.ldm_findings.specs.declared.found.Found.{Found}
+use Rattle.ldm_copy.specs.declared.found.Found.{Found}
 use Rattle.ldm_look.specs.Said.{Answer, refused}
 use Rattle.ldm_look.specs.Looks.{IsGroupAnswer, IsLookAnswer}
 use Rattle.ldm_run.specs.Streaming.{dump_answer, scrub_answer}

@@ -8,7 +8,7 @@ use Rattle.ldm_words.specs.declared.command.Command.{Command}
 use Rattle.ldm_edits.specs.declared.reply.Reply.{Reply}
 use Rattle.ldm_edits.specs.Counting.{is_done}
 use Rattle.ldm_edits.specs.Steps.{group_after, replies_to}
-use Rattle.ldm_findings.specs.declared.found.Found.{Found}
+use Rattle.ldm_copy.specs.declared.found.Found.{Found}
 use Rattle.ldm_found.specs.Opening.{IsGroupIn}
 use Rattle.ldm_replies.specs.Reply.{text_of_replies}
 use Rattle.ldm_vectors.specs.Sample.{AreSampleImages, IsSampleGroup}

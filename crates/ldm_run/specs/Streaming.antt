@@ -8,7 +8,7 @@ use Rattle.ldm_layout.specs.Volumes.{layout_of}
 use Rattle.ldm_places.specs.declared.shape.LayoutFault.{LayoutFault}
 use Rattle.ldm_places.specs.declared.shape.Shape.{Shape}
 use Rattle.ldm_places.specs.declared.shape.Shape.TheVariants.{Mirror, Raid5}
-use Rattle.ldm_findings.specs.declared.found.Found.{Found}
+use Rattle.ldm_copy.specs.declared.found.Found.{Found}
 use Rattle.ldm_dump.specs.Sources.{is_lost}
 use Rattle.ldm_dump.specs.Bytes.{bytes_of_volume}
 use Rattle.ldm_scrub.specs.Compare.{places_of}

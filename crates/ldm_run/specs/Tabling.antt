@@ -4,7 +4,7 @@ use Rattle.ldm_records.specs.declared.types.Volume.{Volume}
 use Rattle.ldm_group.specs.Looks.{volume_named}
 use Rattle.ldm_places.specs.Layouts.{Layout}
 use Rattle.ldm_layout.specs.Volumes.{layout_of}
-use Rattle.ldm_findings.specs.declared.found.Found.{Found}
+use Rattle.ldm_copy.specs.declared.found.Found.{Found}
 use Rattle.ldm_table.specs.declared.faults.TableFault.{TableFault}
 use Rattle.ldm_table.specs.Faults.{table_text, text_of_fault}
 use Rattle.ldm_look.specs.Said.{Answer, refused}

@@ -6,7 +6,7 @@ use Rattle.ldm_words.specs.declared.command.Command.{Command}
 use Rattle.ldm_words.specs.declared.job.Job.{Job}
 use Rattle.ldm_words.specs.declared.job.Job.TheVariants.{Edit, One, Init}
 use Rattle.ldm_edits.specs.Steps.{group_after}
-use Rattle.ldm_findings.specs.declared.found.Found.{Found}
+use Rattle.ldm_copy.specs.declared.found.Found.{Found}
 use Rattle.ldm_found.specs.Opening.{IsGroupIn}
 use Rattle.ldm_store.specs.Kept.{IsCurrent, HoldsNone}
 use Rattle.ldm_store.specs.Turning.{AllHave, AreRewritten}

@@ -1,6 +1,6 @@
 //! The sample: a script from a seed, done to a group of three images in memory.
 ghost use Rattle.std.specs.Prelude.{◌≡◌, ◌==◌, ◌≤◌, count_by, length, IfOk, string_bytes};
-ghost use Rattle.ldm_findings.specs.declared.found.Found.{Found};
+ghost use Rattle.ldm_copy.specs.declared.found.Found.{Found};
 ghost use Rattle.ldm_vectors.specs.Script.{script_of};
 ghost use Rattle.ldm_words.specs.declared.job.Job.TheVariants as jobs;
 ghost use Rattle.ldm_words.specs.declared.status.Status.{Status as Ending};

@@ -10,7 +10,7 @@ use Rattle.ldm_places.specs.declared.extent.Extent.{Extent}
 use Rattle.ldm_places.specs.declared.shape.Place.{Place}
 use Rattle.ldm_places.specs.declared.shape.Shape.{Shape}
 use Rattle.ldm_places.specs.declared.shape.Shape.TheVariants.{Raid5}
-use Rattle.ldm_findings.specs.declared.found.Found.{Found}
+use Rattle.ldm_copy.specs.declared.found.Found.{Found}
 use Rattle.ldm_dump.specs.Sources.{is_raid5, spot_at, copy_spot}
 use Rattle.ldm_dump.specs.Runs.{behind, IsOn, HasBytes, RowsLieOn, LiesOn}
 use Rattle.ldm_dump.specs.declared.spots.Spot.{Spot}

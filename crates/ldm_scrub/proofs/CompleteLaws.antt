@@ -32,9 +32,9 @@ use Rattle.ldm_rules.specs.Disjoint.{HasLayout}
 use Rattle.ldm_rules.specs.Present.{is_absent}
 use Rattle.ldm_label.specs.Present.{image_with}
 use Rattle.ldm_rules.specs.Rules.{lacks_disk}
-use Rattle.ldm_findings.specs.declared.found.Found.{Found}
+use Rattle.ldm_copy.specs.declared.found.Found.{Found}
 use Rattle.ldm_found.specs.Facts.{IsSoundGroup}
-use Rattle.ldm_findings.specs.Images.{image_of}
+use Rattle.ldm_copy.specs.Images.{image_of}
 use Rattle.ldm_dump.specs.Sources.{is_here}
 use Rattle.ldm_dump.specs.Redundant.{IsComplete}
 use Rattle.std.proofs.lemmas.Option.{slice_get-get_or}

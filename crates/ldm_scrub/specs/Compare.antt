@@ -6,7 +6,7 @@ use Rattle.std.specs.Str.{bytes_eq}
 use Rattle.ldm_places.specs.Layouts.{Layout, copies_of, place_in}
 use Rattle.ldm_places.specs.Columns.{columns_of, IsColumned, moved}
 use Rattle.ldm_places.specs.declared.shape.Shape.TheVariants.{Raid5}
-use Rattle.ldm_findings.specs.declared.found.Found.{Found}
+use Rattle.ldm_copy.specs.declared.found.Found.{Found}
 use Rattle.ldm_dump.specs.Sources.{is_raid5, copy_spot}
 use Rattle.ldm_dump.specs.Bytes.{joined_sector}
 use Rattle.ldm_dump.specs.Redundant.{row_spots, IsRedundant}

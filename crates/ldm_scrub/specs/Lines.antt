@@ -1,7 +1,7 @@
 -- What is said of the places of a volume.
 use Rattle.std.specs.Prelude.{ℕ, ◌/◌, ◌%◌, List, [], ◌++◌, length, flat_map, count_by, codes, decimal, if◌then◌else◌}
 use Rattle.ldm_places.specs.Layouts.{Layout}
-use Rattle.ldm_findings.specs.declared.found.Found.{Found}
+use Rattle.ldm_copy.specs.declared.found.Found.{Found}
 use Rattle.ldm_dump.specs.Sources.{is_raid5}
 use Rattle.ldm_scrub.specs.Compare.{places_of, is_bad_at}
 

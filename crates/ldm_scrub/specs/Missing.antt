@@ -11,7 +11,7 @@ use Rattle.ldm_places.specs.Layouts.{Layout}
 use Rattle.ldm_layout.specs.Parts.{is_partition_of}
 use Rattle.ldm_rules.specs.Disjoint.{HasLayout}
 use Rattle.ldm_rules.specs.Present.{is_absent}
-use Rattle.ldm_findings.specs.declared.found.Found.{Found}
+use Rattle.ldm_copy.specs.declared.found.Found.{Found}
 use Rattle.ldm_found.specs.Facts.{IsSoundGroup}
 use Rattle.ldm_dump.specs.Redundant.{IsComplete}
 

@@ -6,7 +6,7 @@ ghost use Rattle.ldm_host.specs.Moves.{Still, Begins, DiskFailed, TalkFailed, Lo
 ghost use Rattle.ldm_places.specs.declared.shape.Shape.TheVariants.{Raid5};
 ghost use Rattle.ldm_dump.specs.Sources.{is_raid5};
 ghost use Rattle.ldm_dump.specs.Runs.{LiesOn, RowsLieOn};
-ghost use Rattle.ldm_findings.specs.declared.found.Found.{Found};
+ghost use Rattle.ldm_copy.specs.declared.found.Found.{Found};
 ghost use Rattle.ldm_scrub.specs.Compare.{is_bad_at, places_of, IsCount, mark};
 ghost use Rattle.ldm_scrub.specs.Lines.{bad_lines, bad_of, text_of_scrub};
 

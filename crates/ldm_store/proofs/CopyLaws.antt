@@ -19,9 +19,9 @@ use Rattle.ldm_host.proofs.Relations.{moments_trans}
 use Rattle.std.specs.Prelude.{nat_lt}
 use Rattle.std.proofs.lemmas.Bool.Decides.{nat_tests}
 use Rattle.ldm_copy.proofs.OneCopy.{one_copy}
-use Rattle.ldm_findings.specs.declared.found.Found.{Found}
-use Rattle.ldm_findings.specs.declared.notes.Note.{Note}
-use Rattle.ldm_findings.specs.declared.notes.Note.TheVariants as notes
+use Rattle.ldm_copy.specs.declared.found.Found.{Found}
+use Rattle.ldm_copy.specs.declared.notes.Note.{Note}
+use Rattle.ldm_copy.specs.declared.notes.Note.TheVariants as notes
 use Rattle.ldm_store.specs.Healing.{IsHealed, HasNote, is_behind, AreSpared}
 use Rattle.ldm_found.proofs.FoundLaws.{HoldsGroup, copy_known, holder}
 

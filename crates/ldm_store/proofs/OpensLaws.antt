@@ -15,7 +15,7 @@ use Rattle.ldm_body.proofs.BodyLaws.{few_records}
 use Rattle.ldm_found.specs.Editing.{blocked_in}
 use Rattle.ldm_found.specs.Facts.{LieOn}
 use Rattle.ldm_found.specs.Opening.{group_faults, IsGroupIn, IsNewestGroup, group_at, found_with}
-use Rattle.ldm_findings.specs.declared.fault.OpenFault.TheVariants as faults
+use Rattle.ldm_copy.specs.declared.fault.OpenFault.TheVariants as faults
 use Rattle.ldm_found.proofs.ClearLaws.{clear_of, labels_stay}
 use Rattle.ldm_store.specs.Kept.{MayEdit, IsCurrent, IsNext, IsRecoverable, IsKept, Opens}
 use Rattle.ldm_store.specs.Turning.{IsBodyOnEach}
@@ -26,8 +26,8 @@ use Rattle.ldm_copy.specs.declared.answer.CopyState.TheVariants.{Closed, Valid}
 use Rattle.ldm_copy.proofs.OneCopy.{one_copy}
 use Rattle.ldm_copy.specs.Copy.{config_area}
 use Rattle.ldm_found.specs.Gathers.{Gathers, IsFirst}
-use Rattle.ldm_findings.specs.declared.found.Found.{Found}
-use Rattle.ldm_findings.specs.declared.fault.OpenFault.{OpenFault}
+use Rattle.ldm_copy.specs.declared.found.Found.{Found}
+use Rattle.ldm_copy.specs.declared.fault.OpenFault.{OpenFault}
 use Rattle.ldm_found.specs.Labels.{IsLabelOf, AreSameOutside}
 use Rattle.ldm_found.specs.Copies.{IsCopyIn, newer, newest, Disagrees, note_of, IsKnown, HasCopy}
 use Rattle.ldm_found.proofs.AlikeLaws.{same_faults, same_blocked}

@@ -21,8 +21,8 @@ use Rattle.ldm_body.proofs.RewriteLaws.{area_on}
 use Rattle.ldm_copy.proofs.OneCopy.{one_copy, one_header}
 use Rattle.ldm_copy.proofs.RoomLaws.{last_fits}
 use Rattle.ldm_body.proofs.BodyLaws.{begun_is}
-use Rattle.ldm_findings.specs.declared.found.Found.{Found}
-use Rattle.ldm_findings.specs.declared.notes.Note.{Note}
+use Rattle.ldm_copy.specs.declared.found.Found.{Found}
+use Rattle.ldm_copy.specs.declared.notes.Note.{Note}
 use Rattle.ldm_found.specs.Facts.{LieOn}
 use Rattle.ldm_found.specs.Copies.{IsCopyIn, note_of, HasCopy, IsKnown}
 use Rattle.ldm_found.proofs.FoundLaws.{HoldsGroup as HoldsFound, copy_known, holder, holds_group, one_image}

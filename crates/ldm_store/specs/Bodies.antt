@@ -10,8 +10,8 @@ use Rattle.ldm_changed.specs.Change.{Changed, ChangesFrom}
 use Rattle.ldm_changed.specs.Plan.{touched_blocks, added_blocks}
 use Rattle.ldm_changed.specs.declared.nexts.Next.{Next}
 use Rattle.ldm_changed.specs.declared.nexts.Next.TheVariants as nexts
-use Rattle.ldm_findings.specs.declared.found.Found.{Found}
-use Rattle.ldm_findings.specs.declared.notes.Note.{Note}
+use Rattle.ldm_copy.specs.declared.found.Found.{Found}
+use Rattle.ldm_copy.specs.declared.notes.Note.{Note}
 use Rattle.ldm_store.specs.Healing.{is_behind}
 
 -- the copy on an image begins with these bytes, the first of which is its gate

@@ -6,8 +6,8 @@ use Rattle.ldm_host.specs.declared.host.Failed.{Failed}
 use Rattle.ldm_label.specs.declared.Label.{Label}
 use Rattle.ldm_body.specs.Body.{HasBody, IsBodyOf}
 use Rattle.ldm_body.specs.Table.{IsCoreBody}
-use Rattle.ldm_findings.specs.declared.found.Found.{Found}
-use Rattle.ldm_findings.specs.declared.notes.Note.{Note}
+use Rattle.ldm_copy.specs.declared.found.Found.{Found}
+use Rattle.ldm_copy.specs.declared.notes.Note.{Note}
 use Rattle.ldm_found.specs.Facts.{LieOn, IsSoundGroup}
 use Rattle.ldm_found.specs.Labels.{AreSameOutside}
 use Rattle.ldm_found.specs.Opening.{IsGroupIn}

@@ -4,7 +4,7 @@ use Rattle.std.proofs.lemmas.Grind.{common_steps}
 use Rattle.std.specs.List.{range_with_len, cons_option}
 use Rattle.std.proofs.lemmas.Bool.{and_parts, and_from, cond-true, cond-false, eqb-true, eq-eqb, and_right, cases_lt, le-leb, lt-ltb, le-ltb, cases_Bool}
 use Rattle.ldm_places.specs.Layouts.{Layout}
-use Rattle.ldm_findings.specs.declared.found.Found.{Found}
+use Rattle.ldm_copy.specs.declared.found.Found.{Found}
 use Rattle.ldm_table.specs.declared.stretch.Stretch.{Stretch}
 use Rattle.ldm_table.specs.Tables.{sector_at, is_next_to, before, joined, stretches_of, table_line}
 use Rattle.ldm_table.specs.Runs.{IsStretchOf}

@@ -7,8 +7,8 @@ use Rattle.std.specs.Option.{option_map, option_to_list}
 use Rattle.std.proofs.lemmas.Bool.{cases_lt, cond-true, cond-false, eqb-true, eqb-false, cases_Bool, ne_eqb}
 use Rattle.ldm_places.specs.Layouts.{Layout, copies_of, place_in, is_tiled, place_at, copies_by}
 use Rattle.ldm_places.specs.declared.shape.Place.{Place}
-use Rattle.ldm_findings.specs.declared.found.Found.{Found}
-use Rattle.ldm_findings.specs.Images.{image_of}
+use Rattle.ldm_copy.specs.declared.found.Found.{Found}
+use Rattle.ldm_copy.specs.Images.{image_of}
 use Rattle.ldm_dump.specs.Sources.{is_here, data_start, spot_at, first_copy, copy_spot, sources_of, is_lost, IsLeastLost, other_spot, other_spots, is_beside, is_raid5, can_rebuild, sources_by}
 use Rattle.ldm_dump.specs.Runs.{behind, IsRun}
 use Rattle.ldm_dump.specs.declared.spots.Spot.{Spot}

@@ -9,7 +9,7 @@ use Rattle.ldm_places.specs.Layouts.{Layout}
 use Rattle.ldm_places.specs.Columns.{columns_of, chunk_of}
 use Rattle.ldm_places.specs.declared.shape.Shape.{Shape}
 use Rattle.ldm_places.specs.declared.shape.Shape.TheVariants.{Stripe, Raid5}
-use Rattle.ldm_findings.specs.declared.found.Found.{Found}
+use Rattle.ldm_copy.specs.declared.found.Found.{Found}
 use Rattle.ldm_words.specs.Names.{is_plain}
 use Rattle.ldm_dump.specs.Sources.{first_copy, is_lost}
 use Rattle.ldm_table.specs.declared.parts.Member.{Member}

@@ -3,7 +3,7 @@ use Rattle.std.specs.Prelude.{◌≡◌, ℕ, ◌+◌, ◌<◌, false, List, [],
 use Rattle.std.specs.Option.{option_map}
 use Rattle.ldm_places.specs.Layouts.{Layout, is_tiled}
 use Rattle.ldm_places.specs.Columns.{IsColumned}
-use Rattle.ldm_findings.specs.declared.found.Found.{Found}
+use Rattle.ldm_copy.specs.declared.found.Found.{Found}
 use Rattle.ldm_dump.specs.Bytes.{joined_sector, sector_of}
 use Rattle.ldm_table.specs.Targets.{Line, spots_in}
 use Rattle.ldm_table.specs.Tables.{table_of}

@@ -1,7 +1,7 @@
 -- Stretches of a volume that the code goes over.
 use Rattle.std.specs.Prelude.{◌≡◌, ℕ, ◌+◌, ◌<◌, ◌≤◌, Some}
 use Rattle.ldm_places.specs.Layouts.{Layout}
-use Rattle.ldm_findings.specs.declared.found.Found.{Found}
+use Rattle.ldm_copy.specs.declared.found.Found.{Found}
 use Rattle.ldm_dump.specs.Runs.{behind}
 use Rattle.ldm_table.specs.Tables.{sector_at}
 use Rattle.ldm_table.specs.declared.stretch.Stretch.{Stretch}

@@ -4,7 +4,7 @@ use Rattle.std.specs.Prelude.{ℕ, List, [], ◌++◌, length, flat_map, get_or,
 use Rattle.ldm_bytes.specs.Guid.{own_guid}
 use Rattle.ldm_records.specs.declared.types.Volume.{Volume}
 use Rattle.ldm_places.specs.Layouts.{Layout}
-use Rattle.ldm_findings.specs.declared.found.Found.{Found}
+use Rattle.ldm_copy.specs.declared.found.Found.{Found}
 use Rattle.ldm_text.specs.Texts.{guid_of_volume}
 use Rattle.ldm_dump.specs.declared.spots.Spot.{Spot}
 use Rattle.ldm_table.specs.declared.parts.Member.{Member}

@@ -9,7 +9,7 @@ use Rattle.ldm_places.specs.Columns.{columns_of, chunk_of}
 use Rattle.ldm_places.specs.declared.shape.Place.{Place}
 use Rattle.ldm_places.specs.declared.shape.Shape.{Shape}
 use Rattle.ldm_places.specs.declared.shape.Shape.TheVariants.{Stripe, Raid5}
-use Rattle.ldm_findings.specs.declared.found.Found.{Found}
+use Rattle.ldm_copy.specs.declared.found.Found.{Found}
 use Rattle.ldm_dump.specs.Sources.{spot_at, sources_of}
 use Rattle.ldm_dump.specs.declared.spots.Spot.{Spot}
 use Rattle.ldm_table.specs.declared.parts.Member.{Member}

@@ -6,9 +6,10 @@
 #![tactic(auto)]
 
 use ldm_bytes::NoMemory;
-use ldm_edge::{Stop, ending, exit_code, open_images, stop_unopened, tell, words_of};
+use ldm_edge::{
+    HELP, Stop, VERSION, ending, exit_code, open_images, stop_unopened, tell, usage_error, words_of,
+};
 use ldm_files::{Access, Counted, Failure, FileHost, ImageFile, Meter, Watch, take_closed_streams};
-use ldm_help::{HELP, VERSION, usage_error};
 use ldm_locks::hold;
 use ldm_run::run;
 use ldm_words::{Job, Status, WordsError, read_words};

@@ -2,9 +2,8 @@
 ghost use Rattle.std.specs.Prelude.{◌<◌, ◌≤◌, ◌+◌, ◌*◌, length, slice_index, IsTrue};
 
 use super::*;
-use ldm_edge::Fault;
+use ldm_edge::{Fault, UsageError};
 use ldm_files::{DiskCall, ImageFile, Progress};
-use ldm_help::UsageError;
 use ldm_host::{Failed, Host};
 use ldm_memory::MemoryHost;
 use ldm_vectors::sample_images;

@@ -17,10 +17,10 @@ use Rattle.ldm_label.specs.Written.{HasLabel, SameOutsideLabel, IsOutsideLabel, 
 use Rattle.ldm_group.specs.Database.{Database}
 use Rattle.ldm_copy.specs.Copy.{gate_at, IsWritten}
 use Rattle.ldm_body.specs.Body.{IsBodyOf, IsBodyOn, HasBody}
-use Rattle.ldm_findings.specs.declared.fault.OpenFault.TheVariants as faults
-use Rattle.ldm_findings.specs.declared.found.Found.{Found}
-use Rattle.ldm_findings.specs.declared.notes.Note.{Note}
-use Rattle.ldm_findings.specs.declared.notes.Note.TheVariants as notes
+use Rattle.ldm_copy.specs.declared.fault.OpenFault.TheVariants as faults
+use Rattle.ldm_copy.specs.declared.found.Found.{Found}
+use Rattle.ldm_copy.specs.declared.notes.Note.{Note}
+use Rattle.ldm_copy.specs.declared.notes.Note.TheVariants as notes
 use Rattle.ldm_found.specs.New.{HoldCopies, NewOpens, NewIsEditable}
 use Rattle.ldm_found.specs.Opening.{IsGroupIn, found_with}
 use Rattle.ldm_sample_disks.specs.Disks.{sample_label, sample_labels, IsZeros}

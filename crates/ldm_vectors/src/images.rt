@@ -1,7 +1,7 @@
 //! The images of the sample group.
 ghost use Rattle.std.specs.Prelude.{◌≡◌, ◌*◌, ◌<◌, ◌≤◌, All, IfOk, Result, length, vec_len};
 ghost use Rattle.ldm_host.specs.Images.{items_of};
-ghost use Rattle.ldm_findings.specs.declared.found.Found.{Found};
+ghost use Rattle.ldm_copy.specs.declared.found.Found.{Found};
 ghost use Rattle.ldm_found.specs.Opening.{IsGroupIn};
 ghost use Rattle.ldm_sample_disks.specs.Disks.{sample_label, IsZeros};
 ghost use Rattle.ldm_vectors.specs.Sample.{IsSampleDatabase, IsSampleImage, AreImagesWith};

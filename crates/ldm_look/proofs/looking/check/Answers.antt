@@ -1,5 +1,5 @@
 use Rattle.std.proofs.Common.{Ok}
-use Rattle.ldm_group_text.specs.Check.{text_of_check}
+use Rattle.ldm_look.specs.Check.{text_of_check}
 use Rattle.ldm_look.specs.Looks.{check_answer}
 use Rattle.ldm_look.proofs.EndLaws.{says_first}
 use Rattle.ldm_look.proofs.looking.check.Goals as goal

@@ -1,5 +1,5 @@
 use Rattle.std.proofs.Common.{Ok}
-use Rattle.ldm_group_text.specs.Show.{text_of_show}
+use Rattle.ldm_look.specs.Show.{text_of_show}
 use Rattle.ldm_look.specs.Looks.{show_answer}
 use Rattle.ldm_look.proofs.EndLaws.{says_first}
 use Rattle.ldm_look.proofs.looking.show.Goals as goal

@@ -1,5 +1,5 @@
 use Rattle.ldm_text.specs.Texts.{text_of_refusal}
-use Rattle.ldm_group_text.specs.Opening.{text_of_open_fault}
+use Rattle.ldm_look.specs.Opening.{text_of_open_fault}
 use Rattle.ldm_look.proofs.saying.refuse_opening.Goals as goal
 
 pub returns : goal.returns

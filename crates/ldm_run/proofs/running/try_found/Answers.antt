@@ -1,5 +1,5 @@
 use Rattle.std.proofs.Common.{rules, ◌≡◌, ◌∙◌, ap, sym, Option, None}
-use Rattle.ldm_findings.specs.declared.fault.OpenFault.{OpenFault}
+use Rattle.ldm_copy.specs.declared.fault.OpenFault.{OpenFault}
 use Rattle.ldm_edits.specs.Steps.{replies_to}
 use Rattle.ldm_store.proofs.ApplyLaws.{areas_fit}
 use Rattle.ldm_run.specs.Scripts.{commands_in, unless_blocked, replies_from}

@@ -5,8 +5,8 @@ use Rattle.ldm_host.proofs.ChangeLaws.{changes_works}
 use Rattle.ldm_label.specs.declared.Label.{Label}
 use Rattle.ldm_label.specs.LabelOf.{Fits}
 use Rattle.ldm_vmdb.specs.declared.header.Header.{Header}
-use Rattle.ldm_findings.specs.declared.notes.Note.{Note}
-use Rattle.ldm_findings.specs.declared.notes.Note.TheVariants as notes
+use Rattle.ldm_copy.specs.declared.notes.Note.{Note}
+use Rattle.ldm_copy.specs.declared.notes.Note.TheVariants as notes
 use Rattle.ldm_store.specs.Healing.{is_behind}
 use Rattle.ldm_found.proofs.FoundLaws.{holds_group}
 use Rattle.ldm_store.proofs.CopyLaws.{no_label, settled_step, body_step, outside_step, healed_none, note_next, healed_skip, healing_always, healed_step, spared_step, other_disk, stays_step, wrote_below, wrote_above, wrote_each, wrote_all, passed_below}

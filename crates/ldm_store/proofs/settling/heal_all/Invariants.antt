@@ -3,7 +3,7 @@ use Rattle.ldm_host.specs.Seen.{image}
 use Rattle.ldm_host.specs.Moves.{Works}
 use Rattle.ldm_label.specs.declared.Label.{Label}
 use Rattle.ldm_body.specs.Body.{HasBody}
-use Rattle.ldm_findings.specs.declared.notes.Note.{Note}
+use Rattle.ldm_copy.specs.declared.notes.Note.{Note}
 use Rattle.ldm_store.specs.Turning.{AllSettled}
 use Rattle.ldm_store.specs.Healing.{is_behind, IsHealed, AreSpared}
 use Rattle.ldm_store.proofs.settling.heal_all.Given as goal

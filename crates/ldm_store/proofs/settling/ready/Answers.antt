@@ -1,6 +1,6 @@
 use Rattle.std.proofs.Common.{◌≡◌, List, ℕ, Some, Ok, Err, IsErrOf, inl, inr, sym, ◌∙◌, ap, subst}
 use Rattle.ldm_host.proofs.Relations.{looks_then, looks_as}
-use Rattle.ldm_findings.specs.declared.fault.OpenFault.{OpenFault}
+use Rattle.ldm_copy.specs.declared.fault.OpenFault.{OpenFault}
 use Rattle.ldm_found.specs.declared.fault.OpenError.{OpenError}
 use Rattle.ldm_found.specs.declared.fault.OpenError.TheVariants.{Disk, Fault}
 use Rattle.ldm_found.specs.Facts.{LieOn}

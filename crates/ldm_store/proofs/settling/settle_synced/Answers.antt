@@ -3,7 +3,7 @@ use Rattle.ldm_host.specs.Seen.{Seen}
 use Rattle.ldm_host.specs.Moves.{Settled, Settles}
 use Rattle.ldm_host.proofs.Relations.{looks_settles, looks_works, works_then}
 use Rattle.ldm_body.specs.Table.{IsCoreBody}
-use Rattle.ldm_findings.specs.declared.found.Found.{Found}
+use Rattle.ldm_copy.specs.declared.found.Found.{Found}
 use Rattle.ldm_found.specs.declared.fault.OpenError.TheVariants.{Disk}
 use Rattle.ldm_found.specs.Facts.{LieOn}
 use Rattle.ldm_found.specs.Opening.{IsGroupIn}

@@ -1,5 +1,5 @@
 use Rattle.std.proofs.Common.{◌≡◌, ◌<◌, ℕ, true, slice_get, Some}
-use Rattle.ldm_findings.specs.declared.notes.Note.{Note}
+use Rattle.ldm_copy.specs.declared.notes.Note.{Note}
 use Rattle.ldm_store.specs.Healing.{is_behind}
 use Rattle.ldm_store.proofs.sharing.first_ahead.Given as goal
 

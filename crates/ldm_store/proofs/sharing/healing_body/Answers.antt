@@ -4,8 +4,8 @@ use Rattle.ldm_label.specs.declared.Label.{Label}
 use Rattle.ldm_vmdb.specs.declared.header.Header.{Header}
 use Rattle.ldm_group.specs.Database.{Database}
 use Rattle.ldm_body.specs.Table.{IsCoreBody}
-use Rattle.ldm_findings.specs.declared.found.Found.{Found}
-use Rattle.ldm_findings.specs.declared.notes.Note.{Note}
+use Rattle.ldm_copy.specs.declared.found.Found.{Found}
+use Rattle.ldm_copy.specs.declared.notes.Note.{Note}
 use Rattle.ldm_found.specs.Facts.{LieOn}
 use Rattle.ldm_found.proofs.ClearLaws.{clear_of}
 use Rattle.ldm_found.proofs.FoundLaws.{holds_group}

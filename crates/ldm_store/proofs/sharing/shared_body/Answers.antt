@@ -4,7 +4,7 @@ use Rattle.ldm_host.specs.Seen.{image}
 use Rattle.ldm_host.proofs.Relations.{looks_itself, looks_then, looks_as}
 use Rattle.ldm_label.specs.declared.Label.{Label}
 use Rattle.ldm_body.specs.Table.{body_bytes, IsCoreBody}
-use Rattle.ldm_findings.specs.declared.notes.Note.{Note}
+use Rattle.ldm_copy.specs.declared.notes.Note.{Note}
 use Rattle.ldm_found.specs.Facts.{LieOn}
 use Rattle.ldm_store.specs.Bodies.{KeepsBody, LosesBody}
 use Rattle.ldm_store.proofs.CopyLaws.{no_label}

@@ -3,7 +3,7 @@ use Rattle.std.specs.Prelude.{All, IfOk, Vec, vec_len}
 use Rattle.std.specs.declared.alloc.Global.{Global}
 use Rattle.std.proofs.lemmas.List.{length-map}
 use Rattle.ldm_host.specs.Images.{items_of}
-use Rattle.ldm_findings.specs.declared.found.Found.{Found}
+use Rattle.ldm_copy.specs.declared.found.Found.{Found}
 use Rattle.ldm_found.specs.Opening.{IsGroupIn}
 use Rattle.ldm_vectors.specs.Sample.{AreImagesWith, AreSampleImages, IsSampleGroup}
 use Rattle.ldm_vectors.proofs.SampleLaws.{sample_room}

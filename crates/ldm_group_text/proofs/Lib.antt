@@ -1,3 +1,0 @@
-pub mod ShowLaws
-pub mod MapLaws
-pub mod VolumeLaws

@@ -1,7 +1,0 @@
-use Rattle.std.proofs.Common.{arith}
-use Rattle.std.specs.HashMap as hash
-use Rattle.ldm_group_text.proofs.MapLaws.{numbers_more}
-use Rattle.ldm_group_text.proofs.map.push_sectors.Goals as goal
-
-pub loop-step-preserved : goal.loop-step-preserved
-loop-step-preserved c = grind (arith, numbers_more)

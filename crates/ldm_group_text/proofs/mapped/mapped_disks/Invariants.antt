@@ -1,7 +1,0 @@
-use Rattle.std.proofs.Common.{◌≡◌, ℕ, take, nat_eq}
-use Rattle.std.specs.HashMap as hash
-use Rattle.ldm_group_text.specs.Map.{mapped_at}
-use Rattle.ldm_group_text.proofs.mapped.mapped_disks.Given as goal
-
-abbrev pub invariant-loop-r : goal.invariant-loop-r
-invariant-loop-r l = (id : ℕ) → hash.get nat_eq l.disks id ≡ mapped_at l.labels (take l.r-index l.records) id
