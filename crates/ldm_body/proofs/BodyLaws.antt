@@ -1,15 +1,14 @@
 -- Bodies: made of a database, read, and as copies.
 use Rattle.std.proofs.Common.{◌≡◌, ℕ, zero, suc, ◌<◌, List, [], ◌∷◌, ◌++◌, length, get_or, map, refl, sym, ap, arith, ◌+◌, ◌*◌, ◌≤◌, drop, slice_index, None, subst, ◌∙◌, length-append, ◌/◌, slice_range, Bool, true, false, eqb, inl, inr, Ok, ⊎_elim, ◌-◌, take}
-use Rattle.std.proofs.lemmas.List.Elements.{All-cons, All-nil, All-head, All-tail, All-weaker}
+use Rattle.std.proofs.lemmas.List.Elements.{All-head, All-tail, All-weaker}
 use Rattle.ldm_records.specs.declared.types.Record.{Record}
 use Rattle.ldm_body.specs.Body.{Stored, stored_at, placed_of, Store, IsBodyOf, IsMadeOf, counts_of, spellings, IsBody, IsBodyOn, HasBody}
 use Rattle.ldm_copy.specs.Copy.{IsWritten, header_sector, blocks_in_use, IsCopyOf, config_area, gate_at}
 use Rattle.std.specs.List.{All}
 use Rattle.std.specs.List.Sorted.{IsPermutation}
 use Rattle.std.proofs.lemmas.List.{take-append-le, drop-append-le, take_all, drop_all, map-append, length-drop, take-take, drop-take, get_or-take, length-take}
-use Rattle.std.proofs.lemmas.List.Sums.{sum_by-cons}
 use Rattle.std.proofs.lemmas.List.Sorted.{IsPermutation-refl, IsPermutation-sym, IsPermutation-trans, IsPermutation-cons, IsPermutation-middle, IsPermutation-append_left, IsPermutation-map, All-permutation}
-use Rattle.ldm_records.specs.Plain.{Plain, own_spelling, IsRecord}
+use Rattle.ldm_records.specs.Plain.{own_spelling, IsRecord}
 use Rattle.ldm_records.specs.Views.{plain_of}
 use Rattle.ldm_frags.specs.Blocks.{numbers_from, count}
 use Rattle.ldm_frags.specs.Written.{Placed, Holds, parts_of, laid_in_order, IsPlaced, IsInUse, slot, joined_of, joined_below}
@@ -17,7 +16,7 @@ use Rattle.ldm_vmdb.specs.Headers.{vmdb_fault, written, IsHeaderOf, ReadsBack}
 use Rattle.ldm_vmdb.specs.declared.header.Header.{Header}
 use Rattle.ldm_group.specs.Order.{Rising}
 use Rattle.ldm_group.specs.Database.{Database, IsSameCore, IsSameHeader}
-use Rattle.ldm_group.specs.Room.{own_len, need_of, room_of}
+use Rattle.ldm_group.specs.Room.{room_of}
 use Rattle.ldm_copy.proofs.AreaLaws.{gate_there, area_byte, area_length, gate_of}
 use Rattle.ldm_copy.proofs.RoomLaws.{magic_of}
 use Rattle.ldm_vmdb.proofs.HeaderLaws.{no_fault_is_vmdb, vmdb_without_fault}
@@ -35,6 +34,7 @@ use Rattle.ldm_copy.specs.Records.{SpellRecords, HoldRecords}
 use Rattle.std.proofs.lemmas.Bool.{cases_eq, eq-eqb, ne_eqb}
 use Rattle.std.proofs.lemmas.Grind.{same_number_lists}
 use Rattle.ldm_label.specs.declared.Label.{Label}
+use Rattle.ldm_group.proofs.ListLaws.{all_from_map}
 
 -- ---- Records with the numbers of their blocks.
 
@@ -62,10 +62,6 @@ stored_push [] (t ∷ ss) r s e = absurd (omega (arith, e))
 stored_push (q ∷ rs) [] r s e = absurd (omega (arith, e))
 stored_push (q ∷ rs) (t ∷ ss) r s e = ap (λ (l : List Stored). record { record_is = q; slots = t } ∷ l) (stored_push rs ss r s (omega (arith, e)))
 
-pub all_mapped : {X Y : Type 0} (f : X → Y) (P : Y → Type 0) (xs : List X) → All P (map f xs) → All (λ x. P (f x)) xs
-all_mapped f P [] all = All-nil (λ x. P (f x))
-all_mapped f P (x ∷ xs) all = All-cons (λ y. P (f y)) x xs (All-head P (f x) (map f xs) all) (all_mapped f P xs (All-tail P (f x) (map f xs) all))
-
 abbrev pub record_of : Stored → Record
 record_of s = s.record_is
 
@@ -76,20 +72,6 @@ stored_again (s ∷ K) = ap (λ (l : List Stored). s ∷ l) (stored_again K)
 
 -- ---- The body that is made of a database is a body of it.
 
--- a spelling has its head at least
-spelled_some : (p : Plain) → 1 ≤ length (own_spelling p)
-spelled_some p = omega arith
-
--- each record takes a block at least
-pub few_records : (records : List Record) → length records ≤ need_of records
-unfolding own_len
-few_records [] = omega arith
-few_records (r ∷ records) =
-    let some : 1 ≤ own_len r = spelled_some (plain_of r) in
-    let here : 1 ≤ parts_of (own_len r) = omega arith in
-    let rest : length records ≤ need_of records = few_records records in
-    omega (arith, sum_by-cons (λ (r : Record). parts_of (own_len r)) r records)
-
 -- records at the slots of a table are stored
 pub table_store : (blocks : List ℕ) (records : List Record) (table : List (List ℕ)) → HoldsTable blocks records table → Store blocks records
 table_store blocks records table held =
@@ -97,7 +79,7 @@ table_store blocks records table held =
     record {
       stored = stored_at records table;
       once = subst (λ (l : List Record). IsPermutation l records) (sym all) (IsPermutation-refl records);
-      sound = all_mapped record_of (λ r. IsRecord (plain_of r)) (stored_at records table) (subst (λ (l : List Record). All (λ r. IsRecord (plain_of r)) l) (sym all) held.sound);
+      sound = all_from_map record_of (λ r. IsRecord (plain_of r)) (stored_at records table) (subst (λ (l : List Record). All (λ r. IsRecord (plain_of r)) l) (sym all) held.sound);
       holds = held.holds;
     }
 
@@ -282,7 +264,7 @@ pub all_used : (blocks : List ℕ) (xs : List Stored) → All (IsPlaced blocks) 
     → All (λ s. IsInUse blocks (key s)) xs
 all_used blocks xs placed = All-weaker (λ s. IsPlaced blocks (placed_of s))
     (λ s. IsInUse blocks (key s)) (λ s is. first_used blocks (placed_of s) is) xs
-    (all_mapped placed_of (IsPlaced blocks) xs placed)
+    (all_from_map placed_of (IsPlaced blocks) xs placed)
 
 filter_placed : (b : ℕ) (xs : List Stored) → filter (λ r. slot r 0 == b) (map placed_of xs) ≡ map placed_of (filter (λ s. key s == b) xs)
 filter_placed b [] = refl

@@ -1,7 +1,7 @@
 -- All records that blocks hold are found, by the heads of their blocks.
 use Rattle.std.proofs.Common.{◌≡◌, ℕ, zero, suc, ◌+◌, ◌-◌, ◌*◌, ◌<◌, ◌≤◌, List, [], ◌∷◌, ◌++◌, length, get_or, slice_index, take, map, All, Contains, refl, sym, ap, subst, ◌∙◌, arith, ◌≢◌, ◌⊎◌, inl, inr, Bool, true, false, eqb, set, replicate, Option, Some, None, add-one, ⊎_elim, AllPairs}
 use Rattle.std.proofs.lemmas.Grind.{same_number_lists}
-use Rattle.std.proofs.lemmas.List.{map-append, append-nil, take_more, take_all, length-map, get_or-map, get_or-set_same, get_or-set_other, length-set, get_or-replicate, length-replicate}
+use Rattle.std.proofs.lemmas.List.{map-append, append-nil, take_more, take_all, length-map, get_or-map, get_or-set_same, get_or-set_other, length-set}
 use Rattle.std.proofs.lemmas.List.Concat.{flat_map-append}
 use Rattle.std.proofs.lemmas.List.Elements.{All-contains, All-nil, All-map, All-push, All-weaker, Contains-get_or, Contains-push, Contains-append_left, All-tail}
 use Rattle.ldm_records.specs.Plain.{IsRecord, Spells, own_spelling}
@@ -27,7 +27,8 @@ use Rattle.ldm_group.proofs.Rise.{strictly}
 use Rattle.ldm_group.proofs.OneOrder.{one_rising}
 use Rattle.ldm_body.specs.declared.finding.Found.{Found}
 use Rattle.ldm_frags.proofs.HoldEdits.{apart_permuted, hold_permuted}
-use Rattle.ldm_body.proofs.BodyLaws.{record_of, all_mapped, stored_again, key, below, all_below, all_used}
+use Rattle.ldm_body.proofs.BodyLaws.{record_of, stored_again, key, below, all_below, all_used}
+use Rattle.ldm_group.proofs.ListLaws.{all_from_map}
 
 -- ---- Records that are found by the heads of their blocks.
 
@@ -414,7 +415,7 @@ module _ (blocks : List ℕ) (k : ℕ) (small : length blocks ≤ 1048576) (lt :
       begins_none : (ss : List Stored) → Holds blocks (map placed_of ss)
           → All (λ s. key s ≢ k + 4) ss
       begins_none ss holds i d li e =
-          let is : IsPlaced blocks (placed_of (get_or ss i d)) = all_mapped placed_of
+          let is : IsPlaced blocks (placed_of (get_or ss i d)) = all_from_map placed_of
           (IsPlaced blocks) ss holds.placed i d li in
           let some = (few_slots blocks (placed_of (get_or ss i d)) is).0 in
           let has = part_fields blocks (placed_of (get_or ss i d)) 0 k small is (omega (arith, some)) e in
@@ -483,7 +484,7 @@ found_holds blocks n S le w = record {
       let at : j + 4 ≡ number = omega (arith, low) in
       let avoid_key : (s : Stored) → Contains S s → All (λ m. m ≢ number) s.slots = λ s there.
       All-contains (λ s. All (λ m. m ≢ number) s.slots) S s
-      (all_mapped placed_of (λ r. All (λ m. m ≢ number) r.slots) S avoid) there in
+      (all_from_map placed_of (λ r. All (λ m. m ≢ number) r.slots) S avoid) there in
       elim (w.seen j (omega (arith, low, high, le))) [
         | inl unused ↦ subst (λ (b : ℕ). block_at blocks b ≡ unused_block b) at unused
         | inr (inr (s, there, e)) ↦ absurd (not_first s number (avoid_key s there) (All-contains (λ t. IsFoundAt blocks (key t) t) S s w.each there) (e ∙ at))

@@ -1,5 +1,5 @@
 -- Which records stay, go or are added, and what of the blocks changes.
-use Rattle.std.proofs.Common.{◌≡◌, ◌↔◌, Bool, true, false, List, [], ◌++◌, ℕ, IsTrue, refl, sym, ap, subst, ◌+◌, ◌-◌, ◌*◌, ◌<◌, length, take, drop, slice_range, ◌∙◌, arith, ◌≤◌, not, ◌∷◌, get_or, map, All, Contains, append_assoc, ◌≢◌, slice_index, AllPairs, inl, inr, zero, suc, Option}
+use Rattle.std.proofs.Common.{◌≡◌, ◌↔◌, Bool, true, false, List, [], ◌++◌, ℕ, IsTrue, refl, sym, ap, subst, ◌+◌, ◌-◌, ◌*◌, ◌<◌, length, take, drop, slice_range, ◌∙◌, arith, ◌≤◌, not, ◌∷◌, get_or, map, All, Contains, append_assoc, ◌≢◌, slice_index, AllPairs, inl, inr, Option}
 use Rattle.std.specs.Prelude.{bytes_eq, filter, if◌then◌else◌}
 use Rattle.std.proofs.lemmas.Bool.{false_from_ne_true, not_from_false, cases_lt, not-true}
 use Rattle.std.proofs.lemmas.Slice.Eq.{bytes_eq-Decides}
@@ -8,7 +8,7 @@ use Rattle.ldm_records.specs.Plain.{IsRecord, Spells, own_spelling}
 use Rattle.ldm_records.specs.Views.{plain_of}
 use Rattle.ldm_records.proofs.PlainLaws.{own_spells}
 use Rattle.ldm_payloads.proofs.WholeLaws.{is_one}
-use Rattle.std.proofs.lemmas.List.{length-take, length-drop, append-nil, drop_more, map_push, get_or_default, take-append-drop, take_all, get_or-take, get_or-drop, length_push, map-append, length-append}
+use Rattle.std.proofs.lemmas.List.{length-take, length-drop, append-nil, drop_more, map_push, get_or_default, take-append-drop, get_or-take, get_or-drop, length_push, map-append, length-append}
 use Rattle.ldm_frags.specs.Blocks.{count, parts, numbers_from}
 use Rattle.ldm_frags.specs.Written.{block_at, Holds, IsPlaced, IsInUse, parts_of, AddsUnused}
 use Rattle.ldm_group.specs.Room.{own_len, need_of}
@@ -22,7 +22,7 @@ use Rattle.std.specs.List.Sorted.{IsPermutation}
 use Rattle.std.proofs.Math.Seq.{take-add}
 use Rattle.std.proofs.lemmas.List.Sums.{sum_by_push, sum_by-append, sum_by-cons}
 use Rattle.byteorder.specs.Endian.{big_number}
-use Rattle.ldm_body.proofs.BodyLaws.{stored_push, stored_records, record_of, all_mapped}
+use Rattle.ldm_body.proofs.BodyLaws.{stored_push, stored_records, record_of}
 use Rattle.std.proofs.lemmas.List.Kept.{AllPairs-filter}
 use Rattle.ldm_group.specs.Order.{kind_of, id_of, place_of, Rising}
 use Rattle.ldm_group.specs.Looks.{by_id}
@@ -31,6 +31,7 @@ use Rattle.ldm_group.proofs.LookLaws.{found_again}
 use Rattle.ldm_group.proofs.OneOrder.{one_order}
 use Rattle.ldm_frags.specs.Free.{free_numbers}
 use Rattle.ldm_frags.proofs.HoldLaws.{find_number, numbers_length, numbers_at}
+use Rattle.ldm_group.proofs.ListLaws.{all_from_map}
 
 -- ---- Records of one own spelling are one.
 
@@ -363,7 +364,7 @@ module _ (old new : List Record) (table : List (List ℕ)) (one_each : length ta
   room_left out small room enough holds there =
       let K : List Stored = filter (record_stays new) S in
       let slots : length (slots_in (map placed_of K)) ≡ need_of (filter (has_record new) old) =
-      slots_need out K (all_mapped placed_of (IsPlaced out) K holds.placed)
+      slots_need out K (all_from_map placed_of (IsPlaced out) K holds.placed)
       ∙ ap need_of (kept_records_of old new table one_each) in
       let kept = kept_need there in
       let parts_are : IsPermutation new (filter (has_record old) new ++ filter (lacks old) new) = IsPermutation-filter_both (has_record old) (lacks old) (λ r. refl) new in
@@ -395,7 +396,7 @@ module _ (old new : List Record) (table : List (List ℕ)) (one_each : length ta
         once =
             subst (λ (l : List Record). IsPermutation l new) (sym (records ∙ ap (λ (l : List Record). filter (lacks old) new ++ l) kept))
             (IsPermutation-sym new (filter (lacks old) new ++ filter (has_record old) new) turned);
-        sound = all_mapped record_of (λ r. IsRecord (plain_of r)) (T ++ K) (subst (λ (l : List Record). All (λ r. IsRecord (plain_of r)) l) (sym records) sound);
+        sound = all_from_map record_of (λ r. IsRecord (plain_of r)) (T ++ K) (subst (λ (l : List Record). All (λ r. IsRecord (plain_of r)) l) (sym records) sound);
         holds = holds;
       }
 
@@ -408,7 +409,7 @@ module _ (old new : List Record) (table : List (List ℕ)) (one_each : length ta
       let G : List Stored = filter (record_goes new) S in
       let n : ℕ = need_of (filter (lacks old) new) in
       let gone : length (slots_in (map placed_of G)) ≡ need_of (filter (lacks new) old) =
-      slots_need blocks G (All-filter (record_goes new) (λ s. IsPlaced blocks (placed_of s)) S (all_mapped placed_of (IsPlaced blocks) S holds.placed)) ∙ ap need_of gone_records in
+      slots_need blocks G (All-filter (record_goes new) (λ s. IsPlaced blocks (placed_of s)) S (all_from_map placed_of (IsPlaced blocks) S holds.placed)) ∙ ap need_of gone_records in
       omega (arith, gone, length-append (slots_in (map placed_of G)) (take n free), length-take n free)
 
   pub touched_others : (before middle after free : List ℕ)

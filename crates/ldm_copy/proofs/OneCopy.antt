@@ -12,11 +12,8 @@ use Rattle.ldm_payloads.proofs.PlainReads.{plain_again}
 use Rattle.ldm_payloads.proofs.WholeLaws.{is_one, is_unknown}
 use Rattle.ldm_copy.specs.Records.{SpellRecords, HasFault, IsFirstFault, HoldRecords, HoldBadRecord}
 use Rattle.std.specs.List.Sorted.{IsPermutation}
-use Rattle.std.proofs.Props.{props}
-use mathlib.Core.HLevel.{is_prop→PathP}
 use Rattle.ldm_bytes.proofs.NumberLaws.{some_is}
 use Rattle.ldm_vmdb.specs.declared.header.Header.{Header}
-use Rattle.ldm_vmdb.specs.Sectors.{IsKeptHeader}
 use Rattle.ldm_vmdb.specs.Headers.{vmdb_fault, IsHeaderOf}
 use Rattle.ldm_frags.specs.declared.faults.FragFault.{FragFault}
 use Rattle.ldm_frags.specs.Faults.{first_block_fault}
@@ -33,6 +30,7 @@ use Rattle.ldm_copy.specs.declared.answer.CopyFault.{CopyFault}
 use Rattle.ldm_copy.specs.declared.answer.CopyFault.TheVariants.{Vmdb, Frag, BadRecord, SameId}
 use Rattle.ldm_copy.specs.Copy.{header_sector, blocks_in_use, HasHeader, IsCopyOf}
 use Rattle.ldm_group.proofs.OneOrder.{one_rising}
+use Rattle.ldm_vmdb.proofs.HeaderLaws.{same_header}
 
 -- ---- What payloads spell, and the first that spells no record.
 
@@ -105,19 +103,6 @@ all_or_first (j ∷ list) (r ∷ records) block fault x (inl y) = unspelled j.pa
 all_or_first (j ∷ list) (r ∷ records) block fault x (inr y) = all_or_first list records block fault x.1 y.1
 
 -- ---- headers and databases
-
-kept_prop : (name : List ℕ) (guid : ℕ) (raw : List ℕ) → IsProp (IsKeptHeader name guid raw)
-kept_prop name guid raw = hlevel props
-
-same_header : (a b : Header) → a.last ≡ b.last → a.seq ≡ b.seq → a.name ≡ b.name → a.guid ≡ b.guid → a.raw ≡ b.raw → a ≡ b
-same_header a b last seq name guid raw = λ i. record {
-  last = last i;
-  seq = seq i;
-  name = name i;
-  guid = guid i;
-  raw = raw i;
-  kept = is_prop→PathP (λ j. IsKeptHeader (name j) (guid j) (raw j)) (λ j. kept_prop (name j) (guid j) (raw j)) a.kept b.kept i;
-}
 
 pub one_header : (a b : Header) (sector : List ℕ) → IsHeaderOf a sector → IsHeaderOf b sector → a ≡ b
 one_header a b sector x y =

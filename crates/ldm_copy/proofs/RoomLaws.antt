@@ -1,5 +1,5 @@
 -- What a header without a fault and the records of blocks take.
-use Rattle.std.proofs.Common.{◌≡◌, ℕ, zero, suc, ◌+◌, ◌<◌, ◌≤◌, inl, inr, refl, ap, subst, ◌∙◌, arith, ◌-◌, ◌*◌, ◌==◌, Bool, true, false, cond, List, [], ◌∷◌, ◌++◌, length, drop, sym, add-one, length-append, length-take, length-drop, ◌/◌, not, take, slice_index, Option, Some, None}
+use Rattle.std.proofs.Common.{◌≡◌, ℕ, zero, suc, ◌+◌, ◌<◌, ◌≤◌, inl, inr, refl, ap, subst, ◌∙◌, arith, ◌-◌, ◌*◌, ◌==◌, Bool, true, false, cond, List, [], ◌∷◌, ◌++◌, length, drop, sym, add-one, length-append, length-take, length-drop, ◌/◌, not, take, slice_index, None}
 use Rattle.std.proofs.lemmas.Bool.{cases_eq, eqb-true, eq-eqb, leb-true, or_cases, and_parts, and_from, or_left, or_right}
 use Rattle.std.specs.Prelude.{◌⊎◌, ◌&&◌, ◌||◌, sum_by, All, nat_lt, bytes_eq, codes}
 use Rattle.std.proofs.lemmas.List.Sums.{sum_by-cons, sum_by-append}
@@ -16,7 +16,6 @@ use Rattle.std.proofs.lemmas.List.{get_or-take}
 use Rattle.std.proofs.lemmas.Slice.Eq.{bytes_eq-Decides}
 use Rattle.std.proofs.lemmas.List.Sorted.{sum_by-IsPermutation, All-permutation}
 use Rattle.ldm_vmdb.specs.declared.header.Header.{Header}
-use Rattle.ldm_vmdb.specs.declared.header.VmdbFault.{VmdbFault}
 use Rattle.ldm_vmdb.specs.Sectors.{has_vmdb_magic, has_vmdb_version, has_block_size, has_first_block, is_settled, last_of, fits_area}
 use Rattle.ldm_vmdb.specs.Headers.{vmdb_fault}
 use Rattle.ldm_records.specs.declared.types.Record.{Record}
@@ -26,6 +25,7 @@ use Rattle.ldm_group.specs.Room.{own_len, need_of, IsFitting, HasRoom}
 use Rattle.ldm_group.specs.Database.{Database}
 use Rattle.ldm_copy.specs.Records.{SpellRecords}
 use Rattle.ldm_copy.specs.Answers.{FitsArea}
+use Rattle.ldm_vmdb.proofs.HeaderLaws.{passed}
 
 -- ---- how many of the numbers below a number pass a test
 
@@ -284,11 +284,6 @@ module _ (blocks : List ℕ) (list : List Joined) (joins : Joins blocks list) wh
 
 not_below : (a b : ℕ) → not (nat_lt a b) ≡ true → b ≤ a
 not_below a b e = grind (arith, nat_tests)
-
--- a chain of tests that found nothing
-passed : (test : Bool) (fault : VmdbFault) (others : Option VmdbFault) → cond (not test) (Some fault) others ≡ None → (test ≡ true) × (others ≡ None)
-passed true fault others e = (refl, e)
-passed false fault others e = absurd cc
 
 pub last_fits : (sector : List ℕ) (sectors : ℕ) → vmdb_fault sector sectors ≡ None → last_of sector ≤ 4 * sectors
 unfolding vmdb_fault fits_area

@@ -26,7 +26,7 @@ use Rattle.ldm_records.specs.declared.types.Disk.{Disk}
 use Rattle.ldm_group.specs.Looks.{by_id, disk_in}
 use Rattle.ldm_label.specs.declared.Label.{Label}
 use Rattle.ldm_label.specs.LabelOf.{Fits}
-use Rattle.ldm_places.proofs.SpotLaws.{none, sizes, least_at, place_by}
+use Rattle.ldm_places.proofs.SpotLaws.{none, sizes, least_at, place_by, some_same}
 use Rattle.ldm_places.proofs.PlaceLaws.{raid5_inside}
 use Rattle.ldm_layout.proofs.VolumeLaws.{IsExtentOf}
 use Rattle.ldm_places.specs.Extents.{least}
@@ -111,9 +111,6 @@ unfolding sources_of
 made_sources found l x is kept =
     sym (ap (λ (o : Option ℕ). sources_by found l x o (can_rebuild found l x)) is)
     ∙ ap (λ (b : Bool). sources_by found l x None b) (made_here found l x is kept)
-
-pub some_same : {A : Type 0} {a b : A} → Some a ≡ Some b → a ≡ b
-some_same h = cc
 
 -- the bytes of these sources are those of the sources that there are
 pub bytes_as : (images : List (List ℕ)) (found : Found) (l : Layout) (x : ℕ) (are spots : List Spot) (out : List ℕ) (n : ℕ) → sources_of found l x ≡ Some are → sources_of found l x ≡ Some spots

@@ -1,15 +1,12 @@
 -- What creates add to a group: the records of both stand in one order, and what is kept beside them is of both.
-use Rattle.std.proofs.Common.{◌≡◌, ℕ, ◌+◌, ◌-◌, ◌^◌, ◌<◌, ◌≤◌, ◌==◌, ◌||◌, ◌++◌, List, [], ◌∷◌, refl, sym, ap, subst, ◌∙◌, arith, Bool, true, false, cond, max, get_or, fold, Option, Some, None, Result, Ok, Err, find, append_assoc, map}
+use Rattle.std.proofs.Common.{◌≡◌, ℕ, ◌+◌, ◌-◌, ◌^◌, ◌<◌, ◌≤◌, ◌==◌, ◌||◌, ◌++◌, List, [], ◌∷◌, refl, sym, ap, subst, ◌∙◌, arith, Bool, true, false, max, fold, Option, None, Result, Ok, Err, find, append_assoc, map}
 use Rattle.std.specs.Prelude.{is_some, option_and_then, if◌then◌else◌}
-use Rattle.std.specs.Result.{IsErrAnd}
-use Rattle.std.specs.List.{All, list_any}
-use Rattle.std.specs.List.Sorted.{IsPermutation}
+use Rattle.std.specs.List.{list_any}
 use Rattle.std.specs.Global.{Vec as RVec}
-use Rattle.std.proofs.lemmas.Bool.{and_parts, eq-eqb, eqb-true}
+use Rattle.std.proofs.lemmas.Bool.{and_parts, eqb-true}
 use Rattle.std.proofs.lemmas.List.{append-nil, map-append}
-use Rattle.std.proofs.lemmas.List.Elements.{All-head, All-tail, Contains-get_or}
 use Rattle.std.proofs.lemmas.List.Folds.{list_any-append}
-use Rattle.std.proofs.lemmas.List.Sorted.{All-permutation, IsPermutation-append_left, IsPermutation-refl, IsPermutation-sym, IsPermutation-trans, list_any-IsPermutation, sum_by-IsPermutation}
+use Rattle.std.proofs.lemmas.List.Sorted.{IsPermutation-refl, list_any-IsPermutation, sum_by-IsPermutation}
 use Rattle.std.proofs.lemmas.List.Sums.{fold-append, sum_by-append}
 use Rattle.ldm_records.specs.declared.types.Record.{Record}
 use Rattle.ldm_records.specs.declared.types.Record.TheVariants as kinds
@@ -25,16 +22,13 @@ use Rattle.ldm_words.specs.declared.command.NewLayout.{NewLayout}
 use Rattle.ldm_words.specs.Limits.{IsCreate}
 use Rattle.ldm_frags.specs.Written.{parts_of as blocks_in}
 use Rattle.ldm_group.specs.Database.{Database, at_seq}
-use Rattle.ldm_group.specs.Looks.{is_at, is_disk_named, is_volume_named, disk_in, volume_in, volume_named, max_id, of_kind, HasSameDisks}
-use Rattle.ldm_group.specs.Order.{Rising, kind_of, id_of, in_order, place_of, count_at}
+use Rattle.ldm_group.specs.Looks.{is_at, is_disk_named, is_volume_named, disk_in, volume_named, max_id, of_kind, HasSameDisks}
+use Rattle.ldm_group.specs.Order.{Rising, kind_of, id_of, in_order}
 use Rattle.ldm_group.specs.Room.{own_len, need_of, room_of, last_for}
-use Rattle.ldm_group.proofs.InOrder.{in_order_same, in_order_rises, max_above, one_next}
-use Rattle.ldm_group.proofs.KindLaws.{named_volume}
+use Rattle.ldm_group.proofs.InOrder.{in_order_same, one_next}
 use Rattle.ldm_group.proofs.KinLaws.{same_found}
-use Rattle.ldm_group.proofs.OrderLaws.{count_kept}
-use Rattle.ldm_group.proofs.Rise.{counted_two, two_places}
 use Rattle.ldm_made.specs.declared.taken.Taken.{Taken}
-use Rattle.ldm_space.specs.Free.{taken_of, taken_in}
+use Rattle.ldm_space.specs.Free.{taken_of, taken_in, taken_by}
 use Rattle.ldm_space.specs.Placed.{AreMapsOf, PlacesAs}
 use Rattle.ldm_space.specs.Wanted.{placed}
 use Rattle.ldm_space.specs.declared.placed.FreeMaps.{FreeMaps}
@@ -46,86 +40,28 @@ use Rattle.ldm_edits.specs.declared.error.StepError.{StepError}
 use Rattle.ldm_edits.specs.declared.error.StepError.TheVariants as errors
 use Rattle.ldm_edits.specs.declared.reply.Refusal.{Refusal}
 use Rattle.ldm_edits.specs.declared.reply.Refusal.TheVariants as refusals
-use Rattle.ldm_edits.specs.Answers.{RefusesAs, StepsTo}
+use Rattle.ldm_edits.specs.Answers.{RefusesAs}
 use Rattle.ldm_edits.specs.Asked.{ask, asked_for}
 use Rattle.ldm_edits.specs.Changes.{AreasFit, Change, changed, change_to, later_limits, limits, need_in}
 use Rattle.ldm_edits.specs.Creating.{words_of, against_layout, change_for, created, created_new, fresh_for, made_for}
 use Rattle.ldm_edits.specs.Additions.{AreAdditions, AddsVolume, AddsNone, AddsTo, PlacesBeside, with_added}
-use Rattle.ldm_edits.specs.Spots.{ArePlaced, and_then, by_place, open_wanted, refused_or, spots_for, wanted_by}
+use Rattle.ldm_edits.specs.Spots.{ArePlaced, and_then, by_place, open_wanted, refused_or, spots_for}
 use Rattle.ldm_edits.proofs.AreaLaws.{most_low}
-use Rattle.ldm_edits.proofs.AskedLaws.{not_refused, place_ok, then_ok}
+use Rattle.ldm_edits.proofs.AskedLaws.{asked_open, place_ok}
 use Rattle.ldm_edits.proofs.CommandLaws.{created_done, created_keeps, placed_new}
-use Rattle.ldm_edits.proofs.Created.{MakesNew, blocks, created_rises}
+use Rattle.ldm_edits.proofs.Created.{MakesNew, created_rises}
+use Rattle.ldm_rules.proofs.RemadeLaws.{blocks, Share, records_of, parts_of}
 use Rattle.ldm_edits.proofs.LimitLaws.{IsGiven, ids_left, within_limits}
-use Rattle.ldm_edits.proofs.Shares.{Share, records_of, parts_of}
-
--- ---- the greatest id
-
-max_low : (bound : ℕ) (xs : List Record) (top : ℕ) → top ≤ bound → All (λ r. id_of r ≤ bound) xs → fold (λ m r. max m (id_of r)) top xs ≤ bound
-max_low bound [] top le all = le
-max_low bound (r ∷ rs) top le all =
-    let low = All-head (λ s. id_of s ≤ bound) r rs all in
-    max_low bound rs (max top (id_of r)) (omega arith) (All-tail (λ s. id_of s ≤ bound) r rs all)
-
-max_within : (xs ys : List Record) → IsPermutation xs ys → max_id ys ≤ max_id xs
-max_within xs ys same = max_low (max_id xs) ys 0 (omega arith)
-    (All-permutation (λ r. id_of r ≤ max_id xs) xs ys same (λ k d lt. max_above xs (get_or xs k d) (Contains-get_or xs k d lt)))
-
-pub max_same : (xs ys : List Record) → IsPermutation xs ys → max_id xs ≡ max_id ys
-max_same xs ys same = (let one = max_within xs ys same in let other = max_within ys xs (IsPermutation-sym xs ys same) in omega arith)
-
--- ---- names of volumes
-
-pub named_any : (name : List ℕ) (records : List Record) → is_some (volume_named name records) ≡ list_any (is_volume_named name) records
-named_any name [] = refl
-named_any name (r ∷ records) = go (is_volume_named name r) refl (named_any name records)
-  where
-    go : (b : Bool) → is_volume_named name r ≡ b → is_some (volume_named name records) ≡ list_any (is_volume_named name) records
-        → is_some (volume_in (cond b (Some r) (find (is_volume_named name) records))) ≡ (b || list_any (is_volume_named name) records)
-    go true here rest = ap (λ (s : Record). is_some (volume_in (Some s))) (named_volume name r here).1
-    go false here rest = rest
-
--- ---- in one order
-
--- no two have one place where they rise in another order
-pub rises_again : (xs ys : List Record) → IsPermutation xs ys → Rising ys → Rising (in_order xs)
-rises_again xs ys same up = in_order_rises xs (λ i j d lt within e.
-    let n : ℕ = place_of (get_or xs i d) in
-    let two : 2 ≤ count_at n xs = counted_two (λ (r : Record). place_of r == n) xs d i j lt within (eq-eqb n n refl) (eq-eqb (place_of (get_or xs j d)) n (sym e)) in
-    never n ys d up (subst (λ (k : ℕ). 2 ≤ k) (sym (count_kept n xs ys same)) two))
-  where
-    never : (n : ℕ) (rs : List Record) (d : Record) → Rising rs → 2 ≤ count_at n rs → ⊥
-    never n rs d rise two =
-        let at = two_places (λ (s : Record). place_of s == n) rs d two in
-        let below : place_of (get_or rs at.0 d) < place_of (get_or rs at.1 d) = rise at.0 at.1 d at.2 at.3 in
-        let one = eqb-true _ _ at.4 in
-        let other = eqb-true _ _ at.5 in
-        omega arith
-
--- what is added to both is added to what was added
-both_same : (records added made : List Record) → IsPermutation (records ++ (added ++ made)) (in_order (in_order (records ++ added) ++ made))
-both_same records added made =
-    subst (λ (l : List Record). IsPermutation l (in_order (in_order (records ++ added) ++ made))) (append_assoc records added made)
-    (IsPermutation-trans ((records ++ added) ++ made) (in_order (records ++ added) ++ made) _
-    (IsPermutation-append_left made (records ++ added) (in_order (records ++ added)) (in_order_same (records ++ added)))
-    (in_order_same (in_order (records ++ added) ++ made)))
-
-pub both_rise : (records added made : List Record) → Rising (in_order (in_order (records ++ added) ++ made)) → Rising (in_order (records ++ (added ++ made)))
-both_rise records added made up = rises_again _ _ (both_same records added made) up
-
-pub both_joined : (records added made : List Record) → Rising (in_order (in_order (records ++ added) ++ made)) → in_order (in_order (records ++ added) ++ made) ≡ in_order (records ++ (added ++ made))
-both_joined records added made up = one_next _ _ (both_same records added made) up (both_rise records added made up)
+use Rattle.ldm_group.proofs.AddedLaws.{max_same, named_any, rises_again, both_rise, both_joined}
+use Rattle.std.proofs.lemmas.List.Elements.{filter_map-append}
+use Rattle.ldm_group.proofs.ListLaws.{named_all}
 
 -- ---- what is made for a volume
 
-parts_take : (parts : List Partition) (rest : List Record) → taken_in (records_of parts ++ rest) ≡ map taken_of parts ++ taken_in rest
-parts_take [] rest = refl
-parts_take (p ∷ parts) rest = ap (λ (l : List Taken). taken_of p ∷ l) (parts_take parts rest)
-
 blocks_take : (ss : List Share) → taken_in (blocks ss) ≡ map taken_of (parts_of ss)
 blocks_take [] = refl
-blocks_take (s ∷ ss) = parts_take s.parts (blocks ss) ∙ ap (λ (l : List Taken). map taken_of s.parts ++ l) (blocks_take ss)
-    ∙ sym (map-append taken_of s.parts (parts_of ss))
+blocks_take (s ∷ ss) = filter_map-append taken_by (records_of s.parts) (blocks ss)
+    ∙ (λ i. named_all taken_by kinds.Partition taken_of (λ p. refl) s.parts i ++ blocks_take ss i) ∙ sym (map-append taken_of s.parts (parts_of ss))
 
 made_takes : {id : ℕ} {name : List ℕ} {made : List Record} {ts : List Taken} → MakesNew id name made ts → taken_in made ≡ ts
 made_takes new = ap taken_in new.made_are ∙ blocks_take new.ss ∙ new.are.taken_are
@@ -330,12 +266,6 @@ pub created_free : (db : Database) (labels : List Label) (name : List ℕ) (guid
 unfolding created
 created_free db labels name guid layout is = ap (λ (b : Bool). if b then Err refusals.NameTaken else created_new db labels name guid layout) is
 
--- an error is handed on
-pub adds_refused : (db : Database) (old new : List Record) (result : Result ℕ StepError) (error : StepError) (step : Result Database Refusal)
-    → IsErrAnd result (λ e. e ≡ error) → RefusesAs error step → new ≡ old → AddsTo db old new result step
-adds_refused db old new (Ok n) error step is refuses same = absurd is
-adds_refused db old new (Err e) error step is refuses same = (subst (λ (x : StepError). RefusesAs x step) (sym is) refuses, same)
-
 module _ (db : Database) (labels : List Label) (last : ℕ) (a : Additions) (are : AreAdditions db.records a) (name : List ℕ) (guid : ℕ) (layout : NewLayout)
     (free : is_some (volume_named name (in_order (db.records ++ a.records.items))) ≡ false) where
   pub wanted_refused : (error : StepError) → RefusesAs error (open_wanted db labels (words_of layout) (against_layout layout))
@@ -366,20 +296,10 @@ module _ (db : Database) (labels : List Label) (last : ℕ) (a : Additions) (are
     pub lie_there : (ts : List Taken) → by_place refusals.NoSpace (placed (taken_in (in_order (db.records ++ a.records.items))) 0 wanted) ≡ Ok ts
         → ArePlaced (with_added db last a.records.items) labels (words_of layout) (against_layout layout) wanted ts
     lie_there ts is =
-        let words = then_ok (wanted_by (with_added db last a.records.items) labels (words_of layout)) (λ w. refused_or (against_layout layout w) (Ok w)) wanted opened in
-        let open' = not_refused (against_layout layout words.0) (Ok words.0) wanted words.2 in
-        let same : words.0 ≡ wanted = (let e = open'.1 in cc) in
-        record {
-          asked = place_ok refusals.NoDisk _ wanted (words.1 ∙ ap (λ (l : List Wanted). Ok l) same);
-          free = ap (against_layout layout) (sym same) ∙ open'.0;
-          places = place_ok refusals.NoSpace _ ts is;
-        }
+        let words = asked_open (with_added db last a.records.items) labels (words_of layout) (against_layout layout) wanted opened in
+        record { asked = words.0; free = words.1; places = place_ok refusals.NoSpace _ ts is }
 
 -- ---- create, where no batch is open: nothing was added before
-
-pub steps_refused : (result : Result Database StepError) (error : StepError) (step : Result Database Refusal) → IsErrAnd result (λ e. e ≡ error) → RefusesAs error step → StepsTo result step
-steps_refused (Ok db) error step is refuses = absurd is
-steps_refused (Err e) error step is refuses = subst (λ (x : StepError). RefusesAs x step) (sym is) refuses
 
 pub created_next : (db : Database) (labels : List Label) (name : List ℕ) (guid : ℕ) (layout : NewLayout) (first last seq : ℕ) (old new : List Record) → with_added db first old ≡ db
     → AddsTo db old new (Ok last) (created (with_added db first old) labels name guid layout) → seq ≡ db.header.seq + 1

@@ -22,7 +22,7 @@ use Rattle.ldm_space.specs.Placed.{AreMapsOf}
 use Rattle.ldm_edits.specs.declared.additions.Additions.{Additions}
 use Rattle.ldm_edits.specs.Additions.{AreAdditions, with_added}
 use Rattle.ldm_edits.specs.Replacing.{AreFront, stands_in}
-use Rattle.ldm_edits.proofs.AdditionLaws.{max_same, rises_again}
+use Rattle.ldm_group.proofs.AddedLaws.{max_same, rises_again}
 
 -- the record of the group and those of its disks rise
 pub heads_rise : (front : Bool) (records : List Record) → Rising records → Rising (in_order (filter (stands_in front) records))

@@ -1,24 +1,22 @@
 -- What a command asks of the disks that its words name, and where it is placed.
-use Rattle.std.proofs.Common.{◌≡◌, ℕ, suc, ◌+◌, ◌<◌, ◌==◌, ◌||◌, Bool, false, List, length, get_or, drop, ap, ◌∙◌, arith, drop-cons, ◌^◌, ◌≤◌, [], ◌∷◌, ◌++◌, map, refl, sym, subst, Option, Some, None, Result, Ok, Err, find, zero, ◌*◌, sum, ◌-◌, Bor}
+use Rattle.std.proofs.Common.{◌≡◌, ℕ, suc, ◌+◌, ◌<◌, ◌==◌, ◌||◌, Bool, false, List, length, get_or, drop, ap, ◌∙◌, arith, drop-cons, ◌^◌, ◌≤◌, [], ◌∷◌, ◌++◌, map, refl, sym, subst, Option, Some, None, Result, Ok, Err, ◌*◌, sum, ◌-◌, Bor}
 use Rattle.std.specs.List.{list_any, All, Contains}
 use Rattle.ldm_space.specs.declared.placed.Wanted.{Wanted}
 use Rattle.ldm_edits.specs.Asked.{has_twins, ask, asked_for, is_much, words_by}
 use Rattle.std.specs.Option.{option_map}
 use Rattle.std.proofs.Math.ListN.{get_or-map}
 use Rattle.std.proofs.lemmas.List.{drop_all, append-nil, length-map}
-use Rattle.std.proofs.lemmas.List.Elements.{All-push, All-cons, All-nil, All-tail, All-contains, Contains-get_or, All-map}
+use Rattle.std.proofs.lemmas.List.Elements.{All-push, All-cons, All-nil, All-tail, All-map}
 use Rattle.ldm_records.specs.declared.types.Disk.{Disk}
 use Rattle.ldm_records.specs.declared.types.Record.{Record}
-use Rattle.ldm_group.specs.Looks.{disk_named, is_disk_named, disk_in, max_id}
-use Rattle.ldm_space.specs.Wanted.{in_front, placing, placed}
-use Rattle.ldm_space.proofs.FreeLaws.{ahead, ahead_none, ahead_front, placed_fit, as_many, fits_apart, fits_within}
+use Rattle.ldm_group.specs.Looks.{disk_named, max_id}
+use Rattle.ldm_space.specs.Wanted.{in_front, placed}
+use Rattle.ldm_space.proofs.FreeLaws.{ahead, ahead_none, ahead_front, placed_fit, as_many, fits_apart, fits_within, fits_sizes, taken_all}
 use Rattle.ldm_edits.specs.declared.reply.Refusal.TheVariants as refusals
 use Rattle.ldm_edits.specs.Spots.{by_place, refused_or, and_then, wanted_by, open_wanted, spots_for, ArePlaced}
 use Rattle.ldm_records.specs.declared.types.Record.TheVariants as kinds
-use Rattle.ldm_bytes.proofs.FindLaws.{find_there}
 use Rattle.std.specs.Prelude.{sum_by, is_some, option_copied}
-use Rattle.std.proofs.lemmas.Bool.{false_from_ne_true, false≢true, or_parts, eqb-false, ltb-false}
-use Rattle.std.proofs.lemmas.List.Folds.{list_any_at}
+use Rattle.std.proofs.lemmas.Bool.{or_parts, eqb-false, ltb-false}
 use Rattle.std.proofs.lemmas.List.Sums.{sum-map}
 use Rattle.ldm_made.specs.declared.taken.Taken.{Taken}
 use Rattle.ldm_space.specs.Placed.{AreFirstFits, AllEndWithin, AreDisjoint}
@@ -34,9 +32,10 @@ use Rattle.ldm_rules.specs.Ends.{data_size}
 use Rattle.ldm_space.specs.Free.{taken_in}
 use Rattle.ldm_edits.specs.declared.reply.Refusal.{Refusal}
 use Rattle.ldm_group.proofs.InOrder.{max_above}
-use Rattle.ldm_edits.proofs.Shares.{all_from_map, map_map}
+use Rattle.ldm_group.proofs.ListLaws.{all_from_map, map_map, none_any, any_empty}
 use Rattle.ldm_rules.proofs.CarryLaws.{HasDisk}
 use Rattle.ldm_edits.proofs.LimitLaws.{two_open}
+use Rattle.ldm_group.proofs.AddedLaws.{disk_there}
 
 -- ---- A walk that looks for two that are asked of one disk.
 
@@ -143,20 +142,6 @@ AreFound sectors records [] [] = Unit {0}
 AreFound sectors records (word ∷ words) (w ∷ wanted) = IsFound sectors records word.1 w × AreFound sectors records words wanted
 AreFound sectors records _ _ = ⊥
 
-disk_there : (name : List ℕ) (records : List Record) (d : Disk) → disk_named name records ≡ Some d → Contains records (kinds.Disk d)
-disk_there name records d h = go (find (is_disk_named name) records) refl h
-  where
-    is_disk : (r : Record) → disk_in (Some r) ≡ Some d → r ≡ kinds.Disk d
-    is_disk (kinds.Disk e) h = cc
-    is_disk (kinds.Group g) h = absurd cc
-    is_disk (kinds.Volume g) h = absurd cc
-    is_disk (kinds.Component g) h = absurd cc
-    is_disk (kinds.Partition g) h = absurd cc
-
-    go : (o : Option Record) → find (is_disk_named name) records ≡ o → disk_in o ≡ Some d → Contains records (kinds.Disk d)
-    go None e h = absurd cc
-    go (Some r) e h = subst (λ (x : Record). Contains records x) (is_disk r h) (find_there (is_disk_named name) records r e).0
-
 pub are_found : (sectors : ℕ → ℕ) (records : List Record) (at : ℕ) (words : List (List ℕ × ℕ)) (wanted : List Wanted) → asked_for sectors records at words ≡ Ok wanted → AreFound sectors records words wanted
 are_found sectors records at [] wanted h = subst (AreFound sectors records []) (let same : [] ≡ wanted = cc in same) tt
 are_found sectors records at (word ∷ words) wanted h = go (disk_named word.0 records) refl (asked_for sectors records (at + 1) words) refl h (are_found sectors records (at + 1) words)
@@ -189,14 +174,6 @@ found_sizes sectors records (word ∷ words) (w ∷ wanted) is = (let rest = fou
 
 -- ---- The sizes of what is asked for or taken, as the words say them.
 
--- what no element passes
-pub none_any : {X : Type 0} (t : X → Bool) (xs : List X) → list_any t xs ≡ false → All (λ x. t x ≡ false) xs
-none_any t xs none k d lt = false_from_ne_true (t (get_or xs k d)) (λ holds. false≢true (sym none ∙ list_any_at t xs k d lt holds))
-
-any_empty : {X : Type 0} (f : X → ℕ) (xs : List X) → list_any (λ x. f x == 0) xs ≡ list_any (λ n. n == 0) (map f xs)
-any_empty f [] = refl
-any_empty f (x ∷ xs) = ap (λ (b : Bool). (f x == 0) || b) (any_empty f xs)
-
 -- as many of a size as words
 pub sizes_many : {X : Type 0} (f : X → ℕ) (xs : List X) (words : List (List ℕ × ℕ)) → map f xs ≡ map (λ (word : List ℕ × ℕ). word.1) words → length xs ≡ length words
 sizes_many f xs words same = sym (length-map xs f) ∙ ap (λ (l : List ℕ). length l) same ∙ length-map words (λ (word : List ℕ × ℕ). word.1)
@@ -217,33 +194,6 @@ bad_pieces pieces wanted same =
     ∙ sym (any_empty (λ (p : Piece). p.len) pieces) in
     let whole : 0 + sum_by (λ w. w.size) wanted ≡ sum_by (λ p. p.len) pieces = (let e = sizes_sum (λ (w : Wanted). w.size) wanted pieces same in omega arith) in
     λ i. empty i || is_much (whole i)
-
--- ---- what is taken
-
--- partitions at their first fits take what was asked for
-pub fits_sizes : (wanted : List Wanted) (taken spots : List Taken) → AreFirstFits taken wanted spots → map (λ t. t.size) spots ≡ map (λ w. w.size) wanted
-fits_sizes [] taken [] h = refl
-fits_sizes [] taken (s ∷ spots) h = absurd h
-fits_sizes (w ∷ more) taken [] h = absurd h
-fits_sizes (w ∷ more) taken (s ∷ spots) h = λ i. sym h.0.size i ∷ fits_sizes more (s ∷ taken) spots h.1 i
-
-pub taken_sum : (wanted : List Wanted) (taken spots : List Taken) → AreFirstFits taken wanted spots → sum_by (λ (t : Taken). t.size) spots ≡ sum_by (λ (w : Wanted). w.size) wanted
-taken_sum wanted taken spots h = sym (sum-map (λ (t : Taken). t.size) spots) ∙ ap sum (fits_sizes wanted taken spots h) ∙ sum-map (λ (w : Wanted). w.size) wanted
-
-pub taken_from : (wanted : List Wanted) (taken spots : List Taken) (t : Taken) → AreFirstFits taken wanted spots → Contains spots t
-    → (w : Wanted) × Contains wanted w × (w.disk ≡ t.disk) × (w.size ≡ t.size)
-taken_from wanted taken [] t h (k, lt, is) = absurd (omega arith)
-taken_from [] taken (s ∷ spots) t h at = absurd h
-taken_from (w ∷ more) taken (s ∷ spots) t h (zero, lt, is) = (w, (0, omega arith, refl), h.0.disk ∙ ap (λ (x : Taken). x.disk) is, h.0.size ∙ ap (λ (x : Taken). x.size) is)
-taken_from (w ∷ more) taken (s ∷ spots) t h (suc k, lt, is) = (let rest = taken_from more (s ∷ taken) spots t h.1 (k, omega arith, is) in (rest.0, (suc rest.1.0, (let in' = rest.1.1 in omega arith), rest.1.2), rest.2, rest.3))
-
--- what holds of what is asked for, wherever it is placed
-pub taken_all : (P : Taken → Type 0) (wanted : List Wanted) (taken spots : List Taken) → AreFirstFits taken wanted spots → All (λ w. (start : ℕ) → P (placing w start)) wanted → All P spots
-taken_all P wanted taken spots fits h k d lt =
-    let t : Taken = get_or spots k d in
-    let from = taken_from wanted taken spots t fits (Contains-get_or spots k d lt) in
-    let same : placing from.0 t.start ≡ t = λ i. record { disk = from.2 i; start = t.start; size = from.3 i } in
-    subst P same (All-contains (λ (w : Wanted). (start : ℕ) → P (placing w start)) wanted from.0 h from.1 t.start)
 
 -- ---- as many partitions as words
 
@@ -345,6 +295,15 @@ pub then_ok : {X Y : Type 0} (r : Result X Refusal) (next : X → Result Y Refus
 then_ok (Ok x) next made h = (x, refl, h)
 then_ok (Err refusal) next made h = absurd cc
 
+-- what is asked of the disks, where nothing stands against it
+pub asked_open : (db : Database) (labels : List Label) (words : List (List ℕ × ℕ)) (against : List Wanted → Option Refusal) (wanted : List Wanted) → open_wanted db labels words against ≡ Ok wanted
+    → (asked_for (data_size labels db.records) db.records 0 words ≡ Ok wanted) × (against wanted ≡ None)
+asked_open db labels words against wanted h =
+    let asked = then_ok (wanted_by db labels words) (λ w. refused_or (against w) (Ok w)) wanted h in
+    let free = not_refused (against asked.0) (Ok asked.0) wanted asked.2 in
+    let same : asked.0 ≡ wanted = (let e = free.1 in cc) in
+    (place_ok refusals.NoDisk _ wanted (asked.1 ∙ ap (λ (l : List Wanted). Ok l) same), ap against (sym same) ∙ free.0)
+
 -- what is asked of the disks and placed, and the group that is made of it
 pub record IsSpotted (db : Database) (labels : List Label) (words : List (List ℕ × ℕ)) (against : List Wanted → Option Refusal) (next : List Wanted → List Taken → Result Database Refusal) (made : Database) : Type 0 where
   pub wanted : List Wanted
@@ -356,18 +315,12 @@ pub spotted : (db : Database) (labels : List Label) (words : List (List ℕ × �
     → and_then (open_wanted db labels words against) (λ wanted. and_then (spots_for db wanted) (next wanted)) ≡ Ok made → IsSpotted db labels words against next made
 spotted db labels words against next made h =
     let open' = then_ok (open_wanted db labels words against) (λ wanted. and_then (spots_for db wanted) (next wanted)) made h in
-    let asked = then_ok (wanted_by db labels words) (λ w. refused_or (against w) (Ok w)) open'.0 open'.1 in
-    let free = not_refused (against asked.0) (Ok asked.0) open'.0 asked.2 in
-    let same : asked.0 ≡ open'.0 = (let e = free.1 in cc) in
-    let spots = then_ok (spots_for db asked.0) (next asked.0) made (ap (λ (w : List Wanted). and_then (spots_for db w) (next w)) same ∙ open'.2) in
+    let spots = then_ok (spots_for db open'.0) (next open'.0) made open'.2 in
+    let asked = asked_open db labels words against open'.0 open'.1 in
     record {
-      wanted = asked.0;
+      wanted = open'.0;
       spots = spots.0;
-      are = record {
-        asked = place_ok refusals.NoDisk (asked_for (data_size labels db.records) db.records 0 words) asked.0 asked.1;
-        free = free.0;
-        places = place_ok refusals.NoSpace (placed (taken_in db.records) 0 asked.0) spots.0 spots.1;
-      };
+      are = record { asked = asked.0; free = asked.1; places = place_ok refusals.NoSpace (placed (taken_in db.records) 0 open'.0) spots.0 spots.1 };
       rest = spots.2;
     }
 

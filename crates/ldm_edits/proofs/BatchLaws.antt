@@ -28,7 +28,7 @@ use Rattle.ldm_edits.specs.declared.reply.Refusal.{Refusal}
 use Rattle.ldm_edits.specs.declared.reply.Refusal.TheVariants as refusals
 use Rattle.ldm_edits.specs.declared.stepping.Outcome.{Outcome}
 use Rattle.ldm_edits.specs.declared.stepping.Outcome.TheVariants as outcomes
-use Rattle.ldm_edits.specs.Steps.{StepsAs, FitsAsBefore, Keeps, State, IsGood, IsDraftOf, VerdictKeeps, AnswersTo, next_of, held_at, change_in, begun, committed, verdict_of, state_by}
+use Rattle.ldm_edits.specs.Steps.{StepsAs, FitsAsBefore, Keeps, IsDraftOf, VerdictKeeps, AnswersTo, next_of, held_at, change_in, begun, committed, verdict_of}
 
 -- ---- what a batch holds as one database
 

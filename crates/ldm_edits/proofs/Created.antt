@@ -1,11 +1,10 @@
 -- A new volume whose records have ids one after the other: the order and rules of the next group.
-use Rattle.std.proofs.Common.{◌≡◌, ◌≢◌, ◌∙◌, inl, inr, ap, sym, refl, subst, ℕ, suc, ◌+◌, ◌*◌, ◌≤◌, ◌<◌, ◌^◌, ◌==◌, [], ◌∷◌, ◌++◌, length, get_or, map, arith, Some, None, List, Option, Bool, false, Ok, bytes_eq}
+use Rattle.std.proofs.Common.{◌≡◌, ◌≢◌, ◌∙◌, inl, inr, ap, sym, refl, subst, ℕ, suc, ◌+◌, ◌*◌, ◌≤◌, ◌<◌, ◌^◌, ◌==◌, [], ◌∷◌, ◌++◌, length, map, arith, Some, None, List, Option, Bool, false, Ok, bytes_eq}
 use Rattle.std.specs.Prelude.{filter}
-use Rattle.std.specs.List.{All, AllPairs, cons_option, filter_map, flat_map, Contains}
+use Rattle.std.specs.List.{All, cons_option, filter_map, Contains}
 use Rattle.std.proofs.lemmas.Bool.{eq-eqb, ne_eqb, false≢true}
 use Rattle.std.proofs.lemmas.List.{length-map, length-append, append-nil, map-append}
-use Rattle.std.proofs.lemmas.List.Elements.{All-contains, All-cons, All-nil, All-tail, Contains-get_or, filter_map-append}
-use Rattle.std.proofs.lemmas.List.Kept.{AllPairs-cons}
+use Rattle.std.proofs.lemmas.List.Elements.{All-contains, All-cons, All-nil, All-tail, filter_map-append}
 use Rattle.std.proofs.lemmas.List.Sums.{length-filter, sum_by-cons}
 use Rattle.ldm_records.specs.declared.pieces.Head.{Head}
 use Rattle.ldm_records.specs.declared.pieces.Striping.{Striping}
@@ -16,9 +15,9 @@ use Rattle.ldm_records.specs.declared.types.Record.{Record}
 use Rattle.ldm_records.specs.declared.types.Record.TheVariants as kinds
 use Rattle.ldm_made.specs.Made.{IsStriping, new_component, new_volume}
 use Rattle.ldm_made.proofs.MadeLaws.{MakesVolume, makes_volume, MakesComponent, makes_component}
-use Rattle.ldm_group.specs.Order.{Rising, place_of, kind_of, id_of, in_order}
+use Rattle.ldm_group.specs.Order.{Rising, id_of, in_order}
 use Rattle.ldm_group.specs.Looks.{is_child, is_volume_named, max_id}
-use Rattle.ldm_group.proofs.InOrder.{in_order_rises, pairs_append, member_next, stays_next, made_next, max_above}
+use Rattle.ldm_group.proofs.InOrder.{member_next, stays_next, made_next, max_above}
 use Rattle.ldm_group.proofs.KinLaws.{kin_are}
 use Rattle.ldm_label.specs.declared.Label.{Label}
 use Rattle.ldm_places.specs.declared.extent.Extent.{Extent}
@@ -36,57 +35,13 @@ use Rattle.ldm_space.specs.Free.{taken_of, taken_in}
 use Rattle.ldm_space.specs.Placed.{AreDisjoint, AllEndWithin}
 use Rattle.ldm_made.specs.Volumes.{there, span_parts, mirror_parts, mirror_made}
 use Rattle.ldm_edits.proofs.AskedLaws.{AllSized, IsTaken}
-use Rattle.ldm_edits.proofs.Layouts.{IsTiledTo, IsCopy, mirror_layout, tile_extents, tiles_whole, tiles_sum, AreExtentsOf, tiles_of, parts_taken, AreNumbers, numbers_head, numbers_tail, IdsFollow, MakesParts, makes_span_parts, parts_rise, follow_above, follow_at, parts_own}
-use Rattle.ldm_edits.proofs.Shares.{Below, map_there, each_mapped, each_more, flat_there, flat_from, records_of, Share, news, parts_of, IsOther, IsMade, IsRemade, of_partition, read_plexes, read_extents, volume_keeps, remade_carries, remade_each, moved, behind, new_of}
-
--- ---- ids that follow one another
-
-follow_join : (id n : ℕ) (xs ys : List Record) → n ≡ id + length xs → IdsFollow id xs
-    → IdsFollow n ys → IdsFollow id (xs ++ ys)
-follow_join id n [] ys is h rest = subst (λ (m : ℕ). IdsFollow m ys)
-    (let e : n ≡ id = omega arith in e) rest
-follow_join id n (x ∷ xs) ys is h rest = (h.0, follow_join (id + 1) n xs ys (omega arith) h.1 rest)
-
-follow_split : (id : ℕ) (xs ys : List Record) → IdsFollow id (xs ++ ys) → IdsFollow id xs
-    × ((n : ℕ) × (id ≤ n) × IdsFollow n ys)
-follow_split id [] ys h = (tt, (id, omega arith, h))
-follow_split id (x ∷ xs) ys h = let rest = follow_split (id + 1) xs ys h.1 in
-    ((h.0, rest.0), (rest.1.0, (let low = rest.1.1 in omega arith), rest.1.2))
-
--- two ids of the format give two places
-place_apart : (r s : Record) → id_of r < 2 ^ 64 → id_of s < 2 ^ 64 → id_of r ≢ id_of s → place_of r ≢ place_of s
-unfolding place_of
-place_apart r s low_r low_s off e = (let places : kind_of r * 2 ^ 64 + id_of r ≡ kind_of
-    s * 2 ^ 64 + id_of s = e in omega arith)
-
--- those that are made differ in their places, and from all that was there
-pub added_rises : (old made : List Record) (id : ℕ) → Rising old → IdsFollow id made → max_id old < id → id + length made ≤ 2 ^ 64 → Rising (in_order (old ++ made))
-added_rises old made id up h new few = in_order_rises (old ++ made)
-    (pairs_append (λ (a b : Record). place_of a ≢ place_of b) old made old_apart made_apart cross)
-  where
-    old_apart : AllPairs (λ a b. place_of a ≢ place_of b) old
-    old_apart i j d low within = λ e. (let below : place_of (get_or old i d) < place_of (get_or old j d) = up i j d low within in omega arith)
-
-    made_apart : AllPairs (λ a b. place_of a ≢ place_of b) made
-    made_apart i j d low within =
-        let a = follow_at id made i d h (omega arith) in
-        let b = follow_at id made j d h within in
-        place_apart (get_or made i d) (get_or made j d) (omega arith) (omega arith) (λ e. omega arith)
-
-    cross : (r s : Record) → Contains old r → Contains made s → place_of r ≢ place_of s
-    cross r s at_r (k, lt, is) =
-        let a : id_of r ≤ max_id old = max_above old r at_r in
-        let b : id_of s ≡ id + k = sym (ap id_of is) ∙ follow_at id made k s h lt in
-        place_apart r s (omega arith) (omega arith) (λ e. omega arith)
+use Rattle.ldm_edits.proofs.Layouts.{IsTiledTo, IsCopy, mirror_layout, tile_extents, tiles_whole, tiles_sum, AreExtentsOf, tiles_of, parts_taken, AreNumbers, numbers_head, numbers_tail, MakesParts, makes_span_parts, parts_own}
+use Rattle.ldm_group.proofs.AddedLaws.{IdsFollow, follow_above, of_partition, follow_join, added_rises}
+use Rattle.ldm_group.proofs.ListLaws.{map_there, each_more, flat_there, moved, behind}
+use Rattle.ldm_rules.proofs.RemadeLaws.{records_of, Share, parts_of, IsOther, IsRemade, read_plexes, read_extents, volume_keeps, remade_carries, block, blocks, blocks_rise, block_rises, listed, lists}
+use Rattle.ldm_edits.proofs.Shares.{remade_each}
 
 -- ---- the records of a new volume
-
--- a component with its partitions behind it
-abbrev pub block : Share → List Record
-block s = kinds.Component s.d ∷ records_of s.parts
-
-abbrev pub blocks : List Share → List Record
-blocks ss = flat_map block ss
 
 -- a new component of a volume, and its partitions
 pub record IsNewShare (volume : ℕ) (s : Share) : Type 0 where
@@ -115,49 +70,6 @@ pub record MakesNew (id : ℕ) (name : List ℕ) (made : List Record) (taken : L
   pub are : AreBlocks id (id + 1) ss taken
   pub laid : (next : List Record) → plexes_of volume.head.id next ≡ map (λ (s : Share). plex_of s.d) ss
       → ((s : Share) → Contains ss s → extents_of s.d.head.id next ≡ map extent_of s.parts) → (l : Layout) × (layout_of next volume ≡ Ok l)
-
--- their components rise, and the partitions of each
-blocks_rise : (id : ℕ) (ss : List Share) → IdsFollow id (blocks ss) → Rising (news ss)
-unfolding place_of
-blocks_rise id [] h = λ i j d lt within. absurd (omega arith)
-blocks_rise id (s ∷ ss) h =
-    let here : s.d.head.id ≡ id = h.0 in
-    let rest = (follow_split (id + 1) (records_of s.parts) (blocks ss) h.1).1 in
-    AllPairs-cons Below (kinds.Component s.d) (news ss)
-    (λ k d lt. each_mapped (Below (kinds.Component s.d)) new_of ss (λ t at.
-    let above : rest.0 ≤ t.d.head.id = follow_above rest.0 (blocks ss) (kinds.Component t.d)
-    rest.2 (flat_there block ss t (kinds.Component t.d) at (0, omega arith, refl)) in
-    let low = rest.1 in
-    omega arith) (get_or (news ss) k d) (Contains-get_or (news ss) k d lt))
-    (blocks_rise rest.0 ss rest.2)
-
-block_rises : (id : ℕ) (ss : List Share) → IdsFollow id (blocks ss) → (s : Share) → Contains ss s
-    → Rising (records_of s.parts)
-block_rises id [] h s (k, lt, is) = absurd (omega arith)
-block_rises id (s ∷ ss) h q at =
-    let parts = follow_split (id + 1) (records_of s.parts) (blocks ss) h.1 in
-    each_more (λ (t : Share). Rising (records_of t.parts)) s ss
-    (parts_rise (id + 1) s.parts parts.0) (block_rises parts.1.0 ss parts.1.2) q at
-
--- what is listed is what is made
-listed : (v : Volume) (ss : List Share) (r : Record) → Contains (kinds.Volume v ∷ blocks ss) r → IsMade v ss r
-listed v ss = each_more (IsMade v ss) (kinds.Volume v) (blocks ss) refl (λ r at.
-    let s = flat_from block ss r at in
-    each_more (IsMade v ss) (kinds.Component s.0.d) (records_of s.0.parts) (s.0, s.1, refl)
-    (each_mapped (IsMade v ss) kinds.Partition s.0.parts (λ p here. (s.0, s.1, here))) r s.2)
-
-lists : (v : Volume) (ss : List Share) (r : Record) → IsMade v ss r
-    → Contains (kinds.Volume v ∷ blocks ss) r
-lists v ss (kinds.Group g) m = absurd m
-lists v ss (kinds.Disk d) m = absurd m
-lists v ss (kinds.Volume x) m = (0, omega arith, ap kinds.Volume (sym m))
-lists v ss (kinds.Component x) (s, at, e) = behind (kinds.Volume v) (blocks ss) (kinds.Component x)
-    (flat_there block ss s (kinds.Component x) at (0, omega arith, ap kinds.Component (sym e)))
-lists v ss (kinds.Partition x) (s, at, in') =
-    behind (kinds.Volume v) (blocks ss) (kinds.Partition x)
-    (flat_there block ss s (kinds.Partition x) at
-    (behind (kinds.Component s.d) (records_of s.parts) (kinds.Partition x)
-    (map_there kinds.Partition s.parts x in')))
 
 -- ---- the next group
 

@@ -3,19 +3,16 @@ use Rattle.std.proofs.Common.{◌≡◌, ℕ, ◌+◌, ◌≤◌, ◌==◌, ◌|
 use Rattle.std.specs.Prelude.{filter, if◌then◌else◌, is_some}
 use Rattle.std.proofs.lemmas.Bool.{eqb-true, or_parts}
 use Rattle.std.proofs.lemmas.List.Elements.{All-contains, Contains-get_or}
-use Rattle.std.proofs.lemmas.List.Sums.{length-filter, sum_by-cons}
+use Rattle.std.proofs.lemmas.List.Sums.{length-filter}
 use Rattle.ldm_records.specs.declared.types.Record.{Record}
 use Rattle.ldm_records.specs.declared.types.Record.TheVariants as kinds
 use Rattle.ldm_records.specs.declared.types.Volume.{Volume}
 use Rattle.ldm_records.specs.declared.types.Component.{Component}
 use Rattle.ldm_made.proofs.MadeLaws.{MakesSize, makes_size, makes_children}
-use Rattle.ldm_records.specs.Plain.{Plain, own_spelling}
-use Rattle.ldm_records.specs.Views.{plain_of}
-use Rattle.ldm_frags.specs.Written.{parts_of as parts_for}
 use Rattle.ldm_group.specs.Order.{Rising}
 use Rattle.ldm_group.specs.Looks.{is_child, max_id}
 use Rattle.ldm_group.specs.Database.{Database}
-use Rattle.ldm_group.specs.Room.{IsFitting, own_len, need_of}
+use Rattle.ldm_group.specs.Room.{IsFitting, need_of}
 use Rattle.ldm_group.proofs.InOrder.{max_above}
 use Rattle.ldm_group.proofs.KinLaws.{filter_has}
 use Rattle.ldm_label.specs.declared.Label.{Label}
@@ -32,14 +29,17 @@ use Rattle.ldm_space.specs.Placed.{AllEndWithin, AreDisjoint}
 use Rattle.ldm_edits.specs.Changes.{Change, changed}
 use Rattle.ldm_edits.specs.Extending.{held}
 use Rattle.ldm_edits.specs.Mirroring.{mirror_changes, components_of, grown, MayGrow}
-use Rattle.ldm_edits.proofs.AskedLaws.{taken_from, IsTaken, as_asked, ends_within, first_fits, lie_apart, are_taken}
+use Rattle.ldm_space.proofs.FreeLaws.{taken_from}
+use Rattle.ldm_edits.proofs.AskedLaws.{IsTaken, as_asked, ends_within, first_fits, lie_apart, are_taken}
 use Rattle.ldm_edits.proofs.GrownMade.{IsReady, MakesShares, makes_shares, made_are, named_components, olds_are}
 use Rattle.ldm_edits.proofs.LimitLaws.{spelled_by}
-use Rattle.ldm_edits.proofs.Shares.{IsOther, map_there}
+use Rattle.ldm_rules.proofs.RemadeLaws.{IsOther}
+use Rattle.ldm_group.proofs.ListLaws.{map_there}
 use Rattle.ldm_edits.proofs.Longer.{Lengthens, longer_rises}
 use Rattle.std.specs.List.{All}
 use Rattle.ldm_made.specs.Made.{resized, with_children}
 use Rattle.ldm_edits.specs.Spots.{ArePlaced}
+use Rattle.ldm_group.proofs.NeedLaws.{few_records}
 
 -- ---- there are few records
 
@@ -48,19 +48,6 @@ few_pass t [] = omega arith
 few_pass t (x ∷ xs) =
     let rest = few_pass t xs in
     elim (t x) as (λ (b : Bool). length (if b then x ∷ filter t xs else filter t xs) ≤ length (x ∷ xs)) [ true ↦ omega arith | false ↦ omega arith ]
-
-spelled_some : (p : Plain) → 1 ≤ length (own_spelling p)
-spelled_some p = omega arith
-
--- each record takes a block at least
-few_records : (records : List Record) → length records ≤ need_of records
-unfolding own_len
-few_records [] = omega arith
-few_records (r ∷ records) =
-    let some : 1 ≤ own_len r = spelled_some (plain_of r) in
-    let here : 1 ≤ parts_for (own_len r) = omega arith in
-    let rest : length records ≤ need_of records = few_records records in
-    omega (arith, sum_by-cons (λ (r : Record). parts_for (own_len r)) r records)
 
 -- ---- the components
 

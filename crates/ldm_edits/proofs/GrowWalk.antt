@@ -1,5 +1,5 @@
 -- What is made of a mirror that grows, one after the other.
-use Rattle.std.proofs.Common.{◌≡◌, ℕ, ◌+◌, ◌<◌, ◌≤◌, ◌||◌, Bool, true, false, List, [], ◌∷◌, ◌++◌, length, get_or, take, map, sym, ap, ◌∙◌, append_assoc, arith, Option, Some, None, Result, Ok, Err, Vec, Global}
+use Rattle.std.proofs.Common.{◌≡◌, ℕ, ◌+◌, ◌<◌, ◌≤◌, ◌||◌, Bool, true, false, List, [], ◌∷◌, ◌++◌, length, get_or, take, map, sym, ap, ◌∙◌, arith, Option, Some, None, Result, Ok, Err, Vec, Global}
 use Rattle.std.specs.Prelude.{filter}
 use Rattle.std.specs.Borrow.{Bor}
 use Rattle.std.specs.List.{cons_option, filter_map}
@@ -17,12 +17,13 @@ use Rattle.ldm_made.specs.Made.{with_children, new_partition}
 use Rattle.ldm_group.specs.Looks.{is_child}
 use Rattle.ldm_group.proofs.KindLaws.{child_component, child_partition}
 use Rattle.ldm_places.specs.declared.extent.Extent.{Extent}
-use Rattle.ldm_layout.specs.Parts.{extent_of, extent_in, extents_of, by_offset, tile_key}
+use Rattle.ldm_layout.specs.Parts.{extent_of, extent_in, extents_of, by_offset, tile_key, held_in}
 use Rattle.ldm_layout.proofs.VolumeLaws.{extents_by, rising_sum}
 use Rattle.ldm_made.specs.declared.taken.Taken.{Taken}
 use Rattle.ldm_made.specs.Volumes.{there}
 use Rattle.ldm_edits.proofs.CommandLaws.{walk_more}
-use Rattle.ldm_edits.specs.Mirroring.{held_in, component_in_record, component_holds, grown_components, grown_parts}
+use Rattle.ldm_edits.specs.Mirroring.{component_in_record, component_holds, grown_components, grown_parts}
+use Rattle.ldm_made.proofs.PartWalk.{grown as pushed_on}
 
 -- ---- a walk over the records
 
@@ -81,14 +82,6 @@ pub held_all : (rs : List Record) (q n : ℕ) → length rs ≤ n → held_in (e
 held_all rs q n all = ap (λ (l : List Record). held_in (extents_of q l)) (take_all n rs all) ∙ sym (rising_sum tile_key (extents_of q rs))
 
 -- ---- what is made
-
-there_push : (xs : List (Option Record)) (o : Option Record) (r : Record) → o ≡ Some r → there (xs ++ o ∷ []) ≡ there xs ++ r ∷ []
-there_push xs o r e = filter_map-append (λ (x : Option Record). x) xs (o ∷ []) ∙ ap (λ (x : Option Record). there xs ++ cons_option x []) e
-
-pushed_on : (before : List Record) (xs ys : List (Option Record)) (o : Option Record) (r : Record) (items pushed : List Record) → items ≡ before ++ there xs → ys ≡ xs ++ o ∷ [] → o ≡ Some r → pushed ≡ items ++ r ∷ []
-    → pushed ≡ before ++ there ys
-pushed_on before xs ys o r items pushed is more e push =
-    push ∙ ap (λ (l : List Record). l ++ r ∷ []) is ∙ append_assoc before (there xs) (r ∷ []) ∙ ap (λ (l : List Record). before ++ l) (sym (there_push xs o r e) ∙ ap there (sym more))
 
 -- the components that were taken, and one more
 taken_more : (cs : List (Bor Component)) (at : ℕ) (b : Bor Component) → at < length cs → b ≡ get_or cs at b → map (λ (x : Bor Component). x.now) (take (at + 1) cs) ≡ map (λ (x : Bor Component). x.now) (take at cs) ++ b.now ∷ []

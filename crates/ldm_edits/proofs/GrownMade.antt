@@ -21,10 +21,11 @@ use Rattle.ldm_made.specs.declared.taken.Taken.{Taken}
 use Rattle.ldm_space.specs.Free.{taken_of}
 use Rattle.ldm_made.specs.Volumes.{there}
 use Rattle.ldm_edits.specs.Mirroring.{component_in_record, components_of, component_holds, grown_components, grown_parts, grown_made}
-use Rattle.ldm_edits.proofs.Shares.{Share, olds, news, parts_of, IsNewPart, records_of, only_one, alone_rises, each_more, map_map}
-use Rattle.ldm_edits.proofs.Longer.{longer_records, IsShare, plex_is}
+use Rattle.ldm_rules.proofs.RemadeLaws.{Share, olds, news, parts_of, IsNewPart, records_of, longer_records}
+use Rattle.ldm_group.proofs.ListLaws.{only_one, each_more, map_map}
+use Rattle.ldm_group.proofs.AddedLaws.{alone_rises, IdsFrom}
+use Rattle.ldm_edits.proofs.Longer.{IsShare, plex_is}
 use Rattle.ldm_edits.proofs.AskedLaws.{IsTaken}
-use Rattle.ldm_edits.proofs.Layouts.{IdsFrom}
 
 -- a component that can have one partition more
 pub record IsReady (c : Component) : Type 0 where

@@ -1,13 +1,13 @@
 -- New partitions as a layout reads them, and the layouts of spans, stripes, mirrors and RAID-5.
-use Rattle.std.proofs.Common.{◌≡◌, ℕ, suc, ◌+◌, ◌≤◌, ◌==◌, List, [], ◌∷◌, length, map, refl, sym, ap, ◌∙◌, arith, true, leb, zero, ◌*◌, ◌<◌, ◌^◌, get_or, Some, None, Option, sum, ◌&&◌, not, Bool, false, Ok, min, ◌≢◌, ◌-◌, ◌/◌, ◌%◌}
-use Rattle.std.specs.Prelude.{sum_by, unwrap_or, if◌then◌else◌, nat_le}
+use Rattle.std.proofs.Common.{◌≡◌, ℕ, ◌+◌, ◌≤◌, ◌==◌, List, [], ◌∷◌, length, map, refl, sym, ap, ◌∙◌, arith, true, leb, ◌*◌, ◌<◌, ◌^◌, Some, None, Option, sum, ◌&&◌, Bool, Ok, ◌≢◌, ◌-◌, ◌%◌}
+use Rattle.std.specs.Prelude.{sum_by, unwrap_or, if◌then◌else◌}
 use Rattle.std.specs.List.{All, cons_option, Contains, list_all}
-use Rattle.std.proofs.lemmas.List.Sums.{sum-map, AllPass-from_list_all, list_all-from_AllPass}
-use Rattle.std.proofs.lemmas.List.Elements.{All-cons, All-nil, All-tail, All-contains, All-map, Contains-get_or}
-use Rattle.std.proofs.lemmas.Bool.{and_from, eq-eqb, le-leb, le-ltb, ltb-false, ne_eqb}
+use Rattle.std.proofs.lemmas.List.Sums.{sum-map}
+use Rattle.std.proofs.lemmas.List.Elements.{All-cons, All-nil, All-tail, All-contains, All-map}
+use Rattle.std.proofs.lemmas.Bool.{and_from, eq-eqb, le-leb}
 use Rattle.ldm_records.specs.declared.types.Partition.{Partition}
 use Rattle.ldm_places.specs.declared.extent.Extent.{Extent}
-use Rattle.ldm_layout.specs.Parts.{extent_of, by_offset, by_index, plexes_of, extents_of, plex_of, in_rising}
+use Rattle.ldm_layout.specs.Parts.{extent_of, by_offset, plexes_of, extents_of, plex_of, held_in}
 use Rattle.ldm_places.specs.Extents.{tiles, tiles_from, rises_from, least}
 use Rattle.ldm_made.specs.declared.taken.Taken.{Taken}
 use Rattle.ldm_space.specs.Free.{taken_of}
@@ -16,25 +16,20 @@ use Rattle.ldm_records.specs.declared.types.Record.{Record}
 use Rattle.ldm_records.specs.declared.types.Record.TheVariants as kinds
 use Rattle.ldm_made.specs.Made.{new_partition}
 use Rattle.ldm_made.proofs.MadeLaws.{MakesPartition, makes_partition}
-use Rattle.ldm_group.specs.Order.{Rising, id_of, place_of}
 use Rattle.ldm_made.specs.Volumes.{span_parts, column_parts, there}
 use Rattle.ldm_edits.proofs.AskedLaws.{IsTaken, AllSized}
-use Rattle.ldm_edits.proofs.Shares.{map_there, map_map, Share, all_from_map, moved, behind}
-use Rattle.std.specs.Option.{option_map}
-use Rattle.ldm_bytes.specs.Tables.{first_fault, unless}
+use Rattle.ldm_group.proofs.ListLaws.{map_there, map_map, moved, map_same, all_pass}
+use Rattle.ldm_rules.proofs.RemadeLaws.{Share}
 use Rattle.ldm_records.specs.declared.types.Volume.{Volume}
 use Rattle.ldm_layout.specs.declared.parts.Plex.{Plex}
-use Rattle.ldm_places.specs.declared.shape.LayoutFault.TheVariants.{Gap, Chunk, Columns, Short}
-use Rattle.ldm_places.specs.declared.shape.Shape.{Shape}
 use Rattle.ldm_places.specs.declared.shape.Shape.TheVariants.{Span, Stripe, Mirror, Raid5}
-use Rattle.ldm_places.specs.Layouts.{Layout, has_gap, lacks_chunk, lacks_columns, has_columns, is_short, is_tiled, plex_capacity, capacity_of, fewest}
-use Rattle.ldm_layout.specs.Volumes.{layout_of, shape_of, striping_of, laid_out, draft_of, checked, is_basic}
-use Rattle.ldm_places.proofs.SpotLaws.{has_none}
-use Rattle.ldm_layout.proofs.VolumeLaws.{laid_out_volume, by_offset_more}
-use Rattle.ldm_edits.specs.Mirroring.{held_in}
-use Rattle.std.proofs.Math.Nat.{mul_assoc}
+use Rattle.ldm_places.specs.Layouts.{Layout}
+use Rattle.ldm_layout.specs.Volumes.{layout_of, shape_of, is_basic}
+use Rattle.ldm_layout.proofs.VolumeLaws.{by_offset_more}
 use Rattle.ldm_places.specs.Places.{stripe_capacity, raid5_capacity}
-use Rattle.ldm_layout.proofs.SortLaws.{AtLeast, Climbs, climbs_rises, stable_is}
+use Rattle.ldm_layout.proofs.SortLaws.{AtLeast, Climbs}
+use Rattle.ldm_group.proofs.AddedLaws.{IdsFrom}
+use Rattle.ldm_layout.proofs.HeldLaws.{copies_in, tiled_laid, least_one, whole_chunks, columned_laid}
 
 -- ---- The partitions that take given sectors, as a layout reads them: tiles one after the other, or columns side by side.
 
@@ -132,14 +127,6 @@ numbers_head t ts fits = fits 0 t (omega arith)
 pub numbers_tail : (t : Taken) (ts : List Taken) → AreNumbers (t ∷ ts) → AreNumbers ts
 numbers_tail t ts fits = All-tail (λ (u : Taken). (u.disk < 2 ^ 64) × (u.size < 2 ^ 64)) t ts fits
 
--- their ids follow one another
-abbrev pub IdsFollow : ℕ → List Record → Type 0
-IdsFollow id [] = Unit {0}
-IdsFollow id (r ∷ rs) = (id_of r ≡ id) × IdsFollow (id + 1) rs
-
-abbrev pub IdsFrom : ℕ → List Partition → Type 0
-IdsFrom id parts = IdsFollow id (map (λ p. kinds.Partition p) parts)
-
 -- partitions are made that are these extents
 pub record MakesParts (id : ℕ) (made : List (Option Record)) (extents : List Extent) : Type 0 where
   pub parts : List Partition
@@ -180,144 +167,7 @@ makes_column_parts id component index (t ∷ ts) few low c fits =
     one_more id t.start 0 t.size component t.disk (Some index) _ _ (makes_partition id t.start 0 t.size component t.disk (Some index) (omega arith) here.1 c here.0 (omega arith))
     (makes_column_parts (id + 1) component (index + 1) ts (omega arith) (omega arith) c (numbers_tail t ts fits))
 
--- what is known of ids that follow one another
-pub follow_at : (id : ℕ) (rs : List Record) (k : ℕ) (d : Record) → IdsFollow id rs → k < length rs → id_of (get_or rs k d) ≡ id + k
-follow_at id [] k d h lt = absurd (omega arith)
-follow_at id (r ∷ rs) zero d h lt = let here = h.0 in omega arith
-follow_at id (r ∷ rs) (suc k) d h lt = let rest = follow_at (id + 1) rs k d h.1 (omega arith) in omega arith
-
-pub follow_above : (id : ℕ) (rs : List Record) (r : Record) → IdsFollow id rs → Contains rs r
-    → id ≤ id_of r
-follow_above id rs r h (k, lt, is) = let at = follow_at id rs k r h lt in let same = ap id_of is in
-    omega arith
-
--- ---- in order
-
-place_at : (id : ℕ) (ps : List Partition) (k : ℕ) (r : Record) → IdsFrom id ps → k < length ps → place_of (get_or (map (λ p. kinds.Partition p) ps) k r) ≡ 5 * 2 ^ 64 + (id + k)
-unfolding place_of
-place_at id [] k r ids lt = absurd (omega arith)
-place_at id (p ∷ ps) zero r ids lt = let here = ids.0 in omega arith
-place_at id (p ∷ ps) (suc k) r ids lt = let rest = place_at (id + 1) ps k r ids.1 (omega arith) in omega arith
-
-pub parts_rise : (id : ℕ) (ps : List Partition) → IdsFrom id ps → Rising (map (λ p. kinds.Partition p) ps)
-parts_rise id ps ids i j d low within =
-    let long = length-map ps (λ (p : Partition). kinds.Partition p) in
-    let a = place_at id ps i d ids (omega arith) in
-    let b = place_at id ps j d ids (omega arith) in
-    omega arith
-
--- ---- The layout of a span or mirror: what its components hold, and that it has one where each is tiled and the least of them holds the volume.
-
--- the partitions of each component, in the order of the volume's sectors
-abbrev pub copies_in : List Record → List Plex → List (List Extent)
-copies_in records ps = map (λ (p : Plex). by_offset (extents_of p.id records)) ps
-
--- a layout without a fault
-pub faultless : (l : Layout) → has_gap l ≡ false → lacks_chunk l ≡ false → lacks_columns l ≡ false → is_short l ≡ false
-    → checked (Some l) ≡ Ok l
-faultless l gap chunk columns short = λ i. unless (first_fault ((Gap, gap i) ∷ (Chunk, chunk i) ∷ (Columns, columns i) ∷ (Short, short i) ∷ [])) l
-
--- a tiled component holds what its partitions do
-tiled_capacity : (s : Shape) (chunk : ℕ) (es : List Extent) → is_tiled s ≡ true → plex_capacity s chunk es ≡ held_in es
-tiled_capacity Span chunk es h = refl
-tiled_capacity Mirror chunk es h = refl
-tiled_capacity Stripe chunk es h = absurd cc
-tiled_capacity Raid5 chunk es h = absurd cc
-
-module _ (records : List Record) (v : Volume) (ps : List Plex) (s : Shape) (plexes : plexes_of v.head.id records ≡ ps) (shape : shape_of ps ≡ Some s) (is : is_tiled s ≡ true) where
-  laid : (ps : List Plex) → map (λ (p : Plex). laid_out s (extents_of p.id records)) ps ≡ copies_in records ps
-  laid ps = ap (λ (b : Bool). map (λ (p : Plex). if b then by_offset (extents_of p.id records) else by_index (extents_of p.id records)) ps) is
-
-  capacities : (chunk : ℕ) (es : List (List Extent)) → least (map (plex_capacity s chunk) es) ≡ least (map held_in es)
-  capacities chunk es = ap (λ (f : List Extent → ℕ). least (map f es)) (λ i x. tiled_capacity s chunk x is i)
-
-  -- a volume of which each component is tiled and holds its size has a layout
-  pub tiled_laid : list_all tiles (copies_in records ps) ≡ true → v.size ≤ least (map held_in (copies_in records ps))
-      → (l : Layout) × (layout_of records v ≡ Ok l)
-  unfolding layout_of
-  tiled_laid tiled fits =
-      let lay : List (List Extent) → Layout = λ xs. record { shape = s; size = v.size; chunk = (striping_of ps).chunk; columns = (striping_of ps).columns; plexes = xs } in
-      let es : List (List Extent) = copies_in records ps in
-      let gap : has_gap (lay es) ≡ false = (λ i. is i && not (tiled i)) in
-      let chunk : lacks_chunk (lay es) ≡ false = ap (λ (b : Bool). not b && ((striping_of ps).chunk == 0)) is in
-      let columns : lacks_columns (lay es) ≡ false = ap (λ (b : Bool). not b && not (list_all (has_columns (lay es)) es)) is in
-      let holds = capacities (striping_of ps).chunk es in
-      let short : is_short (lay es) ≡ false = le-ltb _ _ (omega arith) in (
-        lay es,
-        ap (λ (qs : List Plex). checked (draft_of v.size qs (λ c. extents_of c records))) plexes
-            ∙ ap (λ (o : Option Shape). checked (option_map {U = Layout} (λ t. record { shape = t; size = v.size; chunk = (striping_of ps).chunk; columns = (striping_of ps).columns; plexes = map (λ (p : Plex). laid_out t (extents_of p.id records)) ps }) o)) shape
-            ∙ ap (λ (xs : List (List Extent)). checked (Some (lay xs))) (laid ps)
-            ∙ faultless (lay es) gap chunk columns short,
-      )
-
--- what the partitions of a span or mirror hold
-pub record HoldsTiled (records : List Record) (v : Volume) (ps : List Plex) (l : Layout) : Type 0 where
-  pub tiled : list_all tiles (copies_in records ps) ≡ true
-  pub fits : v.size ≤ least (map held_in (copies_in records ps))
-  pub capacity : capacity_of l ≡ least (map held_in (copies_in records ps))
-
-not_gap : (b : Bool) → not b ≡ false → b ≡ true
-not_gap true h = refl
-not_gap false h = absurd cc
-
-pub tiled_holds : (records : List Record) (v : Volume) (ps : List Plex) (s : Shape) (l : Layout)
-    → plexes_of v.head.id records ≡ ps → shape_of ps ≡ Some s → is_tiled s ≡ true → layout_of records v ≡ Ok l
-    → HoldsTiled records v ps l
-tiled_holds records v ps s l plexes shaped is layout =
-    let es : List (List Extent) = copies_in records ps in
-    let facts = laid_out_volume records v l layout in
-    let none = has_none l facts.sound in
-    let shapes : shape_of (plexes_of v.head.id records) ≡ Some s = ap shape_of plexes ∙ shaped in
-    let shape : l.shape ≡ s = (let both : Some l.shape ≡ Some s = sym facts.parts.shape ∙ shapes in cc) in
-    let copies : l.plexes ≡ es =
-    facts.parts.plexes ∙ ap (λ (qs : List Plex). map (λ (p : Plex). laid_out l.shape (extents_of p.id records)) qs) plexes
-    ∙ ap (λ (t : Shape). map (λ (p : Plex). laid_out t (extents_of p.id records)) ps) shape ∙ laid records v ps s plexes shaped is ps in
-    let capacity : capacity_of l ≡ least (map held_in es) =
-    ap (λ (ls : List (List Extent)). least (map (plex_capacity l.shape l.chunk) ls)) copies ∙ ap (λ (t : Shape). least (map (plex_capacity t l.chunk) es)) shape
-    ∙ capacities records v ps s plexes shaped is l.chunk es in
-    let gap : (is_tiled l.shape && not (list_all tiles l.plexes)) ≡ false = none.gap in
-    let tiled : is_tiled l.shape ≡ true = ap is_tiled shape ∙ is in
-    let here : not (list_all tiles es) ≡ false = sym (λ i. tiled i && not (list_all tiles (copies i))) ∙ gap in
-    let short : l.size ≤ capacity_of l = ltb-false (capacity_of l) l.size none.short in
-    let size = facts.size in
-    record { tiled = not_gap (list_all tiles es) here; fits = omega arith; capacity = capacity }
-
--- ---- lists
-
-pub map_same : {X Y : Type 0} (f g : X → Y) (xs : List X) → ((x : X) → Contains xs x → f x ≡ g x) → map f xs ≡ map g xs
-map_same f g [] same = refl
-map_same {X} {Y} f g (x ∷ xs) same =
-    let first : f x ≡ g x = same x (0, omega arith, refl) in
-    let rest : map f xs ≡ map g xs = map_same f g xs (λ y at. same y (behind x xs y at)) in
-    λ i. first i ∷ rest i
-
-pub all_pass : {X Y : Type 0} (t : Y → Bool) (f : X → Y) (xs : List X)
-    → ((x : X) → Contains xs x → t (f x) ≡ true) → list_all t (map f xs) ≡ true
-all_pass t f xs each = list_all-from_AllPass t (map f xs)
-    (All-map (λ y. t y ≡ true) f xs (λ k d lt. each (get_or xs k d) (Contains-get_or xs k d lt)))
-
-pub one_passes : {X Y : Type 0} (t : Y → Bool) (f : X → Y) (xs : List X) (x : X) → list_all t (map f xs) ≡ true
-    → Contains xs x → t (f x) ≡ true
-one_passes t f xs x all at = All-contains (λ z. t (f z) ≡ true) xs x
-    (all_from_map f (λ y. t y ≡ true) xs (AllPass-from_list_all t (map f xs) all)) at
-
--- as much more for each is as much more for the least
-pub least_more : {X : Type 0} (f : X → ℕ) (n : ℕ) (xs : List X) → 1 ≤ length xs → least (map (λ x. f x + n) xs) ≡ least (map f xs) + n
-least_more f n [] some = absurd (omega arith)
-least_more f n (x ∷ []) some = refl
-least_more f n (x ∷ (y ∷ xs)) some =
-    let rest = least_more f n (y ∷ xs) (omega arith) in
-    ap (λ (m : ℕ). min (f x + n) m) rest ∙ min_more (f x) (least (map f (y ∷ xs))) n
-  where
-    min_more : (a b n : ℕ) → min (a + n) (b + n) ≡ min a b + n
-    min_more a b n = omega arith
-
 -- ---- New volumes are laid out as they are made.
-
--- a list that rises is in its order
-
-laid_as_is : (n : Extent → ℕ) (es : List Extent) → Climbs n es → in_rising n es ≡ es
-laid_as_is n es up = sym (stable_is n es es (climbs_rises n es up) (λ k. refl))
 
 columns_low : (c i k : ℕ) (ts : List Taken) → k ≤ i → AtLeast (λ e. e.index) k (column_extents c i ts)
 columns_low c i k [] low = tt
@@ -328,15 +178,6 @@ columns_climb c i [] = tt
 columns_climb c i (t ∷ ts) = (columns_low c (i + 1) i ts (omega arith), columns_climb c (i + 1) ts)
 
 -- ---- sizes
-
--- the least of numbers that are all one
-least_one : (ns : List ℕ) (m : ℕ) → 1 ≤ length ns → All (λ n. n ≡ m) ns → least ns ≡ m
-least_one [] m some same = absurd (omega arith)
-least_one (n ∷ []) m some same = same 0 n (omega arith)
-least_one (n ∷ (k ∷ ns)) m some same =
-    let here : n ≡ m = same 0 n (omega arith) in
-    let rest : least (k ∷ ns) ≡ m = least_one (k ∷ ns) m (omega arith) (All-tail (λ (x : ℕ). x ≡ m) n (k ∷ ns) same) in
-    omega arith
 
 columns_least : (c i len : ℕ) (ts : List Taken) → 1 ≤ length ts → AllSized len ts
     → least (map (λ (e : Extent). e.size) (column_extents c i ts)) ≡ len
@@ -358,38 +199,6 @@ span_layout records v c ts plexes extents some size =
     tiled_laid records v (record { volume = v.head.id; id = c; layout = 2; striping = None } ∷ []) Span plexes refl refl
     (ap (λ (es : List Extent). tiles es && true) sorted ∙ ap (λ (b : Bool). b && true) (tiles_whole c ts some)) (omega arith)
 
--- chunks that fill a column
-whole_chunks : (k u len : ℕ) → u ≢ 0 → len % u ≡ 0 → k * u * (len / u) ≡ k * len
-whole_chunks k u len some whole =
-    let fills : u * (len / u) ≡ len = omega arith in
-    mul_assoc k u (len / u) ∙ ap (λ n. k * n) fills
-
--- columns side by side that hold the volume
-columned_laid : (records : List Record) (v : Volume) (s : Shape) (c u layout : ℕ) (ts : List Taken) → is_tiled s ≡ false
-    → plexes_of v.head.id records ≡ record { volume = v.head.id; id = c; layout = layout; striping = Some (record { chunk = u; columns = length ts }) } ∷ []
-    → shape_of (record { volume = v.head.id; id = c; layout = layout; striping = Some (record { chunk = u; columns = length ts }) } ∷ []) ≡ Some s
-    → extents_of c records ≡ column_extents c 0 ts → fewest s ≤ length ts → u ≢ 0 → v.size ≤ plex_capacity s u (column_extents c 0 ts) → (l : Layout) × (layout_of records v ≡ Ok l)
-unfolding layout_of
-columned_laid records v s c u layout ts untiled plexes shape extents enough some fits =
-    let lay : List Extent → Layout = λ es. record { shape = s; size = v.size; chunk = u; columns = length ts; plexes = es ∷ [] } in
-    let es : List Extent = column_extents c 0 ts in
-    let many : length (column_extents c 0 ts) ≡ length ts = extents_count (columns_of c 0 ts) in
-    let whole : has_columns (lay es) es ≡ true =
-    and_from (length ts == length es) _ (eq-eqb (length ts) (length es) (sym many))
-    (and_from (nat_le (fewest s) (length es)) _ (le-leb (fewest s) _ (omega arith))
-    (columns_rise c 0 ts)) in
-    let gap : has_gap (lay es) ≡ false = ap (λ (b : Bool). b && not (tiles es && true)) untiled in
-    let chunk : lacks_chunk (lay es) ≡ false = (λ i. not (untiled i) && ne_eqb u 0 some i) in
-    let columns : lacks_columns (lay es) ≡ false = (λ i. not (untiled i) && not (whole i && true)) in (
-      lay es,
-      ap (λ (ps : List Plex). checked (draft_of v.size ps (λ d. extents_of d records))) plexes
-          ∙ ap (λ (o : Option Shape). checked (option_map {U = Layout} (λ t. record { shape = t; size = v.size; chunk = u; columns = length ts; plexes = laid_out t (extents_of c records) ∷ [] }) o)) shape
-          ∙ ap (λ (b : Bool). checked (Some (lay (if b then by_offset (extents_of c records) else by_index (extents_of c records))))) untiled
-          ∙ ap (λ (xs : List Extent). checked (Some (lay (by_index xs)))) extents
-          ∙ ap (λ (xs : List Extent). checked (Some (lay xs))) (laid_as_is (λ e. e.index) es (columns_climb c 0 ts))
-          ∙ faultless (lay es) gap chunk columns (le-ltb _ _ fits),
-    )
-
 -- a stripe of equal columns
 pub stripe_layout : (records : List Record) (v : Volume) (c u len : ℕ) (ts : List Taken)
     → plexes_of v.head.id records ≡ record { volume = v.head.id; id = c; layout = 1; striping = Some (record { chunk = u; columns = length ts }) } ∷ [] → extents_of c records ≡ column_extents c 0 ts
@@ -397,7 +206,7 @@ pub stripe_layout : (records : List Record) (v : Volume) (c u len : ℕ) (ts : L
 stripe_layout records v c u len ts plexes extents enough same some whole size =
     let holds : stripe_capacity (length (column_extents c 0 ts)) u (least (map (λ (e : Extent). e.size) (column_extents c 0 ts))) ≡ length ts * len =
     (λ i. stripe_capacity (extents_count (columns_of c 0 ts) i) u (columns_least c 0 len ts (omega arith) same i)) ∙ whole_chunks (length ts) u len some whole in
-    columned_laid records v Stripe c u 1 ts refl plexes refl extents enough some (omega (arith, holds, size))
+    columned_laid records v Stripe c u 1 (length ts) (column_extents c 0 ts) refl plexes refl extents (extents_count (columns_of c 0 ts)) (columns_rise c 0 ts) (columns_climb c 0 ts) enough some (omega (arith, holds, size))
 
 -- RAID-5 of equal columns
 pub raid5_layout : (records : List Record) (v : Volume) (c u len : ℕ) (ts : List Taken)
@@ -406,7 +215,7 @@ pub raid5_layout : (records : List Record) (v : Volume) (c u len : ℕ) (ts : Li
 raid5_layout records v c u len ts plexes extents enough same some whole size =
     let holds : raid5_capacity (length (column_extents c 0 ts)) u (least (map (λ (e : Extent). e.size) (column_extents c 0 ts))) ≡ (length ts - 1) * len =
     (λ i. raid5_capacity (extents_count (columns_of c 0 ts) i) u (columns_least c 0 len ts (omega arith) same i)) ∙ whole_chunks (length ts - 1) u len some whole in
-    columned_laid records v Raid5 c u 3 ts refl plexes refl extents enough some (omega (arith, holds, size))
+    columned_laid records v Raid5 c u 3 (length ts) (column_extents c 0 ts) refl plexes refl extents (extents_count (columns_of c 0 ts)) (columns_rise c 0 ts) (columns_climb c 0 ts) enough some (omega (arith, holds, size))
 
 -- ---- mirrors
 

@@ -8,7 +8,7 @@ use Rattle.ldm_bytes.specs.Tables.{first_of, unless}
 use Rattle.ldm_records.specs.declared.types.Record.{Record}
 use Rattle.ldm_frags.specs.Written.{parts_of}
 use Rattle.ldm_label.specs.declared.Label.{Label}
-use Rattle.ldm_group.specs.Database.{Database, IsDatabaseOf}
+use Rattle.ldm_group.specs.Database.{Database}
 use Rattle.ldm_group.specs.Looks.{max_id}
 use Rattle.ldm_group.specs.Room.{own_len, need_of, IsFitting, IsLastFor, FitsHeader, last_for, room_of}
 use Rattle.ldm_edits.specs.declared.reply.Refusal.{Refusal}
@@ -19,12 +19,11 @@ use Rattle.std.proofs.lemmas.List.Elements.{filter_more, Contains-get_or, All-co
 use Rattle.ldm_group.specs.Order.{id_of, in_order, Rising}
 use Rattle.ldm_places.specs.Extents.{least}
 use Rattle.std.specs.List.{All}
-use Rattle.std.proofs.lemmas.List.Sorted.{sum_by-IsPermutation}
 use Rattle.ldm_records.specs.Plain.{own_spelling}
 use Rattle.ldm_records.specs.Views.{plain_of}
 use Rattle.ldm_group.proofs.Rise.{tested}
 use Rattle.ldm_group.proofs.KinLaws.{filter_keeps}
-use Rattle.ldm_group.proofs.InOrder.{in_order_same, member_next, one_next}
+use Rattle.ldm_group.proofs.InOrder.{member_next}
 use Rattle.ldm_group.proofs.LastLaws.{last_grows}
 use Rattle.ldm_rules.specs.Facts.{IsSoundOn}
 use Rattle.ldm_rules.specs.Table.{IsSound}
@@ -34,7 +33,7 @@ use Rattle.ldm_rules.proofs.GroupLaws.{same_disks}
 use Rattle.ldm_rules.proofs.SoundLaws.{EachRule, sound_from, layout_there, ends_in_range}
 use Rattle.ldm_edits.specs.Steps.{FitsAsBefore, Keeps}
 use Rattle.ldm_edits.proofs.AreaLaws.{least_of}
-use Rattle.ldm_vmdb.specs.declared.header.Header.{Header}
+use Rattle.ldm_group.proofs.AddedLaws.{next_is, next_room}
 
 -- ---- The table of the limits, row by row.
 
@@ -164,10 +163,6 @@ pub spelled_by : (r : Record) → IsFitting r → length (own_spelling (plain_of
 unfolding own_len
 spelled_by r fits = fits
 
--- records take as many blocks in order as they stand
-pub next_room : (xs : List Record) (room : ℕ) → need_of xs ≤ room → need_of (in_order xs) ≤ room
-next_room xs room fits = subst (λ (n : ℕ). n ≤ room) (sym (sum_by-IsPermutation (λ r. parts_of (own_len r)) xs (in_order xs) (in_order_same xs))) fits
-
 -- ---- What a command keeps of a group, where no limit refuses it and the next records keep the rules.
 
 -- the last VBLK sequence of what is needed, in an area that is large enough for all
@@ -243,14 +238,3 @@ done_by db labels fresh change next h keeps =
       next_is = made.1;
       keeps = λ given grammar. subst (λ (d : Database). Keeps labels db d) made.1 (keeps made.0 given grammar);
     }
-
--- ---- The database that is made of records is the one of their order.
-
-pub next_is : (next : Database) (items all : List Record) (header wanted : Header) → Rising (in_order all) → items ≡ all
-    → header ≡ wanted → IsDatabaseOf next header items
-    → next ≡ record { header = wanted; records = in_order all }
-next_is next items all header wanted up same head is =
-    let records : next.records ≡ in_order all = one_next items next.records is.same is.rising
-    (subst (λ (l : List Record). Rising (in_order l)) (sym same) up) ∙ ap in_order same in
-    let headers : next.header ≡ wanted = is.header_is ∙ head in
-    λ i. record { header = headers i; records = records i }

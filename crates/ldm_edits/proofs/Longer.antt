@@ -1,10 +1,10 @@
 -- A span or mirror with more partitions: what extend makes, its layout, and what the group keeps.
-use Rattle.std.proofs.Common.{◌≡◌, ◌≢◌, ℕ, zero, suc, ◌+◌, ◌*◌, ◌^◌, ◌<◌, ◌≤◌, ◌==◌, not, List, [], ◌∷◌, ◌++◌, length, get_or, map, refl, sym, ap, subst, ◌∙◌, inl, inr, arith, Bool, true, false, Some, None, Ok, Contains, zero-add, ◌-◌, ◌||◌, Option, sum_by, find}
-use Rattle.std.specs.Prelude.{filter, filter_map, if◌then◌else◌}
+use Rattle.std.proofs.Common.{◌≡◌, ◌≢◌, ℕ, ◌+◌, ◌*◌, ◌^◌, ◌<◌, ◌≤◌, ◌==◌, not, List, [], ◌∷◌, ◌++◌, length, get_or, map, refl, sym, ap, subst, ◌∙◌, inl, inr, arith, Bool, true, false, Some, None, Ok, Contains, zero-add, ◌-◌, ◌||◌, Option, sum_by, find}
+use Rattle.std.specs.Prelude.{filter}
 use Rattle.std.specs.List.{All, list_all, list_any, cons_option}
 use Rattle.std.proofs.lemmas.Bool.{not-true, eqb-true, eq-eqb, eqb-false, or_parts, ltb-false}
 use Rattle.std.proofs.lemmas.List.{length-map, append-nil}
-use Rattle.std.proofs.lemmas.List.Elements.{All-filter, Contains-get_or, Contains-append_left, Contains-append_right, Contains-append_cases, All-contains}
+use Rattle.std.proofs.lemmas.List.Elements.{All-filter, Contains-get_or, Contains-append_cases, All-contains}
 use Rattle.std.proofs.lemmas.List.Kept.{AllPairs-cons, AllPairs-filter}
 use Rattle.std.proofs.lemmas.List.Sums.{length-filter, sum_by-append, get_or-le-sum_by}
 use Rattle.ldm_bytes.specs.Tables.{first_of}
@@ -14,8 +14,8 @@ use Rattle.ldm_records.specs.declared.types.Volume.{Volume}
 use Rattle.ldm_records.specs.declared.types.Component.{Component}
 use Rattle.ldm_records.specs.declared.types.Partition.{Partition}
 use Rattle.ldm_records.specs.declared.pieces.Head.{Head}
-use Rattle.ldm_group.specs.Order.{Rising, kind_of, id_of, place_of, in_order}
-use Rattle.ldm_group.specs.Looks.{is_child, max_id, children_of}
+use Rattle.ldm_group.specs.Order.{Rising, place_of, in_order}
+use Rattle.ldm_group.specs.Looks.{is_child, max_id}
 use Rattle.ldm_group.specs.Database.{Database}
 use Rattle.ldm_group.specs.Room.{IsFitting}
 use Rattle.ldm_group.proofs.InOrder.{next_rises, max_above, pairs_append, member_next, stays_next, made_next}
@@ -28,50 +28,42 @@ use Rattle.ldm_layout.specs.declared.parts.Plex.{Plex}
 use Rattle.ldm_places.specs.declared.extent.Extent.{Extent}
 use Rattle.ldm_places.specs.declared.shape.Shape.{Shape}
 use Rattle.ldm_places.specs.Layouts.{Layout, is_tiled}
-use Rattle.ldm_layout.specs.Parts.{plex_of, plex_in, plexes_of, extent_of, extents_of, by_offset, tile_key}
+use Rattle.ldm_layout.specs.Parts.{plex_of, plexes_of, extent_of, extents_of, by_offset, held_in}
 use Rattle.ldm_places.specs.Extents.{tiles, tiles_from, least}
-use Rattle.ldm_layout.specs.Volumes.{layout_of, shape_of, is_basic}
-use Rattle.ldm_layout.proofs.VolumeLaws.{plexes_by, plex_there, tiles_append, by_offset_more, some_tiles, rising_sum, few_by, many_extents, one_component, IsExtentOf, extents_are}
+use Rattle.ldm_layout.specs.Volumes.{layout_of, shape_of}
+use Rattle.ldm_layout.proofs.VolumeLaws.{plex_there, tiles_append, by_offset_more, some_tiles, few_by, one_component, extents_are}
 use Rattle.ldm_places.proofs.SpotLaws.{tiles_zero}
-use Rattle.ldm_rules.proofs.CarryLaws.{KeepsVolume, volume_kept, component_kept, partition_kept}
+use Rattle.ldm_rules.proofs.CarryLaws.{KeepsVolume, volume_kept, component_kept, few_children}
 use Rattle.ldm_rules.proofs.GroupLaws.{names_kept}
 use Rattle.ldm_rules.proofs.SoundLaws.{EachRule, sound_parts}
 use Rattle.ldm_rules.specs.Ends.{data_size}
 use Rattle.ldm_space.specs.Free.{taken_of, taken_in}
-use Rattle.ldm_space.specs.Placed.{AllEndWithin, AreDisjoint, AreDisjoint}
+use Rattle.ldm_space.specs.Placed.{AllEndWithin, AreDisjoint}
 use Rattle.ldm_edits.specs.Changes.{Change, limits, changed}
 use Rattle.ldm_edits.specs.Extending.{held, span_changes, lengthened, component_in, component_of, MayExtend, longer_parts}
-use Rattle.ldm_edits.specs.Mirroring.{held_in}
 use Rattle.ldm_edits.specs.Steps.{Keeps}
 use Rattle.ldm_edits.proofs.LimitLaws.{carried_keeps, IsGiven, spelled_by}
-use Rattle.ldm_edits.proofs.Layouts.{IdsFrom, parts_rise, MakesParts, makes_span_parts, tile_extents, tiles_on, tiles_sum, tiles_of, parts_taken, are_numbers, follow_above, parts_own, copies_in, tiled_laid, HoldsTiled, tiled_holds, map_same, all_pass, one_passes, least_more}
-use Rattle.ldm_edits.proofs.Shares.{Below, map_there, each_mapped, mapped, each_more, flat_there, flat_from, records_of, Share, olds, news, parts_of, IsOther, IsMade, IsNewPart, IsRemade, read_plexes, read_extents, volume_keeps, remade_carries, remade_each, only_one, alone_rises, of_component, map_map, moved, behind, new_of, old_of, named_all}
+use Rattle.ldm_group.proofs.AddedLaws.{IdsFrom, parts_rise, follow_above, Below, alone_rises, of_component, place_below}
+use Rattle.ldm_edits.proofs.Layouts.{MakesParts, makes_span_parts, tile_extents, tiles_on, tiles_sum, tiles_of, parts_taken, are_numbers, parts_own}
+use Rattle.ldm_layout.proofs.HeldLaws.{copies_in, tiled_laid, HoldsTiled, tiled_holds, least_more, own_plex}
+use Rattle.ldm_group.proofs.ListLaws.{map_same, all_pass, one_passes, map_there, each_mapped, mapped, only_one, map_map, moved, none_any}
+use Rattle.ldm_rules.proofs.RemadeLaws.{records_of, Share, olds, news, parts_of, IsOther, IsMade, IsNewPart, IsRemade, read_plexes, read_extents, volume_keeps, new_of, old_of, remade_carries, longer_records, tiles_in, share_holds, listed_made, made_listed, news_rise, plexes_in, old_plexes, copies_are}
+use Rattle.ldm_edits.proofs.Shares.{remade_each}
 use Rattle.std.specs.Option.{option_map}
 use Rattle.ldm_made.proofs.MadeLaws.{MakesChildren, MakesSize, makes_size, makes_children}
 use Rattle.ldm_group.proofs.KindLaws.{child_component}
-use Rattle.ldm_places.specs.declared.shape.Shape.TheVariants.{Span, Mirror}
+use Rattle.ldm_places.specs.declared.shape.Shape.TheVariants.{Span}
 use Rattle.ldm_rules.specs.Facts.{IsSoundOn}
 use Rattle.ldm_made.specs.declared.taken.Taken.{Taken}
 use Rattle.ldm_space.specs.declared.placed.Wanted.{Wanted}
 use Rattle.ldm_edits.specs.Asked.{is_much}
 use Rattle.ldm_made.specs.Volumes.{span_parts, there}
-use Rattle.ldm_edits.proofs.AskedLaws.{none_any, taken_sum, IsTaken, IsSize, are_taken, as_asked, ends_within, first_fits, lie_apart}
+use Rattle.ldm_space.proofs.FreeLaws.{taken_sum}
+use Rattle.ldm_edits.proofs.AskedLaws.{IsTaken, IsSize, are_taken, as_asked, ends_within, first_fits, lie_apart}
 use Rattle.ldm_made.specs.Made.{resized, with_children}
 use Rattle.ldm_edits.specs.Spots.{ArePlaced}
 
--- ---- A span or mirror whose components have more partitions: what the change makes, the layout of
--- the volume, and what the group keeps.
-
--- what is made: the volume, its components, and the new partitions
-abbrev pub longer_records : Volume → List Share → List Record
-longer_records w ss = kinds.Volume w ∷ (news ss ++ records_of (parts_of ss))
-
--- the partitions of a component in the order of the volume's sectors, and what they hold
-abbrev pub tiles_in : List Record → Share → List Extent
-tiles_in records s = by_offset (extents_of s.c.head.id records)
-
-abbrev pub share_holds : List Record → Share → ℕ
-share_holds records s = held_in (tiles_in records s)
+-- ---- A span or mirror whose components have more partitions: what the change makes, the layout of the volume, and what the group keeps.
 
 -- a component of the volume that has more partitions, of so many sectors together, behind those that it has
 pub record IsShare (old : List Record) (v : Volume) (len : ℕ) (s : Share) : Type 0 where
@@ -110,60 +102,6 @@ pub record Lengthens (labels : List Label) (old : List Record) (change : Change)
 
 -- ---- lists of components
 
--- the list of what is made has just that
-listed_made : (w : Volume) (ss : List Share) (r : Record) → Contains (longer_records w ss) r → IsMade w ss r
-listed_made w ss = each_more (IsMade w ss) (kinds.Volume w) (news ss ++ records_of (parts_of ss))
-    refl (λ r at. elim (Contains-append_cases (news ss) (records_of (parts_of ss)) r at) [
-      | inl h ↦ each_mapped (IsMade w ss) new_of ss (λ s here. (s, here, refl)) r h
-      | inr h ↦ each_mapped (IsMade w ss) kinds.Partition (parts_of ss)
-          (λ p here. flat_from (λ (s : Share). s.parts) ss p here) r h
-    ])
-
-made_listed : (w : Volume) (ss : List Share) (r : Record) → IsMade w ss r → Contains (longer_records w ss) r
-made_listed w ss (kinds.Group g) is = absurd is
-made_listed w ss (kinds.Disk d) is = absurd is
-made_listed w ss (kinds.Volume x) is = (0, omega arith, ap kinds.Volume (sym is))
-made_listed w ss (kinds.Component x) (s, at, is) =
-    Contains-append_right (kinds.Volume w ∷ []) (news ss ++ records_of (parts_of ss))
-    (kinds.Component x)
-    (Contains-append_left (news ss) (records_of (parts_of ss)) (kinds.Component x)
-    (subst (λ (y : Component). Contains (news ss) (kinds.Component y)) (sym is) (map_there new_of ss s at)))
-made_listed w ss (kinds.Partition x) (s, at, in') = Contains-append_right (kinds.Volume w ∷ []) (news ss ++ records_of (parts_of ss)) (kinds.Partition x)
-    (Contains-append_right (news ss) (records_of (parts_of ss)) (kinds.Partition x)
-    (map_there kinds.Partition (parts_of ss) x
-    (flat_there (λ (t : Share). t.parts) ss s x at in')))
-
--- the changed components stand as those that they were
-place_same : (ss : List Share) → ((s : Share) → Contains ss s → s.d.head.id ≡ s.c.head.id) → (k : ℕ) (d : Record)
-    → k < length ss → place_of (get_or (news ss) k d) ≡ place_of (get_or (olds ss) k d)
-unfolding place_of
-place_same [] same k d lt = absurd (omega arith)
-place_same (s ∷ ss) same zero d lt = ap (λ (n : ℕ). 4 * 2 ^ 64 + n) (same s (0, omega arith, refl))
-place_same (s ∷ ss) same (suc k) d lt = place_same ss (λ t at. same t (behind s ss t at)) k d
-    (omega arith)
-
-news_rise : (ss : List Share) → ((s : Share) → Contains ss s → s.d.head.id ≡ s.c.head.id) → Rising (olds ss) → Rising (news ss)
-news_rise ss same up i j d lt within =
-    let long_news = length-map ss new_of in
-    let long_olds = length-map ss old_of in
-    let a = place_same ss same i d (omega arith) in
-    let b = place_same ss same j d (omega arith) in
-    let less : place_of (get_or (olds ss) i d) < place_of (get_or (olds ss) j d) = up i j d lt (omega arith) in
-    omega arith
-
--- as a layout reads them
-abbrev plexes_in : List Share → List Plex
-plexes_in ss = map (λ (s : Share). plex_of s.c) ss
-
-old_plexes : (old : List Record) (q : ℕ) (ss : List Share) → filter (is_child 3 q) old ≡ olds ss
-    → plexes_of q old ≡ plexes_in ss
-old_plexes old q ss are =
-    plexes_by q old ∙ ap (filter_map plex_in) are
-    ∙ named_all plex_in old_of (λ (s : Share). plex_of s.c) (λ s. refl) ss
-
-copies_are : (ss : List Share) (records : List Record) → copies_in records (plexes_in ss) ≡ map (tiles_in records) ss
-copies_are ss records = map_map (λ (p : Plex). by_offset (extents_of p.id records)) (λ (s : Share). plex_of s.c) ss
-
 -- what the volume holds
 pub held_shared : (old : List Record) (v : Volume) (l : Layout) (shape : Shape) (ss : List Share)
     → filter (is_child 3 v.head.id) old ≡ olds ss → shape_of (plexes_of v.head.id old) ≡ Some shape → is_tiled shape ≡ true
@@ -174,19 +112,6 @@ held_shared old v l shape ss components shape_is tiled layout =
     ∙ ap (λ (ls : List (List Extent)). least (map held_in ls)) (copies_are ss old) ∙ ap least (map_map held_in (tiles_in old) ss)
 
 -- ---- the order
-
-kind_most : (r : Record) → kind_of r ≤ 5
-kind_most (kinds.Group x) = omega arith
-kind_most (kinds.Disk x) = omega arith
-kind_most (kinds.Volume x) = omega arith
-kind_most (kinds.Component x) = omega arith
-kind_most (kinds.Partition x) = omega arith
-
--- ids are at most this, and new ids above them
-place_below : (r : Record) (p : Partition) (top : ℕ) → id_of r ≤ top → top < 2 ^ 64 → top < p.head.id
-    → place_of r ≢ place_of (kinds.Partition p)
-unfolding place_of
-place_below r p top low most above e = (let kind = kind_most r in let places : kind_of r * 2 ^ 64 + id_of r ≡ 5 * 2 ^ 64 + p.head.id = e in omega arith)
 
 module _ {labels : List Label} {old : List Record} {change : Change} {v w : Volume} {len : ℕ} {ss : List Share} (up : Rising old) (is : Lengthens labels old change v w len ss) where
   stay_has : (r : Record) → Contains change.stay r → Contains old r × IsOther v.head.id r
@@ -410,38 +335,6 @@ component_there v c records e =
     let at = find_there (is_child 3 v.head.id) records (kinds.Component c) (component_is (find (is_child 3 v.head.id) records) c e) in
     let child = child_component v.head.id (kinds.Component c) at.1 in
     (at.0, (let same : c ≡ child.0 = cc in ap (λ (x : Component). x.parent) same ∙ child.2))
-
-one_span : (ps : List Plex) → shape_of ps ≡ Some Span → (p : Plex) × (ps ≡ p ∷ [])
-one_span [] h = absurd cc
-one_span (p ∷ []) h = (p, refl)
-one_span (p ∷ (q ∷ ps)) h = absurd (elim (list_all is_basic (p ∷ (q ∷ ps)))
-    as (λ (b : Bool). (if b then Some Mirror else None) ≡ Some Span → ⊥)
-    [ true ↦ λ e. cc | false ↦ λ e. cc ] h)
-
--- a span's component is its only one
-own_plex : (records : List Record) (v : Volume) (c : Component) → shape_of (plexes_of v.head.id records) ≡ Some Span
-    → Contains records (kinds.Component c) → c.parent ≡ v.head.id
-    → plexes_of v.head.id records ≡ plex_of c ∷ []
-own_plex records v c shape there parent =
-    let one = one_span (plexes_of v.head.id records) shape in
-    let own : Contains (plexes_of v.head.id records) (plex_of c) = subst (λ (q : ℕ). Contains (plexes_of q records) (plex_of c)) parent (plex_there records c there) in
-    one.1 ∙ ap (λ (p : Plex). p ∷ []) (only_one one.0 (plex_of c) (moved one.1 (plex_of c) own))
-
--- the partitions of a component are at most the sectors that they hold
-few_children : (old : List Record) (labels : List Label) (c : Component) → EachRule old labels → Contains old (kinds.Component c)
-    → c.children ≤ sum_by (λ (e : Extent). e.size) (by_offset (extents_of c.head.id old))
-few_children old labels c each at =
-    let counted = (component_kept old labels each c at).counted in
-    let many : length (extents_of c.head.id old) ≡ children_of 4 c.head.id old = sym (many_extents c.head.id old) ∙ length-filter (is_child 4 c.head.id) old in
-    let few = few_by (λ (e : Extent). e.size) (extents_of c.head.id old) (λ k d lt. some (get_or (extents_of c.head.id old) k d) (extents_are old c.head.id k d lt)) in
-    let sum = rising_sum tile_key (extents_of c.head.id old) in
-    omega arith
-  where
-    some : (e : Extent) → IsExtentOf old c.head.id e → 1 ≤ e.size
-    some e is =
-        let none = eqb-false is.partition.size 0 (partition_kept old labels each is.partition is.there).some in
-        let same : is.partition.size ≡ e.size = ap (λ (x : Extent). x.size) is.is in
-        omega arith
 
 -- a component of another number of partitions is the same part of its volume
 pub plex_is : {c : Component} {children : ℕ} (more : MakesChildren c children) → plex_of more.component ≡ plex_of c

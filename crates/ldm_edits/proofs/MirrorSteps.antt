@@ -7,7 +7,8 @@ use Rattle.ldm_records.specs.declared.types.Component.{Component}
 use Rattle.ldm_space.specs.declared.placed.Wanted.{Wanted}
 use Rattle.ldm_edits.specs.Asked.{is_much}
 use Rattle.ldm_edits.specs.Mirroring.{component_holds}
-use Rattle.ldm_edits.proofs.AskedLaws.{low_size, none_any}
+use Rattle.ldm_edits.proofs.AskedLaws.{low_size}
+use Rattle.ldm_group.proofs.ListLaws.{none_any}
 use Rattle.ldm_edits.specs.Extended.{len_of, is_uneven, is_bad_growth, IsEven}
 
 -- one length, and it isn't 0

@@ -20,20 +20,20 @@ use Rattle.ldm_rules.specs.Table.{IsSound}
 use Rattle.ldm_rules.proofs.GroupLaws.{not_broken}
 use Rattle.ldm_rules.proofs.SoundLaws.{sound_parts}
 use Rattle.ldm_group.specs.Looks.{is_child, is_volume_named, volume_in, volume_named, HasSameDisks}
-use Rattle.ldm_group.specs.Order.{Rising, kind_of, in_order, place_of, place, count_at, IsLeastTwice}
-use Rattle.ldm_group.proofs.InOrder.{in_order_same, made_next, member_next, stays_next}
+use Rattle.ldm_group.specs.Order.{Rising, kind_of, in_order, place_of, place, IsLeastTwice}
+use Rattle.ldm_group.proofs.InOrder.{in_order_same, made_next, member_next, stays_next, one_place}
 use Rattle.ldm_group.proofs.KindLaws.{child_component, child_partition, named_volume}
 use Rattle.ldm_group.proofs.KinLaws.{filter_has, filter_keeps, kin_same, once_at, same_there}
 use Rattle.ldm_group.proofs.LookLaws.{find_none, found_again, none_found, one_record}
 use Rattle.ldm_bytes.proofs.FindLaws.{find_there}
 use Rattle.ldm_group.proofs.OrderLaws.{count_kept}
-use Rattle.ldm_group.proofs.Rise.{count_no, count_yes, tested, two_places}
+use Rattle.ldm_group.proofs.Rise.{count_no, count_yes, tested}
 use Rattle.ldm_layout.specs.declared.parts.Plex.{Plex}
 use Rattle.ldm_layout.specs.Parts.{plex_in, plex_of, plexes_of, plexes_at}
 use Rattle.ldm_layout.proofs.VolumeLaws.{plex_there}
 use Rattle.ldm_edits.specs.Replacing.{AreFront, ShowsAs, ShowsNamed, is_front}
 use Rattle.ldm_edits.specs.Staying.{belongs, plex_ids}
-use Rattle.ldm_edits.proofs.CommandLaws.{IsOwn, any_own}
+use Rattle.ldm_layout.proofs.HeldLaws.{IsOwn, any_own}
 
 -- ---- the ids of the components, one record after another
 
@@ -80,16 +80,7 @@ none_twice t front added kind id up twice =
     let two : 2 ≤ count_by p (front ++ filter t added) = twice.twice in
     let same : count_by p (in_order (front ++ added)) ≡ count_by p (front ++ added) = count_kept n (front ++ added) (in_order (front ++ added)) (in_order_same (front ++ added)) in
     let many : 2 ≤ count_by p (in_order (front ++ added)) = omega (arith, fewer, own, all, two, same) in
-    go (in_order (front ++ added)) up many
-  where
-    go : (ys : List Record) → Rising ys → 2 ≤ count_at (place kind id) ys → ⊥
-    go [] rise two = omega arith
-    go (r ∷ rs) rise two =
-        let at = two_places (λ (s : Record). place_of s == place kind id) (r ∷ rs) r two in
-        let below : place_of (get_or (r ∷ rs) at.0 r) < place_of (get_or (r ∷ rs) at.1 r) = rise at.0 at.1 r at.2 at.3 in
-        let one = eqb-true _ _ at.4 in
-        let other = eqb-true _ _ at.5 in
-        omega arith
+    one_place n (in_order (front ++ added)) up many
 
 -- ---- the volume of a name
 

@@ -20,7 +20,7 @@ use Rattle.ldm_group.specs.Order.{Rising, in_order, insert, place_of}
 use Rattle.ldm_group.specs.Room.{IsFitting, own_len, need_of, last_for}
 use Rattle.ldm_group.proofs.InOrder.{in_order_same, one_next}
 use Rattle.ldm_layout.specs.declared.parts.Plex.{Plex}
-use Rattle.ldm_layout.specs.Parts.{plexes_of}
+use Rattle.ldm_layout.specs.Parts.{plexes_of, is_of_volume}
 use Rattle.ldm_space.specs.Free.{taken_in}
 use Rattle.ldm_space.specs.Placed.{AreMapsOf}
 use Rattle.ldm_space.specs.declared.placed.FreeMaps.{FreeMaps}
@@ -39,8 +39,9 @@ use Rattle.ldm_words.specs.Limits.{IsExtend}
 use Rattle.ldm_made.specs.declared.taken.Taken.{Taken}
 use Rattle.std.specs.Global.{Vec}
 use Rattle.ldm_edits.specs.Replacing.{AreFront, Replaces, ShowsAs, ShowsNamed, TakesPlaces, is_front}
-use Rattle.ldm_edits.specs.Staying.{change_of, goes, leaves, staying}
-use Rattle.ldm_edits.proofs.AdditionLaws.{rises_again, top}
+use Rattle.ldm_edits.specs.Staying.{change_of, leaves, staying}
+use Rattle.ldm_group.proofs.AddedLaws.{rises_again}
+use Rattle.ldm_edits.proofs.AdditionLaws.{top}
 use Rattle.ldm_edits.proofs.AreaLaws.{most_low}
 use Rattle.ldm_edits.proofs.CommandLaws.{deleted_done, deleted_rises, extended_done}
 use Rattle.ldm_edits.proofs.ShownLaws.{plexes_shown}
@@ -231,7 +232,7 @@ shown_volume own all name v shown is =
 
 -- ---- a delete takes out the same among fewer records
 
-goes_shown : (own all : List Record) (volume : ℕ) → plexes_of volume own ≡ plexes_of volume all → (r : Record) → goes volume own r ≡ goes volume all r
+goes_shown : (own all : List Record) (volume : ℕ) → plexes_of volume own ≡ plexes_of volume all → (r : Record) → is_of_volume volume own r ≡ is_of_volume volume all r
 goes_shown own all volume plexes (kinds.Partition x) = ap (λ (l : List Plex). list_any (λ plex. plex.id == x.parent) l) plexes
 goes_shown own all volume plexes (kinds.Group x) = refl
 goes_shown own all volume plexes (kinds.Disk x) = refl

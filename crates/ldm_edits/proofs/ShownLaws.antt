@@ -1,7 +1,5 @@
 -- What is shown of a volume among fewer records is so among all: its layout, and what is asked of the disks.
-use Rattle.std.proofs.Common.{◌≡◌, ℕ, ◌+◌, ◌-◌, ◌^◌, ◌≤◌, ◌==◌, ◌∷◌, [], refl, sym, ap, subst, ◌∙◌, Bool, true, false, cond, find, List, length, get_or, Option, Result, Ok, Err, Some}
-use Rattle.std.specs.Prelude.{filter, if◌then◌else◌}
-use Rattle.std.specs.Result.{IsErrAnd}
+use Rattle.std.proofs.Common.{◌≡◌, ℕ, ◌+◌, ◌-◌, ◌^◌, ◌≤◌, ◌==◌, refl, sym, ap, subst, ◌∙◌, true, find, List, length, get_or, Option, Result, Ok, Some}
 use Rattle.std.specs.List.{All, Contains, filter_map, list_any}
 use Rattle.std.proofs.lemmas.Bool.{eq-eqb}
 use Rattle.std.proofs.lemmas.List.Elements.{All-contains, Contains-get_or}
@@ -27,7 +25,6 @@ use Rattle.ldm_space.specs.Wanted.{placed}
 use Rattle.ldm_space.specs.declared.placed.Wanted.{Wanted}
 use Rattle.ldm_words.specs.declared.command.Piece.{Piece}
 use Rattle.ldm_edits.specs.declared.error.StepError.{StepError}
-use Rattle.ldm_edits.specs.declared.replacing.Replacing.{Replacing}
 use Rattle.ldm_edits.specs.declared.reply.Refusal.{Refusal}
 use Rattle.ldm_edits.specs.declared.reply.Refusal.TheVariants as refusals
 use Rattle.ldm_edits.specs.Answers.{RefusesAs}
@@ -35,11 +32,12 @@ use Rattle.ldm_edits.specs.Asked.{words_by}
 use Rattle.ldm_edits.specs.Changes.{change_to, when}
 use Rattle.ldm_edits.specs.Extended.{extended_as}
 use Rattle.ldm_edits.specs.Extending.{against_longer, component_in, component_of, extended_span, held, is_bad_length, lengthen, lengthened, longer_span, MayExtend}
-use Rattle.ldm_edits.specs.Replacing.{ReplacesAs, ShowsAs}
-use Rattle.ldm_edits.specs.Spots.{and_then, by_place, open_wanted, refused_or, wanted_by}
+use Rattle.ldm_edits.specs.Replacing.{ShowsAs}
+use Rattle.ldm_edits.specs.Spots.{and_then, by_place, open_wanted, refused_or}
 use Rattle.ldm_edits.proofs.AdditionLaws.{asked_same, then_refused}
-use Rattle.ldm_edits.proofs.AskedLaws.{not_refused, place_ok, then_ok}
+use Rattle.ldm_edits.proofs.AskedLaws.{asked_open, place_ok}
 use Rattle.ldm_edits.proofs.LimitLaws.{not_when}
+use Rattle.ldm_group.proofs.ListLaws.{find_kept}
 
 module _ {own all : List Record} {v : Volume} (shows : ShowsAs own all v) where
   pub plexes_shown : plexes_of v.head.id own ≡ plexes_of v.head.id all
@@ -72,23 +70,7 @@ shows_itself records v up again = record {
   partitions = λ id own. refl;
 }
 
--- an error is handed on
-pub replaces_refused : (result : Result Replacing StepError) (error : StepError) (own : List Record) (db : Database) (labels : List Label) (step : Result Database Refusal)
-    → IsErrAnd result (λ e. e ≡ error) → RefusesAs error step → ReplacesAs result own db labels step
-replaces_refused (Ok p) error own db labels step is refuses = absurd is
-replaces_refused (Err e) error own db labels step is refuses = subst (λ (x : StepError). RefusesAs x step) (sym is) refuses
-
 -- ---- a longer span
-
--- the first that passes is the first of those that pass
-find_kept : (t : Record → Bool) (records : List Record) → find t records ≡ find t (filter t records)
-find_kept t [] = refl
-find_kept t (r ∷ records) = by (t r) refl (find_kept t records)
-  where
-    by : (b : Bool) → t r ≡ b → find t records ≡ find t (filter t records)
-        → cond b (Some r) (find t records) ≡ find t (if b then r ∷ filter t records else filter t records)
-    by true e rest = ap (λ (x : Bool). cond x (Some r) (find t (filter t records))) (sym e)
-    by false e rest = rest
 
 module _ (own group : Database) (labels : List Label) (pieces : List Piece) {v : Volume} (shows : ShowsAs own.records group.records v) where
   longer_shown : open_wanted own labels (words_by pieces) (against_longer own.records v) ≡ open_wanted group labels (words_by pieces) (against_longer group.records v)
@@ -118,16 +100,14 @@ module _ (own group : Database) (labels : List Label) (pieces : List Piece) {v :
         pub may_extend : Contains group.records (kinds.Volume v) → shape_of (plexes_of v.head.id group.records) ≡ Some Span → max_id group.records + length wanted ≤ 2 ^ 64 - 1
             → MayExtend group labels v c wanted spots
         may_extend there span ids =
-            let words = then_ok (wanted_by group labels (words_by pieces)) (λ w. refused_or (against_longer group.records v w) (Ok w)) wanted (sym longer_shown ∙ asked) in
-            let open' = not_refused (against_longer group.records v words.0) (Ok words.0) wanted words.2 in
-            let same : words.0 ≡ wanted = (let e = open'.1 in cc) in
+            let words = asked_open group labels (words_by pieces) (against_longer group.records v) wanted (sym longer_shown ∙ asked) in
             record {
               there = there;
               span = span;
               component = sym (component ∙ component_shown);
               words = words_by pieces;
-              asked = place_ok refusals.NoDisk _ wanted (words.1 ∙ ap (λ (l : List Wanted). Ok l) same);
-              sizes = not_when (is_bad_length (held (layout_of group.records v)) wanted) refusals.BadSize (ap (against_longer group.records v) (sym same) ∙ open'.0);
+              asked = words.0;
+              sizes = not_when (is_bad_length (held (layout_of group.records v)) wanted) refusals.BadSize words.1;
               places = place_ok refusals.NoSpace _ spots places;
               ids = ids;
             }

@@ -22,7 +22,7 @@ use Rattle.ldm_group.specs.Order.{Rising, in_order}
 use Rattle.ldm_places.specs.declared.extent.Extent.{Extent}
 use Rattle.ldm_layout.specs.declared.parts.Plex.{Plex}
 use Rattle.ldm_places.specs.declared.shape.Shape.TheVariants.{Mirror}
-use Rattle.ldm_layout.specs.Parts.{by_offset, extent_in, plex_of, plexes_of}
+use Rattle.ldm_layout.specs.Parts.{by_offset, extent_in, plex_of, plexes_of, held_in}
 use Rattle.ldm_layout.specs.Volumes.{layout_of, shape_of}
 use Rattle.ldm_layout.proofs.VolumeLaws.{extents_by, plex_there}
 use Rattle.ldm_rules.specs.Facts.{IsSoundOn}
@@ -40,12 +40,12 @@ use Rattle.ldm_edits.specs.Asked.{has_twins, is_much, words_by}
 use Rattle.ldm_edits.specs.Changes.{when, change_to}
 use Rattle.ldm_edits.specs.Extending.{held}
 use Rattle.ldm_edits.specs.Staying.{leaves, staying}
-use Rattle.ldm_edits.specs.Mirroring.{component_holds, component_in_record, components_of, grown, grown_components, grown_made, grown_parts, held_in, MayGrow}
+use Rattle.ldm_edits.specs.Mirroring.{component_holds, component_in_record, components_of, grown, grown_components, grown_made, grown_parts, MayGrow}
 use Rattle.ldm_edits.specs.Extended.{against_growth, extended_mirror, is_part_on, is_uneven, len_of, IsEven, longer_mirror, on_another, on_others}
 use Rattle.ldm_edits.specs.Replacing.{Replaces, ShowsAs}
-use Rattle.ldm_edits.specs.Spots.{and_then, open_wanted, refused_or, spots_for, wanted_by}
+use Rattle.ldm_edits.specs.Spots.{and_then, open_wanted, refused_or, spots_for}
 use Rattle.ldm_edits.proofs.AdditionLaws.{then_refused}
-use Rattle.ldm_edits.proofs.AskedLaws.{not_refused, place_ok, then_ok}
+use Rattle.ldm_edits.proofs.AskedLaws.{asked_open, place_ok}
 use Rattle.ldm_edits.proofs.GrowLaws.{component_is, grows, shares, volume}
 use Rattle.ldm_edits.proofs.GrownMade.{made_are}
 use Rattle.ldm_edits.proofs.ShownLaws.{layout_shown, opened_shown}
@@ -219,14 +219,12 @@ module _ (own db : Database) (labels : List Label) (v : Volume) (pieces : List P
           → IsEven own.records capacity (components_of v own.records) wanted → 1 ≤ length wanted → length wanted ≡ length pieces → db.header.last < 2 ^ 32
           → max_id db.records + length wanted ≤ 2 ^ 64 - 1 → MayGrow db labels v (len_of wanted) wanted spots
       mirror_may in_db shape capacity_is even some each low ids =
-          let words = then_ok (wanted_by db labels (words_by pieces)) (λ w. refused_or (against_growth db.records v w) (Ok w)) wanted (sym asks_all ∙ asked) in
-          let free = not_refused (against_growth db.records v words.0) (Ok words.0) wanted words.2 in
-          let same : words.0 ≡ wanted = (let e = free.1 in cc) in
+          let words = asked_open db labels (words_by pieces) (against_growth db.records v) wanted (sym asks_all ∙ asked) in
           record {
             there = in_db;
             shape = shape;
             words = words_by pieces;
-            asked = place_ok refusals.NoDisk _ wanted (words.1 ∙ ap (λ (l : List Wanted). Ok l) same);
+            asked = words.0;
             one_each = each ∙ many_all;
             sizes = even.same;
             some = even.len (omega arith);

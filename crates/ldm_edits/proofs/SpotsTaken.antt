@@ -1,6 +1,5 @@
 -- What is taken when a volume grows: its partitions stay, and the new ones take the spots that were found for them.
-use Rattle.std.proofs.Common.{◌≡◌, ℕ, ◌++◌, List, [], ◌∷◌, refl, sym, ap, ◌∙◌, Bool, true, false, cond, not, map, ◌||◌}
-use Rattle.std.specs.Prelude.{filter}
+use Rattle.std.proofs.Common.{◌≡◌, ℕ, ◌++◌, List, [], ◌∷◌, refl, sym, ap, ◌∙◌, Bool, false, map, ◌||◌}
 use Rattle.std.proofs.lemmas.List.Elements.{filter_map-append}
 use Rattle.std.proofs.lemmas.List.Sorted.{IsPermutation-append_comm}
 use Rattle.ldm_records.specs.declared.types.Record.{Record}
@@ -14,7 +13,7 @@ use Rattle.ldm_made.specs.declared.taken.Taken.{Taken}
 use Rattle.ldm_space.specs.Free.{is_taken, taken_by, taken_of, taken_in}
 use Rattle.ldm_space.specs.Placed.{AreMapsOf}
 use Rattle.ldm_space.specs.declared.placed.FreeMaps.{FreeMaps}
-use Rattle.ldm_space.proofs.FreeLaws.{taken_both, taken_moved, taken_permuted}
+use Rattle.ldm_space.proofs.FreeLaws.{taken_both, taken_moved, taken_permuted, kept_taken}
 use Rattle.ldm_space.proofs.GapLaws.{maps_same}
 use Rattle.ldm_space.specs.declared.placed.Wanted.{Wanted}
 use Rattle.ldm_label.specs.declared.Label.{Label}
@@ -25,31 +24,11 @@ use Rattle.ldm_edits.specs.Changes.{Change}
 use Rattle.ldm_edits.specs.Extending.{held, lengthened, MayExtend}
 use Rattle.ldm_edits.specs.declared.leaving.Leaving.{Leaving}
 use Rattle.ldm_edits.specs.Staying.{leaves, staying}
-use Rattle.ldm_edits.proofs.Longer.{Lengthens, lengthens, longer_records, spots_are}
-use Rattle.ldm_edits.proofs.Shares.{Share, news, records_of, parts_of}
+use Rattle.ldm_edits.proofs.Longer.{Lengthens, lengthens, spots_are}
+use Rattle.ldm_rules.proofs.RemadeLaws.{longer_records, Share, news, records_of, parts_of}
+use Rattle.ldm_group.proofs.ListLaws.{named_all}
 
 -- ---- what stays
-
--- without some records of which none is a partition
-kept_taken : (t : Record → Bool) → ((p : Partition) → t (kinds.Partition p) ≡ false) → (records : List Record)
-    → taken_in (filter (λ r. not (t r)) records) ≡ taken_in records
-kept_taken t none [] = refl
-kept_taken t none (r ∷ rs) = go r (kept_taken t none rs)
-  where
-    rest : List Record
-    rest = filter (λ r. not (t r)) rs
-
-    either : (b : Bool) (s : Record) → taken_in (s ∷ rest) ≡ taken_in rest → taken_in (cond b (s ∷ rest) rest) ≡ taken_in rest
-    either true s same = same
-    either false s same = refl
-
-    go : (s : Record) → taken_in rest ≡ taken_in rs → taken_in (cond (not (t s)) (s ∷ rest) rest) ≡ taken_in (s ∷ rs)
-    go (kinds.Group g) same = either (not (t (kinds.Group g))) (kinds.Group g) refl ∙ same
-    go (kinds.Disk d) same = either (not (t (kinds.Disk d))) (kinds.Disk d) refl ∙ same
-    go (kinds.Volume v) same = either (not (t (kinds.Volume v))) (kinds.Volume v) refl ∙ same
-    go (kinds.Component c) same = either (not (t (kinds.Component c))) (kinds.Component c) refl ∙ same
-    go (kinds.Partition p) same =
-        ap (λ (b : Bool). taken_in (cond (not b) (kinds.Partition p ∷ rest) rest)) (none p) ∙ ap (λ (l : List Taken). taken_of p ∷ l) same
 
 -- where no partition leaves, the same is taken
 pub stays_taken : (leaving : Leaving) (records : List Record) → ((p : Partition) → leaves leaving records (kinds.Partition p) ≡ false)
@@ -58,17 +37,13 @@ stays_taken leaving records none = kept_taken (leaves leaving records) none reco
 
 -- ---- what is made
 
-parts_taken : (parts : List Partition) → taken_in (records_of parts) ≡ map taken_of parts
-parts_taken [] = refl
-parts_taken (p ∷ parts) = ap (λ (l : List Taken). taken_of p ∷ l) (parts_taken parts)
-
 news_taken : (ss : List Share) (rest : List Record) → taken_in (news ss ++ rest) ≡ taken_in rest
 news_taken [] rest = refl
 news_taken (s ∷ ss) rest = news_taken ss rest
 
 -- the new partitions of a longer volume alone take sectors
 pub longer_takes : (w : Volume) (ss : List Share) → taken_in (longer_records w ss) ≡ map taken_of (parts_of ss)
-longer_takes w ss = news_taken ss (records_of (parts_of ss)) ∙ parts_taken (parts_of ss)
+longer_takes w ss = news_taken ss (records_of (parts_of ss)) ∙ named_all taken_by kinds.Partition taken_of (λ p. refl) (parts_of ss)
 
 pub lengthens_take : {labels : List Label} {old : List Record} {change : Change} {v w : Volume} {len : ℕ} {ss : List Share} → Lengthens labels old change v w len ss
     → taken_in change.made ≡ map taken_of (parts_of ss)

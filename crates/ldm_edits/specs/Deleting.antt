@@ -9,7 +9,6 @@ use Rattle.ldm_edits.specs.declared.reply.Refusal.{Refusal}
 use Rattle.ldm_edits.specs.declared.reply.Refusal.TheVariants as refusals
 use Rattle.ldm_edits.specs.Changes.{Change, change_to}
 use Rattle.ldm_edits.specs.Staying.{change_of}
-pub use Rattle.ldm_edits.specs.Staying.{goes}
 
 abbrev pub without : Volume → List Record → Change
 without v records = change_of (leavings.Deleted v.head.id) records []

@@ -12,7 +12,7 @@ use Rattle.ldm_group.specs.Database.{Database}
 use Rattle.ldm_group.specs.Looks.{is_at, is_child, max_id}
 use Rattle.ldm_places.specs.declared.extent.Extent.{Extent}
 use Rattle.ldm_places.specs.declared.shape.Shape.TheVariants.{Mirror}
-use Rattle.ldm_layout.specs.Parts.{plexes_of, extents_of, by_offset}
+use Rattle.ldm_layout.specs.Parts.{plexes_of, extents_of, by_offset, held_in}
 use Rattle.ldm_layout.specs.Volumes.{layout_of, shape_of}
 use Rattle.ldm_rules.specs.Ends.{data_size}
 use Rattle.ldm_made.specs.declared.taken.Taken.{Taken}
@@ -25,10 +25,6 @@ use Rattle.ldm_edits.specs.declared.leaving.Leaving.TheVariants as leavings
 use Rattle.ldm_edits.specs.Staying.{change_of}
 use Rattle.ldm_edits.specs.Changes.{Change}
 use Rattle.ldm_edits.specs.Extending.{held}
-
--- what partitions hold
-abbrev pub held_in : List Extent → ℕ
-held_in es = sum_by (λ e. e.size) es
 
 -- the volume and its components are changed
 abbrev pub mirror_changes : Volume → Record → Bool

@@ -8,8 +8,8 @@ ghost use Rattle.ldm_made.specs.Made.{resized, with_children};
 ghost use Rattle.ldm_group.specs.Looks.{is_child};
 ghost use Rattle.ldm_made.specs.Volumes.{there};
 ghost use Rattle.ldm_edits.specs.Mirroring.{component_in_record, component_holds, grown_components};
-ghost use Rattle.ldm_edits.specs.Mirroring.{grown_parts, held_in};
-ghost use Rattle.ldm_layout.specs.Parts.{extents_of, by_offset};
+ghost use Rattle.ldm_edits.specs.Mirroring.{grown_parts};
+ghost use Rattle.ldm_layout.specs.Parts.{extents_of, by_offset, held_in};
 
 use ldm_bytes::NoMemory;
 use ldm_group::Db;

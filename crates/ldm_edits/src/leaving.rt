@@ -2,7 +2,7 @@
 ghost use Rattle.std.specs.Prelude.{◌≡◌, IfOk};
 ghost use Rattle.ldm_group.specs.Looks.{is_at, is_child};
 ghost use Rattle.ldm_group.specs.Order.{Rising};
-ghost use Rattle.ldm_edits.specs.Deleting.{goes};
+ghost use Rattle.ldm_layout.specs.Parts.{is_of_volume};
 ghost use Rattle.ldm_edits.specs.Staying.{is_component_of, leaves, staying};
 
 use ldm_bytes::NoMemory;
@@ -33,7 +33,7 @@ fn is_component_of(db: &Db, component: u64, volume: u64) -> bool
 
 // Whether the record is the volume of this id, one of its components, or one of their partitions.
 fn goes(db: &Db, volume: u64, r: &Record) -> bool
-    ensures { result ≡ goes volume db.now.records r.now }
+    ensures { result ≡ is_of_volume volume db.now.records r.now }
 {
     let _rising = db.as_slice();
     match r {

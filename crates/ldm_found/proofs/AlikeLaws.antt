@@ -30,7 +30,7 @@ same_blocked a b labels same =
     let last = ap (λ (core : Core). core.last) same in
     rw (records, last)
 
-same_seq : (a b : Database) → IsSameCore a b → a.header.seq ≡ b.header.seq
+pub same_seq : (a b : Database) → IsSameCore a b → a.header.seq ≡ b.header.seq
 same_seq a b same = ap (λ (core : Core). core.seq) same
 
 unless_alike : (fault : Option OpenFault) (a b : Found) → TellsSame a b → AnswerAlike (unless fault a) (unless fault b)

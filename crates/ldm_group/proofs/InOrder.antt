@@ -112,17 +112,16 @@ made_next stay made r there = Contains-permutation (stay ++ made) (in_order (sta
 pub one_next : (xs ys : List Record) → IsPermutation xs ys → Rising ys → Rising (in_order xs) → ys ≡ in_order xs
 one_next xs ys same up vp = one_rising xs ys (in_order xs) same (in_order_same xs) up vp
 
--- and no two have one place
+-- no two of a rising list have one place
+pub one_place : (n : ℕ) (rs : List Record) → Rising rs → 2 ≤ count_at n rs → ⊥
+one_place n [] rise two = omega arith
+one_place n (r ∷ rs) rise two =
+    let at = two_places (λ (s : Record). place_of s == n) (r ∷ rs) r two in
+    let below : place_of (get_or (r ∷ rs) at.0 r) < place_of (get_or (r ∷ rs) at.1 r) = rise at.0 at.1 r at.2 at.3 in
+    let one = eqb-true _ _ at.4 in
+    let other = eqb-true _ _ at.5 in
+    omega arith
+
 pub never_twice : (xs : List Record) (kind id : ℕ) → Rising (in_order xs) → IsLeastTwice xs kind id → ⊥
-never_twice xs kind id up twice =
-    let many : 2 ≤ count_at (place kind id) (in_order xs) = subst (λ (n : ℕ). 2 ≤ n) (sym (count_kept (place kind id) xs (in_order xs) (in_order_same xs))) twice.twice in
-    go (in_order xs) up many
-  where
-    go : (ys : List Record) → Rising ys → 2 ≤ count_at (place kind id) ys → ⊥
-    go [] rise two = omega arith
-    go (r ∷ rs) rise two =
-        let at = two_places (λ (s : Record). place_of s == place kind id) (r ∷ rs) r two in
-        let below : place_of (get_or (r ∷ rs) at.0 r) < place_of (get_or (r ∷ rs) at.1 r) = rise at.0 at.1 r at.2 at.3 in
-        let one = eqb-true _ _ at.4 in
-        let other = eqb-true _ _ at.5 in
-        omega arith
+never_twice xs kind id up twice = one_place (place kind id) (in_order xs) up
+    (subst (λ (n : ℕ). 2 ≤ n) (sym (count_kept (place kind id) xs (in_order xs) (in_order_same xs))) twice.twice)

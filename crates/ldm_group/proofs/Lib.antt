@@ -11,3 +11,5 @@ pub mod HitLaws
 pub mod KeyLaws
 pub mod UsedLaws
 pub mod LastLaws
+pub mod ListLaws
+pub mod AddedLaws

@@ -23,6 +23,16 @@ need_of-spellings (r ∷ rest) =
 own_spelling-some : (p : Plain) → 1 ≤ length (own_spelling p)
 own_spelling-some p = omega arith
 
+-- each record takes a block at least
+pub few_records : (records : List Record) → length records ≤ need_of records
+unfolding own_len
+few_records [] = omega arith
+few_records (r ∷ records) =
+    let some : 1 ≤ own_len r = own_spelling-some (plain_of r) in
+    let here : 1 ≤ parts_of (own_len r) = omega arith in
+    let rest : length records ≤ need_of records = few_records records in
+    omega (arith, sum_by-cons (λ (r : Record). parts_of (own_len r)) r records)
+
 -- and each payload may be written where the records fit
 pub sized_spellings : (records : List Record) → All IsFitting records → All IsSized (map (λ r. own_spelling (plain_of r)) records)
 unfolding own_len

@@ -30,6 +30,8 @@ use Rattle.std.proofs.lemmas.Option.{slice_get_within, slice_get-get_or, get_or_
 use Rattle.ldm_label.specs.Written.{IsWritable}
 use Rattle.ldm_found.specs.New.{HasOwnArea}
 use Rattle.ldm_init.specs.Moments.{CanTake}
+use Rattle.ldm_group.proofs.AddedLaws.{alone_rises}
+use Rattle.ldm_group.proofs.ListLaws.{only_one}
 
 -- ---- The records of a new group: they rise, each takes one block, and there is one for each disk.
 
@@ -40,13 +42,6 @@ there_more (Some x ∷ xs) r = ap (λ (l : List Record). x ∷ l) (there_more xs
 
 only : (P : Record → Type 0) (r : Record) → P r → All P (r ∷ [])
 only P r holds = All-from_recursion P (r ∷ []) (holds, tt)
-
-alone : (r : Record) → Rising (r ∷ [])
-alone r i j d less lt = absurd (omega arith)
-
-contains_one : (r s : Record) → Contains (r ∷ []) s → r ≡ s
-contains_one r s (zero, lt, is) = is
-contains_one r s (suc k, lt, is) = absurd (omega arith)
 
 -- a record of at most 112 bytes takes one block
 few_blocks : (records : List Record) → All (λ r. own_len r ≤ 112) records → need_of records ≤ length records
@@ -94,7 +89,7 @@ module _ (name : List ℕ) (guid : ℕ) (guids : List ℕ) where
           made = [];
           records_are = is;
           guids_are = refl;
-          rising = subst Rising (sym is) (alone r);
+          rising = subst Rising (sym is) (alone_rises r);
           low = subst (All (λ r. place_of r < 2 * 2 ^ 64 + (0 + 2))) (sym is) (only (λ r. place_of r < 2 * 2 ^ 64 + (0 + 2)) r place);
           small = subst (All (λ r. own_len r ≤ 112)) (sym is) (only (λ r. own_len r ≤ 112) r len);
           count = ap length is;
@@ -112,7 +107,7 @@ module _ (name : List ℕ) (guid : ℕ) (guids : List ℕ) where
         let place : place_of r ≡ 2 * 2 ^ 64 + (disks + 2) = omega (arith, m.id_is) in
         let len : own_len r ≤ 112 = omega (arith, m.len_is, long, number_len (disks + 2) (omega arith)) in
         let behind : (x y : Record) → Contains (records disks) x → Contains (r ∷ []) y → place_of x < place_of y =
-        λ x y at_x at_y. omega (arith, place, before.low at_x.0 x at_x.1, ap place_of at_x.2, ap place_of (contains_one r y at_y)) in
+        λ x y at_x at_y. omega (arith, place, before.low at_x.0 x at_x.1, ap place_of at_x.2, ap place_of (only_one r y at_y)) in
         record {
           group = before.group;
           made = before.made ++ m.disk ∷ [];
@@ -122,7 +117,7 @@ module _ (name : List ℕ) (guid : ℕ) (guids : List ℕ) where
               ∙ ap (λ (l : List ℕ). l ++ m.disk.guid ∷ []) before.guids_are
               ∙ ap (λ (g : ℕ). map (slice_index guids) (range_with_len 0 disks) ++ g ∷ []) m.guid_is
               ∙ sym (map-range_with_len_more (slice_index guids) 0 disks disks (omega arith));
-          rising = subst Rising (sym is) (pairs_append (λ a b. place_of a < place_of b) (records disks) (r ∷ []) before.rising (alone r) behind);
+          rising = subst Rising (sym is) (pairs_append (λ a b. place_of a < place_of b) (records disks) (r ∷ []) before.rising (alone_rises r) behind);
           low =
               subst (All (λ r. place_of r < 2 * 2 ^ 64 + (disks + 1 + 2))) (sym is)
               (All-append (λ r. place_of r < 2 * 2 ^ 64 + (disks + 1 + 2)) (records disks) (r ∷ []) (λ k d le. omega (arith, before.low k d le)) (only (λ r. place_of r < 2 * 2 ^ 64 + (disks + 1 + 2)) r (omega (arith, place))));

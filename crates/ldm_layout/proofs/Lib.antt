@@ -1,2 +1,3 @@
 pub mod SortLaws
 pub mod VolumeLaws
+pub mod HeldLaws

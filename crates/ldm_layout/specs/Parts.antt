@@ -1,5 +1,5 @@
 -- What a layout is made of: the components of a volume (plexes), and the partitions of a component (extents), in their orders.
-use Rattle.std.specs.Prelude.{ℕ, ◌+◌, ◌*◌, ◌^◌, ◌==◌, ◌&&◌, min, Bool, true, false, List, [], ◌∷◌, Option, Some, None, filter, nat_le, unwrap_or, if◌then◌else◌}
+use Rattle.std.specs.Prelude.{ℕ, ◌+◌, ◌*◌, ◌^◌, ◌==◌, ◌&&◌, min, Bool, true, false, List, [], ◌∷◌, Option, Some, None, filter, nat_le, sum_by, unwrap_or, if◌then◌else◌}
 use Rattle.std.specs.List.{filter_map, list_any}
 use Rattle.ldm_records.specs.declared.types.Record.{Record}
 use Rattle.ldm_records.specs.declared.types.Record.TheVariants as kinds
@@ -56,6 +56,10 @@ tile_key e = e.offset * 2 ^ 64 + e.size
 abbrev pub by_offset : List Extent → List Extent
 by_offset es = in_rising tile_key es
 
+-- what partitions hold
+abbrev pub held_in : List Extent → ℕ
+held_in es = sum_by (λ e. e.size) es
+
 abbrev pub by_index : List Extent → List Extent
 by_index es = in_rising (λ e. e.index) es
 
@@ -63,3 +67,10 @@ by_index es = in_rising (λ e. e.index) es
 abbrev pub is_partition_of : ℕ → List Record → Record → Bool
 is_partition_of volume records (kinds.Partition p) = list_any (λ plex. plex.id == p.parent) (plexes_of volume records)
 is_partition_of volume records _ = false
+
+-- the volume of this id, one of its components, or one of their partitions
+abbrev pub is_of_volume : ℕ → List Record → Record → Bool
+is_of_volume volume records (kinds.Volume v) = v.head.id == volume
+is_of_volume volume records (kinds.Component c) = c.parent == volume
+is_of_volume volume records (kinds.Partition p) = is_partition_of volume records (kinds.Partition p)
+is_of_volume volume records _ = false

@@ -44,10 +44,10 @@ column_push id c n (u ∷ ts) t =
     ∙ (λ i. first ∷ (column_parts (id + 1) c (n + 1) ts ++ new_partition (e i) t.start 0 t.size c t.disk (Some (s i)) ∷ []))
 
 -- one more that is made is there
-there_push : (xs : List (Option Record)) (o : Option Record) (r : Record) → o ≡ Some r → there (xs ++ o ∷ []) ≡ there xs ++ r ∷ []
+pub there_push : (xs : List (Option Record)) (o : Option Record) (r : Record) → o ≡ Some r → there (xs ++ o ∷ []) ≡ there xs ++ r ∷ []
 there_push xs o r e = filter_map-append (λ (x : Option Record). x) xs (o ∷ []) ∙ ap (λ (x : Option Record). there xs ++ cons_option x []) e
 
-grown : (before : List Record) (xs ys : List (Option Record)) (o : Option Record) (r : Record) (items pushed : List Record) → items ≡ before ++ there xs → ys ≡ xs ++ o ∷ [] → o ≡ Some r → pushed ≡ items ++ r ∷ []
+pub grown : (before : List Record) (xs ys : List (Option Record)) (o : Option Record) (r : Record) (items pushed : List Record) → items ≡ before ++ there xs → ys ≡ xs ++ o ∷ [] → o ≡ Some r → pushed ≡ items ++ r ∷ []
     → pushed ≡ before ++ there ys
 grown before xs ys o r items pushed is more e push = grind (arith, append_assoc, there_push)
 

@@ -2,8 +2,8 @@
 -- new.
 use Rattle.std.proofs.Common.{◌≡◌, ◌⊎◌, inl, inr, ℕ, ◌≤◌, ◌==◌, not, List, get_or, refl, sym, ap, subst, ◌∙◌, arith, true, false, None, Ok, Contains, count_by, zero, suc, ◌+◌, ◌<◌, Bool, cond, [], ◌∷◌, length, slice_get, Some, find, position}
 use Rattle.std.proofs.lemmas.Grind.{common_steps}
-use Rattle.std.specs.Prelude.{filter, is_none, map, nat_le, nat_lt}
-use Rattle.std.proofs.lemmas.Bool.{not-false, eqb-true, eq-eqb, cases_lt, false≢true}
+use Rattle.std.specs.Prelude.{filter, is_none, map, nat_le, nat_lt, sum_by}
+use Rattle.std.proofs.lemmas.Bool.{not-false, eqb-true, eq-eqb, cases_lt, false≢true, eqb-false}
 use Rattle.ldm_records.specs.declared.types.Record.{Record}
 use Rattle.ldm_records.specs.declared.types.Record.TheVariants as kinds
 use Rattle.ldm_records.specs.declared.types.GroupRec.{GroupRec}
@@ -17,10 +17,10 @@ use Rattle.ldm_group.proofs.KinLaws.{filter_count, kin_same, counted_there, ther
 use Rattle.ldm_group.proofs.KindLaws.{at_volume, at_component, child_component, child_partition}
 use Rattle.ldm_label.specs.declared.Label.{Label}
 use Rattle.ldm_places.specs.Layouts.{Layout}
-use Rattle.ldm_layout.specs.Parts.{plexes_of}
+use Rattle.ldm_layout.specs.Parts.{plexes_of, extents_of, by_offset, tile_key}
 use Rattle.ldm_layout.specs.Volumes.{layout_of}
 use Rattle.ldm_layout.specs.declared.parts.Plex.{Plex}
-use Rattle.ldm_layout.proofs.VolumeLaws.{same_layout, plexes_are}
+use Rattle.ldm_layout.proofs.VolumeLaws.{same_layout, plexes_are, rising_sum, few_by, many_extents, IsExtentOf, extents_are}
 use Rattle.ldm_rules.specs.Ends.{data_size}
 use Rattle.ldm_rules.specs.Rules.{first_broken, has_namesake, lacks_volume, lacks_component, lacks_disk, miscounts_components, miscounts_partitions, has_no_sectors, is_short_fault, passes_end, has_layout_fault, passes_layout, group_id, group_fault, has_twin_guid, meets_another}
 use Rattle.ldm_rules.proofs.GroupLaws.{not_broken, SameHeads, none_by, laid_none, ends_kept, group_kept, guids_kept, NoneMeet, meet_none}
@@ -29,7 +29,7 @@ use Rattle.std.specs.List.{filter_map, position_or_len}
 use Rattle.std.specs.Option.{option_map}
 use Rattle.std.proofs.lemmas.Bool.Decides.{nat_tests}
 use Rattle.std.proofs.lemmas.List.{length-map, get_or-map}
-use Rattle.std.proofs.lemmas.List.Sums.{sum_by-cons, fails_before_first, position_or_len_is}
+use Rattle.std.proofs.lemmas.List.Sums.{sum_by-cons, fails_before_first, position_or_len_is, length-filter}
 use Rattle.std.proofs.lemmas.Option.{get_or_from_slice_get}
 use Rattle.ldm_group.proofs.Rise.{tested, two_places}
 use Rattle.ldm_rules.specs.Facts.{AreApart, stranger}
@@ -37,6 +37,7 @@ use Rattle.ldm_rules.specs.New.{IsNewOn}
 use Rattle.ldm_rules.specs.Present.{is_absent}
 use Rattle.ldm_label.specs.Present.{image_with, has_guid}
 use Rattle.ldm_rules.specs.Table.{IsSound}
+use Rattle.ldm_places.specs.declared.extent.Extent.{Extent}
 
 -- ---- A change carries the rules of a group over: a record of the next group that was there has the same kin as before, and one that is
 -- new keeps the rules itself.
@@ -377,3 +378,21 @@ none_absent records labels new =
     some_position (has_guid (get_or new.disks k e).guid) labels k at.0 (omega arith)
     (ap (has_guid (get_or new.disks k e).guid) (get_or_from_slice_get labels k at.0 at.0 at.1) ∙ eq-eqb _ _ at.2) in
     subst (λ (l : List Record). find (is_absent labels) l ≡ None) (sym new.records_are) (find_heads (is_absent labels) new.group new.disks refl there)
+
+-- ---- what the partitions of a component hold
+
+-- the partitions of a component are at most the sectors that they hold
+pub few_children : (old : List Record) (labels : List Label) (c : Component) → EachRule old labels → Contains old (kinds.Component c)
+    → c.children ≤ sum_by (λ (e : Extent). e.size) (by_offset (extents_of c.head.id old))
+few_children old labels c each at =
+    let counted = (component_kept old labels each c at).counted in
+    let many : length (extents_of c.head.id old) ≡ children_of 4 c.head.id old = sym (many_extents c.head.id old) ∙ length-filter (is_child 4 c.head.id) old in
+    let few = few_by (λ (e : Extent). e.size) (extents_of c.head.id old) (λ k d lt. some (get_or (extents_of c.head.id old) k d) (extents_are old c.head.id k d lt)) in
+    let sum = rising_sum tile_key (extents_of c.head.id old) in
+    omega arith
+  where
+    some : (e : Extent) → IsExtentOf old c.head.id e → 1 ≤ e.size
+    some e is =
+        let none = eqb-false is.partition.size 0 (partition_kept old labels each is.partition is.there).some in
+        let same : is.partition.size ≡ e.size = ap (λ (x : Extent). x.size) is.is in
+        omega arith

@@ -3,3 +3,4 @@ pub mod GroupLaws
 pub mod SoundLaws
 pub mod PresentLaws
 pub mod CarryLaws
+pub mod RemadeLaws

@@ -10,7 +10,7 @@ use Rattle.std.proofs.lemmas.Option.{slice_get-get_or}
 use Rattle.ldm_records.specs.declared.types.Record.{Record}
 use Rattle.ldm_records.specs.declared.types.Record.TheVariants as kinds
 use Rattle.ldm_records.specs.declared.types.Volume.{Volume}
-use Rattle.ldm_places.proofs.SpotLaws.{none, HasNone, PlexFacts, plex_facts, has_none, IsInside, plex_spot_inside, parity_inside, plex_spot_apart, parity_beside, parity_spot_shared, parity_spot_same}
+use Rattle.ldm_places.proofs.SpotLaws.{none, HasNone, PlexFacts, plex_facts, has_none, IsInside, plex_spot_inside, parity_inside, plex_spot_apart, parity_beside, parity_spot_shared, parity_spot_same, some_same}
 use Rattle.ldm_layout.proofs.VolumeLaws.{IsLaidOut, laid_out_volume, laid_all, IsExtentOf, extents_are, plexes_are, one_plex, plex_once, one_volume}
 use Rattle.ldm_places.specs.Layouts.{Layout, is_tiled, plex_spot, parity_at, spot_in, parity_spot_in, place_in, parity_in, place_at, copies_by, copies_of, parity_spot}
 use Rattle.ldm_layout.specs.Parts.{plexes_of, extents_of, extent_of}
@@ -166,9 +166,6 @@ pub columns_are : (l : Layout) → l.shape ≡ Raid5 → HasNone l → 0 < lengt
 columns_are l raid5 has h = grind (arith, not-false, not_from_false, AllPass-from_list_all, eqb-true, and_parts)
 
 -- ---- In a sound group no two sectors have one place.
-
-some_same : {A : Type 0} {a b : A} → Some a ≡ Some b → a ≡ b
-some_same h = cc
 
 ok_same : {a b : Layout} {r : Result Layout LayoutFault} → r ≡ Ok a → r ≡ Ok b → a ≡ b
 ok_same h e = cc

@@ -25,8 +25,6 @@ use Rattle.ldm_vectors.specs.Script as script
 use Rattle.ldm_run.specs.Scripts.{command_in, is_refused, is_long_script, commands_in, replies_from, unless_blocked, try_answer}
 use Rattle.ldm_run.specs.Sample.{sample_lines, text_of_summary, summary_of, IsSampleAnswer, IsSampleStart, IsSampleHost}
 use Rattle.ldm_run.proofs.LineLaws.{line_count, line_count-append, decimal_no_end, reply_lines, replies_length}
-use Rattle.std.proofs.Props.{props}
-use mathlib.Core.HLevel.{is_prop→PathP}
 use Rattle.ldm_memory.specs.declared.memory.MemoryHost.{MemoryHost}
 use Rattle.ldm_host.specs.Moves.{Settled}
 use Rattle.ldm_memory.specs.Memory.{memory_seen, host_counts}
@@ -39,8 +37,6 @@ use Rattle.ldm_found.specs.Opening.{IsGroupIn}
 use Rattle.ldm_found.proofs.GroupLaws.{one_group}
 use Rattle.ldm_store.proofs.SettleLaws.{same_found}
 use Rattle.ldm_replies.specs.Reply.{text_of_replies}
-use Rattle.ldm_vmdb.specs.declared.header.Header.{Header}
-use Rattle.ldm_vmdb.specs.Sectors.{IsKeptHeader}
 use Rattle.ldm_vectors.specs.Sample.{AreSampleImages, IsSampleGroup, IsSampleDatabase}
 use Rattle.ldm_vectors.specs.Script.{script_of}
 use Rattle.ldm_words.specs.declared.status.Status.{Status}
@@ -51,6 +47,7 @@ use Rattle.ldm_run.specs.Answer.{IsAnswerToScript}
 use Rattle.ldm_run.specs.Stops.{lines_unless, commands_of, answered, Reopens}
 use Rattle.ldm_run.specs.Written.{HoldsAfter}
 use Rattle.ldm_run.specs.Runs.{DoesJob}
+use Rattle.ldm_vmdb.proofs.HeaderLaws.{same_header}
 
 -- ---- The lines of the sample script begin no batch: so each of them is done or refused.
 
@@ -230,19 +227,6 @@ undone_refused labels db seed = all_plain labels db (sample_lines seed) (sample_
 -- ---- What a host in memory has been through that did the sample script, and its summary.
 
 -- ---- one answer
-
-kept_prop : (name : List ℕ) (guid : ℕ) (raw : List ℕ) → IsProp (IsKeptHeader name guid raw)
-kept_prop name guid raw = hlevel props
-
-same_header : (a b : Header) → a.last ≡ b.last → a.seq ≡ b.seq → a.name ≡ b.name → a.guid ≡ b.guid → a.raw ≡ b.raw → a ≡ b
-same_header a b last seq name guid raw = λ i. record {
-  last = last i;
-  seq = seq i;
-  name = name i;
-  guid = guid i;
-  raw = raw i;
-  kept = is_prop→PathP (λ j. IsKeptHeader (name j) (guid j) (raw j)) (λ j. kept_prop (name j) (guid j) (raw j)) a.kept b.kept i;
-}
 
 one_database : (disks last : ℕ) (a b : Database) → IsSampleDatabase disks last a → IsSampleDatabase disks last b → a ≡ b
 one_database disks last a b x y =

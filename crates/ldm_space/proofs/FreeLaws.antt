@@ -1,24 +1,27 @@
 -- Free sectors: the first fit is exactly the least free start, and what is placed one after the
 -- other lies apart.
-use Rattle.std.proofs.Common.{◌≡◌, inl, inr, ℕ, zero, suc, ◌+◌, ◌-◌, ◌<◌, ◌≤◌, ◌==◌, max, min, not, List, [], ◌∷◌, length, get_or, refl, sym, ap, ◌∙◌, arith, Bool, true, false, cond, ltb, Option, Some, None, ◌||◌, ◌++◌, drop, append_assoc, Result, Ok, Err, drop-cons, subst}
+use Rattle.std.proofs.Common.{◌≡◌, inl, inr, ℕ, zero, suc, ◌+◌, ◌-◌, ◌<◌, ◌≤◌, ◌==◌, max, min, not, List, [], ◌∷◌, length, get_or, refl, sym, ap, ◌∙◌, arith, Bool, true, false, cond, ltb, Option, Some, None, ◌||◌, ◌++◌, drop, append_assoc, Result, Ok, Err, drop-cons, subst, map, sum}
 use Rattle.std.proofs.lemmas.Grind.{common_steps}
-use Rattle.std.specs.List.{Contains, list_any, cons_option, filter_map}
+use Rattle.std.specs.List.{Contains, list_any, cons_option, filter_map, All}
 use Rattle.std.proofs.lemmas.Bool.{cases_order, not-true, not-false, ltb-true, ltb-false, lt-ltb, le-ltb, cond-false, false_from_ne_true, false≢true, and_parts, and_from, ne_eqb, eq-eqb, cases_eq}
 use Rattle.std.proofs.lemmas.List.Folds.{list_any_at, list_any-append}
 use Rattle.std.specs.List.Sorted.{IsPermutation}
 use Rattle.std.proofs.lemmas.List.Sorted.{list_any-IsPermutation, IsPermutation-middle, IsPermutation-append_comm}
 use Rattle.ldm_bytes.proofs.NumberLaws.{some_is}
-use Rattle.std.proofs.lemmas.List.Elements.{filter_map-append, All-cons, All-tail, All-nil, Contains-get_or}
+use Rattle.std.proofs.lemmas.List.Elements.{filter_map-append, All-cons, All-tail, All-nil, Contains-get_or, All-contains}
 use Rattle.std.proofs.lemmas.List.{take_more, drop_all, append-nil}
-use Rattle.std.specs.Prelude.{take}
+use Rattle.std.specs.Prelude.{take, sum_by, filter}
 use Rattle.ldm_records.specs.declared.types.Record.{Record}
 use Rattle.ldm_group.proofs.KinLaws.{named_there}
 use Rattle.ldm_made.specs.declared.taken.Taken.{Taken}
-use Rattle.ldm_space.specs.Free.{taken_by, taken_in, takes_one, is_taken, first_from, first_free_start, past, IsFirstFree, HasNoFree, clash}
+use Rattle.ldm_space.specs.Free.{taken_by, taken_in, takes_one, is_taken, first_from, first_free_start, past, IsFirstFree, HasNoFree, clash, taken_of}
 use Rattle.std.specs.Option.{option_map}
 use Rattle.ldm_space.specs.declared.placed.Wanted.{Wanted}
 use Rattle.ldm_space.specs.Wanted.{placing, first_fit, in_front, place_rest, placed}
 use Rattle.ldm_space.specs.Placed.{AreFirstFits, AreDisjoint, AllEndWithin, AllLimited}
+use Rattle.std.proofs.lemmas.List.Sums.{sum-map}
+use Rattle.ldm_records.specs.declared.types.Record.TheVariants as kinds
+use Rattle.ldm_records.specs.declared.types.Partition.{Partition}
 
 -- ---- The first fit is exactly the least free start.
 
@@ -302,3 +305,53 @@ eqb_back a b = grind (arith, cases_eq, eq-eqb, ne_eqb)
 
 pub clash_back : (a b : Taken) → clash a b ≡ clash b a
 clash_back a b = grind (arith, eqb_back)
+
+-- ---- what was asked for, and what is taken
+
+-- partitions at their first fits take what was asked for
+pub fits_sizes : (wanted : List Wanted) (taken spots : List Taken) → AreFirstFits taken wanted spots → map (λ t. t.size) spots ≡ map (λ w. w.size) wanted
+fits_sizes [] taken [] h = refl
+fits_sizes [] taken (s ∷ spots) h = absurd h
+fits_sizes (w ∷ more) taken [] h = absurd h
+fits_sizes (w ∷ more) taken (s ∷ spots) h = λ i. sym h.0.size i ∷ fits_sizes more (s ∷ taken) spots h.1 i
+
+pub taken_sum : (wanted : List Wanted) (taken spots : List Taken) → AreFirstFits taken wanted spots → sum_by (λ (t : Taken). t.size) spots ≡ sum_by (λ (w : Wanted). w.size) wanted
+taken_sum wanted taken spots h = sym (sum-map (λ (t : Taken). t.size) spots) ∙ ap sum (fits_sizes wanted taken spots h) ∙ sum-map (λ (w : Wanted). w.size) wanted
+
+pub taken_from : (wanted : List Wanted) (taken spots : List Taken) (t : Taken) → AreFirstFits taken wanted spots → Contains spots t
+    → (w : Wanted) × Contains wanted w × (w.disk ≡ t.disk) × (w.size ≡ t.size)
+taken_from wanted taken [] t h (k, lt, is) = absurd (omega arith)
+taken_from [] taken (s ∷ spots) t h at = absurd h
+taken_from (w ∷ more) taken (s ∷ spots) t h (zero, lt, is) = (w, (0, omega arith, refl), h.0.disk ∙ ap (λ (x : Taken). x.disk) is, h.0.size ∙ ap (λ (x : Taken). x.size) is)
+taken_from (w ∷ more) taken (s ∷ spots) t h (suc k, lt, is) = (let rest = taken_from more (s ∷ taken) spots t h.1 (k, omega arith, is) in (rest.0, (suc rest.1.0, (let in' = rest.1.1 in omega arith), rest.1.2), rest.2, rest.3))
+
+-- what holds of what is asked for, wherever it is placed
+pub taken_all : (P : Taken → Type 0) (wanted : List Wanted) (taken spots : List Taken) → AreFirstFits taken wanted spots → All (λ w. (start : ℕ) → P (placing w start)) wanted → All P spots
+taken_all P wanted taken spots fits h k d lt =
+    let t : Taken = get_or spots k d in
+    let from = taken_from wanted taken spots t fits (Contains-get_or spots k d lt) in
+    let same : placing from.0 t.start ≡ t = λ i. record { disk = from.2 i; start = t.start; size = from.3 i } in
+    subst P same (All-contains (λ (w : Wanted). (start : ℕ) → P (placing w start)) wanted from.0 h from.1 t.start)
+
+-- ---- records that leave
+
+-- without some records of which none is a partition
+pub kept_taken : (t : Record → Bool) → ((p : Partition) → t (kinds.Partition p) ≡ false) → (records : List Record)
+    → taken_in (filter (λ r. not (t r)) records) ≡ taken_in records
+kept_taken t none [] = refl
+kept_taken t none (r ∷ rs) = go r (kept_taken t none rs)
+  where
+    rest : List Record
+    rest = filter (λ r. not (t r)) rs
+
+    either : (b : Bool) (s : Record) → taken_in (s ∷ rest) ≡ taken_in rest → taken_in (cond b (s ∷ rest) rest) ≡ taken_in rest
+    either true s same = same
+    either false s same = refl
+
+    go : (s : Record) → taken_in rest ≡ taken_in rs → taken_in (cond (not (t s)) (s ∷ rest) rest) ≡ taken_in (s ∷ rs)
+    go (kinds.Group g) same = either (not (t (kinds.Group g))) (kinds.Group g) refl ∙ same
+    go (kinds.Disk d) same = either (not (t (kinds.Disk d))) (kinds.Disk d) refl ∙ same
+    go (kinds.Volume v) same = either (not (t (kinds.Volume v))) (kinds.Volume v) refl ∙ same
+    go (kinds.Component c) same = either (not (t (kinds.Component c))) (kinds.Component c) refl ∙ same
+    go (kinds.Partition p) same =
+        ap (λ (b : Bool). taken_in (cond (not b) (kinds.Partition p ∷ rest) rest)) (none p) ∙ ap (λ (l : List Taken). taken_of p ∷ l) same

@@ -5,13 +5,12 @@ use Rattle.std.specs.Option.{option_map}
 use Rattle.ldm_bytes.specs.Tables.{first_of, unless}
 use Rattle.ldm_records.specs.declared.types.Record.{Record}
 use Rattle.ldm_label.specs.declared.Label.{Label}
-use Rattle.ldm_group.specs.Database.{Database, Core, IsSameCore}
+use Rattle.ldm_group.specs.Database.{Database, IsSameCore}
 use Rattle.ldm_group.specs.Room.{need_of}
 use Rattle.ldm_rules.specs.Rules.{group_id, group_fault}
 use Rattle.ldm_rules.specs.Facts.{IsSoundOn, AreApart}
 use Rattle.ldm_rules.proofs.SoundLaws.{sound_parts}
 use Rattle.ldm_body.specs.Body.{IsBodyOf}
-use Rattle.ldm_body.proofs.BodyLaws.{few_records}
 use Rattle.ldm_found.specs.Editing.{blocked_in}
 use Rattle.ldm_found.specs.Facts.{LieOn}
 use Rattle.ldm_found.specs.Opening.{group_faults, IsGroupIn, IsNewestGroup, group_at, found_with}
@@ -30,11 +29,12 @@ use Rattle.ldm_copy.specs.declared.found.Found.{Found}
 use Rattle.ldm_copy.specs.declared.fault.OpenFault.{OpenFault}
 use Rattle.ldm_found.specs.Labels.{IsLabelOf, AreSameOutside}
 use Rattle.ldm_found.specs.Copies.{IsCopyIn, newer, newest, Disagrees, note_of, IsKnown, HasCopy}
-use Rattle.ldm_found.proofs.AlikeLaws.{same_faults, same_blocked}
+use Rattle.ldm_found.proofs.AlikeLaws.{same_faults, same_blocked, same_seq}
 use Rattle.ldm_host.specs.Seen.{Seen, image}
 use Rattle.ldm_store.proofs.CopyLaws.{same_label}
 use Rattle.ldm_found.proofs.FoundLaws.{holds_group, copy_at}
 use Rattle.ldm_found.proofs.CopyLaws.{greatest}
+use Rattle.ldm_group.proofs.NeedLaws.{few_records}
 
 -- ---- What a group that may be edited has: no fault on its disks, and bodies that fit each of them.
 
@@ -117,9 +117,6 @@ none_first : {A : Type 0} (Has : A → Type 0) (xs : List A) → ((k : ℕ) (x :
 none_first Has [] none = tt
 none_first Has (x ∷ xs) none = (none 0 x refl, none_first Has xs (λ k y at. none (suc k) y at))
 
-core_seq : (a b : Database) → IsSameCore a b → a.header.seq ≡ b.header.seq
-core_seq a b same = ap (λ (c : Core). c.seq) same
-
 -- a known database whose sequence isn't below is one of the two
 known_high : (o n db : Database) → o.header.seq ≤ db.header.seq → IsKnown o n (Valid db) → IsSameCore db o ⊎ IsSameCore db n
 known_high o n db le (inl lt) = absurd (omega arith)
@@ -131,18 +128,18 @@ one_of_two o n a b next seq (inl x) (inl y) = y ∙ sym x
 one_of_two o n a b next seq (inr x) (inr y) = y ∙ sym x
 one_of_two o n a b (inl same) seq (inl x) (inr y) = y ∙ same ∙ sym x
 one_of_two o n a b (inl same) seq (inr x) (inl y) = y ∙ sym same ∙ sym x
-one_of_two o n a b (inr more) seq (inl x) (inr y) = (let p = core_seq a o x in let q = core_seq b n y in absurd (omega (arith, p, q, seq, more)))
-one_of_two o n a b (inr more) seq (inr x) (inl y) = (let p = core_seq a n x in let q = core_seq b o y in absurd (omega (arith, p, q, seq, more)))
+one_of_two o n a b (inr more) seq (inl x) (inr y) = (let p = same_seq a o x in let q = same_seq b n y in absurd (omega (arith, p, q, seq, more)))
+one_of_two o n a b (inr more) seq (inr x) (inl y) = (let p = same_seq a n x in let q = same_seq b o y in absurd (omega (arith, p, q, seq, more)))
 
 -- a copy that is current is open, with no lower sequence than the first
 current_high : (o n : Database) → IsNext o n → (c : CopyState) → IsCurrent o c ⊎ IsCurrent n c → (db : Database)
     × (c ≡ Valid db) × (o.header.seq ≤ db.header.seq)
 current_high o n next Closed (inl x) = absurd x
 current_high o n next Closed (inr x) = absurd x
-current_high o n next (Valid db) (inl x) = (db, refl, let p = core_seq db o x in omega (arith, p))
+current_high o n next (Valid db) (inl x) = (db, refl, let p = same_seq db o x in omega (arith, p))
 current_high o n (inl same) (Valid db) (inr x) =
-    (db, refl, let p = core_seq db n x in let q = core_seq n o same in omega (arith, p, q))
-current_high o n (inr more) (Valid db) (inr x) = (db, refl, let p = core_seq db n x in omega (arith, p, more))
+    (db, refl, let p = same_seq db n x in let q = same_seq n o same in omega (arith, p, q))
+current_high o n (inr more) (Valid db) (inr x) = (db, refl, let p = same_seq db n x in omega (arith, p, more))
 
 -- where there is no newest, no copy is open
 later_none : (later : Option (ℕ × Database)) → option_map {U = ℕ × Database} (λ (at : ℕ × Database). (suc at.0, at.1)) later ≡ None → later ≡ None

@@ -3,8 +3,9 @@ use Rattle.std.specs.List.{All}
 use Rattle.ldm_records.specs.declared.types.Record.{Record}
 use Rattle.ldm_group.specs.Room.{IsFitting, need_of}
 use Rattle.ldm_body.specs.Body.{IsBodyOf, IsMadeOf}
-use Rattle.ldm_body.proofs.BodyLaws.{few_records, store_of, body_with, made_of}
+use Rattle.ldm_body.proofs.BodyLaws.{store_of, body_with, made_of}
 use Rattle.ldm_body.proofs.body.body_of.Goals as goal
+use Rattle.ldm_group.proofs.NeedLaws.{few_records}
 
 -- a body of these bytes, of which a fact holds
 if_ok_along : {E : Type 0} (r : Result (List ℕ) E) (P : List ℕ → Type 0) (bytes : List ℕ) → IfOk r (λ v. v ≡ bytes) → P bytes → IfOk r P

@@ -10,10 +10,10 @@ use Rattle.ldm_group.specs.Room.{room_of}
 use Rattle.ldm_copy.specs.Copy.{header_sector}
 use Rattle.ldm_body.specs.Body.{placed_of, stored_at, Store}
 use Rattle.ldm_body.specs.Table.{IsTabled}
-use Rattle.ldm_body.proofs.BodyLaws.{few_records}
 use Rattle.ldm_changed.specs.Change.{IsNextBody}
 use Rattle.ldm_changed.proofs.NextLaws.{same_records, next_is}
 use Rattle.ldm_changed.proofs.change.next_bytes.Goals as goal
+use Rattle.ldm_group.proofs.NeedLaws.{few_records}
 
 -- the records of the table are those of the old database
 records_are : (body : List ℕ) (table : List (List ℕ)) (records : List Record) (tabled : IsTabled body table) → Rising records → Store (drop 512 body) records → tabled.db.records ≡ records

@@ -6,7 +6,7 @@ use Rattle.ldm_group.proofs.InOrder.{never_twice}
 use Rattle.ldm_group.specs.Room.{last_for}
 use Rattle.ldm_edits.specs.Changes.{Change, need_in}
 use Rattle.ldm_edits.specs.Staying.{change_of}
-use Rattle.ldm_edits.proofs.LimitLaws.{next_is}
+use Rattle.ldm_group.proofs.AddedLaws.{next_is}
 use Rattle.ldm_edits.proofs.changing.changed.Goals as goal
 
 pub unreachable-requires : goal.unreachable-requires

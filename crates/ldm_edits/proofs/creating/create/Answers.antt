@@ -4,9 +4,10 @@ use Rattle.ldm_group.specs.Database.{Database}
 use Rattle.ldm_rules.specs.Facts.{IsSoundOn}
 use Rattle.ldm_edits.specs.Answers.{RefusesAs}
 use Rattle.ldm_edits.specs.Creating.{created}
-use Rattle.ldm_edits.proofs.AdditionLaws.{created_next, steps_refused}
+use Rattle.ldm_edits.proofs.AdditionLaws.{created_next}
 use Rattle.ldm_edits.proofs.BatchLaws.{with_none}
 use Rattle.ldm_edits.proofs.creating.create.Goals as goal
+use Rattle.ldm_label.proofs.ReadLaws.{handed_on}
 
 pub create-requires-clause-sound : goal.create-requires-clause-sound
 create-requires-clause-sound c =
@@ -15,7 +16,7 @@ create-requires-clause-sound c =
 
 pub returns-in_err-last : goal.returns-in_err-last
 returns-in_err-last c =
-    steps_refused c.from_residual.result c.in_err-last.field-0.0 _ c.from_residual.ensures.1
+    rw (handed_on c.from_residual.result c.in_err-last.field-0.0 c.from_residual.ensures.1)
     (subst (λ (d : Database). RefusesAs c.in_err-last.field-0.0 (created d c.args.labels.now c.args.name.now c.args.guid c.args.layout.now))
     (with_none c.args.db.now c.header.result.now.last _ c.types_hold.ensures.rising c.none-added.ensures.none (ap (λ (h : Header). h.last) c.header.ensures)) c.in_err-last.ensures.is.0)
 

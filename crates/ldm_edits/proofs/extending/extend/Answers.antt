@@ -11,10 +11,10 @@ use Rattle.ldm_edits.specs.Changes.{change_to}
 use Rattle.ldm_edits.specs.Extended.{extended}
 use Rattle.ldm_edits.specs.Replacing.{ShowsAs}
 use Rattle.ldm_edits.specs.Staying.{change_of, staying}
-use Rattle.ldm_edits.proofs.AdditionLaws.{steps_refused}
 use Rattle.ldm_edits.proofs.BatchLaws.{with_none}
 use Rattle.ldm_edits.proofs.ShownLaws.{shows_itself}
 use Rattle.ldm_edits.proofs.extending.extend.Goals as goal
+use Rattle.ldm_label.proofs.ReadLaws.{handed_on}
 
 pub extension-requires-clause-volume : goal.extension-requires-clause-volume
 extension-requires-clause-volume c =
@@ -29,7 +29,7 @@ extension-requires-clause-volume c =
 pub returns-in_err-step : goal.returns-in_err-step
 returns-in_err-step c =
     let whole = with_none c.args.db.now c.header.result.now.last c.none-added.result.records.items c.types_hold.ensures.rising c.none-added.ensures.none (ap (λ (h : Header). h.last) c.header.ensures) in
-    steps_refused c.from_residual.result c.in_err-step.field-0.0 _ c.from_residual.ensures.1
+    rw (handed_on c.from_residual.result c.in_err-step.field-0.0 c.from_residual.ensures.1)
     (subst (λ (o : Option Volume). RefusesAs c.in_err-step.field-0.0 (extended c.args.db.now c.args.labels.now c.args.pieces.now o)) c.in-Some.ensures.is
     (subst (λ (d : Database). RefusesAs c.in_err-step.field-0.0 (extended d c.args.labels.now c.args.pieces.now (Some c.in-Some.volume.now))) whole c.in_err-step.ensures.is))
 

@@ -15,15 +15,16 @@ use Rattle.ldm_edits.specs.Extending.{held, lengthened, MayExtend}
 use Rattle.ldm_edits.specs.Replacing.{ReplacesAs}
 use Rattle.ldm_edits.specs.Spots.{by_place}
 use Rattle.ldm_edits.proofs.AdditionLaws.{added_none}
-use Rattle.ldm_edits.proofs.ShownLaws.{layout_shown, longer_next, longer_placed, longer_refused, longer_unplaced, may_extend, replaces_refused}
+use Rattle.ldm_edits.proofs.ShownLaws.{layout_shown, longer_next, longer_placed, longer_refused, longer_unplaced, may_extend}
 use Rattle.ldm_edits.proofs.extending.lengthen.Goals as goal
+use Rattle.ldm_label.proofs.ReadLaws.{handed_on}
 
 pub open_wanted-requires-clause-held : goal.open_wanted-requires-clause-held
 open_wanted-requires-clause-held c = c.requires.held ∙ ap held (sym (layout_shown c.requires.volume.shows))
 
 pub returns-in_err-wanted-clause-is : goal.returns-in_err-wanted-clause-is
 returns-in_err-wanted-clause-is c =
-    replaces_refused c.from_residual.result c.in_err-wanted.field-0.0 c.args.own.now.records (with_added c.args.db.now c.args.last c.args.added.now.records.items) c.args.labels.now _ c.from_residual.ensures.1
+    rw (handed_on c.from_residual.result c.in_err-wanted.field-0.0 c.from_residual.ensures.1)
     (longer_refused c.args.own.now (with_added c.args.db.now c.args.last c.args.added.now.records.items) c.args.labels.now c.args.pieces.now c.requires.volume.shows c.in_err-wanted.field-0.0 c.in_err-wanted.ensures.is)
 
 pub returns-in_default-clause-is : goal.returns-in_default-clause-is
@@ -31,7 +32,7 @@ returns-in_default-clause-is c = longer_next c.args.own.now (with_added c.args.d
 
 pub returns-in_err-maps-clause-is : goal.returns-in_err-maps-clause-is
 returns-in_err-maps-clause-is c =
-    replaces_refused c.from_residual-in_err-maps.result c.in_err-maps.field-0.0 c.args.own.now.records (with_added c.args.db.now c.args.last c.args.added.now.records.items) c.args.labels.now _ c.from_residual-in_err-maps.ensures.1
+    rw (handed_on c.from_residual-in_err-maps.result c.in_err-maps.field-0.0 c.from_residual-in_err-maps.ensures.1)
     (longer_unplaced c.args.own.now (with_added c.args.db.now c.args.last c.args.added.now.records.items) c.args.labels.now c.args.pieces.now c.requires.volume.shows c.in_ok-wanted.wanted.items c.in_ok-wanted.ensures.is c.in-Some.component.now c.in-Some.ensures c.in_err-maps.field-0.0
     (subst (λ (l : List Wanted). RefusesAs c.in_err-maps.field-0.0 (by_place refusals.NoSpace (placed (taken_in (in_order (c.args.db.now.records ++ c.args.added.now.records.items))) 0 l)))
     c.as_slice.ensures.value c.in_err-maps.ensures.is))

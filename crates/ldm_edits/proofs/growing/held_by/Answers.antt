@@ -1,7 +1,6 @@
 use Rattle.std.proofs.Common.{◌+◌, ◌<◌, ◌^◌, ◌∙◌, ap, List, arith}
 use Rattle.ldm_records.specs.declared.types.Record.{Record}
-use Rattle.ldm_layout.specs.Parts.{extents_of, by_offset}
-use Rattle.ldm_edits.specs.Mirroring.{held_in}
+use Rattle.ldm_layout.specs.Parts.{extents_of, by_offset, held_in}
 use Rattle.ldm_edits.proofs.GrowWalk.{held_more, held_same, held_all, no_partition, other_partition}
 use Rattle.ldm_edits.proofs.growing.held_by.Goals as goal
 use Rattle.ldm_edits.proofs.growing.held_by.Goals.{in-Partition+then-p-component, in-Partition+else-p-component, in_default}

@@ -18,7 +18,7 @@ use Rattle.ldm_edits.specs.Extended.{len_of}
 use Rattle.ldm_edits.proofs.AdditionLaws.{top}
 use Rattle.ldm_edits.proofs.GrowLaws.{grows}
 use Rattle.ldm_edits.proofs.LimitLaws.{change_spent}
-use Rattle.ldm_edits.proofs.Shares.{all_from_map}
+use Rattle.ldm_group.proofs.ListLaws.{all_from_map}
 use Rattle.ldm_edits.proofs.ShownMirror.{grow_replaces, low_shown, made_shown}
 use Rattle.ldm_edits.proofs.mirroring.grow.Goals as goal
 

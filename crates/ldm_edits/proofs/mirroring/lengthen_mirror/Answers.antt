@@ -15,9 +15,10 @@ use Rattle.ldm_edits.specs.Mirroring.{components_of, grown, MayGrow}
 use Rattle.ldm_edits.specs.Replacing.{ReplacesAs}
 use Rattle.ldm_edits.specs.Spots.{spots_for}
 use Rattle.ldm_edits.proofs.AdditionLaws.{added_none}
-use Rattle.ldm_edits.proofs.ShownLaws.{layout_shown, replaces_refused}
+use Rattle.ldm_edits.proofs.ShownLaws.{layout_shown}
 use Rattle.ldm_edits.proofs.ShownMirror.{even_shown, found_many, mirror_may, mirror_placed, mirror_spots_refused, mirror_wanted_refused}
 use Rattle.ldm_edits.proofs.mirroring.lengthen_mirror.Goals as goal
+use Rattle.ldm_label.proofs.ReadLaws.{handed_on}
 
 pub open_wanted-requires-clause-held : goal.open_wanted-requires-clause-held
 open_wanted-requires-clause-held c = c.requires.held ∙ ap held (sym (layout_shown c.requires.volume.shows))
@@ -29,14 +30,14 @@ pub returns-in_err-asked-clause-is : goal.returns-in_err-asked-clause-is
 returns-in_err-asked-clause-is c =
     let group = with_added c.args.db.now c.args.last c.args.added.now.records.items in
     let many = found_many c.if-pieces-components.false c.as_slice-components.ensures.value c.in_ok-found.ensures in
-    replaces_refused c.from_residual-in_err-asked.result c.in_err-asked.field-0.0 c.args.own.now.records group c.args.labels.now _ c.from_residual-in_err-asked.ensures.1
+    rw (handed_on c.from_residual-in_err-asked.result c.in_err-asked.field-0.0 c.from_residual-in_err-asked.ensures.1)
     (mirror_wanted_refused c.args.own.now group c.args.labels.now c.args.volume.now c.args.pieces.now c.requires.volume.shows c.requires.plain many c.in_err-asked.field-0.0 c.in_err-asked.ensures.is)
 
 pub returns-in_err-maps-clause-is : goal.returns-in_err-maps-clause-is
 returns-in_err-maps-clause-is c =
     let group = with_added c.args.db.now c.args.last c.args.added.now.records.items in
     let many = found_many c.if-pieces-components.false c.as_slice-components.ensures.value c.in_ok-found.ensures in
-    replaces_refused c.from_residual-in_err-maps.result c.in_err-maps.field-0.0 c.args.own.now.records group c.args.labels.now _ c.from_residual-in_err-maps.ensures.1
+    rw (handed_on c.from_residual-in_err-maps.result c.in_err-maps.field-0.0 c.from_residual-in_err-maps.ensures.1)
     (mirror_spots_refused c.args.own.now group c.args.labels.now c.args.volume.now c.args.pieces.now c.requires.volume.shows c.requires.plain many c.in_ok-asked.asked.items c.in_ok-asked.ensures.is c.in_err-maps.field-0.0
     (subst (λ (l : List Wanted). RefusesAs c.in_err-maps.field-0.0 (spots_for group l)) c.as_slice-wanted.ensures.value c.in_err-maps.ensures.is))
 

@@ -14,16 +14,14 @@ use Rattle.ldm_store.specs.Bodies.{LacksBody, KeepsBody}
 use Rattle.ldm_store.proofs.CopyLaws.{no_label}
 use Rattle.ldm_store.proofs.ResultLaws.{fails, same_error, no_error, true_not_false}
 use Rattle.ldm_store.proofs.sharing.all_have.Goals as goal
-
-one : {X : Type 0} (a b : X) → Some a ≡ Some b → a ≡ b
-one a b e = cc
+use Rattle.ldm_bytes.proofs.NumberLaws.{some_is}
 
 keeps_here : (seq : ℕ) (labels : List Label) (list : List Note) (db : Database) (body : List ℕ) (images now : List (List ℕ)) (disk : ℕ) (label' : Label) (note' : Note)
     → slice_get labels disk ≡ Some label' → slice_get list disk ≡ Some note' → now ≡ images → (is_behind seq note' ≡ false → body ≡ body_bytes db label' (image now disk))
     → KeepsBody seq labels list db body images disk
 keeps_here seq labels list db body images now disk label' note' at noted e f label note at' noted' ahead =
-    let l : label' ≡ label = one label' label (sym at ∙ at') in
-    let n : note' ≡ note = one note' note (sym noted ∙ noted') in
+    let l : label' ≡ label = some_is label' label (sym at ∙ at') in
+    let n : note' ≡ note = some_is note' note (sym noted ∙ noted') in
     subst (λ (x : Label). body ≡ body_bytes db x (image images disk)) l
     (subst (λ (i : List (List ℕ)). body ≡ body_bytes db label' (image i disk)) e (f (subst (λ (x : Note). is_behind seq x ≡ false) (sym n) ahead)))
 

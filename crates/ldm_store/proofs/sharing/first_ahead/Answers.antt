@@ -5,9 +5,7 @@ use Rattle.ldm_copy.specs.declared.notes.Note.{Note}
 use Rattle.ldm_copy.specs.declared.notes.Note.TheVariants as notes
 use Rattle.ldm_store.specs.Healing.{is_behind}
 use Rattle.ldm_store.proofs.sharing.first_ahead.Goals as goal
-
-one : {X : Type 0} (a b : X) → Some a ≡ Some b → a ≡ b
-one a b e = cc
+use Rattle.ldm_bytes.proofs.NumberLaws.{some_is}
 
 some_none : {X : Type 0} (value : X) → Some value ≡ None → ⊥
 some_none value is = cc is
@@ -19,7 +17,7 @@ none_some value is = cc is
 noted_is : (list : List Note) (disk : ℕ) (seq : ℕ) (note : Note) (behind : Bool) → disk < length list → is_behind seq (get_or list disk notes.Closed) ≡ behind → slice_get list disk ≡ Some note
     → is_behind seq note ≡ behind
 noted_is list disk seq note behind lt is noted =
-    subst (λ (n : Note). is_behind seq n ≡ behind) (one _ _ (sym (slice_get-get_or list disk notes.Closed lt) ∙ noted)) is
+    subst (λ (n : Note). is_behind seq n ≡ behind) (some_is _ _ (sym (slice_get-get_or list disk notes.Closed lt) ∙ noted)) is
 
 pub loop-disk-init : goal.loop-disk-init
 loop-disk-init c k note lt at = absurd (omega (arith, lt))

@@ -1,7 +1,8 @@
 use Rattle.std.proofs.Common.{◌∙◌, ◌||◌, ap, sym, Bool, is_some}
 use Rattle.std.specs.List.{list_any}
 use Rattle.ldm_group.specs.Looks.{is_volume_named}
-use Rattle.ldm_edits.proofs.AdditionLaws.{named_any, named_in}
+use Rattle.ldm_group.proofs.AddedLaws.{named_any}
+use Rattle.ldm_edits.proofs.AdditionLaws.{named_in}
 use Rattle.ldm_edits.proofs.AskedLaws.{copied_some}
 use Rattle.ldm_edits.proofs.additions.Additions.has_volume.Goals as goal
 

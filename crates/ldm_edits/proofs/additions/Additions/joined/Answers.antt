@@ -4,7 +4,7 @@ use Rattle.ldm_group.specs.Order.{Rising, in_order}
 use Rattle.ldm_group.proofs.InOrder.{never_twice}
 use Rattle.ldm_vmdb.specs.Headers.{grown_to}
 use Rattle.ldm_vmdb.specs.declared.header.Header.{Header}
-use Rattle.ldm_edits.proofs.LimitLaws.{next_is}
+use Rattle.ldm_group.proofs.AddedLaws.{next_is}
 use Rattle.ldm_edits.proofs.additions.Additions.joined.Goals as goal
 
 pub unreachable-requires : goal.unreachable-requires
