@@ -11,8 +11,10 @@ use Rattle.std.proofs.lemmas.List.Sorted.{IsPermutation-refl, IsPermutation-sym,
 use Rattle.ldm_records.specs.Plain.{own_spelling, IsRecord}
 use Rattle.ldm_records.specs.Views.{plain_of}
 use Rattle.ldm_frags.specs.Blocks.{numbers_from, count}
-use Rattle.ldm_frags.specs.Written.{Placed, Holds, parts_of, laid_in_order, IsPlaced, IsInUse, slot, joined_of, joined_below}
-use Rattle.ldm_vmdb.specs.Headers.{vmdb_fault, written, IsHeaderOf, ReadsBack}
+use Rattle.ldm_written.specs.Written.{Placed, Holds, laid_in_order, IsPlaced, IsInUse, slot, joined_of, joined_below}
+use Rattle.ldm_vmdb.specs.Parts.{parts_of}
+use Rattle.ldm_vmdb.specs.Headers.{vmdb_fault, IsHeaderOf}
+use Rattle.ldm_written.specs.Headers.{written, ReadsBack}
 use Rattle.ldm_vmdb.specs.declared.header.Header.{Header}
 use Rattle.ldm_group.specs.Order.{Rising}
 use Rattle.ldm_group.specs.Database.{Database, IsSameCore, IsSameHeader}
@@ -26,8 +28,8 @@ use Rattle.std.specs.Prelude.{filter, ◌==◌, if◌then◌else◌}
 use Rattle.ldm_frags.specs.declared.faults.Joined.{Joined}
 use Rattle.ldm_frags.specs.Joins.{Joins}
 use Rattle.ldm_frags.proofs.Below.{flat_map_below}
-use Rattle.ldm_frags.proofs.HoldLaws.{few_slots, holds_joins}
-use Rattle.ldm_records.proofs.PlainLaws.{own_spells}
+use Rattle.ldm_written.proofs.HoldLaws.{few_slots, holds_joins}
+use Rattle.ldm_written.proofs.SpellLaws.{own_spells}
 use Rattle.ldm_vmdb.specs.Sectors.{last_of}
 use Rattle.ldm_copy.specs.declared.answer.CopyState.TheVariants.{Valid}
 use Rattle.ldm_copy.specs.Records.{SpellRecords, HoldRecords}

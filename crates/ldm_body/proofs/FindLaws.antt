@@ -6,10 +6,11 @@ use Rattle.std.proofs.lemmas.List.Concat.{flat_map-append}
 use Rattle.std.proofs.lemmas.List.Elements.{All-contains, All-nil, All-map, All-push, All-weaker, Contains-get_or, Contains-push, Contains-append_left, All-tail}
 use Rattle.ldm_records.specs.Plain.{IsRecord, Spells, own_spelling}
 use Rattle.ldm_records.specs.Views.{plain_of}
-use Rattle.ldm_frags.specs.Blocks.{count, group, part, parts, payload, is_part, least_below, numbers_from, is_fragment, is_of, some_below}
-use Rattle.ldm_frags.specs.Written.{Placed, slot, IsPlaced, Holds, block_at, unused_block, filled, IsInUse, parts_of}
+use Rattle.ldm_frags.specs.Blocks.{count, group, part, parts, payload, is_part, least_below, numbers_from, is_fragment, is_of, some_below, block_at}
+use Rattle.ldm_written.specs.Written.{Placed, slot, IsPlaced, Holds, unused_block, filled, IsInUse}
+use Rattle.ldm_vmdb.specs.Parts.{parts_of}
 use Rattle.ldm_frags.proofs.Below.{numbers_push, least_passes, passing_some, passing_skip, passing_here, passing_least, passing_past}
-use Rattle.ldm_frags.proofs.HoldLaws.{numbers_length, numbers_at, nowhere, record_at, few_held, few_slots, part_fields, Stands, in_record, free, stands, place_of as spot_of, least_of, parts_more, filled_length}
+use Rattle.ldm_written.proofs.HoldLaws.{numbers_length, numbers_at, nowhere, record_at, few_held, few_slots, part_fields, Stands, in_record, free, stands, place_of as spot_of, least_of, parts_more, filled_length}
 use Rattle.ldm_body.specs.Body.{Stored, placed_of, Store, stored_at}
 use Rattle.ldm_body.specs.Finding.{part_at, slots_by, payloads, IsFirstPart, IsLater, first_number, table_place, HasPlaces, slots_in, IsFoundAt, stored_of, AreFound, HoldsTable}
 use Rattle.std.specs.Prelude.{filter, ◌==◌, is_some}
@@ -18,15 +19,15 @@ use Rattle.ldm_frags.specs.Groups.{first_passing}
 use Rattle.std.specs.List.Sorted.{IsPermutation, IsNonDecreasingBy}
 use Rattle.std.proofs.lemmas.List.Quantifiers.{all_pairs_push}
 use Rattle.std.proofs.lemmas.List.Sorted.{IsPermutation-refl, IsPermutation-sym, IsPermutation-trans, IsPermutation-map, All-permutation}
-use Rattle.ldm_records.proofs.PlainLaws.{own_spells}
+use Rattle.ldm_written.proofs.SpellLaws.{own_spells}
 use Rattle.ldm_payloads.proofs.WholeLaws.{is_one}
-use Rattle.ldm_frags.proofs.WriteLaws.{HasFields, fields_of}
+use Rattle.ldm_frags.proofs.BlockLaws.{HasFields, fields_of}
 use Rattle.ldm_records.specs.declared.types.Record.{Record}
 use Rattle.ldm_group.specs.Order.{place_of, Rising}
 use Rattle.ldm_group.proofs.Rise.{strictly}
 use Rattle.ldm_group.proofs.OneOrder.{one_rising}
 use Rattle.ldm_body.specs.declared.finding.Found.{Found}
-use Rattle.ldm_frags.proofs.HoldEdits.{apart_permuted, hold_permuted}
+use Rattle.ldm_written.proofs.HoldEdits.{apart_permuted, hold_permuted}
 use Rattle.ldm_body.proofs.BodyLaws.{record_of, stored_again, key, below, all_below, all_used}
 use Rattle.ldm_group.proofs.ListLaws.{all_from_map}
 

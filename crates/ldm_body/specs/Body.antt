@@ -4,9 +4,10 @@
 use Rattle.std.specs.Prelude.{◌≡◌, ◌⊎◌, ℕ, ◌+◌, ◌*◌, ◌/◌, ◌<◌, ◌≤◌, ◌==◌, List, [], ◌∷◌, map, length, drop, slice_index, count_by, None}
 use Rattle.std.specs.List.{All}
 use Rattle.std.specs.List.Sorted.{IsPermutation}
-use Rattle.ldm_vmdb.specs.Headers.{vmdb_fault, IsHeaderOf, written}
-use Rattle.ldm_vmdb.specs.declared.header.Counts.{Counts}
-use Rattle.ldm_frags.specs.Written.{Placed, Holds, laid_in_order}
+use Rattle.ldm_vmdb.specs.Headers.{vmdb_fault, IsHeaderOf}
+use Rattle.ldm_written.specs.Headers.{written}
+use Rattle.ldm_written.specs.declared.header.Counts.{Counts}
+use Rattle.ldm_written.specs.Written.{Placed, Holds, laid_in_order}
 use Rattle.ldm_records.specs.declared.types.Record.{Record}
 use Rattle.ldm_records.specs.Plain.{own_spelling, IsRecord}
 use Rattle.ldm_records.specs.Views.{plain_of}

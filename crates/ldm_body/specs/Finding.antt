@@ -2,9 +2,9 @@
 use Rattle.std.specs.Prelude.{◌≡◌, ◌⊎◌, ℕ, ◌+◌, ◌-◌, ◌*◌, ◌<◌, ◌≤◌, List, ◌∷◌, length, map, slice_index, Option, Some, None, All}
 use Rattle.std.specs.List.{flat_map}
 use Rattle.std.specs.List.Sorted.{IsPermutation}
-use Rattle.ldm_frags.specs.Blocks.{count, group, part, parts, payload, is_part, least_below, numbers_from}
+use Rattle.ldm_frags.specs.Blocks.{count, group, part, parts, payload, is_part, least_below, numbers_from, block_at}
 use Rattle.ldm_frags.specs.Groups.{first_passing}
-use Rattle.ldm_frags.specs.Written.{block_at, unused_block, IsPlaced, Holds}
+use Rattle.ldm_written.specs.Written.{unused_block, IsPlaced, Holds}
 use Rattle.ldm_records.specs.Plain.{IsRecord}
 use Rattle.ldm_records.specs.Views.{plain_of}
 use Rattle.ldm_body.specs.Body.{Stored, placed_of, stored_at}

@@ -1,6 +1,6 @@
 -- A body, with the numbers of the blocks that hold each record.
 use Rattle.std.specs.Prelude.{◌≡◌, ℕ, ◌+◌, ◌*◌, ◌/◌, ◌≤◌, List, None, length, slice_range, drop, map, All}
-use Rattle.ldm_frags.specs.Written.{Holds}
+use Rattle.ldm_written.specs.Written.{Holds}
 use Rattle.ldm_records.specs.Plain.{IsRecord}
 use Rattle.ldm_records.specs.Views.{plain_of}
 use Rattle.ldm_label.specs.declared.Label.{Label}

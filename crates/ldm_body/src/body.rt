@@ -1,7 +1,7 @@
 //! The body of a copy: the header sector of a database, and its blocks.
 ghost use Rattle.std.specs.Prelude.{◌≡◌, ◌≤◌, ◌*◌, ◌++◌, length, All, IfOk, OnOk};
-ghost use Rattle.ldm_frags.specs.Written.{IsSized, Holds, laid_in_order};
-ghost use Rattle.ldm_frags.specs.Written as written;
+ghost use Rattle.ldm_vmdb.specs.Parts.{IsSized, blocks_needed};
+ghost use Rattle.ldm_written.specs.Written.{Holds, laid_in_order};
 ghost use Rattle.ldm_records.specs.Plain.{IsRecord};
 ghost use Rattle.ldm_records.specs.Views.{plain_of};
 ghost use Rattle.ldm_group.specs.Room.{IsFitting, need_of};
@@ -10,10 +10,9 @@ ghost use Rattle.ldm_body.specs.Body.{IsBodyOf, IsMadeOf, count_of, counts_of, s
 
 use crate::bodies::with_table;
 use ldm_bytes::{Bytes, NoMemory};
-use ldm_frags::{Slots, SplitError, split};
 use ldm_group::{Db, kind_of};
-use ldm_records::{Record, spelling};
-use ldm_vmdb::{Counts, write_header};
+use ldm_records::Record;
+use ldm_written::{Counts, Slots, SplitError, spelling, split, write_header};
 use std::alloc::Global;
 use std::marker::Model;
 
@@ -110,7 +109,7 @@ fn spellings(alloc: Global, records: &[Record]) -> Result<Vec<Bytes>, NoMemory>
 fn blocks_of(alloc: Global, payloads: &[Bytes], blocks: u32) -> Result<Bytes, NoMemory>
     requires sized { All IsSized payloads.now }
     requires few { blocks ≤ 8192 }
-    requires room { written.blocks_needed payloads.now ≤ blocks }
+    requires room { blocks_needed payloads.now ≤ blocks }
     ensures size { IfOk result (λ out. length out ≡ 128 * blocks) }
     ensures holds { IfOk result (λ out. Holds out (laid_in_order 4 payloads.now)) }
 {

@@ -2,7 +2,7 @@
 ghost use Rattle.std.specs.Prelude.{◌≡◌, ◌↔◌, ◌+◌, ◌-◌, ◌*◌, ◌<◌, ◌≤◌, IsTrue, length, map, IfOk};
 ghost use Rattle.std.specs.Prelude.{IfSome, None, All};
 ghost use Rattle.ldm_frags.specs.Blocks.{count, parts};
-ghost use Rattle.ldm_frags.specs.Written.{IsInUse};
+ghost use Rattle.ldm_written.specs.Written.{IsInUse};
 ghost use Rattle.ldm_group.specs.Order.{place_of, Rising};
 ghost use Rattle.ldm_body.specs.Body.{Store};
 ghost use Rattle.ldm_body.specs.Finding.{HoldsTable, table_place, HasPlaces, slots_in, payloads};
@@ -10,10 +10,10 @@ ghost use Rattle.ldm_body.specs.Finding.{IsFirstPart, IsLater, IsFoundAt, HoldNo
 ghost use Rattle.ldm_body.specs.Finding.{AreFound, stored_of};
 
 use ldm_bytes::{Bytes, NoMemory, get_u16, get_u32};
-use ldm_frags::{Slots, is_unused, is_written};
 use ldm_group::{id_of, kind_of};
 use ldm_payloads::{RecordError, read_record};
-use ldm_records::{Record, spelled_len, spelling};
+use ldm_records::{Record, spelled_len};
+use ldm_written::{Slots, is_unused, is_written, spelling};
 use std::alloc::Global;
 
 /// A record, and the numbers of the blocks that hold it.

@@ -15,10 +15,11 @@ use Rattle.std.proofs.lemmas.Bool.{cases_Bool, cases_lt, not_from_false}
 use Rattle.std.proofs.lemmas.List.Kept.{AllPairs-filter}
 use Rattle.ldm_records.specs.Plain.{IsRecord}
 use Rattle.ldm_records.specs.Views.{plain_of}
-use Rattle.ldm_frags.specs.Blocks.{count, numbers_from}
-use Rattle.ldm_frags.specs.Written.{Holds, block_at}
-use Rattle.ldm_frags.proofs.HoldLaws.{numbers_length, numbers_at, find_number}
-use Rattle.ldm_vmdb.specs.Headers.{vmdb_fault, written, ReadsBack}
+use Rattle.ldm_frags.specs.Blocks.{count, numbers_from, block_at}
+use Rattle.ldm_written.specs.Written.{Holds}
+use Rattle.ldm_written.proofs.HoldLaws.{numbers_length, numbers_at, find_number}
+use Rattle.ldm_vmdb.specs.Headers.{vmdb_fault}
+use Rattle.ldm_written.specs.Headers.{written, ReadsBack}
 use Rattle.ldm_group.specs.Order.{Rising}
 use Rattle.ldm_group.specs.Database.{Database}
 use Rattle.ldm_group.specs.Room.{room_of}
@@ -26,7 +27,7 @@ use Rattle.ldm_group.proofs.KinLaws.{filter_keeps, filter_has}
 use Rattle.ldm_copy.specs.declared.answer.CopyState.TheVariants.{Valid}
 use Rattle.ldm_copy.proofs.OneCopy.{one_copy}
 use Rattle.ldm_changed.specs.Change.{Changed, ChangesFrom, IsNextBody}
-use Rattle.ldm_frags.proofs.HoldEdits.{hold_permuted, few, numbers_apart, number_within}
+use Rattle.ldm_written.proofs.HoldEdits.{hold_permuted, few, numbers_apart, number_within}
 
 -- ---- The slots of all records, from those that were kept and those that were made.
 

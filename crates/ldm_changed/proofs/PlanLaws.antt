@@ -6,18 +6,19 @@ use Rattle.std.proofs.lemmas.Slice.Eq.{bytes_eq-Decides}
 use Rattle.ldm_records.specs.declared.types.Record.{Record}
 use Rattle.ldm_records.specs.Plain.{IsRecord, Spells, own_spelling}
 use Rattle.ldm_records.specs.Views.{plain_of}
-use Rattle.ldm_records.proofs.PlainLaws.{own_spells}
+use Rattle.ldm_written.proofs.SpellLaws.{own_spells}
 use Rattle.ldm_payloads.proofs.WholeLaws.{is_one}
 use Rattle.std.proofs.lemmas.List.{length-take, length-drop, append-nil, drop_more, map_push, get_or_default, take-append-drop, get_or-take, get_or-drop, length_push, map-append, length-append}
-use Rattle.ldm_frags.specs.Blocks.{count, parts, numbers_from}
-use Rattle.ldm_frags.specs.Written.{block_at, Holds, IsPlaced, IsInUse, parts_of, AddsUnused}
+use Rattle.ldm_frags.specs.Blocks.{count, parts, numbers_from, block_at}
+use Rattle.ldm_written.specs.Written.{Holds, IsPlaced, IsInUse, AddsUnused}
+use Rattle.ldm_vmdb.specs.Parts.{parts_of}
 use Rattle.ldm_group.specs.Room.{own_len, need_of}
 use Rattle.ldm_changed.specs.Plan.{block_differs, has_record, record_stays, record_goes, Avoids, KeepsOrFrees, lacks, slots_from, LeavesOrAdds, is_spelled_as, touched_blocks, changed_numbers}
 use Rattle.std.proofs.lemmas.List.Elements.{All-cons, All-nil, All-head, All-tail, All-push, filter_more, filter-append, All-map, All-append, All-contains, All-filter, Contains-get_or}
 use Rattle.std.proofs.lemmas.List.Sorted.{IsPermutation-map, IsPermutation-middle, IsPermutation-sym, IsPermutation-trans, IsPermutation-append_comm, IsPermutation-filter_both, sum_by-IsPermutation}
 use Rattle.ldm_body.specs.Body.{Stored, placed_of, stored_at, Store}
-use Rattle.ldm_frags.proofs.WriteLaws.{number_within as field_within}
-use Rattle.ldm_frags.proofs.HoldEdits.{hold_permuted, hold_less, hold_more, few, few_sum, numbers_apart, number_within, slots_in}
+use Rattle.ldm_frags.proofs.BlockLaws.{number_within as field_within}
+use Rattle.ldm_written.proofs.HoldEdits.{hold_permuted, hold_less, hold_more, few, few_sum, numbers_apart, number_within, slots_in}
 use Rattle.std.specs.List.Sorted.{IsPermutation}
 use Rattle.std.proofs.Math.Seq.{take-add}
 use Rattle.std.proofs.lemmas.List.Sums.{sum_by_push, sum_by-append, sum_by-cons}
@@ -29,8 +30,8 @@ use Rattle.ldm_group.specs.Looks.{by_id}
 use Rattle.ldm_group.proofs.KinLaws.{filter_has, filter_keeps}
 use Rattle.ldm_group.proofs.LookLaws.{found_again}
 use Rattle.ldm_group.proofs.OneOrder.{one_order}
-use Rattle.ldm_frags.specs.Free.{free_numbers}
-use Rattle.ldm_frags.proofs.HoldLaws.{find_number, numbers_length, numbers_at}
+use Rattle.ldm_written.specs.Free.{free_numbers}
+use Rattle.ldm_written.proofs.HoldLaws.{find_number, numbers_length, numbers_at}
 use Rattle.ldm_group.proofs.ListLaws.{all_from_map}
 
 -- ---- Records of one own spelling are one.

@@ -1,6 +1,6 @@
 -- A body that takes the place of another.
 use Rattle.std.specs.Prelude.{◌≡◌, ◌≢◌, ℕ, ◌+◌, ◌*◌, ◌/◌, ◌<◌, ◌≤◌, List, length, slice_index, All, AllPairs, Contains}
-use Rattle.ldm_vmdb.specs.Headers.{written}
+use Rattle.ldm_written.specs.Headers.{written}
 use Rattle.ldm_group.specs.Database.{Database}
 use Rattle.ldm_copy.specs.Copy.{header_sector}
 use Rattle.ldm_body.specs.Body.{IsBodyOf, counts_of}

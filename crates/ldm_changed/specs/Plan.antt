@@ -1,8 +1,9 @@
 -- What changes of the blocks of a database when its records change: a record that both databases have keeps its blocks, those of
 -- a record that is gone become unused, and a new record takes unused ones.
 use Rattle.std.specs.Prelude.{◌≡◌, ◌≢◌, ℕ, ◌+◌, ◌-◌, ◌*◌, ◌/◌, ◌≤◌, not, Bool, true, false, List, [], ◌∷◌, ◌++◌, take, drop, filter, bytes_eq, slice_index_or, Option, Some, None, All}
-use Rattle.ldm_frags.specs.Blocks.{count, numbers_from}
-use Rattle.ldm_frags.specs.Written.{parts_of, block_at, unused_block, IsPlaced}
+use Rattle.ldm_frags.specs.Blocks.{count, numbers_from, block_at}
+use Rattle.ldm_vmdb.specs.Parts.{parts_of}
+use Rattle.ldm_written.specs.Written.{unused_block, IsPlaced}
 use Rattle.ldm_records.specs.declared.types.Record.{Record}
 use Rattle.ldm_records.specs.Plain.{own_spelling, IsRecord}
 use Rattle.ldm_records.specs.Views.{plain_of}

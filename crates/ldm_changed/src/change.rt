@@ -3,9 +3,9 @@ ghost use Rattle.std.specs.Prelude.{◌≡◌, ◌≢◌, ◌↔◌, ℕ, ◌+�
 ghost use Rattle.std.specs.Prelude.{length, drop, map, count_by, IfOk, OnOk, All, AllPairs};
 ghost use Rattle.std.specs.Prelude.{Contains};
 ghost use Rattle.ldm_vmdb.specs.Sectors.{last_of};
-ghost use Rattle.ldm_vmdb.specs.Headers.{written};
+ghost use Rattle.ldm_written.specs.Headers.{written};
 ghost use Rattle.ldm_frags.specs.Blocks.{count};
-ghost use Rattle.ldm_frags.specs.Written.{Holds};
+ghost use Rattle.ldm_written.specs.Written.{Holds};
 ghost use Rattle.ldm_records.specs.Plain.{IsRecord};
 ghost use Rattle.ldm_records.specs.Views.{plain_of};
 ghost use Rattle.ldm_group.specs.Order.{kind_of};
@@ -20,9 +20,8 @@ use crate::planning::{changed, rewrite_blocks};
 use crate::weaving::weave;
 use ldm_body::{Body, counts_of, joined};
 use ldm_bytes::{Bytes, NoMemory};
-use ldm_frags::{Slots, with_unused};
 use ldm_group::Db;
-use ldm_vmdb::write_header;
+use ldm_written::{Slots, with_unused, write_header};
 use std::alloc::Global;
 use std::marker::Model;
 

@@ -2,8 +2,9 @@
 ghost use Rattle.std.specs.Prelude.{◌≡◌, ◌≢◌, ◌↔◌, ℕ, ◌+◌, ◌*◌, ◌≤◌, ◌<◌, ◌++◌, ◌∷◌, [], List};
 ghost use Rattle.std.specs.Prelude.{length, take, map, filter, bytes_eq, if◌then◌else◌, IsTrue};
 ghost use Rattle.std.specs.Prelude.{IfOk, OnOk, All, AllPairs, Contains};
-ghost use Rattle.ldm_frags.specs.Blocks.{count};
-ghost use Rattle.ldm_frags.specs.Written.{parts_of, block_at, IsInUse, IsPlaced, Holds};
+ghost use Rattle.ldm_frags.specs.Blocks.{count, block_at};
+ghost use Rattle.ldm_vmdb.specs.Parts.{parts_of};
+ghost use Rattle.ldm_written.specs.Written.{IsInUse, IsPlaced, Holds};
 ghost use Rattle.ldm_records.specs.Plain.{own_spelling, IsRecord};
 ghost use Rattle.ldm_records.specs.Views.{plain_of};
 ghost use Rattle.ldm_group.specs.Room.{own_len, IsFitting, need_of};
@@ -11,12 +12,13 @@ ghost use Rattle.ldm_body.specs.Body.{Stored, placed_of, Store, stored_at};
 ghost use Rattle.ldm_changed.specs.Plan.{has_record, lacks, touched_blocks, record_stays};
 ghost use Rattle.ldm_changed.specs.Plan.{record_goes, Avoids, AreFreed, KeepsOrFrees, slots_from};
 ghost use Rattle.ldm_changed.specs.Plan.{IsAdded, LeavesOrAdds, block_differs, changed_numbers};
-ghost use Rattle.ldm_frags.specs.Free.{is_free, free_numbers};
+ghost use Rattle.ldm_written.specs.Free.{is_free, free_numbers};
 
 use ldm_bytes::{NoMemory, get_u16};
-use ldm_frags::{Slots, parts_of, write_record, write_unused};
 use ldm_group::{Db, id_of, kind_of};
-use ldm_records::{Record, spelled_len, spelling};
+use ldm_records::{Record, spelled_len};
+use ldm_vmdb::parts_of;
+use ldm_written::{Slots, spelling, write_record, write_unused};
 use std::alloc::Global;
 
 // Whether both records are equal, that is, have one own spelling.

@@ -5,9 +5,9 @@ ghost use Rattle.ldm_body.specs.Body.{stored_at};
 
 use crate::planning::has;
 use ldm_bytes::NoMemory;
-use ldm_frags::Slots;
 use ldm_group::Db;
 use ldm_records::Record;
+use ldm_written::Slots;
 use std::alloc::Global;
 
 // Adds the next slots of the one list or the other, and answers how many of each were taken.

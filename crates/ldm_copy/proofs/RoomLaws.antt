@@ -5,7 +5,7 @@ use Rattle.std.specs.Prelude.{◌⊎◌, ◌&&◌, ◌||◌, sum_by, All, nat_lt
 use Rattle.std.proofs.lemmas.List.Sums.{sum_by-cons, sum_by-append}
 use Rattle.std.proofs.lemmas.List.Elements.{All-cons, All-nil, All-head, All-tail, All-append}
 use Rattle.ldm_frags.specs.declared.faults.Joined.{Joined}
-use Rattle.ldm_frags.specs.Written.{parts_of}
+use Rattle.ldm_vmdb.specs.Parts.{parts_of}
 use Rattle.ldm_frags.specs.Blocks.{count, group, part, parts, payload, is_fragment, is_of, is_part, least_below}
 use Rattle.ldm_frags.specs.Joins.{gathered, entry, entries, Joins}
 use Rattle.ldm_frags.proofs.Below.{some_there, least_passes}

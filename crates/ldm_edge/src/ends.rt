@@ -1,23 +1,22 @@
 //! How a run ends.
-ghost use Rattle.std.specs.Prelude.{◌≡◌, ◌⊎◌, IfOk, Ok};
-ghost use Rattle.ldm_words.specs.declared.status.Status.TheVariants.{Done, Refused, TalkFault};
+ghost use Rattle.std.specs.Prelude.{◌≡◌, ◌⊎◌, IfOk};
+ghost use Rattle.ldm_words.specs.declared.status.Status.TheVariants.{Done, Refused};
 ghost use Rattle.ldm_edge.specs.Ends.{end_status};
 
-use crate::shown::UsageError;
 use crate::stop::{Fault, Stop};
 use ldm_files::Failure;
 use ldm_words::Status;
-use std::io::Write;
+use std::fmt;
 use std::process::ExitCode;
 
 /// How a run ended with this status, after which the host has these counts: the call that failed
 /// last, and how many lines were answered, where the job writes.
-pub fn ending<'a>(
+pub fn ending<'a, U>(
     status: Status,
     names: &'a [String],
     failure: Option<Failure>,
     answered: Option<u64>,
-) -> Result<Status, Stop<'a>>
+) -> Result<Status, Stop<'a, U>>
     ensures same { end_status result ≡ status }
     ensures answer { IfOk result (λ status. (status ≡ Done) ⊎ (status ≡ Refused)) }
 {
@@ -28,27 +27,18 @@ pub fn ending<'a>(
     };
     match status {
         Status::Done | Status::Refused => Ok(status),
-        Status::Usage => Err(Stop::Usage(UsageError::NoReading)),
+        Status::Usage => Err(Stop::Usage(None)),
         Status::DiskFault => Err(Stop::Disk(fault)),
         Status::NoMemory => Err(Stop::NoMemory(answered)),
         Status::TalkFault => Err(Stop::Talk(fault)),
     }
 }
 
-/// Says a text that was asked for by a word alone.
-pub fn tell<O: Write>(mut output: O, text: &str) -> Result<Status, Stop<'static>>
-where
-    O: Drop,
-    ensures { (result ≡ Ok Done) ⊎ (end_status result ≡ TalkFault) }
-{
-    match output.write_all(text.as_bytes()) {
-        Ok(()) => Ok(Status::Done),
-        Err(error) => ending(Status::TalkFault, &[], Some(Failure::Output(error)), None),
-    }
-}
-
 /// Says how the program ends where it isn't with an answer.
-pub fn exit_code(rt: &HostRuntime, done: Result<Status, Stop<'_>>) -> ExitCode {
+pub fn exit_code<U: fmt::Display + Drop>(
+    rt: &HostRuntime,
+    done: Result<Status, Stop<'_, U>>,
+) -> ExitCode {
     let status = match done {
         Ok(status) => status,
         Err(stop) => {

@@ -20,7 +20,7 @@ use Rattle.ldm_label.specs.Present.{sectors_by, label_with}
 use Rattle.ldm_rules.specs.Facts.{IsSoundOn}
 use Rattle.ldm_words.specs.declared.command.NewLayout.{NewLayout}
 use Rattle.ldm_words.specs.Limits.{IsCreate}
-use Rattle.ldm_frags.specs.Written.{parts_of as blocks_in}
+use Rattle.ldm_vmdb.specs.Parts.{parts_of as blocks_in}
 use Rattle.ldm_group.specs.Database.{Database, at_seq}
 use Rattle.ldm_group.specs.Looks.{is_at, is_disk_named, is_volume_named, disk_in, volume_named, max_id, of_kind, HasSameDisks}
 use Rattle.ldm_group.specs.Order.{Rising, kind_of, id_of, in_order}

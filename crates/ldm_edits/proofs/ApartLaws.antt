@@ -10,7 +10,7 @@ use Rattle.ldm_records.specs.declared.types.Record.{Record}
 use Rattle.ldm_records.specs.declared.types.Record.TheVariants as kinds
 use Rattle.ldm_vmdb.specs.declared.header.Header.{Header}
 use Rattle.ldm_vmdb.specs.Headers.{grown_to, with_seq}
-use Rattle.ldm_frags.specs.Written.{parts_of as blocks_in}
+use Rattle.ldm_vmdb.specs.Parts.{parts_of as blocks_in}
 use Rattle.ldm_group.specs.Database.{Database, IsDatabaseOf}
 use Rattle.ldm_group.specs.Looks.{max_id, HasSameDisks}
 use Rattle.ldm_group.specs.Order.{Rising, kind_of, place_of, in_order}

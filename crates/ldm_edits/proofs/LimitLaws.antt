@@ -6,7 +6,7 @@ use Rattle.std.proofs.lemmas.Bool.{lt-ltb, le-ltb, eq-eqb, ne_eqb, ltb-false, eq
 use Rattle.std.proofs.lemmas.List.Sums.{sum_by-append}
 use Rattle.ldm_bytes.specs.Tables.{first_of, unless}
 use Rattle.ldm_records.specs.declared.types.Record.{Record}
-use Rattle.ldm_frags.specs.Written.{parts_of}
+use Rattle.ldm_vmdb.specs.Parts.{parts_of}
 use Rattle.ldm_label.specs.declared.Label.{Label}
 use Rattle.ldm_group.specs.Database.{Database}
 use Rattle.ldm_group.specs.Looks.{max_id}

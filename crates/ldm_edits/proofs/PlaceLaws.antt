@@ -13,7 +13,7 @@ use Rattle.ldm_records.specs.declared.types.Volume.{Volume}
 use Rattle.ldm_bytes.specs.Tables.{first_of, unless}
 use Rattle.ldm_vmdb.specs.Headers.{grown_to}
 use Rattle.ldm_label.specs.declared.Label.{Label}
-use Rattle.ldm_frags.specs.Written.{parts_of as blocks_in}
+use Rattle.ldm_vmdb.specs.Parts.{parts_of as blocks_in}
 use Rattle.ldm_group.specs.Database.{Database}
 use Rattle.ldm_group.specs.Looks.{of_kind, volume_named, HasSameDisks}
 use Rattle.ldm_group.specs.Order.{Rising, in_order, insert, place_of}

@@ -12,10 +12,10 @@ ghost use Rattle.ldm_edits.specs.Staying.{staying, change_of};
 use crate::areas::most_blocks;
 use crate::leaving::Leaving;
 use crate::reply::Refusal;
-use ldm_frags::parts_of;
 use ldm_group::{Db, id_of, own_len};
 use ldm_label::Labels;
 use ldm_records::Record;
+use ldm_vmdb::parts_of;
 
 // Whether so many new records find ids behind the greatest.
 fn has_ids(max_id: u64, fresh: u64) -> bool

@@ -23,11 +23,11 @@ use crate::limits::{later_limit, need_made};
 use crate::reply::Refusal;
 use crate::stepping::types_hold;
 use ldm_bytes::NoMemory;
-use ldm_frags::parts_of;
 use ldm_group::{Db, last_for, own_len};
 use ldm_label::Labels;
 use ldm_records::Record;
 use ldm_space::FreeMaps;
+use ldm_vmdb::parts_of;
 use ldm_words::{Command, Piece};
 use std::alloc::Global;
 

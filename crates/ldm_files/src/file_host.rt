@@ -2,10 +2,9 @@
 ghost use Rattle.std.specs.Prelude.{◌≡◌, ◌≤◌, ◌<◌, ◌+◌, ◌-◌, ◌^◌, length, map, min, set};
 ghost use Rattle.std.specs.Prelude.{slice_index, IfOk, IsErr, is_ok};
 ghost use Rattle.ldm_host.specs.Moves.{Rose};
-ghost use Rattle.ldm_files.specs.Watched.{lines_in};
 
 use crate::image::ImageFile;
-use crate::meter::Watch;
+use crate::watch::Watch;
 use ldm_bytes::NoMemory;
 use ldm_host::{Failed, Host};
 use std::alloc::Global;
@@ -35,10 +34,9 @@ pub enum Failure {
 
 /// The images are files. It tells nothing of what is in them, of what is said and of what is heard:
 /// what the clauses say of it is how long the files are, which counts rose, and what it was handed.
-/// Of calls that fail it keeps the last, and of what it reads and says it counts what it is asked
-/// to.
+/// Of calls that fail it keeps the last, and what it reads and says it tells what watches it.
 #[derive(Drop)]
-pub struct FileHost<'a, I, O> {
+pub struct FileHost<I, O, W> {
     images: Vec<ImageFile>,
     wrote: Vec<u64>,
     input: I,
@@ -46,17 +44,24 @@ pub struct FileHost<'a, I, O> {
     disk_faults: u64,
     talk_faults: u64,
     failure: Option<Failure>,
-    watch: Watch<'a>,
+    watch: W,
     ghost counted: { length wrote.items ≡ length images.items },
 }
 
-impl<'a, I, O> FileHost<'a, I, O> {
-    /// A host over the images in their order.
-    pub fn new(alloc: Global, images: Vec<ImageFile>, input: I, output: O) -> Result<Self, NoMemory>
+impl<I, O, W> FileHost<I, O, W> {
+    /// A host over the images in their order, and what watches it.
+    pub fn new(
+        alloc: Global,
+        images: Vec<ImageFile>,
+        input: I,
+        output: O,
+        watch: W,
+    ) -> Result<Self, NoMemory>
     where
         I: Drop,
         O: Drop,
-        ensures { IfOk result (λ host. host.images.items ≡ images.items) }
+        W: Drop,
+        ensures { IfOk result (λ host. (host.images.items ≡ images.items) × (host.watch ≡ watch)) }
     {
         let wrote = vec![in alloc; 0u64; images.len()]?;
         Ok(FileHost {
@@ -67,16 +72,8 @@ impl<'a, I, O> FileHost<'a, I, O> {
             disk_faults: 0,
             talk_faults: 0,
             failure: None,
-            watch: Watch::Nothing,
+            watch,
         })
-    }
-
-    /// The host that counts this from here on.
-    pub fn watched(mut self, watch: Watch<'a>) -> Self
-        ensures { result.images.items ≡ self.entry.images.items }
-    {
-        self.watch = watch;
-        self
     }
 
     /// The last call that failed, if one did.
@@ -86,16 +83,11 @@ impl<'a, I, O> FileHost<'a, I, O> {
         self.failure
     }
 
-    /// How many lines were said whole, where they are counted.
-    pub fn lines(&self) -> Option<u64>
-        ensures { result ≡ lines_in self.now.watch }
+    /// What watches it.
+    pub fn watch(&self) -> &W
+        ensures { result.now ≡ self.now.watch }
     {
-        self.watch.lines()
-    }
-
-    /// Ends what is told of how far the run has come.
-    pub fn end_watch(&self) {
-        self.watch.end();
+        &self.watch
     }
 }
 
@@ -162,7 +154,7 @@ fn end_disk_call(
     ended(done.is_ok(), faults)
 }
 
-impl<I: Read, O: Write> Host for FileHost<'_, I, O> {
+impl<I: Read, O: Write, W: Watch> Host for FileHost<I, O, W> {
     ghost use Rattle.ldm_files.specs.FileSeen.{file_seen, file_counts_each, file_counts_now};
     ghost use Rattle.ldm_files.specs.FileSeen.{file_only_now};
 

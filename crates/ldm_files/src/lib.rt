@@ -7,10 +7,10 @@
 
 mod file_host;
 mod image;
-mod meter;
 mod streams;
+mod watch;
 
 pub use file_host::{DiskCall, Failure, FileHost};
 pub use image::{Access, FileId, ImageError, ImageFile};
-pub use meter::{Counted, Meter, Progress, Watch};
 pub use streams::{STREAMS, take_closed_streams};
+pub use watch::{Unwatched, Watch};

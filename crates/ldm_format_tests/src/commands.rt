@@ -1,9 +1,8 @@
 //! Command lines that edit, and the sample: which have a reading, and what that is.
 use crate::made::check;
 use ldm_bytes::{Bytes, write_guid};
-use ldm_words::{
-    Command, Job, LineError, NewLayout, Piece, WordsError, read_line, read_number, read_words,
-};
+use ldm_lines::{LineError, read_line};
+use ldm_words::{Command, Job, NewLayout, Piece, WordsError, read_number, read_words};
 use std::alloc::Global;
 use std::process::Abort;
 use std::test::Fail;

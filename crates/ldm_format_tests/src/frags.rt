@@ -3,10 +3,9 @@ ghost use Rattle.std.specs.Prelude.{◌≡◌, ◌∷◌, [], IfOk};
 
 use crate::made::check;
 use ldm_bytes::{Bytes, NoMemory, put_bytes, put_u16, put_u32};
-use ldm_frags::{
-    FragError, FragFault, Joined, Joiner, Slots, SplitError, join, parts_of, split, write_record,
-    write_unused,
-};
+use ldm_frags::{FragError, FragFault, Joined, Joiner};
+use ldm_vmdb::parts_of;
+use ldm_written::{Slots, SplitError, join, split, write_record, write_unused};
 use std::alloc::Global;
 
 // A group, a part and a number of parts.

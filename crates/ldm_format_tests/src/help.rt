@@ -1,5 +1,6 @@
 //! What is said of words without a reading, and that each form of the help has one.
-use ldm_edge::{HELP, Shown, UsageError, usage_error};
+use ldm_console::usage_error;
+use ldm_edge::{HELP, Stop};
 use ldm_words::{Job, read_words};
 use std::alloc::{AllocError, Global};
 use std::test::Fail;
@@ -61,11 +62,22 @@ fn push_words(alloc: Global, words: &mut Vec<String>, bar: &str) -> Result<(), A
     Ok(())
 }
 
+// What is said of words without a reading.
+fn said_of(alloc: Global, words: &[String]) -> Result<String, AllocError> {
+    let stop = Stop::Usage(usage_error(alloc, words));
+    format!(in alloc; "{stop}")
+}
+
 // What is said of words that are separated by a bar.
-fn said_of(alloc: Global, bar: &str) -> Result<String, AllocError> {
+fn said_in(alloc: Global, bar: &str) -> Result<String, AllocError> {
     let mut words = Vec::new(alloc);
     push_words(alloc, &mut words, bar)?;
-    format!(in alloc; "{}", usage_error(alloc, &words))
+    said_of(alloc, &words)
+}
+
+// The lines that say this.
+fn lines_of(alloc: Global, text: &str) -> Result<String, AllocError> {
+    format!(in alloc; "ldm: usage: ldm JOB on IMAGE...\nldm: {text}\nldm: ldm --help says more\n")
 }
 
 #[test]
@@ -73,19 +85,15 @@ fn says_what_is_wrong(rt: HostRuntime) -> Result<(), Fail> {
     let alloc = rt.alloc();
     for row in ROWS.lines() {
         let (bar, text) = row.split_once(" => ").expect(&rt, "a row");
-        assert_eq!(rt; said_of(alloc, bar)?.as_str(), text);
+        assert_eq!(rt;
+            said_in(alloc, bar)?.as_str(),
+            lines_of(alloc, text)?.as_str()
+        );
     }
-    let said = said_of(alloc, "a\nb|on|a")?;
+    let text = "\"a\\x0ab\" is no job; the nearest is \"map\"";
     assert_eq!(rt;
-        said.as_str(),
-        "\"a\\x0ab\" is no job; the nearest is \"map\""
-    );
-    let other = UsageError::OnlyLooks {
-        word: Shown("edit"),
-    };
-    assert_eq!(rt;
-        format!(in alloc; "{other}")?.as_str(),
-        "\"edit\" is no job of this program, which has disk, records, show, check and map"
+        said_in(alloc, "a\nb|on|a")?.as_str(),
+        lines_of(alloc, text)?.as_str()
     );
     Ok(())
 }
@@ -98,11 +106,9 @@ fn counts_images(rt: HostRuntime) -> Result<(), Fail> {
     for _ in 0..65 {
         push_words(alloc, &mut words, "a")?;
     }
-    let said = format!(in alloc; "{}", usage_error(alloc, &words))?;
-    assert_eq!(rt;
-        said.as_str(),
-        "a group has 64 images at most, and 65 are named behind \"on\""
-    );
+    let text = "a group has 64 images at most, and 65 are named behind \"on\"";
+    let said = said_of(alloc, &words)?;
+    assert_eq!(rt; said.as_str(), lines_of(alloc, text)?.as_str());
     Ok(())
 }
 

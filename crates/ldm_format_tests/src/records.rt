@@ -1,10 +1,11 @@
 //! Records: what payloads spell, and own spellings.
 use crate::made::{bytes_of, check};
 use ldm_bytes::{Bytes, NoMemory};
-use ldm_frags::parts_of;
 use ldm_made::{new_component, new_partition, new_volume};
 use ldm_payloads::{RecordError, RecordFault, read_record};
-use ldm_records::{Record, Striping, spelled_len, spelling};
+use ldm_records::{Record, Striping, spelled_len};
+use ldm_vmdb::parts_of;
+use ldm_written::spelling;
 use std::alloc::Global;
 use std::process::Abort;
 

@@ -1,7 +1,8 @@
 //! Headers of the database: each first fault, and what a new sequence changes.
 use crate::made::check;
 use ldm_bytes::{put_bytes, put_u16, put_u32, put_u64};
-use ldm_vmdb::{Counts, Header, VmdbError, VmdbFault, read_header, write_header};
+use ldm_vmdb::{Header, VmdbError, VmdbFault, read_header};
+use ldm_written::{Counts, write_header};
 use std::alloc::Global;
 
 // The header of a group `Dg0` with three disks at sequence 7.

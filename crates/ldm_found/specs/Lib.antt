@@ -6,5 +6,3 @@ pub mod Opening
 pub mod Facts
 pub mod Answers
 pub mod Steps
-pub mod Alike
-pub mod New

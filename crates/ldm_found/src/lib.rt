@@ -10,10 +10,8 @@ mod disks;
 mod editing;
 mod fault;
 mod finding;
-mod laws;
 
 pub use disks::twins;
 pub use fault::OpenError;
 pub use finding::find_group;
-pub use laws::{disks_alone, group_alone, new_groups_open};
 pub use ldm_copy::{Found, Note, Notes, OpenFault};

@@ -1,15 +1,15 @@
 -- Lists of blocks with no fault are joined, and those with one are not; blocks that read alike join
 -- alike.
 use Rattle.std.proofs.Common.{◌≡◌, ℕ, ◌+◌, ◌<◌, ◌≤◌, Bool, true, false, not, cond, eqb, ltb, leb, List, [], ◌++◌, Option, Some, None, refl, sym, ap, subst, ◌∙◌, arith, inl, inr, ◌*◌, ◌∷◌, take, drop}
-use Rattle.std.specs.Prelude.{◌&&◌, ◌↔◌, Result, Ok, Err, IsErrAnd}
+use Rattle.std.specs.Prelude.{◌&&◌, Result, Ok, Err}
 use Rattle.std.proofs.lemmas.Bool.{cases_lt, ltb-false, le-ltb, leb-false, lt-leb, le-leb, eqb-true, eq-eqb, false≢true, leb-true, cases_Bool, and_parts, not-false, cases_order, cases_eq, ne_eqb}
 use Rattle.ldm_frags.specs.declared.faults.FragFault.{FragFault}
 use Rattle.ldm_frags.specs.declared.faults.FragFault.TheVariants.{NoMagic, Parts, Part, Mixed, Repeated, Missing}
 use Rattle.std.specs.Global.{Vec}
 use Rattle.ldm_frags.specs.declared.faults.FragError.{FragError}
 use Rattle.ldm_frags.specs.declared.faults.FragError.TheVariants.{Fault, NoMemory}
-use Rattle.ldm_frags.specs.Answers.{AnswersBlocks, GivesList, Refuses, IsFault}
-use Rattle.ldm_frags.specs.Blocks.{count, has_magic, group, part, parts, payload, is_fragment, is_of, is_part, is_mixed, some_below, is_there, has_parts, least_below, all_below}
+use Rattle.ldm_frags.specs.Answers.{AnswersBlocks}
+use Rattle.ldm_frags.specs.Blocks.{count, has_magic, group, part, parts, payload, is_fragment, is_of, is_part, is_mixed, some_below, is_there, has_parts, least_below, all_below, block_at}
 use Rattle.ldm_frags.specs.declared.faults.Joined.{Joined}
 use Rattle.ldm_frags.specs.Faults.{block_fault, has_all, missing_fault, first_below, first_block_fault, fault_by, or_else}
 use Rattle.ldm_frags.specs.Joins.{gathered, entry, entries, Joins}
@@ -21,8 +21,7 @@ use Rattle.byteorder.specs.Endian.{big_number}
 use Rattle.ldm_frags.specs.declared.groups.Group.{Group}
 use Rattle.ldm_frags.specs.Fed.{IsSameBlock}
 use Rattle.ldm_frags.specs.Groups.{first_passing, Knows, IsTable}
-use Rattle.ldm_frags.specs.Written.{block_at}
-use Rattle.ldm_frags.proofs.WriteLaws.{number_within, payload_within}
+use Rattle.ldm_frags.proofs.BlockLaws.{number_within, payload_within}
 
 -- ---- Lists of blocks with no fault are joined, and those with one are not.
 
@@ -91,9 +90,6 @@ sound_of blocks k e =
       unmixed = λ h. (d h).0;
       new = λ h. (f h).0;
     }
-
-pub both_of : (a b : Bool) → (a && b) ≡ true → (a ≡ true) × (b ≡ true)
-both_of a b e = and_parts a b e
 
 eqb_sym : (a b : ℕ) → eqb a b ≡ true → eqb b a ≡ true
 eqb_sym a b e = eq-eqb b a (sym (eqb-true a b e))
@@ -231,34 +227,6 @@ one_list blocks a b x y = x.entries_are ∙ sym y.entries_are
 pub group_first : (blocks : List ℕ) (f : FragFault) → first_below (count blocks) (block_fault blocks) ≡ None → first_below (count blocks) (missing_fault blocks) ≡ Some f → first_block_fault blocks ≡ Some f
 unfolding first_block_fault
 group_first blocks f e g = rw (e, g) refl
-
--- an error of the blocks is handed on
-pub fault_answers : (blocks : List ℕ) (r : Result (Vec Joined) FragError) (e : FragError) → IsErrAnd r (λ given. given ≡ e) → IsFault e (first_block_fault blocks) → AnswersBlocks blocks r
-fault_answers blocks (Ok v) e is found = absurd is
-fault_answers blocks (Err given) e is found = go given (subst (λ (x : FragError). IsFault x (first_block_fault blocks)) (sym is) found)
-  where
-    go : (x : FragError) → IsFault x (first_block_fault blocks) → AnswersBlocks blocks (Err x)
-    go NoMemory h = tt
-    go (Fault f) h = h
-
--- ---- what an answer says of each list and each fault
-
-some_none : (f : FragFault) (o : Option FragFault) → o ≡ Some f → o ≡ None → ⊥
-some_none f o e g = cc
-
-pub answers_gives : (blocks : List ℕ) (r : Result (Vec Joined) FragError) → AnswersBlocks blocks r → (list : List Joined) → Joins blocks list → GivesList r list
-answers_gives blocks (Ok v) a list joins = one_list blocks v.items list a joins
-answers_gives blocks (Err NoMemory) a list joins = tt
-answers_gives blocks (Err (Fault f)) a list joins = some_none f (first_block_fault blocks) a (joins_clean blocks list joins)
-
-pub answers_refuses : (blocks : List ℕ) (r : Result (Vec Joined) FragError) → AnswersBlocks blocks r → (f : FragFault) → first_block_fault blocks ≡ Some f → Refuses r f
-answers_refuses blocks (Ok v) a f e = some_none f (first_block_fault blocks) e (joins_clean blocks v.items a)
-answers_refuses blocks (Err NoMemory) a f e = tt
-answers_refuses blocks (Err (Fault g)) a f e = cc
-
--- there is a fault exactly where no list is joined
-pub faultless : (blocks : List ℕ) → (first_block_fault blocks ≡ None) ↔ ((list : List Joined) × Joins blocks list)
-faultless blocks = (λ e. (entries blocks (count blocks), faultless_joins blocks e), λ x. joins_clean blocks x.0 x.1)
 
 -- ---- Blocks that read alike have the same faults, and join to the same records.
 

@@ -28,7 +28,7 @@ use Rattle.ldm_frags.specs.declared.faults.FragError.TheVariants.{Fault, NoMemor
 use Rattle.ldm_frags.specs.declared.faults.Joined.{Joined}
 use Rattle.ldm_frags.specs.Answers.{AnswersBlocks, IsFault}
 use Rattle.ldm_frags.specs.Kept.{head_at, IsNextPiece, IsPiece, IsWholePiece, block_of, blocks_of, IsKeptTable}
-use Rattle.ldm_frags.proofs.WriteLaws.{HasFields, fields_of, written_length}
+use Rattle.ldm_frags.proofs.BlockLaws.{HasFields, fields_of, written_length}
 use borrow.Author.Count.{below_more}
 
 -- ---- What a table of groups answers, and one more block in it.

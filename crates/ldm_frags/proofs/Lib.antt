@@ -1,6 +1,4 @@
 pub mod Below
+pub mod BlockLaws
 pub mod JoinLaws
-pub mod WriteLaws
-pub mod HoldLaws
 pub mod KeptLaws
-pub mod HoldEdits

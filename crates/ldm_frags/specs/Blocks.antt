@@ -1,8 +1,9 @@
 -- The blocks of a database, in bytes, and the fields of a block's head: the text `VBLK`, sequence u32
 -- at 4, group u32 at 8, part u16 at 12 and parts u16 at 14. Block k of the list has the number k + 4,
--- since the blocks in use begin with number 4.
-use Rattle.std.specs.Prelude.{ℕ, zero, suc, ◌+◌, ◌*◌, ◌/◌, ◌==◌, Bool, true, false, not, ◌&&◌, ◌||◌, List, [], ◌∷◌, length, nat_le, slice_range, if◌then◌else◌}
+-- since the blocks in use begin with number 4. And a block as it is written, with these fields.
+use Rattle.std.specs.Prelude.{ℕ, zero, suc, ◌+◌, ◌*◌, ◌/◌, ◌==◌, Bool, true, false, not, ◌&&◌, ◌||◌, List, [], ◌∷◌, length, nat_le, slice_range, if◌then◌else◌, ◌-◌, ◌++◌, take, drop, codes}
 use Rattle.ldm_bytes.specs.Places.{u16_at, u32_at}
+use Rattle.byteorder.specs.Endian.{big_bytes}
 
 abbrev pub count : List ℕ → ℕ
 count blocks = length blocks / 128
@@ -66,3 +67,16 @@ is_there blocks g p = some_below (count blocks) (is_part blocks g p)
 -- every part below n of the group g is there
 unfoldable pub has_parts : List ℕ → ℕ → ℕ → Bool
 has_parts blocks g n = all_below n (is_there blocks g)
+
+-- the text `VBLK`, sequence, group, part and parts
+abbrev pub head : ℕ → ℕ → ℕ → ℕ → List ℕ
+head number group part parts =
+    codes "VBLK" ++ big_bytes 4 number ++ big_bytes 4 group ++ big_bytes 2 part ++ big_bytes 2 parts
+
+-- a head, and then 112 bytes
+unfoldable pub written_block : ℕ → ℕ → ℕ → ℕ → List ℕ → List ℕ
+written_block number group part parts bytes = head number group part parts ++ bytes
+
+-- the block of that number, where number 4 is the first of the list
+abbrev pub block_at : List ℕ → ℕ → List ℕ
+block_at blocks number = take 128 (drop (128 * (number - 4)) blocks)

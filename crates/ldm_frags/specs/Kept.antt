@@ -7,10 +7,9 @@ use Rattle.ldm_frags.specs.declared.groups.Group.{Group}
 use Rattle.ldm_frags.specs.declared.blocks.Head.{Head}
 use Rattle.ldm_frags.specs.declared.blocks.Piece.{Piece}
 use Rattle.ldm_frags.specs.declared.faults.FragError.{FragError}
-use Rattle.ldm_frags.specs.Blocks.{count, group, part, parts, payload}
+use Rattle.ldm_frags.specs.Blocks.{count, group, part, parts, payload, written_block}
 use Rattle.ldm_frags.specs.Faults.{block_fault, first_below}
 use Rattle.ldm_frags.specs.Groups.{IsTable}
-use Rattle.ldm_frags.specs.Written.{written_block}
 
 -- what the head of block k says
 abbrev pub head_at : List ℕ → ℕ → Head

@@ -3,7 +3,5 @@ pub mod Faults
 pub mod Joins
 pub mod Answers
 pub mod Groups
-pub mod Written
-pub mod Free
 pub mod Kept
 pub mod Fed

@@ -49,37 +49,3 @@ pub struct Joined {
     /// The payload's bytes, 112 of each block.
     pub payload: Bytes,
 }
-
-/// Why payloads were not split.
-#[derive(Clone, Copy, PartialEq, Eq)]
-pub enum SplitError {
-    /// The payloads need more blocks than there are.
-    NoRoom {
-        /// The blocks that they need.
-        need: u64,
-        /// The blocks that there are.
-        have: u64,
-    },
-    /// Memory ran out.
-    NoMemory,
-}
-
-impl From<NoMemory> for SplitError {
-    ghost use Rattle.ldm_frags.specs.declared.faults.SplitError.{SplitError};
-
-    ghost from_gives = { λ _ e. e ≡ SplitError.NoMemory };
-
-    fn from(_error: NoMemory) -> SplitError {
-        SplitError::NoMemory
-    }
-}
-
-impl From<AllocError> for SplitError {
-    ghost use Rattle.ldm_frags.specs.declared.faults.SplitError.{SplitError};
-
-    ghost from_gives = { λ _ e. e ≡ SplitError.NoMemory };
-
-    fn from(_error: AllocError) -> SplitError {
-        SplitError::NoMemory
-    }
-}

@@ -1,21 +1,14 @@
-//! Blocks that are taken one by one, or all at once.
-ghost use Rattle.std.specs.Prelude.{◌≡◌, ◌≤◌, ◌<◌, ◌+◌, ◌%◌, ◌++◌, ◌∷◌, [], ◌↔◌, ℕ, List, Some};
-ghost use Rattle.std.specs.Prelude.{None, Err, length, is_some, vec_len, IfOk, IfErr, OnOk, OnErr};
-ghost use Rattle.std.specs.Prelude.{MatchResult};
+//! Blocks that are taken one by one, or several at once.
+ghost use Rattle.std.specs.Prelude.{◌≡◌, ◌<◌, ◌++◌, ◌∷◌, [], None, length, is_some, vec_len};
+ghost use Rattle.std.specs.Prelude.{IfErr, OnOk, OnErr};
 ghost use Rattle.std.specs.Ordering.{nat_cmp};
 ghost use Rattle.std.specs.BTreeMap.{get};
-ghost use Rattle.ldm_frags.specs.declared.faults.FragFault.{FragFault};
-ghost use Rattle.ldm_frags.specs.declared.faults.FragError.{FragError};
-ghost use Rattle.ldm_frags.specs.declared.faults.Joined.{Joined};
 ghost use Rattle.ldm_frags.specs.declared.blocks.Piece.{Piece};
-ghost use Rattle.ldm_frags.specs.Blocks.{count, has_magic, group, part, parts};
-ghost use Rattle.ldm_frags.specs.Faults.{fault_by, block_fault, first_block_fault};
-ghost use Rattle.ldm_frags.specs.Joins.{Joins};
+ghost use Rattle.ldm_frags.specs.Blocks.{has_magic, group, part, parts};
+ghost use Rattle.ldm_frags.specs.Faults.{fault_by, block_fault};
 ghost use Rattle.ldm_frags.specs.Groups.{part_place, has_other};
-ghost use Rattle.ldm_frags.specs.Written.{Placed, Holds, joined_below};
-ghost use Rattle.ldm_frags.specs.Answers.{AnswersBlocks, GivesList, Refuses, IsFault};
+ghost use Rattle.ldm_frags.specs.Answers.{IsFault};
 ghost use Rattle.ldm_frags.specs.Kept.{blocks_of, IsKeptTable, IsNextPiece};
-ghost use Rattle.ldm_frags.specs.Fed.{IsFed};
 
 use crate::blocks::{Piece, has_magic, head_of, piece_of};
 use crate::groups::{Groups, has_other, note, place};
@@ -217,38 +210,4 @@ impl Joiner {
         }
         join_all(self.alloc, &self.groups, self.pieces.as_slice())
     }
-}
-
-// The list of all blocks, or the first fault.
-fn join_each(alloc: Global, blocks: &[u8]) -> Result<Vec<Joined>, FragError>
-    requires whole { length blocks.now % 128 ≡ 0 }
-    requires small { length blocks.now ≤ 1048576 }
-    ensures { AnswersBlocks blocks.now result }
-{
-    let mut joiner = Joiner::new(alloc, (blocks.len() / 128) as u32)?;
-    joiner.feed_all(blocks)?;
-    joiner.finish()
-}
-
-/// The records that the blocks hold, in the order of their whole blocks and blocks of part 0, or
-/// the first fault. `blocks` is the blocks from number 4 on.
-pub fn join(alloc: Global, blocks: &[u8]) -> Result<Vec<Joined>, FragError>
-    requires whole { length blocks.now % 128 ≡ 0 }
-    requires small { length blocks.now ≤ 1048576 }
-    ensures answers { AnswersBlocks blocks.now result }
-    // A list is answered exactly where it is joined.
-    ensures joined { (list : List Joined) → Joins blocks.now list → GivesList result list }
-    // Each fault is answered exactly where it is the first.
-    ensures refused { (fault : FragFault) → first_block_fault blocks.now ≡ Some fault
-        → Refuses result fault }
-
-    // There is a fault exactly where no list is joined, and at most one list is.
-    ensures faultless { (first_block_fault blocks.now ≡ None)
-        ↔ ((list : List Joined) × Joins blocks.now list) }
-    ensures one { (a b : List Joined) → Joins blocks.now a → Joins blocks.now b → a ≡ b }
-    // Blocks that hold records join to these, wherever their parts stand.
-    ensures held { (records : List Placed) → Holds blocks.now records
-        → Joins blocks.now (joined_below records (count blocks.now)) }
-{
-    join_each(alloc, blocks)
 }

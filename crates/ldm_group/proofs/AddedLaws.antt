@@ -21,7 +21,7 @@ use Rattle.ldm_records.specs.declared.types.Volume.{Volume}
 use Rattle.ldm_group.proofs.LookLaws.{none_found}
 use Rattle.ldm_bytes.proofs.FindLaws.{find_there}
 use Rattle.ldm_records.specs.declared.types.Disk.{Disk}
-use Rattle.ldm_frags.specs.Written.{parts_of}
+use Rattle.ldm_vmdb.specs.Parts.{parts_of}
 use Rattle.ldm_group.specs.Database.{Database, IsDatabaseOf}
 use Rattle.ldm_group.specs.Room.{own_len, need_of}
 use Rattle.ldm_vmdb.specs.declared.header.Header.{Header}

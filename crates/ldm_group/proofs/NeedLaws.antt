@@ -6,12 +6,11 @@ use Rattle.std.proofs.lemmas.List.Elements.{All-nil, All-cons, All-head, All-tai
 use Rattle.ldm_records.specs.declared.types.Record.{Record}
 use Rattle.ldm_records.specs.Plain.{Plain, own_spelling}
 use Rattle.ldm_records.specs.Views.{plain_of}
-use Rattle.ldm_frags.specs.Written.{parts_of, IsSized}
-use Rattle.ldm_frags.specs.Written as written
+use Rattle.ldm_vmdb.specs.Parts.{parts_of, IsSized, blocks_needed}
 use Rattle.ldm_group.specs.Room.{own_len, IsFitting, need_of}
 
 -- the payloads take as many blocks as the records need
-pub need_of-spellings : (records : List Record) → written.blocks_needed (map (λ r. own_spelling (plain_of r)) records) ≡ need_of records
+pub need_of-spellings : (records : List Record) → blocks_needed (map (λ r. own_spelling (plain_of r)) records) ≡ need_of records
 unfolding own_len
 need_of-spellings [] = refl
 need_of-spellings (r ∷ rest) =

@@ -3,7 +3,7 @@ use Rattle.std.specs.Prelude.{◌≢◌, ℕ, ◌+◌, ◌-◌, ◌*◌, ◌/◌
 use Rattle.ldm_records.specs.declared.types.Record.{Record}
 use Rattle.ldm_records.specs.Plain.{own_spelling}
 use Rattle.ldm_records.specs.Views.{plain_of}
-use Rattle.ldm_frags.specs.Written.{parts_of}
+use Rattle.ldm_vmdb.specs.Parts.{parts_of}
 use Rattle.ldm_group.specs.Database.{Database}
 
 -- the length of the record's own spelling

@@ -1,11 +1,11 @@
 //! How many blocks the records of a group need, and how many it has.
 ghost use Rattle.std.specs.Prelude.{◌≡◌, ◌+◌, ◌≤◌, ◌<◌, ◌^◌, All};
-ghost use Rattle.ldm_frags.specs.Written.{parts_of};
+ghost use Rattle.ldm_vmdb.specs.Parts.{parts_of};
 ghost use Rattle.ldm_group.specs.Room.{own_len, IsFitting, need_of, room_of, last_for, LastGrows};
 
 use crate::db::Db;
-use ldm_frags::parts_of;
 use ldm_records::{Record, spelled_len};
+use ldm_vmdb::parts_of;
 
 /// The length of the record's own spelling in bytes, at least 1.
 #[tactic(auto, unfolding(crate::specs::Room::own_len))]

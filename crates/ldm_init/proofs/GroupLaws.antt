@@ -15,8 +15,8 @@ use Rattle.ldm_records.specs.declared.types.GroupRec.{GroupRec}
 use Rattle.ldm_made.specs.Made.{new_group}
 use Rattle.ldm_made.proofs.MadeLaws.{number_len, makes_disk, makes_group}
 use Rattle.ldm_vmdb.specs.declared.header.Header.{Header}
-use Rattle.ldm_vmdb.specs.Made.{IsNewHeader}
-use Rattle.ldm_frags.specs.Written.{parts_of}
+use Rattle.ldm_written.specs.Made.{IsNewHeader}
+use Rattle.ldm_vmdb.specs.Parts.{parts_of}
 use Rattle.ldm_label.specs.declared.Label.{Label}
 use Rattle.ldm_group.specs.Order.{place_of, Rising}
 use Rattle.ldm_group.specs.Database.{Database, IsDatabaseOf}
@@ -28,7 +28,7 @@ use Rattle.ldm_init.specs.NewGroup.{new_disk_at, first_records, IsNewGroup, new_
 use Rattle.std.proofs.lemmas.Bool.Decides.{nat_tests}
 use Rattle.std.proofs.lemmas.Option.{slice_get_within, slice_get-get_or, get_or_from_slice_get}
 use Rattle.ldm_label.specs.Written.{IsWritable}
-use Rattle.ldm_found.specs.New.{HasOwnArea}
+use Rattle.ldm_init.specs.New.{HasOwnArea}
 use Rattle.ldm_init.specs.Moments.{CanTake}
 use Rattle.ldm_group.proofs.AddedLaws.{alone_rises}
 use Rattle.ldm_group.proofs.ListLaws.{only_one}

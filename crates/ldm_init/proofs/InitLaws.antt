@@ -32,9 +32,9 @@ use Rattle.ldm_body.specs.Body.{IsBodyOn}
 use Rattle.ldm_copy.specs.declared.notes.Note.{Note}
 use Rattle.ldm_copy.specs.declared.notes.Note.TheVariants as notes
 use Rattle.ldm_copy.specs.declared.fault.OpenFault.TheVariants as faults
-use Rattle.ldm_found.specs.New.{HasOwnArea, NewIsEditable}
+use Rattle.ldm_init.specs.New.{HasOwnArea, NewIsEditable}
 use Rattle.ldm_found.specs.Opening.{IsGroupIn}
-use Rattle.ldm_found.proofs.NewLaws.{new_opens}
+use Rattle.ldm_init.proofs.NewLaws.{new_opens}
 use Rattle.ldm_words.specs.NewGroup as words
 use Rattle.ldm_host.proofs.Relations.{works_as}
 use Rattle.ldm_init.specs.Bytes.{IsUnsignedImage}

@@ -1,3 +1,4 @@
+pub mod NewLaws
 pub mod MomentLaws
 pub mod ReadyLaws
 pub mod GroupLaws

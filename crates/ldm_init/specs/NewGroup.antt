@@ -4,7 +4,7 @@ use Rattle.std.specs.List.{filter_map, range_with_len}
 use Rattle.std.specs.Fmt.{decimal}
 use Rattle.ldm_records.specs.declared.types.Record.{Record}
 use Rattle.ldm_made.specs.Made.{new_disk, new_group}
-use Rattle.ldm_vmdb.specs.Made.{IsNewHeader}
+use Rattle.ldm_written.specs.Made.{IsNewHeader}
 use Rattle.ldm_label.specs.declared.Label.{Label}
 use Rattle.ldm_group.specs.Database.{Database}
 

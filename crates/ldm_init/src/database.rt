@@ -9,7 +9,7 @@ use ldm_bytes::NoMemory;
 use ldm_group::{Db, DbError};
 use ldm_made::{new_disk, new_group};
 use ldm_records::Record;
-use ldm_vmdb::Header;
+use ldm_written::new_header;
 use std::alloc::Global;
 
 // The record of the disk of this place, from 0.
@@ -60,7 +60,7 @@ pub fn new_database(
         → IsNewOn db.records labels) }
     ensures fits { IfOk result (λ db. length disks.now + 1 ≤ room_of last → FitsHeader db) }
 {
-    let header = Header::new(alloc, name, guid, last, seq)?;
+    let header = new_header(alloc, name, guid, last, seq)?;
     let records = records_of(alloc, name, guid, disks)?;
     match Db::new(alloc, header, records) {
         Ok(db) => Ok(db),

@@ -13,7 +13,7 @@ mod writing;
 pub use database::new_database;
 pub use faults::{InitError, InitFault, check_disks};
 pub use group::init;
-pub use laws::new_group_moments;
+pub use laws::{new_group_moments, new_groups_open};
 pub use making::{write_all, write_group};
 pub use signing::sign_all;
 pub use writing::write_disk;

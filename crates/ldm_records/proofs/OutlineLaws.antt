@@ -1,21 +1,10 @@
--- Absent fields behind the others change neither the own spelling nor which record it is.
-use Rattle.std.proofs.Common.{◌≡◌, ℕ, zero, suc, ◌-◌, ◌+◌, ◌<◌, ◌^◌, List, [], ◌∷◌, ◌++◌, length, take, refl, sym, ap, subst, ◌∙◌, arith}
+-- Absent fields behind the others change neither the length of the own spelling nor which record it is.
+use Rattle.std.proofs.Common.{◌≡◌, ℕ, zero, suc, ◌-◌, ◌+◌, List, [], ◌∷◌, ◌++◌, length, take, refl, sym, ap, ◌∙◌, arith}
 use Rattle.std.specs.Prelude.{replicate}
 use Rattle.std.proofs.lemmas.List.{take_at}
-use Rattle.byteorder.specs.Endian.{big_bytes}
-use Rattle.ldm_records.specs.Values.{Value, Text, Absent, FieldKind, HasKind, HasKinds, IsShort, AreShort, own_values, values_len}
-use Rattle.ldm_records.specs.Plain.{Plain, IsRecord, own_spelling, body_len}
+use Rattle.ldm_records.specs.Values.{Value, Absent, FieldKind, HasKinds, values_len}
+use Rattle.ldm_records.specs.Plain.{Plain, IsRecord, body_len}
 use Rattle.ldm_records.specs.Outlines.{padded, filled_plain}
-use Rattle.ldm_records.proofs.ValueLaws.{text_kind}
-use Rattle.ldm_records.proofs.PlainLaws.{own_body_len}
-
-absent_own : (n : ℕ) → own_values (replicate n Absent) ≡ []
-absent_own zero = refl
-absent_own (suc n) = absent_own n
-
-more_own : (xs : List Value) (n : ℕ) → own_values (xs ++ replicate n Absent) ≡ own_values xs
-more_own [] n = absent_own n
-more_own (x ∷ xs) n = rw (more_own xs n) refl
 
 absent_len : (n : ℕ) → values_len (replicate n Absent) ≡ 0
 absent_len zero = refl
@@ -32,33 +21,6 @@ filled_len xs = more_len xs (15 - length xs)
 pub listed_len : (p q : Plain) → q ≡ filled_plain p → values_len q.fields + length q.tail ≡ body_len p
 listed_len p q e =
     ap (λ (x : Plain). values_len x.fields + length x.tail) e ∙ ap (λ (n : ℕ). n + length p.tail) (filled_len p.fields)
-
-pub listed_fits : (p q : Plain) → q ≡ filled_plain p → IsRecord p → values_len q.fields + length q.tail < 2 ^ 32
-listed_fits p q e s = omega (arith, listed_len p q e, own_body_len p, s.short)
-
-filled_own : (p : Plain) → own_spelling (filled_plain p) ≡ own_spelling p
-filled_own p =
-    ap (λ (xs : List ℕ). (big_bytes 2 p.mark ++ p.flags ∷ p.type ∷ big_bytes 4 (length (xs ++ p.tail))) ++ (xs ++ p.tail)) (more_own p.fields (15 - length p.fields))
-
-pub listed_own : (p q : Plain) → q ≡ filled_plain p → own_spelling q ≡ own_spelling p
-listed_own p q e = ap own_spelling e ∙ filled_own p
-
-short_kind : (k : FieldKind) (x : Value) → HasKind k x → IsShort x
-short_kind k (Text t) h = text_kind k t h
-short_kind k _ h = tt
-
-absent_short : (n : ℕ) → AreShort (replicate n Absent)
-absent_short zero = tt
-absent_short (suc n) = (tt, absent_short n)
-
-more_short : (ks : List FieldKind) (xs : List Value) (n : ℕ) → HasKinds ks xs → AreShort (xs ++ replicate n Absent)
-more_short [] [] n h = absent_short n
-more_short (k ∷ ks) (x ∷ xs) n h = (short_kind k x h.0, more_short ks xs n h.1)
-more_short _ _ n h = absurd h
-
-pub listed_short : (p q : Plain) → q ≡ filled_plain p → IsRecord p → AreShort q.fields
-listed_short p q e s =
-    subst (λ (x : Plain). AreShort x.fields) (sym e) (more_short s.kinds p.fields (15 - length p.fields) s.fields)
 
 kinds_len : (ks : List FieldKind) (xs : List Value) → HasKinds ks xs → length ks ≡ length xs
 kinds_len [] [] h = refl

@@ -79,12 +79,3 @@ value_len Absent = 0
 abbrev pub values_len : List Value → ℕ
 values_len [] = 0
 values_len (x ∷ xs) = value_len x + values_len xs
-
--- a text is at most 255 long
-abbrev pub IsShort : Value → Type 0
-IsShort (Text t) = length t ≤ 255
-IsShort _ = Unit {0}
-
-abbrev pub AreShort : List Value → Type 0
-AreShort [] = Unit {0}
-AreShort (x ∷ xs) = IsShort x × AreShort xs

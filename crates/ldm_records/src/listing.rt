@@ -294,6 +294,7 @@ pub fn group_sound(g: &GroupRec)
     }
 }
 
+/// The record keeps what every record of its type does.
 pub fn record_sound(r: &Record)
     ensures { IsRecord (plain_of r.now) }
 {

@@ -60,6 +60,7 @@ fn group_outline(g: &GroupRec) -> Outline<'_>
     }
 }
 
+/// The record as it is written.
 pub fn outline_of(r: &Record) -> Outline<'_>
     ensures { listed result ≡ filled_plain (plain_of r.now) }
 {

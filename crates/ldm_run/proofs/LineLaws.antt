@@ -18,7 +18,7 @@ use Rattle.ldm_edits.specs.Steps.{State, fresh, turn_of, turns_of, group_after, 
 use Rattle.ldm_store.specs.Sessions.{Opened, IsTurnOf, state_in}
 use Rattle.ldm_run.specs.Editing.{turn_on}
 use Rattle.std.specs.List.{list_any}
-use Rattle.ldm_words.specs.Lines.{lines_of}
+use Rattle.ldm_lines.specs.Lines.{lines_of}
 use Rattle.ldm_run.specs.Scripts.{command_in, commands_in, is_refused, is_long_script, try_answer}
 use Rattle.std.proofs.lemmas.Bool.{lt-ltb, le-ltb}
 use Rattle.ldm_look.specs.Said.{Answer, refused}

@@ -8,11 +8,12 @@ use Rattle.ldm_label.specs.declared.Label.{Label}
 use Rattle.ldm_group.specs.Database.{Database, Core, core_of, IsSameCore}
 use Rattle.ldm_words.specs.declared.command.Command.{Command}
 use Rattle.ldm_words.specs.declared.command.Command.TheVariants.{Create, Extend, Delete, Begin, Commit, Cancel}
-use Rattle.ldm_words.specs.Commands.{command_of, alone, line_of}
-use Rattle.ldm_words.specs.Lines.{is_space, is_token, is_newline, lines_of}
+use Rattle.ldm_words.specs.Commands.{command_of}
 use Rattle.ldm_words.specs.Limits.{IsChange}
 use Rattle.ldm_words.proofs.LimitLaws.{is_change, one_of}
-use Rattle.ldm_words.proofs.LineLaws.{front_at}
+use Rattle.ldm_lines.specs.Lines.{is_space, is_token, is_newline, lines_of}
+use Rattle.ldm_lines.specs.Readings.{alone, line_of}
+use Rattle.ldm_lines.proofs.LineLaws.{front_at}
 use Rattle.std.proofs.Math.Seq.{take-append_seam, drop-append_seam, take-length}
 use Rattle.std.proofs.lemmas.List.{append-nil, length-append}
 use Rattle.std.proofs.lemmas.List.Sums.{sum_by-cons}

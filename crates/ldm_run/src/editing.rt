@@ -16,9 +16,10 @@ use ldm_bytes::NoMemory;
 use ldm_edits::{Refusal, Reply};
 use ldm_found::OpenError;
 use ldm_host::Host;
+use ldm_lines::{LineError, front_line, read_line};
 use ldm_look::refuse_opening;
 use ldm_store::{ApplyError, Session, settle};
-use ldm_words::{Command, LineError, Status, front_line, read_line};
+use ldm_words::{Command, Status};
 use std::alloc::Global;
 
 // Does a line on all disks. A line without a reading changes nothing.

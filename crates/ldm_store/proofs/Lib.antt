@@ -1,3 +1,5 @@
+pub mod AlikeLaws
+pub mod ClearLaws
 pub mod OpensLaws
 pub mod CopyLaws
 pub mod SettleLaws

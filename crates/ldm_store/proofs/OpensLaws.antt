@@ -15,7 +15,7 @@ use Rattle.ldm_found.specs.Editing.{blocked_in}
 use Rattle.ldm_found.specs.Facts.{LieOn}
 use Rattle.ldm_found.specs.Opening.{group_faults, IsGroupIn, IsNewestGroup, group_at, found_with}
 use Rattle.ldm_copy.specs.declared.fault.OpenFault.TheVariants as faults
-use Rattle.ldm_found.proofs.ClearLaws.{clear_of, labels_stay}
+use Rattle.ldm_store.proofs.ClearLaws.{clear_of, labels_stay}
 use Rattle.ldm_store.specs.Kept.{MayEdit, IsCurrent, IsNext, IsRecoverable, IsKept, Opens}
 use Rattle.ldm_store.specs.Turning.{IsBodyOnEach}
 use Rattle.ldm_store.specs.Sessions.{IsEditable}
@@ -29,7 +29,7 @@ use Rattle.ldm_copy.specs.declared.found.Found.{Found}
 use Rattle.ldm_copy.specs.declared.fault.OpenFault.{OpenFault}
 use Rattle.ldm_found.specs.Labels.{IsLabelOf, AreSameOutside}
 use Rattle.ldm_found.specs.Copies.{IsCopyIn, newer, newest, Disagrees, note_of, IsKnown, HasCopy}
-use Rattle.ldm_found.proofs.AlikeLaws.{same_faults, same_blocked, same_seq}
+use Rattle.ldm_store.proofs.AlikeLaws.{same_faults, same_blocked, same_seq}
 use Rattle.ldm_host.specs.Seen.{Seen, image}
 use Rattle.ldm_store.proofs.CopyLaws.{same_label}
 use Rattle.ldm_found.proofs.FoundLaws.{holds_group, copy_at}

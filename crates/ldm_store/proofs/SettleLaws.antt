@@ -39,7 +39,7 @@ use Rattle.ldm_store.specs.Turning.{IsBodyOnEach, AllSettled, AllHave, AreRewrit
 use Rattle.ldm_store.specs.Sessions.{Opened, Edited, HoldsGroup, RestsOn}
 use Rattle.ldm_store.specs.Settling.{IsHandedFew, IsSettled, IsReady, HealsAll}
 use Rattle.ldm_found.specs.Labels.{AreSameOutside}
-use Rattle.ldm_found.proofs.ClearLaws.{clear_of, labels_stay}
+use Rattle.ldm_store.proofs.ClearLaws.{clear_of, labels_stay}
 use Rattle.ldm_found.proofs.GroupLaws.{one_group}
 use Rattle.ldm_store.proofs.OpensLaws.{bodies_for, kept_opens_found}
 

@@ -1,4 +1,5 @@
 pub mod Kept
+pub mod Alike
 pub mod Turning
 pub mod Healing
 pub mod Bodies

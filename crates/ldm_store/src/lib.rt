@@ -8,6 +8,6 @@ mod session;
 mod settling;
 mod sharing;
 
-pub use laws::kept_images_open;
+pub use laws::{disks_alone, group_alone, kept_images_open};
 pub use session::{ApplyError, Session};
 pub use settling::settle;

@@ -6,10 +6,9 @@
 #![tactic(auto)]
 
 use ldm_bytes::NoMemory;
-use ldm_edge::{
-    HELP, Stop, VERSION, ending, exit_code, open_images, stop_unopened, tell, usage_error, words_of,
-};
-use ldm_files::{Access, Counted, Failure, FileHost, ImageFile, Meter, Watch, take_closed_streams};
+use ldm_console::{Counted, Meter, Tally, UsageError, tell, usage_error};
+use ldm_edge::{HELP, Stop, VERSION, ending, exit_code, open_images, stop_unopened, words_of};
+use ldm_files::{Access, Failure, FileHost, ImageFile, take_closed_streams};
 use ldm_locks::hold;
 use ldm_run::run;
 use ldm_words::{Job, Status, WordsError, read_words};
@@ -69,21 +68,21 @@ fn try_output<O: Write>(needs: Needs, output: &mut O) -> io::Result<()> {
 
 // What is counted of a job: the lines of one that writes, and the bytes of a long one where they
 // are told on a terminal.
-fn watch_of<'a>(rt: &'a HostRuntime, needs: Needs, terminals: Terminals) -> Watch<'a> {
+fn tally_of<'a>(rt: &'a HostRuntime, needs: Needs, terminals: Terminals) -> Tally<'a> {
     match needs {
         Needs {
             access: Access::Edit,
             ..
-        } => Watch::Lines(0),
+        } => Tally::Lines(0),
         Needs {
             counted: Some(counted),
             ..
         } if terminals.error => match Meter::start(rt, counted) {
-            Ok(meter) => Watch::Bytes(meter),
+            Ok(meter) => Tally::Bytes(meter),
             // Without a clock the job goes on untold.
-            Err(_) => Watch::Nothing,
+            Err(_) => Tally::Nothing,
         },
-        _ => Watch::Nothing,
+        _ => Tally::Nothing,
     }
 }
 
@@ -92,7 +91,7 @@ fn hold_images<'a>(
     rt: &HostRuntime,
     images: &[ImageFile],
     names: &'a [String],
-) -> Result<(), Stop<'a>> {
+) -> Result<(), Stop<'a, UsageError<'a>>> {
     for (i, image) in images.iter().enumerate() {
         if let Err(error) = hold(rt, image, &images[..i]) {
             let name = names.get(i).map_or("", |name| name.as_str());
@@ -110,7 +109,7 @@ fn run_words<'a, I, O>(
     input: I,
     mut output: O,
     terminals: Terminals,
-) -> Result<Status, Stop<'a>>
+) -> Result<Status, Stop<'a, UsageError<'a>>>
 where
     I: Read + Drop,
     O: Write + Drop,
@@ -122,7 +121,7 @@ where
         Ok((job, count)) => (needs_of(&job), count),
     };
     let names = &words[words.len() - count..];
-    let images = open_images(alloc, rt, names, needs.access)?;
+    let images = open_images::<UsageError<'a>>(alloc, rt, names, needs.access)?;
     if needs.access == Access::Edit {
         hold_images(rt, images.as_slice(), names)?;
     }
@@ -135,18 +134,18 @@ where
             "ldm: waiting for the lines of a script on the terminal; Ctrl-D ends them\n"
         );
     }
-    let host = match FileHost::new(alloc, images, input, output) {
+    let tally = tally_of(rt, needs, terminals);
+    let mut host = match FileHost::new(alloc, images, input, output, tally) {
         Ok(host) => host,
         Err(NoMemory) => return Err(Stop::NoMemory(None)),
     };
-    let mut host = host.watched(watch_of(rt, needs, terminals));
     let status = run(alloc, words, &mut host);
-    host.end_watch();
-    ending(status, names, host.failure(), host.lines())
+    host.watch().end();
+    ending(status, names, host.failure(), host.watch().lines())
 }
 
 // Does what the words of the command line ask.
-fn do_words<'a>(rt: &HostRuntime, words: &'a [String]) -> Result<Status, Stop<'a>> {
+fn do_words<'a>(rt: &HostRuntime, words: &'a [String]) -> Result<Status, Stop<'a, UsageError<'a>>> {
     match told(words) {
         Some(text) => tell(rt.stdout(), text),
         None => {
@@ -163,7 +162,7 @@ fn do_words<'a>(rt: &HostRuntime, words: &'a [String]) -> Result<Status, Stop<'a
 fn main(rt: HostRuntime) -> ExitCode {
     // Where it fails, an image that gets the descriptor of a closed stream is refused.
     let _ = take_closed_streams(&rt);
-    match words_of(rt.alloc(), &rt) {
+    match words_of::<UsageError<'_>>(rt.alloc(), &rt) {
         Ok(words) => exit_code(&rt, do_words(&rt, &words)),
         Err(stop) => exit_code(&rt, Err(stop)),
     }

@@ -2,8 +2,9 @@
 ghost use Rattle.std.specs.Prelude.{◌<◌, ◌≤◌, ◌+◌, ◌*◌, length, slice_index, IsTrue};
 
 use super::*;
-use ldm_edge::{Fault, UsageError};
-use ldm_files::{DiskCall, ImageFile, Progress};
+use ldm_console::Progress;
+use ldm_edge::Fault;
+use ldm_files::{DiskCall, ImageFile, Unwatched};
 use ldm_host::{Failed, Host};
 use ldm_memory::MemoryHost;
 use ldm_vectors::sample_images;
@@ -312,7 +313,7 @@ fn sync<H: Host>(host: &mut H, disk: usize) -> Result<(), Failed> {
 fn host_in(
     rt: &HostRuntime,
     folder: &PathBuf,
-) -> Result<FileHost<'static, &'static [u8], Vec<u8>>, Fail> {
+) -> Result<FileHost<&'static [u8], Vec<u8>, Unwatched>, Fail> {
     let alloc = rt.alloc();
     let mut images = Vec::new(alloc);
     images.push(file_of(rt, folder, "a", &[b'a'; 1024])?)?;
@@ -320,7 +321,7 @@ fn host_in(
     for path in [path_in(rt, folder, "a")?.as_str(), "/dev/null"] {
         images.push(ImageFile::of(File::open(rt, path)?)?)?;
     }
-    Ok(FileHost::new(alloc, images, b"abc".as_slice(), Vec::new(alloc))?)
+    Ok(FileHost::new(alloc, images, b"abc".as_slice(), Vec::new(alloc), Unwatched)?)
 }
 
 #[test]
@@ -354,13 +355,19 @@ fn hear<H: Host>(host: &mut H, buf: &mut [u8; 2]) -> (Result<usize, Failed>, [u8
 fn hears_the_input_to_its_end(rt: HostRuntime) -> Result<(), Fail> {
     let alloc = rt.alloc();
     let mut buf = [0u8; 2];
-    let mut host = FileHost::new(alloc, Vec::new(alloc), b"abc".as_slice(), Vec::new(alloc))?;
+    let mut host = FileHost::new(
+        alloc,
+        Vec::new(alloc),
+        b"abc".as_slice(),
+        Vec::new(alloc),
+        Unwatched,
+    )?;
     for (count, heard) in [(2, b"ab"), (1, b"cb"), (0, b"cb")] {
         assert!(rt; hear(&mut host, &mut buf) == (Ok(count), *heard));
     }
     // A folder is no input.
     let folder = File::open(&rt, ".")?;
-    let mut host = FileHost::new(alloc, Vec::new(alloc), folder, Vec::new(alloc))?;
+    let mut host = FileHost::new(alloc, Vec::new(alloc), folder, Vec::new(alloc), Unwatched)?;
     assert!(rt; host.hear(&mut buf) == Err(Failed));
     Ok(())
 }
@@ -405,6 +412,12 @@ ldm: a word is not UTF-8; an image whose path isn't can be named by a link to it
 ldm: ldm --help says more
 ";
 
+const NO_JOB: &str = "\
+ldm: usage: ldm JOB on IMAGE...
+ldm: there is no job
+ldm: ldm --help says more
+";
+
 #[test]
 fn says_why_there_is_no_answer(rt: HostRuntime) -> Result<(), Fail> {
     let alloc = rt.alloc();
@@ -423,7 +436,8 @@ fn says_why_there_is_no_answer(rt: HostRuntime) -> Result<(), Fail> {
         (Stop::Talk(fault(&names, input)), UNHEARD, 5),
         (Stop::NoMemory(Some(1)), NO_MEMORY, 4),
         (Stop::NoMemory(None), "ldm: no memory\n", 4),
-        (Stop::Usage(UsageError::NotUtf8), NOT_UTF8, 2),
+        (Stop::NotUtf8, NOT_UTF8, 2),
+        (Stop::Usage(Some(UsageError::NoJob)), NO_JOB, 2),
     ];
     for (stop, text, status) in rows {
         assert_eq!(rt; format!(in alloc; "{stop}")?.as_str(), text);

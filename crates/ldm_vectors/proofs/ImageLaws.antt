@@ -21,7 +21,7 @@ use Rattle.ldm_copy.specs.declared.fault.OpenFault.TheVariants as faults
 use Rattle.ldm_copy.specs.declared.found.Found.{Found}
 use Rattle.ldm_copy.specs.declared.notes.Note.{Note}
 use Rattle.ldm_copy.specs.declared.notes.Note.TheVariants as notes
-use Rattle.ldm_found.specs.New.{HoldCopies, NewOpens, NewIsEditable}
+use Rattle.ldm_init.specs.New.{HoldCopies, NewOpens, NewIsEditable}
 use Rattle.ldm_found.specs.Opening.{IsGroupIn, found_with}
 use Rattle.ldm_sample_disks.specs.Disks.{sample_label, sample_labels, IsZeros}
 use Rattle.ldm_sample_disks.proofs.DiskLaws.{label_fits}

@@ -12,7 +12,7 @@ use Rattle.ldm_group.specs.Database.{Database}
 use Rattle.ldm_group.specs.Room.{FitsHeader}
 use Rattle.ldm_rules.specs.Facts.{AreApart}
 use Rattle.ldm_rules.specs.New.{IsNewOn}
-use Rattle.ldm_found.specs.New.{HasOwnArea}
+use Rattle.ldm_init.specs.New.{HasOwnArea}
 use Rattle.ldm_sample_disks.specs.Disks.{guid_with, sample_label, sample_labels}
 use Rattle.ldm_init.specs.NewGroup.{IsNewGroup}
 use Rattle.ldm_init.proofs.GroupLaws.{is_new, fits_room}

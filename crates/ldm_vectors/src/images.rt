@@ -9,9 +9,8 @@ ghost use Rattle.ldm_vectors.specs.Sample.{AreSampleImages, IsSampleGroup};
 
 use ldm_body::{Body, bodies_are_copies, body_of};
 use ldm_bytes::{NoMemory, put_bytes};
-use ldm_found::new_groups_open;
 use ldm_group::Db;
-use ldm_init::new_database;
+use ldm_init::{new_database, new_groups_open};
 use ldm_label::{write_label, written_label_reads_back};
 use ldm_sample_disks::{guid_with, sample_label, zeros};
 use std::alloc::Global;

@@ -1,3 +1,2 @@
 pub mod HeaderLaws
 pub mod KeptLaws
-pub mod MadeLaws

@@ -1,3 +1,3 @@
 pub mod Sectors
 pub mod Headers
-pub mod Made
+pub mod Parts

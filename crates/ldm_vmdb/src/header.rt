@@ -56,15 +56,6 @@ impl Header {
     }
 }
 
-/// How many records of each kind a database has, as its header counts them.
-#[derive(Clone, Copy)]
-pub struct Counts {
-    pub volumes: u32,
-    pub components: u32,
-    pub partitions: u32,
-    pub disks: u32,
-}
-
 /// What is wrong with a header sector.
 #[derive(Clone, Copy, PartialEq, Eq)]
 pub enum VmdbFault {

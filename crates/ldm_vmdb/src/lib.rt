@@ -1,11 +1,11 @@
-//! The header sector of the database (VMDB): read, made anew, and written with a new sequence.
+//! The header sector of the database (VMDB) as it is read, and how many blocks (VBLKs) a payload
+//! behind it takes.
 #![tactic(auto)]
 
 mod header;
-mod made;
+mod parts;
 mod reading;
-mod writing;
 
-pub use header::{Counts, Header, VmdbError, VmdbFault};
+pub use header::{Header, VmdbError, VmdbFault};
+pub use parts::parts_of;
 pub use reading::read_header;
-pub use writing::write_header;

@@ -6,4 +6,3 @@ pub mod CommandLaws
 pub mod EqualsLaws
 pub mod LimitLaws
 pub mod NewGroupLaws
-pub mod LineLaws

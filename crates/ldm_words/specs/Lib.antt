@@ -7,4 +7,3 @@ pub mod Readings
 pub mod Commands
 pub mod Equals
 pub mod Limits
-pub mod Lines

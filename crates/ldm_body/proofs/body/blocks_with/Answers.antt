@@ -1,7 +1,6 @@
 use Rattle.std.proofs.Common.{◌≡◌, ℕ, List, sym, ap, subst, ◌∙◌, arith}
 use Rattle.std.specs.List.{All}
-use Rattle.ldm_frags.specs.Written.{IsSized}
-use Rattle.ldm_frags.specs.Written as written
+use Rattle.ldm_vmdb.specs.Parts.{IsSized, blocks_needed}
 use Rattle.ldm_group.specs.Room.{need_of}
 use Rattle.ldm_body.specs.Body.{spellings}
 use Rattle.ldm_group.proofs.NeedLaws.{need_of-spellings, sized_spellings}
@@ -16,7 +15,7 @@ blocks_of-requires-clause-sized c = subst (λ (l : List (List ℕ)). All IsSized
 
 pub blocks_of-requires-clause-room : goal.blocks_of-requires-clause-room
 blocks_of-requires-clause-room c =
-    let need : written.blocks_needed c.deref.result.now ≡ need_of c.args.records.now = ap written.blocks_needed (spelled c) ∙ need_of-spellings c.args.records.now in
+    let need : blocks_needed c.deref.result.now ≡ need_of c.args.records.now = ap blocks_needed (spelled c) ∙ need_of-spellings c.args.records.now in
     omega (arith, need, c.requires.room)
 
 pub returns-clause-holds : goal.returns-clause-holds

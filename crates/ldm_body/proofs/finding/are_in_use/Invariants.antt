@@ -1,5 +1,5 @@
 use Rattle.std.proofs.Common.{◌<◌, ℕ, slice_index}
-use Rattle.ldm_frags.specs.Written.{IsInUse}
+use Rattle.ldm_written.specs.Written.{IsInUse}
 use Rattle.ldm_body.proofs.finding.are_in_use.Given as goal
 
 abbrev pub invariant-loop-k : goal.invariant-loop-k

@@ -2,11 +2,12 @@ use Rattle.std.proofs.Common.{◌≡◌, ◌+◌, ◌-◌, ◌*◌, ◌<◌, ◌
 use Rattle.std.proofs.lemmas.Bool.{both_ways}
 use Rattle.std.proofs.lemmas.List.{get_or_default}
 use Rattle.ldm_frags.specs.Blocks.{count, parts}
-use Rattle.ldm_frags.specs.Written.{IsInUse, IsPlaced, parts_of}
+use Rattle.ldm_written.specs.Written.{IsInUse, IsPlaced}
+use Rattle.ldm_vmdb.specs.Parts.{parts_of}
 use Rattle.ldm_records.specs.declared.types.Record.{Record}
 use Rattle.ldm_records.specs.Plain.{Spells, own_spelling}
 use Rattle.ldm_records.specs.Views.{plain_of}
-use Rattle.ldm_records.proofs.PlainLaws.{own_spells}
+use Rattle.ldm_written.proofs.SpellLaws.{own_spells}
 use Rattle.ldm_payloads.specs.Answers.{AnswersRecord}
 use Rattle.ldm_payloads.specs.declared.fault.RecordError.{RecordError}
 use Rattle.ldm_body.specs.Body.{Stored, placed_of}

@@ -2,11 +2,12 @@ use Rattle.std.proofs.Common.{◌≡◌, ℕ, List, length, map, sym, ap, subst,
 use Rattle.std.specs.Prelude.{filter}
 use Rattle.std.proofs.lemmas.List.{with_items_is, length-map}
 use Rattle.ldm_records.specs.declared.types.Record.{Record}
-use Rattle.ldm_frags.specs.Written.{Holds, block_at}
+use Rattle.ldm_written.specs.Written.{Holds}
+use Rattle.ldm_frags.specs.Blocks.{block_at}
 use Rattle.ldm_body.specs.Body.{Store, Stored, placed_of, stored_at}
 use Rattle.ldm_changed.specs.Plan.{has_record, record_stays, changed_numbers}
 use Rattle.ldm_body.proofs.BodyLaws.{record_of}
-use Rattle.ldm_frags.proofs.HoldEdits.{hold_grown}
+use Rattle.ldm_written.proofs.HoldEdits.{hold_grown}
 use Rattle.ldm_changed.proofs.PlanLaws.{kept_records_of, changed_grown}
 use Rattle.ldm_changed.proofs.NextLaws.{next_holds}
 use Rattle.ldm_changed.proofs.change.next_blocks.Goals as goal

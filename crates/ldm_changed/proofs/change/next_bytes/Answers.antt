@@ -3,7 +3,7 @@ use Rattle.std.proofs.lemmas.List.{take_rest}
 use Rattle.ldm_records.specs.declared.types.Record.{Record}
 use Rattle.ldm_records.specs.Plain.{IsRecord}
 use Rattle.ldm_records.specs.Views.{plain_of}
-use Rattle.ldm_frags.specs.Written.{Holds}
+use Rattle.ldm_written.specs.Written.{Holds}
 use Rattle.ldm_vmdb.specs.Sectors.{last_of}
 use Rattle.ldm_group.specs.Order.{Rising}
 use Rattle.ldm_group.specs.Room.{room_of}

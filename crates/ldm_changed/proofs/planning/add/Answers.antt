@@ -1,7 +1,8 @@
 use Rattle.std.proofs.Common.{◌≡◌, ◌≢◌, ◌+◌, ◌-◌, ℕ, List, [], ◌∷◌, ◌++◌, length, take, drop, All, sym, ap, subst, ◌∙◌, arith}
 use Rattle.ldm_records.specs.Plain.{own_spelling}
 use Rattle.ldm_records.specs.Views.{plain_of}
-use Rattle.ldm_frags.specs.Written.{parts_of, IsPlaced}
+use Rattle.ldm_vmdb.specs.Parts.{parts_of}
+use Rattle.ldm_written.specs.Written.{IsPlaced}
 use Rattle.ldm_group.specs.Room.{own_len}
 use Rattle.ldm_changed.specs.Plan.{slots_from}
 use Rattle.ldm_changed.proofs.PlanLaws.{slots_apart, own_len_is}

@@ -1,6 +1,6 @@
 use Rattle.std.proofs.Common.{refl}
 use Rattle.ldm_changed.specs.Plan.{block_differs}
-use Rattle.ldm_frags.proofs.HoldEdits.{pass_more}
+use Rattle.ldm_written.proofs.HoldEdits.{pass_more}
 use Rattle.ldm_changed.proofs.planning.changed.Goals as goal
 
 pub loop-k-preserved : goal.loop-k-preserved

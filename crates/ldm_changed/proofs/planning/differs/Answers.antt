@@ -1,7 +1,7 @@
 use Rattle.std.proofs.Common.{◌+◌, ◌*◌, ℕ, List, not, sym, ap, ◌∙◌, slice_range}
 use Rattle.std.specs.Prelude.{bytes_eq}
 use Rattle.std.proofs.lemmas.Bool.{lt-ltb}
-use Rattle.ldm_frags.specs.Written.{block_at}
+use Rattle.ldm_frags.specs.Blocks.{block_at}
 use Rattle.ldm_changed.proofs.PlanLaws.{block_piece, short_differs}
 use Rattle.ldm_changed.proofs.planning.differs.Goals as goal
 

@@ -1,7 +1,8 @@
 use Rattle.std.proofs.Common.{◌≡◌, ℕ, List, inl, inr, sym, ap, subst, ◌∙◌, length, slice_index, below_more, arith}
 use Rattle.std.proofs.lemmas.Bool.{cases_eq}
 use Rattle.std.proofs.lemmas.List.{get_or_default}
-use Rattle.ldm_frags.specs.Written.{block_at, unused_block}
+use Rattle.ldm_frags.specs.Blocks.{block_at}
+use Rattle.ldm_written.specs.Written.{unused_block}
 use Rattle.ldm_changed.specs.Plan.{AreFreed}
 use Rattle.ldm_changed.proofs.planning.free.Goals as goal
 

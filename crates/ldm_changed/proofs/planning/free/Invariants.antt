@@ -1,5 +1,6 @@
 use Rattle.std.proofs.Common.{◌≡◌, ◌≢◌, ℕ, ◌≤◌, ◌<◌, slice_index, All}
-use Rattle.ldm_frags.specs.Written.{unused_block, block_at}
+use Rattle.ldm_written.specs.Written.{unused_block}
+use Rattle.ldm_frags.specs.Blocks.{block_at}
 use Rattle.ldm_changed.proofs.planning.free.Given as goal
 
 abbrev pub invariant-loop-k : goal.invariant-loop-k

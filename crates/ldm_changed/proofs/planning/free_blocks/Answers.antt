@@ -1,6 +1,6 @@
 use Rattle.std.proofs.Common.{refl}
-use Rattle.ldm_frags.specs.Free.{is_free}
-use Rattle.ldm_frags.proofs.HoldEdits.{pass_more}
+use Rattle.ldm_written.specs.Free.{is_free}
+use Rattle.ldm_written.proofs.HoldEdits.{pass_more}
 use Rattle.ldm_changed.proofs.planning.free_blocks.Goals as goal
 
 pub loop-k-preserved : goal.loop-k-preserved

@@ -1,7 +1,7 @@
 use Rattle.std.proofs.Common.{◌≡◌}
 use Rattle.std.specs.Prelude.{filter}
 use Rattle.ldm_frags.specs.Blocks.{numbers_from}
-use Rattle.ldm_frags.specs.Free.{is_free}
+use Rattle.ldm_written.specs.Free.{is_free}
 use Rattle.ldm_changed.proofs.planning.free_blocks.Given as goal
 
 abbrev pub invariant-loop-k : goal.invariant-loop-k

@@ -5,13 +5,13 @@ use Rattle.std.proofs.lemmas.List.Kept.{AllPairs-filter}
 use Rattle.ldm_records.specs.declared.types.Record.{Record}
 use Rattle.ldm_records.specs.Plain.{IsRecord}
 use Rattle.ldm_records.specs.Views.{plain_of}
-use Rattle.ldm_frags.specs.Blocks.{count, numbers_from}
-use Rattle.ldm_frags.specs.Written.{Holds, IsInUse, block_at}
+use Rattle.ldm_frags.specs.Blocks.{count, numbers_from, block_at}
+use Rattle.ldm_written.specs.Written.{Holds, IsInUse}
 use Rattle.ldm_group.specs.Room.{need_of}
 use Rattle.ldm_body.specs.Body.{Stored, placed_of, stored_at}
 use Rattle.ldm_changed.specs.Plan.{has_record, lacks, record_stays, record_goes, Avoids}
-use Rattle.ldm_frags.specs.Free.{is_free, free_numbers}
-use Rattle.ldm_frags.proofs.HoldEdits.{enough_free, free_within, numbers_apart}
+use Rattle.ldm_written.specs.Free.{is_free, free_numbers}
+use Rattle.ldm_written.proofs.HoldEdits.{enough_free, free_within, numbers_apart}
 use Rattle.ldm_changed.proofs.PlanLaws.{same_kept, kept_there_of, room_left, next_store, touched_numbers, touched_few, touched_others}
 use Rattle.ldm_changed.proofs.planning.rewrite_blocks.Goals as goal
 

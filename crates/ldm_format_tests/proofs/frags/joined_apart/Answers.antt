@@ -1,7 +1,7 @@
 use Rattle.std.proofs.Common.{◌≢◌, ℕ, List, [], ◌∷◌, All, AllPairs, sym, subst, arith}
 use Rattle.std.proofs.lemmas.List.Elements.{All-cons, All-nil}
 use Rattle.std.proofs.lemmas.List.Kept.{AllPairs-cons}
-use Rattle.ldm_frags.specs.Written.{IsInUse}
+use Rattle.ldm_written.specs.Written.{IsInUse}
 use Rattle.ldm_format_tests.proofs.frags.joined_apart.Goals as goal
 
 -- the numbers of three blocks differ

@@ -1,6 +1,6 @@
 use Rattle.std.proofs.Common.{rules, ◌≡◌, ℕ, List, ◌∷◌, map, sym, ap, ◌∙◌, arith, Option}
 use Rattle.ldm_words.specs.declared.command.Command.{Command}
-use Rattle.ldm_words.specs.Lines.{lines_of}
+use Rattle.ldm_lines.specs.Lines.{lines_of}
 use Rattle.ldm_run.specs.Scripts.{command_in, commands_in}
 use Rattle.ldm_run.proofs.EditLaws.{now_of, edited_none, with_left, unread, ended, line_fails, line_done}
 use Rattle.ldm_run.proofs.editing.edit_each.Goals as goal

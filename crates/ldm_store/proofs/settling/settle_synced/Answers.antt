@@ -7,7 +7,7 @@ use Rattle.ldm_copy.specs.declared.found.Found.{Found}
 use Rattle.ldm_found.specs.declared.fault.OpenError.TheVariants.{Disk}
 use Rattle.ldm_found.specs.Facts.{LieOn}
 use Rattle.ldm_found.specs.Opening.{IsGroupIn}
-use Rattle.ldm_found.proofs.AlikeLaws.{same_blocked}
+use Rattle.ldm_store.proofs.AlikeLaws.{same_blocked}
 use Rattle.ldm_store.specs.Turning.{AllSettled}
 use Rattle.ldm_store.proofs.OpensLaws.{bodies_for}
 use Rattle.ldm_store.proofs.SettleLaws.{one_label, kept_from, kept_if, hands_none, healing_group, healing_hands, healed_session}

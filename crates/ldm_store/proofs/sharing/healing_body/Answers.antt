@@ -7,7 +7,7 @@ use Rattle.ldm_body.specs.Table.{IsCoreBody}
 use Rattle.ldm_copy.specs.declared.found.Found.{Found}
 use Rattle.ldm_copy.specs.declared.notes.Note.{Note}
 use Rattle.ldm_found.specs.Facts.{LieOn}
-use Rattle.ldm_found.proofs.ClearLaws.{clear_of}
+use Rattle.ldm_store.proofs.ClearLaws.{clear_of}
 use Rattle.ldm_found.proofs.FoundLaws.{holds_group}
 use Rattle.ldm_store.specs.Bodies.{KeepsBody, ShareNone}
 use Rattle.ldm_store.proofs.OpensLaws.{low_last, high_last}

@@ -6,7 +6,7 @@ use Rattle.ldm_changed.specs.Nexts.{bytes_in}
 use Rattle.ldm_body.specs.Body.{IsBodyOf}
 use Rattle.ldm_edits.specs.declared.reply.Reply.TheVariants.{Done}
 use Rattle.ldm_found.specs.Facts.{LieOn}
-use Rattle.ldm_found.proofs.ClearLaws.{clear_of}
+use Rattle.ldm_store.proofs.ClearLaws.{clear_of}
 use Rattle.ldm_store.specs.Kept.{IsCurrent}
 use Rattle.ldm_store.specs.Turning.{IsBodyOnEach, AllSettled, AllHave}
 use Rattle.ldm_store.specs.Sessions.{IsEditable, IsTurnOf, IsApplied, Edited, turn_in}

@@ -1,6 +1,0 @@
-use Rattle.std.proofs.Common.{◌≡◌, take, ◌≤◌, ◌*◌}
-use Rattle.ldm_frags.specs.Written.{blocks_needed}
-use Rattle.ldm_frags.proofs.splitting.need_of.Given as goal
-
-abbrev pub invariant-loop-payload : goal.invariant-loop-payload
-invariant-loop-payload l = (l.need ≡ blocks_needed (take l.payload-index l.payloads)) × (l.need ≤ 4 * l.payload-index)
