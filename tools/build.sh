@@ -28,8 +28,8 @@ kit_line() {
     found=$(kit_folder) && head -n 1 "$found/KIT-ID"
 }
 
-# The crates that $crate stands on and itself, by crates.txt below $1. For each a line: the lines of code from this crate on to
-# the program, its name, and the names of all crates below it. $2 has the lines of each crate. Those with most to come are first.
+# The crates that $crate stands on and itself, by crates.txt below $1. For each a line: the size of all from this crate on to
+# the program, its name, and the names of all crates below it. $2 has the size of each crate. Those with most to come are first.
 plan_of() {
     sed 's/#.*//; s/[:,]/ /g; /^ *$/d' "$1/crates.txt" | awk -v top="$crate" '
         function need(name, count, words, i) {
@@ -229,9 +229,17 @@ count_of_processors() {
     nproc 2>/dev/null || getconf _NPROCESSORS_ONLN 2>/dev/null || echo 1
 }
 
-# How many crates to prove side by side: as many as there are processors, but no more than one for each 2 GB of free memory.
+# The size of the crate in folder $1: its lines of code, and a quarter of those of its definitions and laws, which take less time.
+size_of() {
+    code=$(find "$1/src" -type f -exec cat {} + | wc -l)
+    laws=$(find "$1/specs" "$1/proofs" -type f -exec cat {} + 2>/dev/null | wc -l)
+    echo $((code + laws / 4))
+}
+
+# How many crates to prove side by side: two more than there are processors, so that one with much to come needn't wait for those
+# that stand back, but no more than one for each 2 GB of free memory.
 lanes() {
-    awk -v most="$processors" '
+    awk -v most="$((processors + 2))" '
         $1 == "MemAvailable:" && $2 < 2000000 * most { most = int($2 / 2000000) }
         END { print most < 1 ? 1 : most }' /proc/meminfo 2>/dev/null || echo 1
 }
@@ -375,7 +383,7 @@ build() {
         return 1
     }
     for it in "$room"/source/crates/*; do
-        echo "= $(basename "$it") $(find "$it/src" -type f -exec cat {} + | wc -l)"
+        echo "= $(basename "$it") $(size_of "$it")"
     done >"$room/sizes"
     plan_of "$room/source" "$room/sizes" >"$room/plan"
     kit_is=$(kit_line)
