@@ -1,24 +1,17 @@
 -- A group whose own record and those of its disks stand apart: all other records are as if they were added to these.
-use Rattle.std.proofs.Common.{◌≡◌, ℕ, ◌++◌, ◌<◌, ◌==◌, refl, sym, ap, subst, ◌∙◌, true, false, Bool, List, get_or}
-use Rattle.std.specs.Prelude.{filter}
+use Rattle.std.proofs.Common.{◌≡◌, ℕ, ◌++◌, ◌<◌, ◌==◌, refl, sym, ap, subst, ◌∙◌, true, false, Bool, List, get_or, filter}
+use Rattle.ldm_edits.proofs.Common.{Record, Header, grown_to, Database, max_id, HasSameDisks, Rising, kind_of, place_of, in_order, own_len, need_of, taken_in, AreMapsOf}
 use Rattle.std.specs.List.{Contains}
 use Rattle.std.specs.List.Sorted.{IsPermutation}
 use Rattle.std.proofs.lemmas.List.Elements.{Contains-get_or}
 use Rattle.std.proofs.lemmas.List.Kept.{AllPairs-filter}
 use Rattle.std.proofs.lemmas.List.Sorted.{Contains-permutation, IsPermutation-append_left, IsPermutation-filter_both, IsPermutation-refl, IsPermutation-sym, IsPermutation-trans, sum_by-IsPermutation}
-use Rattle.ldm_records.specs.declared.types.Record.{Record}
 use Rattle.ldm_records.specs.declared.types.Record.TheVariants as kinds
-use Rattle.ldm_vmdb.specs.declared.header.Header.{Header}
-use Rattle.ldm_vmdb.specs.Headers.{grown_to, with_seq}
+use Rattle.ldm_vmdb.specs.Headers.{with_seq}
 use Rattle.ldm_vmdb.specs.Parts.{parts_of as blocks_in}
-use Rattle.ldm_group.specs.Database.{Database, IsDatabaseOf}
-use Rattle.ldm_group.specs.Looks.{max_id, HasSameDisks}
-use Rattle.ldm_group.specs.Order.{Rising, kind_of, place_of, in_order}
-use Rattle.ldm_group.specs.Room.{own_len, need_of}
+use Rattle.ldm_group.specs.Database.{IsDatabaseOf}
 use Rattle.ldm_group.proofs.InOrder.{one_next}
 use Rattle.ldm_group.proofs.KinLaws.{filter_has, filter_keeps, kin_same}
-use Rattle.ldm_space.specs.Free.{taken_in}
-use Rattle.ldm_space.specs.Placed.{AreMapsOf}
 use Rattle.ldm_edits.specs.declared.additions.Additions.{Additions}
 use Rattle.ldm_edits.specs.Additions.{AreAdditions, with_added}
 use Rattle.ldm_edits.specs.Replacing.{AreFront, stands_in}

@@ -1,22 +1,11 @@
 -- What is kept of a group by what a line comes to, where a batch may be open.
-use Rattle.std.proofs.Common.{◌≡◌, ◌≢◌, ℕ, ◌+◌, ◌-◌, ◌++◌, ◌^◌, ◌<◌, List, [], get_or, refl, sym, ap, subst, ◌∙◌, arith, Bool, true, false, Option, Some, None, Result, Ok, Err, IfOk, IfErr}
-use Rattle.std.specs.Prelude.{if◌then◌else◌}
-use Rattle.std.specs.List.{AllPairs}
+use Rattle.std.proofs.Common.{◌≡◌, ℕ, ◌+◌, ◌-◌, ◌^◌, ◌<◌, List, refl, sym, ap, subst, ◌∙◌, arith, Bool, true, false, Option, Some, None, Result, Ok, Err, IfOk, IfErr, if◌then◌else◌}
+use Rattle.ldm_edits.proofs.Common.{Header, grown_to, Label, Database, IsSoundOn, Command}
 use Rattle.std.specs.Option.{ForSome}
-use Rattle.std.proofs.lemmas.List.{append-nil}
-use Rattle.std.proofs.lemmas.List.Sorted.{IsPermutation-refl}
-use Rattle.ldm_records.specs.declared.types.Record.{Record}
-use Rattle.ldm_vmdb.specs.declared.header.Header.{Header}
-use Rattle.ldm_vmdb.specs.Headers.{grown_to, with_seq}
-use Rattle.ldm_label.specs.declared.Label.{Label}
-use Rattle.ldm_group.specs.Database.{Database, at_seq}
-use Rattle.ldm_rules.specs.Facts.{IsSoundOn}
-use Rattle.ldm_words.specs.declared.command.Command.{Command}
+use Rattle.ldm_vmdb.specs.Headers.{with_seq}
+use Rattle.ldm_group.specs.Database.{at_seq}
 use Rattle.ldm_words.specs.declared.command.Command.TheVariants.{Create, Extend, Delete, Begin, Commit, Cancel}
-use Rattle.ldm_group.specs.Order.{Rising, in_order, place_of}
-use Rattle.ldm_group.proofs.InOrder.{one_next, in_order_rises}
 use Rattle.ldm_edits.specs.Drafts.{Drafted}
-use Rattle.ldm_edits.specs.Additions.{with_added}
 use Rattle.ldm_words.specs.Limits.{IsCommand}
 use Rattle.ldm_edits.specs.declared.batch.Answer.{Answer}
 use Rattle.ldm_edits.specs.declared.batch.Answer.TheVariants as answers
@@ -29,25 +18,6 @@ use Rattle.ldm_edits.specs.declared.reply.Refusal.TheVariants as refusals
 use Rattle.ldm_edits.specs.declared.stepping.Outcome.{Outcome}
 use Rattle.ldm_edits.specs.declared.stepping.Outcome.TheVariants as outcomes
 use Rattle.ldm_edits.specs.Steps.{StepsAs, FitsAsBefore, Keeps, IsDraftOf, VerdictKeeps, AnswersTo, next_of, held_at, change_in, begun, committed, verdict_of}
-
--- ---- what a batch holds as one database
-
--- records that rise are in their order
-rising_order : (records : List Record) → Rising records → in_order records ≡ records
-rising_order records up = sym (one_next records records (IsPermutation-refl records) up (in_order_rises records apart))
-  where
-    apart : AllPairs (λ a b. place_of a ≢ place_of b) records
-    apart i j d lt within = λ e.
-        (let below : place_of (get_or records i d) < place_of (get_or records j d) = up i j d lt within in omega arith)
-
--- a group to which nothing is added is itself
-pub with_none : (db : Database) (last : ℕ) (added : List Record) → Rising db.records → added ≡ [] → last ≡ db.header.last
-    → with_added db last added ≡ db
-with_none db last added up none same =
-    let records : in_order (db.records ++ added) ≡ db.records =
-    ap (λ (l : List Record). in_order (db.records ++ l)) none
-    ∙ ap in_order (append-nil db.records) ∙ rising_order db.records up in
-    λ i. record { header = grown_to db.header (same i) db.header.seq; records = records i }
 
 -- ---- the sequence put back
 

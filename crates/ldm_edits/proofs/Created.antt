@@ -1,41 +1,24 @@
 -- A new volume whose records have ids one after the other: the order and rules of the next group.
-use Rattle.std.proofs.Common.{◌≡◌, ◌≢◌, ◌∙◌, inl, inr, ap, sym, refl, subst, ℕ, suc, ◌+◌, ◌*◌, ◌≤◌, ◌<◌, ◌^◌, ◌==◌, [], ◌∷◌, ◌++◌, length, map, arith, Some, None, List, Option, Bool, false, Ok, bytes_eq}
-use Rattle.std.specs.Prelude.{filter}
-use Rattle.std.specs.List.{All, cons_option, filter_map, Contains}
-use Rattle.std.proofs.lemmas.Bool.{eq-eqb, ne_eqb, false≢true}
-use Rattle.std.proofs.lemmas.List.{length-map, length-append, append-nil, map-append}
-use Rattle.std.proofs.lemmas.List.Elements.{All-contains, All-cons, All-nil, All-tail, filter_map-append}
-use Rattle.std.proofs.lemmas.List.Sums.{length-filter, sum_by-cons}
-use Rattle.ldm_records.specs.declared.pieces.Head.{Head}
+use Rattle.std.proofs.Common.{◌≡◌, ◌≢◌, ◌∙◌, inl, inr, ap, sym, refl, ℕ, suc, ◌+◌, ◌*◌, ◌≤◌, ◌<◌, ◌^◌, ◌==◌, [], ◌∷◌, ◌++◌, length, map, arith, Some, None, List, Option, Bool, false, Ok, filter, eq-eqb, ne_eqb, length-append, append-nil}
+use Rattle.ldm_edits.proofs.Common.{Volume, Component, Partition, Record, Rising, id_of, in_order, is_child, is_volume_named, max_id, Label, Extent, Layout, extent_of, extents_of, plex_of, plexes_of, layout_of, data_size, Taken, taken_of, taken_in, AreDisjoint, AllEndWithin, there}
+use Rattle.std.specs.List.{All, cons_option, Contains}
+use Rattle.std.proofs.lemmas.List.{length-map, map-append}
+use Rattle.std.proofs.lemmas.List.Elements.{All-contains, All-tail}
+use Rattle.std.proofs.lemmas.List.Sums.{length-filter}
 use Rattle.ldm_records.specs.declared.pieces.Striping.{Striping}
-use Rattle.ldm_records.specs.declared.types.Volume.{Volume}
-use Rattle.ldm_records.specs.declared.types.Component.{Component}
-use Rattle.ldm_records.specs.declared.types.Partition.{Partition}
-use Rattle.ldm_records.specs.declared.types.Record.{Record}
 use Rattle.ldm_records.specs.declared.types.Record.TheVariants as kinds
 use Rattle.ldm_made.specs.Made.{IsStriping, new_component, new_volume}
-use Rattle.ldm_made.proofs.MadeLaws.{MakesVolume, makes_volume, MakesComponent, makes_component}
-use Rattle.ldm_group.specs.Order.{Rising, id_of, in_order}
-use Rattle.ldm_group.specs.Looks.{is_child, is_volume_named, max_id}
+use Rattle.ldm_made.proofs.MadeLaws.{makes_partition, makes_volume, MakesComponent, makes_component}
 use Rattle.ldm_group.proofs.InOrder.{member_next, stays_next, made_next, max_above}
 use Rattle.ldm_group.proofs.KinLaws.{kin_are}
-use Rattle.ldm_label.specs.declared.Label.{Label}
-use Rattle.ldm_places.specs.declared.extent.Extent.{Extent}
-use Rattle.ldm_layout.specs.declared.parts.Plex.{Plex}
-use Rattle.ldm_places.specs.Layouts.{Layout}
-use Rattle.ldm_layout.specs.Parts.{extent_of, extent_in, extents_of, plex_of, plexes_of}
-use Rattle.ldm_layout.specs.Volumes.{layout_of, is_basic}
+use Rattle.ldm_layout.specs.Volumes.{is_basic}
 use Rattle.ldm_layout.proofs.VolumeLaws.{extents_by}
-use Rattle.ldm_rules.specs.Ends.{data_size}
 use Rattle.ldm_rules.proofs.CarryLaws.{KeepsVolume, Carries, component_kept, partition_kept}
 use Rattle.ldm_rules.proofs.GroupLaws.{names_next}
 use Rattle.ldm_rules.proofs.SoundLaws.{EachRule}
-use Rattle.ldm_made.specs.declared.taken.Taken.{Taken}
-use Rattle.ldm_space.specs.Free.{taken_of, taken_in}
-use Rattle.ldm_space.specs.Placed.{AreDisjoint, AllEndWithin}
-use Rattle.ldm_made.specs.Volumes.{there, span_parts, mirror_parts, mirror_made}
+use Rattle.ldm_made.specs.Volumes.{mirror_parts, mirror_made}
 use Rattle.ldm_edits.proofs.AskedLaws.{AllSized, IsTaken}
-use Rattle.ldm_edits.proofs.Layouts.{IsTiledTo, IsCopy, mirror_layout, tile_extents, tiles_whole, tiles_sum, AreExtentsOf, tiles_of, parts_taken, AreNumbers, numbers_head, numbers_tail, MakesParts, makes_span_parts, parts_own}
+use Rattle.ldm_edits.proofs.Layouts.{IsCopy, mirror_layout, AreExtentsOf, tiles_of, parts_taken, AreNumbers, IsNumbered, MakesParts, one_more, no_parts, parts_own}
 use Rattle.ldm_group.proofs.AddedLaws.{IdsFollow, follow_above, of_partition, follow_join, added_rises}
 use Rattle.ldm_group.proofs.ListLaws.{map_there, each_more, flat_there, moved, behind}
 use Rattle.ldm_rules.proofs.RemadeLaws.{records_of, Share, parts_of, IsOther, IsRemade, read_plexes, read_extents, volume_keeps, remade_carries, block, blocks, blocks_rise, block_rises, listed, lists}
@@ -75,8 +58,7 @@ pub record MakesNew (id : ℕ) (name : List ℕ) (made : List Record) (taken : L
 
 pub created_rises : (old made : List Record) {name : List ℕ} {ts : List Taken} → Rising old → MakesNew (max_id old + 1) name made ts → Rising (in_order (old ++ made))
 created_rises old made up new = added_rises old made (max_id old + 1) up
-    (subst (IdsFollow (max_id old + 1)) (sym new.made_are) (new.first, new.are.follow))
-    (omega arith) new.few
+    (rw new.made_are (new.first, new.are.follow)) (omega arith) new.few
 
 module _ {old made : List Record} {labels : List Label} {name : List ℕ} {ts : List Taken}
     (up : Rising old) (each : EachRule old labels) (new : MakesNew (max_id old + 1) name made ts)
@@ -86,40 +68,36 @@ module _ {old made : List Record} {labels : List Label} {name : List ℕ} {ts : 
 
   -- nobody has the new id, or names it
   others : (r : Record) → Contains old r → IsOther (max_id old + 1) r
-  others (kinds.Group g) at = tt
-  others (kinds.Disk d) at = tt
-  others (kinds.Partition p) at = tt
-  others (kinds.Volume x) at = (let low = max_above old (kinds.Volume x) at in
-      ne_eqb x.head.id (max_id old + 1) (λ e. omega arith))
+  others (kinds.Volume x) at =
+      ne_eqb x.head.id (max_id old + 1) (λ e. omega (arith, max_above old (kinds.Volume x) at))
   others (kinds.Component x) at =
       let v = (component_kept old labels each x at).parent in
-      let low = max_above old (kinds.Volume v.0) v.1 in
-      let id = v.2 in
-      ne_eqb x.parent (max_id old + 1) (λ e. omega arith)
+      ne_eqb x.parent (max_id old + 1) (λ e. omega (arith, max_above old (kinds.Volume v.0) v.1))
+  others _ at = tt
 
   above : (s : Share) → Contains new.ss s → (r : Record) → Contains (block s) r
       → max_id old < id_of r
-  above s at r in' = (let low = follow_above (max_id old + 1 + 1) (blocks new.ss) r new.are.follow
-      (flat_there block new.ss s r at in') in omega arith)
+  above s at r in' = omega (
+    arith,
+    follow_above (max_id old + 1 + 1) (blocks new.ss) r new.are.follow
+        (flat_there block new.ss s r at in'),
+  )
 
   c_above : (s : Share) → Contains new.ss s → max_id old < s.c.head.id
-  c_above s at = (let high = above s at (kinds.Component s.d) (0, omega arith, refl) in
-      let same = ap (λ (c : Component). c.head.id) (new.are.each s at).same in omega arith)
+  c_above s at =
+      let same = ap (λ (c : Component). c.head.id) (new.are.each s at).same in
+      omega (arith, above s at (kinds.Component s.d) (0, omega arith, refl))
 
   none_before : (s : Share) → Contains new.ss s → filter (is_child 4 s.c.head.id) old ≡ []
   none_before s at = kin_are (is_child 4 s.c.head.id) old [] up
       (λ i j d lt within. absurd (omega arith)) (λ r h. absurd (let lt = h.1 in omega arith))
-      (of_partition s.c.head.id (λ (y : Record). Contains old y → Contains [] y)
-      (λ p parent there. absurd (
+      (of_partition s.c.head.id (λ (y : Record). Contains old y → Contains [] y) (λ p parent there. absurd (
       let c = (partition_kept old labels each p there).parent in
-      let low = max_above old (kinds.Component c.0) c.1 in
-      let id = c.2 in
-      let high = c_above s at in
-      omega arith)))
+      omega (arith, max_above old (kinds.Component c.0) c.1, c_above s at))))
 
   takes : (s : Share) (p : Partition) → Contains new.ss s → Contains s.parts p → IsTaken old (taken_of p)
-  takes s p at in' = All-contains (IsTaken old) ts (taken_of p) on
-      (subst (λ (l : List Taken). Contains l (taken_of p)) new.are.taken_are (map_there taken_of (parts_of new.ss) p (flat_there (λ (t : Share). t.parts) new.ss s p at in')))
+  takes s p at in' = All-contains (IsTaken old) ts (taken_of p) on (moved new.are.taken_are _
+      (map_there taken_of _ p (flat_there (λ (t : Share). t.parts) new.ss s p at in')))
 
   remade : IsRemade old next (max_id old + 1) new.volume new.ss
   remade = record {
@@ -127,8 +105,7 @@ module _ {old made : List Record} {labels : List Label} {name : List ℕ} {ts : 
     vp = created_rises old made up new;
     back = λ r at. elim (member_next old made r at) [
       | inl was ↦ inl (was, others r was)
-      | inr m ↦ inr
-          (listed new.volume new.ss r (moved new.made_are r m))
+      | inr m ↦ inr (listed new.volume new.ss r (moved new.made_are r m))
     ];
     there = λ r at other. stays_next old made r at;
     made = λ r m. made_next old made r (moved (sym new.made_are) r (lists new.volume new.ss r m));
@@ -145,24 +122,22 @@ module _ {old made : List Record} {labels : List Label} {name : List ℕ} {ts : 
         some = (takes s p at in').some;
       };
       rise = block_rises (max_id old + 1 + 1) new.ss new.are.follow s at;
-      counted = (let none = ap (λ (l : List Record). length l) (none_before s at) in
-          let count = length-filter (is_child 4 s.c.head.id) old in
-          let children = is.children in
-          omega arith);
+      counted = omega (
+        arith,
+        length-filter (is_child 4 s.c.head.id) old,
+        ap (λ (l : List Record). length l) (none_before s at),
+      );
     });
     rise = blocks_rise (max_id old + 1 + 1) new.ss new.are.follow;
-    own = λ x there parent. absurd (false≢true (sym (others (kinds.Component x) there)
-        ∙ eq-eqb x.parent (max_id old + 1) parent));
-    apart = λ x there other s at. (let low = max_above old (kinds.Component x) there in
-        let high = c_above s at in ne_eqb x.head.id s.c.head.id (λ e. omega arith));
+    own = λ x there parent. absurd (let other = others (kinds.Component x) there in
+        let own = eq-eqb x.parent (max_id old + 1) parent in cc);
+    apart = λ x there other s at. ne_eqb x.head.id s.c.head.id
+        (λ e. omega (arith, max_above old (kinds.Component x) there, c_above s at));
   }
 
   keeps : KeepsVolume next new.volume
   keeps = volume_keeps remade new.count new.some (new.laid next (read_plexes remade) (λ s at.
-      ap (λ (c : Component). extents_of c.head.id next) (sym (new.are.each s at).same)
-      ∙ read_extents remade s at
-      ∙ ap (λ (l : List Extent). l ++ map extent_of s.parts) (extents_by s.c.head.id old
-      ∙ ap (filter_map extent_in) (none_before s at))))
+      rw (← (new.are.each s at).same, read_extents remade s at, extents_by s.c.head.id old, none_before s at)))
 
   pub created_carries : Carries old next
   created_carries = remade_carries remade keeps
@@ -171,66 +146,44 @@ module _ {old made : List Record} {labels : List Label} {name : List ℕ} {ts : 
   pub created_each : ((r : Record) → Contains old r → is_volume_named name r ≡ false)
       → AreDisjoint (taken_in old) ts → AllEndWithin (data_size labels old) ts → EachRule next labels
   created_each free apart within =
-      remade_each remade keeps labels each (subst (AllEndWithin (data_size labels old))
-      (sym new.are.taken_are) within) (subst (AreDisjoint (taken_in old)) (sym new.are.taken_are)
-      apart)
+      remade_each remade keeps labels each (rw new.are.taken_are within) (rw new.are.taken_are apart)
       (names_next old next (Some new.volume.head) remade.vp (record {
         from = λ v at. elim (remade.back (kinds.Volume v) at) [ inl was ↦ inl (v, was.0, refl) | inr m ↦ inr (ap (λ (x : Volume). Some x.head) (sym m)) ];
-        free = λ head is w at. (let same : new.volume.head ≡ head = cc in
-            let own : name ≡ head.name = sym new.named ∙ ap (λ (h : Head). h.name) same in
-            subst (λ (n : List ℕ). bytes_eq w.head.name n ≡ false) own (free (kinds.Volume w) at));
+        free = λ head is w at. (let same : head ≡ new.volume.head = cc in rw (same, new.named) (free (kinds.Volume w) at));
       }) each.names)
 
 -- ---- what is made
 
-abbrev share_of : Component → List Partition → Share
-share_of c parts = record { c = c; d = c; parts = parts }
-
 no_blocks : (volume id : ℕ) → AreBlocks volume id [] []
-no_blocks volume id = record {
-  follow = tt;
-  each = λ s at. absurd (let lt = at.1 in
-      omega arith);
-  taken_are = refl;
-  many = refl;
-}
+no_blocks volume id = record { follow = tt; each = λ s at. absurd (let lt = at.1 in omega arith); taken_are = refl; many = refl }
 
 -- one component more in front, with its partitions
-one_block : {volume id layout first after : ℕ} {striping : Option Striping} {made : List
-    (Option Record)} {es : List Extent} {ts more : List Taken} {ss : List Share}
-    → (c : MakesComponent id volume layout (length ts) striping) (p : MakesParts first made es)
-    → AreExtentsOf id es ts → first ≡ id + 1 → after ≡ first + length ts
-    → AreBlocks volume after ss more → AreBlocks volume id (share_of c.component p.parts ∷ ss)
-    (ts ++ more)
-one_block {volume} {id} {layout} {first} {after} {striping} {made} {es} {ts} {more} {ss} c p are
-    first_is after_is rest = record {
-      follow = (
-        c.id_is,
-        follow_join (id + 1) after (records_of p.parts) (blocks ss) (let many = long in
-            omega arith) (subst (λ (n : ℕ). IdsFollow n (records_of p.parts)) first_is p.ids)
-            rest.follow,
-      );
-      each = each_more (IsNewShare volume) (share_of c.component p.parts) ss new rest.each;
-      taken_are = map-append taken_of p.parts (parts_of ss) ∙ (λ i. takes i ++ rest.taken_are i);
-      many = (let here = long in let count = rest.many in
-          let split = length-append (records_of p.parts) (blocks ss) in
-          let all = length-append ts more in omega arith);
-    }
-  where
-    takes : map taken_of p.parts ≡ ts
-    takes = parts_taken id es ts p.parts are p.extents_are
+module _ {volume id layout first : ℕ} {striping : Option Striping} {made : List (Option Record)} {es : List Extent}
+    {ts : List Taken} (c : MakesComponent id volume layout (length ts) striping) (p : MakesParts first made es)
+    (are : AreExtentsOf id es ts) where
+  abbrev share : Share
+  share = record { c = c.component; d = c.component; parts = p.parts }
 
-    long : length (records_of p.parts) ≡ length ts
-    long = length-map p.parts kinds.Partition ∙ sym (length-map p.parts taken_of)
-        ∙ ap (λ (l : List Taken). length l) takes
-
-    new : IsNewShare volume (share_of c.component p.parts)
-    new = record {
-      same = refl;
-      parent = c.parent_is;
-      children = c.children_is ∙ sym long ∙ length-map p.parts kinds.Partition;
-      own = λ q at. parts_own id es ts p.parts are p.extents_are q at ∙ sym c.id_is;
-    }
+  one_block : {after : ℕ} {more : List Taken} {ss : List Share} → first ≡ id + 1 → after ≡ first + length ts
+      → AreBlocks volume after ss more → AreBlocks volume id (share ∷ ss) (ts ++ more)
+  one_block {after} {more} {ss} first_is after_is rest =
+      let takes = parts_taken id es ts p.parts are p.extents_are in
+      let long = sym (length-map p.parts taken_of) ∙ ap (λ (l : List Taken). length l) takes in
+      let many = length-map p.parts kinds.Partition in
+      record {
+        follow = (
+          c.id_is,
+          follow_join (id + 1) after (records_of p.parts) (blocks ss) (omega arith) (rw first_is at p.ids) rest.follow,
+        );
+        each = each_more (IsNewShare volume) share ss (record {
+          same = refl;
+          parent = c.parent_is;
+          children = c.children_is ∙ sym long;
+          own = λ q at. parts_own id es ts p.parts are p.extents_are q at ∙ sym c.id_is;
+        }) rest.each;
+        taken_are = map-append taken_of p.parts (parts_of ss) ∙ (λ i. takes i ++ rest.taken_are i);
+        many = omega (arith, length-append (records_of p.parts) (blocks ss), length-append ts more);
+      }
 
 -- a new component, as a layout reads it
 plex_is : {id parent layout children : ℕ} {striping : Option Striping} (made : MakesComponent id parent layout children striping)
@@ -244,15 +197,13 @@ pub single_new : (id : ℕ) (name : List ℕ) (guid : ℕ) (raid : Bool) (size l
     → (l : Layout) × (layout_of next v ≡ Ok l))
     → MakesNew id name (there (new_volume id name guid raid 1 size ∷ (new_component (id + 1) id layout (length ts) striping ∷ parts))) ts
 single_new id name guid raid size layout striping parts es ts few short low some fits has extents lay =
-    let mv : MakesVolume id name guid raid 1 size = makes_volume id name guid raid 1 size (omega arith) short (omega arith) low in
-    let mc : MakesComponent (id + 1) id layout (length ts) striping = makes_component (id + 1) id layout (length ts) striping (omega arith) (omega arith) (omega arith) fits in
-    let s : Share = share_of mc.component has.parts in
+    let mv = makes_volume id name guid raid 1 size (omega arith) short (omega arith) low in
+    let mc = makes_component (id + 1) id layout (length ts) striping (omega arith) (omega arith) (omega arith) fits in
+    let s : Share = share mc has extents in
     let are : AreBlocks id (id + 1) (s ∷ []) (ts ++ []) =
     one_block mc has extents (omega arith) refl (no_blocks id (id + 2 + length ts)) in
-    let made : List Record = there (new_volume id name guid raid 1 size ∷ (new_component (id + 1) id layout (length ts) striping ∷ parts)) in
-    let made_are : made ≡ kinds.Volume mv.volume ∷ blocks (s ∷ []) =
-    (λ i. cons_option (mv.made i) (cons_option (mc.made i) (has.made_are i)))
-    ∙ ap (λ (l : List Record). kinds.Volume mv.volume ∷ (kinds.Component mc.component ∷ l))
+    let made_are = (λ i. cons_option (mv.made i) (cons_option (mc.made i) (has.made_are i)))
+    ∙ ap (λ (l : List Record). kinds.Volume mv.volume ∷ kinds.Component mc.component ∷ l)
     (sym (append-nil (records_of has.parts))) in
     record {
       volume = mv.volume;
@@ -262,13 +213,10 @@ single_new id name guid raid size layout striping parts es ts few short low some
       count = mv.children_is;
       some = ne_eqb mv.volume.size 0 (λ e. some (sym mv.size_is ∙ e));
       made_are = made_are;
-      few = (let whole = ap (λ (l : List Record). length l) made_are in let many = are.many in
-          let all = length-append ts [] in omega arith);
-      are = subst (AreBlocks id (id + 1) (s ∷ [])) (append-nil ts) are;
-      laid = λ next plexes read. lay next mv.volume mv.size_is
-          (plexes ∙ ap (λ (x : Plex). x ∷ []) (plex_is mc ∙ ap (λ k. record { volume = k; id = id + 1; layout = layout; striping = striping }) (sym mv.id_is)))
-          (ap (λ k. extents_of k next) (sym mc.id_is) ∙ read s (0, omega arith, refl)
-          ∙ has.extents_are);
+      few = omega (arith, ap (λ (l : List Record). length l) made_are, length-append ts []);
+      are = rw append-nil at are;
+      laid = λ next plexes read. lay next mv.volume mv.size_is (rw (plexes, plex_is mc, mv.id_is))
+          (rw (← mc.id_is) (read s (0, omega arith, refl) ∙ has.extents_are));
     }
 
 -- the components of a mirror, each followed by its partition
@@ -281,37 +229,25 @@ record MakesCopies (volume id len : ℕ) (ts : List Taken) : Type 0 where
 
 makes_copies : (volume id len : ℕ) (ts : List Taken) → volume < 2 ^ 64 → id + 2 * length ts ≤ 2 ^ 64
     → AreNumbers ts → AllSized len ts → MakesCopies volume id len ts
-makes_copies volume id len [] low few fits same = record {
-  ss = [];
-  made_are = refl;
-  many = refl;
-  are = no_blocks volume id;
-  each = λ s at. absurd (let lt = at.1 in omega arith);
-}
+makes_copies volume id len [] low few fits same =
+    let none = no_blocks volume id in
+    record { ss = []; made_are = refl; many = refl; are = none; each = λ s at. absurd (let lt = at.1 in omega arith) }
 makes_copies volume id len (t ∷ ts) low few fits same =
-    let here : AreNumbers (t ∷ []) = All-cons (λ (u : Taken). (u.disk < 2 ^ 64) × (u.size < 2 ^ 64))
-    t [] (numbers_head t ts fits) (All-nil (λ (u : Taken). (u.disk < 2 ^ 64)
-    × (u.size < 2 ^ 64))) in
-    let c : MakesComponent id volume 2 1 None = makes_component id volume 2 1 None (omega arith) low (omega arith) tt in
-    let p : MakesParts (id + 1) (span_parts (id + 1) id 0 (t ∷ [])) (tile_extents id 0 (t ∷ [])) =
-    makes_span_parts (id + 1) id 0 (t ∷ []) (omega arith) (omega arith) here in
-    let rest : MakesCopies volume (id + 2) len ts = makes_copies volume (id + 2) len ts low (omega arith) (numbers_tail t ts fits) (All-tail (λ (u : Taken). u.size ≡ len) t ts same) in
+    let here = fits 0 t (omega arith) in
+    let c = makes_component id volume 2 1 None (omega arith) low (omega arith) tt in
+    let one = makes_partition (id + 1) t.start 0 t.size id t.disk None (omega arith) here.1 (omega arith) here.0 (omega arith) in
+    let p = one_more one (no_parts _) in
+    let rest = makes_copies volume (id + 2) len ts low (omega arith) (All-tail IsNumbered t ts fits)
+    (All-tail (λ (u : Taken). u.size ≡ len) t ts same) in
     record {
-      ss = share_of c.component p.parts ∷ rest.ss;
-      made_are = (λ i. cons_option (c.made i)
-          (filter_map-append (λ (o : Option Record). o) (span_parts (id + 1) id 0 (t ∷ []))
-          (mirror_parts (id + 2) volume ts) i))
-          ∙ (λ i. kinds.Component c.component ∷ (p.made_are i ++ rest.made_are i));
+      ss = share c p (tiles_of id 0 (t ∷ [])) ∷ rest.ss;
+      made_are = λ i. cons_option (c.made i) (cons_option (one.made i) (rest.made_are i));
       are = one_block c p (tiles_of id 0 (t ∷ [])) refl (omega arith) rest.are;
-      each = each_more (IsCopy len) (share_of c.component p.parts) rest.ss (record {
+      each = each_more (IsCopy len) (share c p (tiles_of id 0 (t ∷ []))) rest.ss (record {
         basic = ap is_basic (plex_is c);
-        laid = subst (IsTiledTo len) (sym p.extents_are) (record {
-          sorted = refl;
-          tiled = tiles_whole id (t ∷ []) (omega arith);
-          holds = (let sum = tiles_sum id 0 (t ∷ []) in
-              let one = sum_by-cons (λ (u : Taken). u.size) t [] in
-              let size : t.size ≡ len = same 0 t (omega arith) in omega arith);
-        });
+        sorted = refl;
+        tiled = rw one.offset_is;
+        holds = omega (arith, one.size_is, same 0 t (omega arith));
       }) rest.each;
       many = ap suc rest.many;
     }
@@ -319,8 +255,8 @@ makes_copies volume id len (t ∷ ts) low few fits same =
 pub mirror_new : (id : ℕ) (name : List ℕ) (guid len : ℕ) (ts : List Taken) → id + 1 + 2 * length ts ≤ 2 ^ 64 → length name ≤ 255
     → 2 ≤ length ts → AllSized len ts → len < 2 ^ 64 → len ≢ 0 → AreNumbers ts → MakesNew id name (mirror_made id name guid len ts) ts
 mirror_new id name guid len ts few short enough same low some numbers =
-    let mv : MakesVolume id name guid false (length ts) len = makes_volume id name guid false (length ts) len (omega arith) short (omega arith) low in
-    let has : MakesCopies id (id + 1) len ts = makes_copies id (id + 1) len ts (omega arith) (omega arith) numbers same in
+    let mv = makes_volume id name guid false (length ts) len (omega arith) short (omega arith) low in
+    let has = makes_copies id (id + 1) len ts (omega arith) (omega arith) numbers same in
     let made_are : mirror_made id name guid len ts ≡ kinds.Volume mv.volume ∷ blocks has.ss = λ i. cons_option (mv.made i) (has.made_are i) in
     record {
       volume = mv.volume;
@@ -330,8 +266,7 @@ mirror_new id name guid len ts few short enough same low some numbers =
       count = mv.children_is ∙ sym has.many;
       some = ne_eqb mv.volume.size 0 (λ e. some (sym mv.size_is ∙ e));
       made_are = made_are;
-      few = (let whole = ap (λ (l : List Record). length l) made_are in let all = has.are.many in let many = has.many in omega arith);
+      few = omega (arith, ap (λ (l : List Record). length l) made_are, has);
       are = has.are;
-      laid = λ next plexes read. mirror_layout next mv.volume len has.ss plexes read has.each
-          (let many = has.many in omega arith) mv.size_is;
+      laid = λ next plexes read. mirror_layout next mv.volume len has.ss plexes read has.each (omega arith) mv.size_is;
     }

@@ -1,14 +1,10 @@
 -- Pieces on disks of other components, record by record.
-use Rattle.std.proofs.Common.{◌≡◌, ℕ, ◌+◌, ◌<◌, ◌==◌, ◌||◌, ◌&&◌, not, Bool, true, false, List, [], ◌∷◌, length, get_or, drop, inl, inr, refl, ap, sym, ◌∙◌}
+use Rattle.std.proofs.Common.{◌≡◌, ℕ, ◌+◌, ◌<◌, ◌==◌, ◌||◌, ◌&&◌, not, Bool, true, false, List, [], ◌∷◌, length, get_or, drop, inl, inr, refl, ap, sym, ◌∙◌, eqb-true, eq-eqb, ne_eqb}
+use Rattle.ldm_edits.proofs.Common.{Record, Component, Partition, Wanted}
 use Rattle.std.specs.List.{list_any}
-use Rattle.std.proofs.lemmas.Bool.{eqb-true, eq-eqb, ne_eqb}
 use Rattle.std.proofs.lemmas.List.{at_drop_more}
-use Rattle.ldm_records.specs.declared.types.Record.{Record}
 use Rattle.ldm_records.specs.declared.types.Record.TheVariants as kinds
-use Rattle.ldm_records.specs.declared.types.Component.{Component}
-use Rattle.ldm_records.specs.declared.types.Partition.{Partition}
 use Rattle.ldm_group.proofs.Rise.{tested}
-use Rattle.ldm_space.specs.declared.placed.Wanted.{Wanted}
 use Rattle.ldm_edits.specs.Extended.{is_part_on, on_another, on_others}
 
 -- ---- one record at a time

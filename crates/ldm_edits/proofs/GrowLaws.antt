@@ -1,31 +1,15 @@
 -- extend of a mirror: what its records ask for, and that they lengthen it.
-use Rattle.std.proofs.Common.{◌≡◌, ℕ, ◌+◌, ◌≤◌, ◌==◌, ◌||◌, List, [], ◌∷◌, length, get_or, refl, sym, ap, subst, ◌∙◌, arith, Bool, true, false, Contains, ◌^◌, ◌<◌, Option, None}
-use Rattle.std.specs.Prelude.{filter, if◌then◌else◌, is_some}
-use Rattle.std.proofs.lemmas.Bool.{eqb-true, or_parts}
+use Rattle.std.proofs.Common.{◌≡◌, ℕ, ◌+◌, ◌≤◌, ◌==◌, ◌||◌, List, [], ◌∷◌, length, get_or, refl, sym, ap, subst, ◌∙◌, arith, Bool, true, false, Contains, ◌^◌, ◌<◌, Option, None, filter, if◌then◌else◌, is_some, eqb-true}
+use Rattle.ldm_edits.proofs.Common.{Record, Volume, Component, Rising, is_child, max_id, Database, IsFitting, need_of, Label, Mirror, layout_of, data_size, IsSoundOn, Taken, taken_in, Wanted, AllEndWithin, AreDisjoint, resized}
+use Rattle.std.proofs.lemmas.Bool.{or_parts}
 use Rattle.std.proofs.lemmas.List.Elements.{All-contains, Contains-get_or}
 use Rattle.std.proofs.lemmas.List.Sums.{length-filter}
-use Rattle.ldm_records.specs.declared.types.Record.{Record}
 use Rattle.ldm_records.specs.declared.types.Record.TheVariants as kinds
-use Rattle.ldm_records.specs.declared.types.Volume.{Volume}
-use Rattle.ldm_records.specs.declared.types.Component.{Component}
 use Rattle.ldm_made.proofs.MadeLaws.{MakesSize, makes_size, makes_children}
-use Rattle.ldm_group.specs.Order.{Rising}
-use Rattle.ldm_group.specs.Looks.{is_child, max_id}
-use Rattle.ldm_group.specs.Database.{Database}
-use Rattle.ldm_group.specs.Room.{IsFitting, need_of}
 use Rattle.ldm_group.proofs.InOrder.{max_above}
 use Rattle.ldm_group.proofs.KinLaws.{filter_has}
-use Rattle.ldm_label.specs.declared.Label.{Label}
-use Rattle.ldm_places.specs.declared.shape.Shape.TheVariants.{Mirror}
-use Rattle.ldm_layout.specs.Volumes.{layout_of}
 use Rattle.ldm_rules.proofs.CarryLaws.{component_kept}
 use Rattle.ldm_rules.proofs.SoundLaws.{sound_parts}
-use Rattle.ldm_rules.specs.Ends.{data_size}
-use Rattle.ldm_rules.specs.Facts.{IsSoundOn}
-use Rattle.ldm_made.specs.declared.taken.Taken.{Taken}
-use Rattle.ldm_space.specs.Free.{taken_in}
-use Rattle.ldm_space.specs.declared.placed.Wanted.{Wanted}
-use Rattle.ldm_space.specs.Placed.{AllEndWithin, AreDisjoint}
 use Rattle.ldm_edits.specs.Changes.{Change, changed}
 use Rattle.ldm_edits.specs.Extending.{held}
 use Rattle.ldm_edits.specs.Mirroring.{mirror_changes, components_of, grown, MayGrow}
@@ -37,7 +21,7 @@ use Rattle.ldm_rules.proofs.RemadeLaws.{IsOther}
 use Rattle.ldm_group.proofs.ListLaws.{map_there}
 use Rattle.ldm_edits.proofs.Longer.{Lengthens, longer_rises}
 use Rattle.std.specs.List.{All}
-use Rattle.ldm_made.specs.Made.{resized, with_children}
+use Rattle.ldm_made.specs.Made.{with_children}
 use Rattle.ldm_edits.specs.Spots.{ArePlaced}
 use Rattle.ldm_group.proofs.NeedLaws.{few_records}
 

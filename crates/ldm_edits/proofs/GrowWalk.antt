@@ -1,81 +1,17 @@
 -- What is made of a mirror that grows, one after the other.
-use Rattle.std.proofs.Common.{◌≡◌, ℕ, ◌+◌, ◌<◌, ◌≤◌, ◌||◌, Bool, true, false, List, [], ◌∷◌, ◌++◌, length, get_or, take, map, sym, ap, ◌∙◌, arith, Option, Some, None, Result, Ok, Err, Vec, Global}
-use Rattle.std.specs.Prelude.{filter}
+use Rattle.std.proofs.Common.{◌≡◌, ℕ, ◌+◌, ◌<◌, ◌≤◌, List, [], ◌∷◌, ◌++◌, length, get_or, take, map, sym, ap, ◌∙◌, arith, Option, Some, None, Result, Ok, Err, Vec, Global, take_all, length-take-le}
+use Rattle.ldm_edits.proofs.Common.{Record, Component, new_partition, extents_of, by_offset, held_in, Taken, there}
 use Rattle.std.specs.Borrow.{Bor}
-use Rattle.std.specs.List.{cons_option, filter_map}
-use Rattle.std.specs.Option.{option_map}
+use Rattle.std.specs.List.{cons_option}
 use Rattle.std.specs.Result.{IfOk}
-use Rattle.std.proofs.lemmas.Bool.{eq-eqb, ne_eqb, false_from_ne_true}
-use Rattle.std.proofs.lemmas.List.{map-append, take_more, take_all, length-take-le, append-nil, length-map}
+use Rattle.std.proofs.lemmas.List.{map-append, take_more, length-map}
 use Rattle.std.proofs.lemmas.List.Elements.{filter_map-append}
-use Rattle.std.proofs.lemmas.List.Sums.{sum_by-append, sum_by-cons}
-use Rattle.ldm_records.specs.declared.types.Record.{Record}
-use Rattle.ldm_records.specs.declared.types.Record.TheVariants as kinds
-use Rattle.ldm_records.specs.declared.types.Component.{Component}
-use Rattle.ldm_records.specs.declared.types.Partition.{Partition}
-use Rattle.ldm_made.specs.Made.{with_children, new_partition}
-use Rattle.ldm_group.specs.Looks.{is_child}
-use Rattle.ldm_group.proofs.KindLaws.{child_component, child_partition}
-use Rattle.ldm_places.specs.declared.extent.Extent.{Extent}
-use Rattle.ldm_layout.specs.Parts.{extent_of, extent_in, extents_of, by_offset, tile_key, held_in}
-use Rattle.ldm_layout.proofs.VolumeLaws.{extents_by, rising_sum}
-use Rattle.ldm_made.specs.declared.taken.Taken.{Taken}
-use Rattle.ldm_made.specs.Volumes.{there}
-use Rattle.ldm_edits.proofs.CommandLaws.{walk_more}
-use Rattle.ldm_edits.specs.Mirroring.{component_in_record, component_holds, grown_components, grown_parts}
+use Rattle.ldm_layout.specs.Parts.{tile_key}
+use Rattle.ldm_layout.proofs.VolumeLaws.{rising_sum}
+use Rattle.ldm_edits.specs.Mirroring.{component_holds, grown_parts}
 use Rattle.ldm_made.proofs.PartWalk.{grown as pushed_on}
 
--- ---- a walk over the records
-
-pub component_more : (rs : List Record) (at q : ℕ) (r : Record) (c : Component) (found pushed : List (Bor Component)) (b : Bor Component) → at < length rs → r ≡ get_or rs at r → r ≡ kinds.Component c → c.parent ≡ q
-    → map (λ (x : Bor Component). x.now) found ≡ filter_map component_in_record (filter (is_child 3 q) (take at rs)) → pushed ≡ found ++ b ∷ [] → b.now ≡ c
-    → map (λ (x : Bor Component). x.now) pushed ≡ filter_map component_in_record (filter (is_child 3 q) (take (at + 1) rs))
-component_more rs at q r c found pushed b lt is kind parent so_far push same =
-    let passes : is_child 3 q r ≡ true = ap (is_child 3 q) kind ∙ eq-eqb c.parent q parent in
-    ap (map (λ (x : Bor Component). x.now)) push
-    ∙ map-append (λ (x : Bor Component). x.now) found (b ∷ [])
-    ∙ (λ i. so_far i ++ same i ∷ [])
-    ∙ ap (λ (s : Record). filter_map component_in_record (filter (is_child 3 q) (take at rs)) ++ filter_map component_in_record (s ∷ [])) (sym kind)
-    ∙ sym (filter_map-append component_in_record (filter (is_child 3 q) (take at rs)) (r ∷ []))
-    ∙ ap (filter_map component_in_record) (sym (walk_more (is_child 3 q) rs at r true lt is passes))
-
-pub component_same : (rs : List Record) (at q : ℕ) (r : Record) (found : List (Bor Component)) → at < length rs → r ≡ get_or rs at r → is_child 3 q r ≡ false
-    → map (λ (x : Bor Component). x.now) found ≡ filter_map component_in_record (filter (is_child 3 q) (take at rs))
-    → map (λ (x : Bor Component). x.now) found ≡ filter_map component_in_record (filter (is_child 3 q) (take (at + 1) rs))
-component_same rs at q r found lt is fails so_far =
-    so_far ∙ ap (filter_map component_in_record) (sym (append-nil (filter (is_child 3 q) (take at rs)))) ∙ ap (filter_map component_in_record) (sym (walk_more (is_child 3 q) rs at r false lt is fails))
-
--- a record that isn't one of them
-pub no_component : (q : ℕ) (r : Record) → ((c : Component) → r ≡ kinds.Component c → ⊥) → is_child 3 q r ≡ false
-no_component q r other = false_from_ne_true (is_child 3 q r) (λ h. let c = child_component q r h in other c.0 c.1)
-
-pub other_component : (q : ℕ) (r : Record) (c : Component) → r ≡ kinds.Component c → (c.parent ≡ q → ⊥) → is_child 3 q r ≡ false
-other_component q r c kind other = ap (is_child 3 q) kind ∙ ne_eqb c.parent q other
-
-pub no_partition : (q : ℕ) (r : Record) → ((p : Partition) → r ≡ kinds.Partition p → ⊥) → is_child 4 q r ≡ false
-no_partition q r other = false_from_ne_true (is_child 4 q r) (λ h. let p = child_partition q r h in other p.0 p.1)
-
-pub other_partition : (q : ℕ) (r : Record) (p : Partition) → r ≡ kinds.Partition p → (p.parent ≡ q → ⊥) → is_child 4 q r ≡ false
-other_partition q r p kind other = ap (is_child 4 q) kind ∙ ap (λ (b : Bool). b || false) (ne_eqb p.parent q other)
-
-pub held_more : (rs : List Record) (at q sectors : ℕ) (r : Record) (p : Partition) → at < length rs → r ≡ get_or rs at r → r ≡ kinds.Partition p → p.parent ≡ q
-    → sectors ≡ held_in (extents_of q (take at rs)) → sectors + p.size ≡ held_in (extents_of q (take (at + 1) rs))
-held_more rs at q sectors r p lt is kind parent so_far =
-    let passes : is_child 4 q r ≡ true = ap (is_child 4 q) kind ∙ ap (λ (b : Bool). b || false) (eq-eqb p.parent q parent) in
-    let more : extents_of q (take (at + 1) rs) ≡ extents_of q (take at rs) ++ extent_of p ∷ [] =
-    extents_by q (take (at + 1) rs) ∙ ap (filter_map extent_in) (walk_more (is_child 4 q) rs at r true lt is passes)
-    ∙ filter_map-append extent_in (filter (is_child 4 q) (take at rs)) (r ∷ [])
-    ∙ ap (λ (s : Record). filter_map extent_in (filter (is_child 4 q) (take at rs)) ++ filter_map extent_in (s ∷ [])) kind
-    ∙ ap (λ (l : List Extent). l ++ extent_of p ∷ []) (sym (extents_by q (take at rs))) in
-    let sum = sum_by-append (λ (e : Extent). e.size) (extents_of q (take at rs)) (extent_of p ∷ []) in
-    let one = sum_by-cons (λ (e : Extent). e.size) (extent_of p) [] in
-    let whole = ap held_in more in
-    omega arith
-
-pub held_same : (rs : List Record) (at q : ℕ) (r : Record) → at < length rs → r ≡ get_or rs at r → is_child 4 q r ≡ false → held_in (extents_of q (take at rs)) ≡ held_in (extents_of q (take (at + 1) rs))
-held_same rs at q r lt is fails =
-    ap held_in (extents_by q (take at rs) ∙ ap (filter_map extent_in) (sym (append-nil (filter (is_child 4 q) (take at rs)))) ∙ ap (filter_map extent_in) (sym (walk_more (is_child 4 q) rs at r false lt is fails))
-    ∙ sym (extents_by q (take (at + 1) rs)))
+-- ---- what is there
 
 -- in the order of the layout they hold as much
 pub held_all : (rs : List Record) (q n : ℕ) → length rs ≤ n → held_in (extents_of q (take n rs)) ≡ held_in (by_offset (extents_of q rs))
@@ -88,14 +24,6 @@ taken_more : (cs : List (Bor Component)) (at : ℕ) (b : Bor Component) → at <
 taken_more cs at b lt is =
     ap (map (λ (x : Bor Component). x.now)) (take_more cs at b lt) ∙ map-append (λ (x : Bor Component). x.now) (take at cs) (get_or cs at b ∷ [])
     ∙ ap (λ (x : Bor Component). map (λ (y : Bor Component). y.now) (take at cs) ++ x.now ∷ []) (sym is)
-
-pub components_more : (before items pushed : List Record) (cs : List (Bor Component)) (at : ℕ) (b : Bor Component) (d : Component) → at < length cs → b ≡ get_or cs at b
-    → items ≡ before ++ there (grown_components (map (λ (x : Bor Component). x.now) (take at cs))) → with_children b.now (b.now.children + 1) ≡ Some d → pushed ≡ items ++ kinds.Component d ∷ []
-    → pushed ≡ before ++ there (grown_components (map (λ (x : Bor Component). x.now) (take (at + 1) cs)))
-components_more before items pushed cs at b d lt at_is so_far made push =
-    let grow : Component → Option Record = λ c. option_map kinds.Component (with_children c (c.children + 1)) in
-    pushed_on before (grown_components (map (λ (x : Bor Component). x.now) (take at cs))) (grown_components (map (λ (x : Bor Component). x.now) (take (at + 1) cs))) (grow b.now) (kinds.Component d) items pushed so_far
-    (ap (map grow) (taken_more cs at b lt at_is) ∙ map-append grow (map (λ (x : Bor Component). x.now) (take at cs)) (b.now ∷ [])) (ap (option_map kinds.Component) made) push
 
 grown_push : (records : List Record) (id : ℕ) (cs : List Component) (ts : List Taken) (c : Component) (t : Taken) → length cs ≡ length ts
     → grown_parts records id (cs ++ c ∷ []) (ts ++ t ∷ []) ≡ grown_parts records id cs ts ++ new_partition (id + length ts) t.start (component_holds records c) t.size c.head.id t.disk None ∷ []

@@ -1,25 +1,15 @@
 -- extend of a mirror: the records that it makes, where each component takes these sectors.
-use Rattle.std.proofs.Common.{◌≡◌, ℕ, suc, ◌+◌, ◌^◌, ◌<◌, ◌≤◌, ◌==◌, List, [], ◌∷◌, ◌++◌, length, map, refl, sym, ap, subst, ◌∙◌, arith, Bool, true, false, Option, Some, None, Contains}
-use Rattle.std.specs.Prelude.{filter, if◌then◌else◌}
+use Rattle.std.proofs.Common.{◌≡◌, ℕ, suc, ◌+◌, ◌^◌, ◌<◌, ◌≤◌, ◌==◌, List, [], ◌∷◌, ◌++◌, length, map, refl, sym, ap, subst, ◌∙◌, arith, Bool, true, false, Option, Some, None, Contains, filter, if◌then◌else◌, eq-eqb}
+use Rattle.ldm_edits.proofs.Common.{Record, Volume, Component, resized, is_child, max_id, Extent, extent_of, Taken, taken_of, there}
 use Rattle.std.specs.List.{cons_option, filter_map}
 use Rattle.std.specs.Option.{option_map}
-use Rattle.std.proofs.lemmas.Bool.{and_from, eq-eqb}
+use Rattle.std.proofs.lemmas.Bool.{and_from}
 use Rattle.std.proofs.lemmas.List.Elements.{filter_map-append}
 use Rattle.std.proofs.lemmas.List.Sums.{sum_by-cons}
-use Rattle.ldm_records.specs.declared.types.Record.{Record}
 use Rattle.ldm_records.specs.declared.types.Record.TheVariants as kinds
-use Rattle.ldm_records.specs.declared.types.Volume.{Volume}
-use Rattle.ldm_records.specs.declared.types.Component.{Component}
 use Rattle.ldm_records.specs.Plain.{own_spelling}
 use Rattle.ldm_records.specs.Views.{plain_of}
-use Rattle.ldm_made.specs.Made.{resized}
 use Rattle.ldm_made.proofs.MadeLaws.{MakesChildren, makes_children, MakesPartition, makes_partition}
-use Rattle.ldm_group.specs.Looks.{is_child, max_id}
-use Rattle.ldm_places.specs.declared.extent.Extent.{Extent}
-use Rattle.ldm_layout.specs.Parts.{extent_of}
-use Rattle.ldm_made.specs.declared.taken.Taken.{Taken}
-use Rattle.ldm_space.specs.Free.{taken_of}
-use Rattle.ldm_made.specs.Volumes.{there}
 use Rattle.ldm_edits.specs.Mirroring.{component_in_record, components_of, component_holds, grown_components, grown_parts, grown_made}
 use Rattle.ldm_rules.proofs.RemadeLaws.{Share, olds, news, parts_of, IsNewPart, records_of, longer_records}
 use Rattle.ldm_group.proofs.ListLaws.{only_one, each_more, map_map}

@@ -1,66 +1,42 @@
 -- A span or mirror with more partitions: what extend makes, its layout, and what the group keeps.
-use Rattle.std.proofs.Common.{◌≡◌, ◌≢◌, ℕ, ◌+◌, ◌*◌, ◌^◌, ◌<◌, ◌≤◌, ◌==◌, not, List, [], ◌∷◌, ◌++◌, length, get_or, map, refl, sym, ap, subst, ◌∙◌, inl, inr, arith, Bool, true, false, Some, None, Ok, Contains, zero-add, ◌-◌, ◌||◌, Option, sum_by, find}
-use Rattle.std.specs.Prelude.{filter}
+use Rattle.std.proofs.Common.{◌≡◌, ◌≢◌, ℕ, ◌+◌, ◌*◌, ◌^◌, ◌<◌, ◌≤◌, ◌==◌, not, List, [], ◌∷◌, ◌++◌, length, map, refl, sym, ap, subst, ◌∙◌, inl, inr, arith, Bool, true, false, Some, None, Ok, Contains, zero-add, ◌-◌, ◌||◌, Option, sum_by, find, filter, eq-eqb, ne_eqb, ltb-false, append-nil}
+use Rattle.ldm_edits.proofs.Common.{first_of, Record, Volume, Component, Partition, Rising, place_of, in_order, is_child, max_id, Database, IsFitting, Label, Plex, Extent, Shape, Layout, plex_of, plexes_of, extent_of, extents_of, by_offset, held_in, least, layout_of, shape_of, data_size, taken_of, taken_in, AllEndWithin, AreDisjoint, Span, IsSoundOn, Taken, Wanted, span_parts, there}
 use Rattle.std.specs.List.{All, list_all, list_any, cons_option}
-use Rattle.std.proofs.lemmas.Bool.{not-true, eqb-true, eq-eqb, eqb-false, or_parts, ltb-false}
-use Rattle.std.proofs.lemmas.List.{length-map, append-nil}
-use Rattle.std.proofs.lemmas.List.Elements.{All-filter, Contains-get_or, Contains-append_cases, All-contains}
+use Rattle.std.proofs.lemmas.Bool.{not-true, eqb-false, or_parts}
+use Rattle.std.proofs.lemmas.List.{length-map}
+use Rattle.std.proofs.lemmas.List.Elements.{All-filter, Contains-get_or, All-contains}
 use Rattle.std.proofs.lemmas.List.Kept.{AllPairs-cons, AllPairs-filter}
 use Rattle.std.proofs.lemmas.List.Sums.{length-filter, sum_by-append, get_or-le-sum_by}
-use Rattle.ldm_bytes.specs.Tables.{first_of}
-use Rattle.ldm_records.specs.declared.types.Record.{Record}
 use Rattle.ldm_records.specs.declared.types.Record.TheVariants as kinds
-use Rattle.ldm_records.specs.declared.types.Volume.{Volume}
-use Rattle.ldm_records.specs.declared.types.Component.{Component}
-use Rattle.ldm_records.specs.declared.types.Partition.{Partition}
 use Rattle.ldm_records.specs.declared.pieces.Head.{Head}
-use Rattle.ldm_group.specs.Order.{Rising, place_of, in_order}
-use Rattle.ldm_group.specs.Looks.{is_child, max_id}
-use Rattle.ldm_group.specs.Database.{Database}
-use Rattle.ldm_group.specs.Room.{IsFitting}
 use Rattle.ldm_group.proofs.InOrder.{next_rises, max_above, pairs_append, member_next, stays_next, made_next}
 use Rattle.ldm_group.proofs.KinLaws.{filter_has, filter_keeps, kin_are}
 use Rattle.ldm_group.proofs.LookLaws.{one_record}
 use Rattle.ldm_bytes.proofs.FindLaws.{find_there}
-use Rattle.ldm_group.proofs.Rise.{tested}
-use Rattle.ldm_label.specs.declared.Label.{Label}
-use Rattle.ldm_layout.specs.declared.parts.Plex.{Plex}
-use Rattle.ldm_places.specs.declared.extent.Extent.{Extent}
-use Rattle.ldm_places.specs.declared.shape.Shape.{Shape}
-use Rattle.ldm_places.specs.Layouts.{Layout, is_tiled}
-use Rattle.ldm_layout.specs.Parts.{plex_of, plexes_of, extent_of, extents_of, by_offset, held_in}
-use Rattle.ldm_places.specs.Extents.{tiles, tiles_from, least}
-use Rattle.ldm_layout.specs.Volumes.{layout_of, shape_of}
-use Rattle.ldm_layout.proofs.VolumeLaws.{plex_there, tiles_append, by_offset_more, some_tiles, few_by, one_component, extents_are}
+use Rattle.ldm_places.specs.Layouts.{is_tiled}
+use Rattle.ldm_places.specs.Extents.{tiles, tiles_from}
+use Rattle.ldm_layout.proofs.VolumeLaws.{plex_there, tiles_append, by_offset_more, some_tiles, few_by, one_component}
 use Rattle.ldm_places.proofs.SpotLaws.{tiles_zero}
 use Rattle.ldm_rules.proofs.CarryLaws.{KeepsVolume, volume_kept, component_kept, few_children}
 use Rattle.ldm_rules.proofs.GroupLaws.{names_kept}
 use Rattle.ldm_rules.proofs.SoundLaws.{EachRule, sound_parts}
-use Rattle.ldm_rules.specs.Ends.{data_size}
-use Rattle.ldm_space.specs.Free.{taken_of, taken_in}
-use Rattle.ldm_space.specs.Placed.{AllEndWithin, AreDisjoint}
 use Rattle.ldm_edits.specs.Changes.{Change, limits, changed}
-use Rattle.ldm_edits.specs.Extending.{held, span_changes, lengthened, component_in, component_of, MayExtend, longer_parts}
+use Rattle.ldm_edits.specs.Extending.{held, span_changes, lengthened, component_in, MayExtend}
 use Rattle.ldm_edits.specs.Steps.{Keeps}
 use Rattle.ldm_edits.proofs.LimitLaws.{carried_keeps, IsGiven, spelled_by}
 use Rattle.ldm_group.proofs.AddedLaws.{IdsFrom, parts_rise, follow_above, Below, alone_rises, of_component, place_below}
 use Rattle.ldm_edits.proofs.Layouts.{MakesParts, makes_span_parts, tile_extents, tiles_on, tiles_sum, tiles_of, parts_taken, are_numbers, parts_own}
 use Rattle.ldm_layout.proofs.HeldLaws.{copies_in, tiled_laid, HoldsTiled, tiled_holds, least_more, own_plex}
 use Rattle.ldm_group.proofs.ListLaws.{map_same, all_pass, one_passes, map_there, each_mapped, mapped, only_one, map_map, moved, none_any}
+use Rattle.ldm_group.proofs.ListLaws.{each_more}
 use Rattle.ldm_rules.proofs.RemadeLaws.{records_of, Share, olds, news, parts_of, IsOther, IsMade, IsNewPart, IsRemade, read_plexes, read_extents, volume_keeps, new_of, old_of, remade_carries, longer_records, tiles_in, share_holds, listed_made, made_listed, news_rise, plexes_in, old_plexes, copies_are}
 use Rattle.ldm_edits.proofs.Shares.{remade_each}
 use Rattle.std.specs.Option.{option_map}
 use Rattle.ldm_made.proofs.MadeLaws.{MakesChildren, MakesSize, makes_size, makes_children}
 use Rattle.ldm_group.proofs.KindLaws.{child_component}
-use Rattle.ldm_places.specs.declared.shape.Shape.TheVariants.{Span}
-use Rattle.ldm_rules.specs.Facts.{IsSoundOn}
-use Rattle.ldm_made.specs.declared.taken.Taken.{Taken}
-use Rattle.ldm_space.specs.declared.placed.Wanted.{Wanted}
 use Rattle.ldm_edits.specs.Asked.{is_much}
-use Rattle.ldm_made.specs.Volumes.{span_parts, there}
 use Rattle.ldm_space.proofs.FreeLaws.{taken_sum}
 use Rattle.ldm_edits.proofs.AskedLaws.{IsTaken, IsSize, are_taken, as_asked, ends_within, first_fits, lie_apart}
-use Rattle.ldm_made.specs.Made.{resized, with_children}
 use Rattle.ldm_edits.specs.Spots.{ArePlaced}
 
 -- ---- A span or mirror whose components have more partitions: what the change makes, the layout of the volume, and what the group keeps.
@@ -134,14 +110,12 @@ module _ {labels : List Label} {old : List Record} {change : Change} {v w : Volu
   d_id s at = ap (λ (x : Plex). x.id) (is.wider.each s at).same_plex
 
   d_rise : Rising (news ss)
-  d_rise = news_rise ss d_id (subst Rising is.wider.components
-      (AllPairs-filter Below (is_child 3 v.head.id) old up))
+  d_rise = news_rise ss d_id (rw is.wider.components at (AllPairs-filter Below (is_child 3 v.head.id) old up))
 
   -- a changed component stands behind the volumes and in front of the partitions
   between : (r : Record) → Contains (news ss) r → (4 * 2 ^ 64 ≤ place_of r) × (place_of r < 5 * 2 ^ 64)
   unfolding place_of
-  between = each_mapped (λ (r : Record). (4 * 2 ^ 64 ≤ place_of r) × (place_of r < 5 * 2 ^ 64))
-      new_of ss (λ s at.
+  between = each_mapped _ new_of ss (λ s at.
       let id = d_id s at in
       let top = max_above old (kinds.Component s.c) (c_there s at) in
       let low = is.low in
@@ -149,45 +123,43 @@ module _ {labels : List Label} {old : List Record} {change : Change} {v w : Volu
 
   last : (r : Record) → Contains (records_of (parts_of ss)) r → 5 * 2 ^ 64 ≤ place_of r
   unfolding place_of
-  last = each_mapped (λ (r : Record). 5 * 2 ^ 64 ≤ place_of r) kinds.Partition (parts_of ss)
-      (λ p at. omega arith)
+  last = each_mapped _ kinds.Partition (parts_of ss) (λ p at. omega arith)
 
   rise : Rising (longer_records w ss)
   unfolding place_of
   rise =
-      let rest : List Record = news ss ++ records_of (parts_of ss) in
       let id = w_id in
       let top = max_above old (kinds.Volume v) is.wider.volume in
       let low = is.low in
-      AllPairs-cons Below (kinds.Volume w) rest
-      (λ k e lt. elim (Contains-append_cases (news ss) (records_of (parts_of ss)) (get_or rest k e) (Contains-get_or rest k e lt)) [
-        | inl c ↦ (let above = (between (get_or rest k e) c).0 in omega arith)
-        | inr p ↦ (let above = last (get_or rest k e) p in omega arith)
-      ])
-      (pairs_append Below (news ss) (records_of (parts_of ss)) d_rise
+      pairs_append Below (kinds.Volume w ∷ news ss) (records_of (parts_of ss))
+      (AllPairs-cons Below (kinds.Volume w) (news ss)
+      (λ k e lt. let above = (between _ (Contains-get_or (news ss) k e lt)).0 in omega arith) d_rise)
       (parts_rise (max_id old + 1) (parts_of ss) is.ids)
-      (λ r q at_r at_q. let a = (between r at_r).1 in let b = last q at_q in omega arith))
+      (λ r q at_r at_q. let b = last q at_q in
+      each_more (λ (s : Record). Below s q) (kinds.Volume w) (news ss) (omega arith)
+      (λ s at. let a = (between s at).1 in omega arith) r at_r)
 
   -- no record that stays stands at the place of one that changes
   apart : (r s t : Record) → Contains old r × IsOther v.head.id r → Contains old s → (IsOther v.head.id s → ⊥) → place_of t ≡ place_of s
       → place_of r ≢ place_of t
-  apart r s t at there changes same e = changes (subst (IsOther v.head.id) (one_record old r s up at.0 there (e ∙ same)) at.1)
+  apart r s t at there changes same e = changes (rw (one_record old r s up at.0 there (e ∙ same)) at at.1)
 
   cross : (r s : Record) → Contains old r × IsOther v.head.id r → IsMade w ss s
       → place_of r ≢ place_of s
   unfolding place_of
-  cross r (kinds.Group g) at made = absurd made
-  cross r (kinds.Disk d) at made = absurd made
-  cross r (kinds.Volume x) at made = apart r (kinds.Volume v) (kinds.Volume x) at is.wider.volume (λ other. let own = eq-eqb v.head.id v.head.id refl in cc)
+  cross r (kinds.Volume x) at made = apart r (kinds.Volume v) (kinds.Volume x) at is.wider.volume
+      (λ other. eqb-false v.head.id v.head.id other refl)
       (ap (λ (n : ℕ). 3 * 2 ^ 64 + n) (ap (λ (y : Volume). y.head.id) made ∙ w_id))
-  cross r (kinds.Component x) at (s, here, made) = apart r (kinds.Component s.c) (kinds.Component x) at (c_there s here) (λ other. let own = eq-eqb s.c.parent v.head.id (is.wider.each s here).parent in cc)
+  cross r (kinds.Component x) at (s, here, made) = apart r (kinds.Component s.c) (kinds.Component x) at (c_there s here)
+      (λ other. eqb-false s.c.parent v.head.id other (is.wider.each s here).parent)
       (ap (λ (n : ℕ). 4 * 2 ^ 64 + n) (ap (λ (y : Component). y.head.id) made ∙ d_id s here))
   cross r (kinds.Partition x) at (s, here, made) = place_below r x (max_id old) (max_above old r at.0) is.low ((is.wider.each s here).each x made).above
+  cross r _ at made = absurd made
 
   -- so the next group has its order
   pub longer_rises : Rising (in_order (change.stay ++ change.made))
   longer_rises =
-      next_rises change.stay change.made (subst Rising (sym is.stay) (AllPairs-filter Below (λ r. not (is.t r)) old up)) (subst Rising (sym is.made) rise)
+      next_rises change.stay change.made (rw is.stay (AllPairs-filter Below (λ r. not (is.t r)) old up)) (rw is.made rise)
       (λ r s at_r at_s. cross r s (stay_has r at_r) (made_has s at_s))
 
   module _ (each : EachRule old labels) where
@@ -199,7 +171,8 @@ module _ {labels : List Label} {old : List Record} {change : Change} {v w : Volu
       up = up;
       vp = longer_rises;
       back = λ r at. elim (member_next change.stay change.made r at) [ inl stays ↦ inl (stay_has r stays) | inr new ↦ inr (made_has r new) ];
-      there = λ r at other. stays_next change.stay change.made r (subst (λ (l : List Record). Contains l r) (sym is.stay) (filter_keeps (λ r. not (is.t r)) old r at (ap not (is.stays r at other))));
+      there = λ r at other. stays_next change.stay change.made r
+          (rw is.stay (filter_keeps (λ r. not (is.t r)) old r at (ap not (is.stays r at other))));
       made = λ r new. made_next change.stay change.made r (moved (sym is.made) r (made_listed w ss r new));
       id = w_id;
       each = λ s at. (let of = is.wider.each s at in record {
@@ -212,13 +185,11 @@ module _ {labels : List Label} {old : List Record} {change : Change} {v w : Volu
       });
       rise = d_rise;
       own = λ x there parent. (let s = mapped old_of ss (kinds.Component x)
-          (subst (λ (l : List Record). Contains l (kinds.Component x)) is.wider.components (filter_keeps (is_child 3 v.head.id) old (kinds.Component x) there (eq-eqb x.parent v.head.id parent))) in
+          (moved is.wider.components _ (filter_keeps (is_child 3 v.head.id) old _ there (eq-eqb x.parent v.head.id parent))) in
           (s.0, s.1, (let e = s.2 in cc)));
-      apart = λ x there other s at. elim (tested (x.head.id == s.c.head.id)) [
-        | inr fails ↦ fails
-        | inl same ↦ (let e : x ≡ s.c = one_component old x s.c up there (c_there s at) (eqb-true x.head.id s.c.head.id same) in
-            let own : (x.parent == v.head.id) ≡ true = eq-eqb x.parent v.head.id (ap (λ (y : Component). y.parent) e ∙ (is.wider.each s at).parent) in absurd cc)
-      ];
+      apart = λ x there other s at. ne_eqb x.head.id s.c.head.id (λ same. eqb-false x.parent v.head.id other
+          (ap (λ (y : Component). y.parent) (one_component old x s.c up there (c_there s at) same)
+          ∙ (is.wider.each s at).parent));
     }
 
     was : KeepsVolume old v
@@ -246,7 +217,7 @@ module _ {labels : List Label} {old : List Record} {change : Change} {v w : Volu
     tiled_all : (s : Share) → Contains ss s → tiles_from 0 (tiles_in old s ++ map extent_of s.parts) ≡ true
     tiled_all s at =
         tiles_append 0 (tiles_in old s) (map extent_of s.parts) (tiles_zero (tiles_in old s) (tiled_old s at))
-        (subst (λ (n : ℕ). tiles_from n (map extent_of s.parts) ≡ true) (sym (zero-add _)) (is.wider.each s at).tiled)
+        (rw zero-add (is.wider.each s at).tiled)
 
     tiles_next : (s : Share) → Contains ss s → tiles_in next s ≡ tiles_in old s ++ map extent_of s.parts
     tiles_next s at = ap by_offset (read_extents remade s at)
@@ -259,11 +230,10 @@ module _ {labels : List Label} {old : List Record} {change : Change} {v w : Volu
         ap held_in (tiles_next s at) ∙ omega arith
 
     some : 1 ≤ length ss
-    some = by ss shape
-      where
-        by : (ss : List Share) → shape_of (plexes_in ss) ≡ Some is.wider.shape → 1 ≤ length ss
-        by [] h = absurd cc
-        by (s ∷ ss) h = omega arith
+    some = elim ss as (λ (l : List Share). shape_of (plexes_in l) ≡ Some is.wider.shape → 1 ≤ length l) [
+      | [] ↦ λ h. absurd cc
+      | s ∷ rest ↦ λ h. omega arith
+    ] shape
 
     least_next : least (map held_in (copies_in next (plexes_in ss))) ≡ least (map (share_holds old) ss) + len
     least_next =
@@ -283,16 +253,10 @@ module _ {labels : List Label} {old : List Record} {change : Change} {v w : Volu
 
     -- the volume has as many sectors as it had, at least
     own_some : (w.size == 0) ≡ false
-    own_some = elim (tested (w.size == 0)) [
-      | inr some ↦ some
-      | inl none ↦ (let empty : w.size ≡ 0 = eqb-true w.size 0 none in
-          let size = is.wider.size in
-          let fits = holds.fits in
-          let capacity = ap held was.layout.1 ∙ holds.capacity in
-          let bad : (v.size == 0) ≡ true = eq-eqb v.size 0 (omega arith) in
-          let some = was.some in
-          absurd cc)
-    ]
+    own_some = ne_eqb w.size 0 (λ none. let size = is.wider.size in
+        let fits = holds.fits in
+        let capacity = ap held was.layout.1 ∙ holds.capacity in
+        eqb-false v.size 0 was.some (omega arith))
 
     -- ---- the rules
 
@@ -315,26 +279,12 @@ pub longer_keeps : {db : Database} {labels : List Label} {change : Change} {v w 
     → Keeps labels db (changed db change)
 longer_keeps {db} {labels} {change} given fresh is within =
     let rules = sound_parts db.records labels given.sound.sound in
-    carried_keeps db labels fresh change given (subst (All IsFitting) (sym is.stay) (All-filter (λ r. not (is.t r)) IsFitting db.records given.sound.room.each))
+    carried_keeps db labels fresh change given
+    (rw is.stay (All-filter (λ r. not (is.t r)) IsFitting db.records given.sound.room.each))
     within (remade_carries (remade given.up is rules) (keeps given.up is rules))
     (longer_each given.up is rules)
 
 -- ---- Extend: the longer span, its component and the new partitions are made where no word refuses them.
-
-component_is : (o : Option Record) (c : Component) → component_in o ≡ Some c → o ≡ Some (kinds.Component c)
-component_is (Some (kinds.Component x)) c e = (let same : x ≡ c = cc in ap (λ (y : Component). Some (kinds.Component y)) same)
-component_is (Some (kinds.Group x)) c e = absurd cc
-component_is (Some (kinds.Volume x)) c e = absurd cc
-component_is (Some (kinds.Disk x)) c e = absurd cc
-component_is (Some (kinds.Partition x)) c e = absurd cc
-component_is None c e = absurd cc
-
-pub component_there : (v : Volume) (c : Component) (records : List Record) → component_of v records ≡ Some c
-    → Contains records (kinds.Component c) × (c.parent ≡ v.head.id)
-component_there v c records e =
-    let at = find_there (is_child 3 v.head.id) records (kinds.Component c) (component_is (find (is_child 3 v.head.id) records) c e) in
-    let child = child_component v.head.id (kinds.Component c) at.1 in
-    (at.0, (let same : c ≡ child.0 = cc in ap (λ (x : Component). x.parent) same ∙ child.2))
 
 -- a component of another number of partitions is the same part of its volume
 pub plex_is : {c : Component} {children : ℕ} (more : MakesChildren c children) → plex_of more.component ≡ plex_of c
@@ -359,19 +309,27 @@ module _ {db : Database} {labels : List Label} {v : Volume} {c : Component} {wan
   are = record { asked = may.asked; free = refl; places = may.places }
 
   own : Contains db.records (kinds.Component c) × (c.parent ≡ v.head.id)
-  own = component_there v c db.records may.component
+  own = by (find (is_child 3 v.head.id) db.records) refl may.component
+    where
+      by : (o : Option Record) → find (is_child 3 v.head.id) db.records ≡ o → component_in o ≡ Some c
+          → Contains db.records (kinds.Component c) × (c.parent ≡ v.head.id)
+      by None found e = absurd cc
+      by (Some r) found e =
+          let at = find_there (is_child 3 v.head.id) db.records r found in
+          let child = child_component v.head.id r at.1 in
+          let same : child.0 ≡ c = (let is = rw child.1 at e in cc) in
+          rw (← same) (rw child.1 at at.0, child.2)
 
   -- the component is the only one of the span
   only_c : (x : Component) → Contains db.records (kinds.Component x) → x.parent ≡ v.head.id → x ≡ c
   only_c x there parent = one_component db.records x c up there own.0 (sym (ap (λ (p : Plex). p.id) (only_one (plex_of c) (plex_of x)
-      (subst (λ (l : List Plex). Contains l (plex_of x)) (own_plex db.records v c may.span own.0 own.1) (subst (λ (q : ℕ). Contains (plexes_of q db.records) (plex_of x)) parent (plex_there db.records x there))))))
+      (moved (own_plex db.records v c may.span own.0 own.1) (plex_of x)
+      (subst (λ (q : ℕ). Contains (plexes_of q db.records) (plex_of x)) parent (plex_there db.records x there))))))
 
   components : filter (is_child 3 v.head.id) db.records ≡ kinds.Component c ∷ []
   components = kin_are (is_child 3 v.head.id) db.records (kinds.Component c ∷ []) up (alone_rises (kinds.Component c))
-      (λ r at. subst (λ (y : Record). Contains db.records y × (is_child 3 v.head.id y ≡ true))
-      (only_one (kinds.Component c) r at) (own.0, eq-eqb c.parent v.head.id own.1))
-      (of_component v.head.id (λ (y : Record). Contains db.records y
-      → Contains (kinds.Component c ∷ []) y)
+      (λ r at. rw (← only_one (kinds.Component c) r at) (own.0, eq-eqb c.parent v.head.id own.1))
+      (of_component v.head.id (λ (y : Record). Contains db.records y → Contains (kinds.Component c ∷ []) y)
       (λ x parent at. (0, omega arith, ap kinds.Component (sym (only_c x at parent)))))
 
   -- what the partitions hold that the component has
@@ -379,16 +337,13 @@ module _ {db : Database} {labels : List Label} {v : Volume} {c : Component} {wan
   capacity_is = (let laid = sound.laid_out v may.there in held_shared db.records v laid.0 Span (record { c = c; d = c; parts = [] } ∷ []) components may.span refl laid.1.layout)
 
   -- each piece has some sectors, and all together are a number of the format
-  sizes : All (λ w. IsSize w.size) wanted × (capacity + sum_by (λ (t : Taken). t.size)
-      spots ≤ 2 ^ 64 - 1)
+  sizes : All (λ w. IsSize w.size) wanted × (capacity + sum_by (λ (t : Taken). t.size) spots ≤ 2 ^ 64 - 1)
   sizes =
-      let parts = or_parts (list_any (λ (w : Wanted). w.size == 0) wanted) (is_much (capacity + sum_by (λ (w : Wanted). w.size) wanted)) may.sizes in
-      let most : capacity + sum_by (λ (w : Wanted). w.size) wanted ≤ 2 ^ 64 - 1 = ltb-false (2 ^ 64 - 1) _ parts.1 in
-      let sum : sum_by (λ (t : Taken). t.size) spots ≡ sum_by (λ (w : Wanted). w.size) wanted = taken_sum wanted (taken_in db.records) spots (first_fits are) in (
-        λ k d lt. (
-          none_any (λ (x : Wanted). x.size == 0) wanted parts.0 k d lt,
-          (let part = get_or-le-sum_by (λ (x : Wanted). x.size) wanted k d lt in omega arith),
-        ),
+      let size : Wanted → ℕ = λ w. w.size in
+      let parts = or_parts (list_any (λ (w : Wanted). w.size == 0) wanted) (is_much (capacity + sum_by size wanted)) may.sizes in
+      let most = ltb-false (2 ^ 64 - 1) (capacity + sum_by size wanted) parts.1 in
+      let sum = taken_sum wanted (taken_in db.records) spots (first_fits are) in (
+        λ k d lt. (none_any _ wanted parts.0 k d lt, (let part = get_or-le-sum_by size wanted k d lt in omega arith)),
         omega arith,
       )
 
@@ -397,17 +352,16 @@ module _ {db : Database} {labels : List Label} {v : Volume} {c : Component} {wan
 
   pub makes_longer : MakesLonger db v c capacity spots
   makes_longer =
-      let ids : max_id db.records + length wanted ≤ 2 ^ 64 - 1 = may.ids in
+      let ids = may.ids in
       let size = sizes.1 in
-      let many : length spots ≡ length wanted = as_asked are in
-      let few : length spots ≤ sum_by (λ (t : Taken). t.size) spots =
-      few_by (λ (t : Taken). t.size) spots (λ k d lt. let none = eqb-false _ 0 (takes k d lt).some in omega arith) in
+      let many = as_asked are in
+      let few = few_by (λ (t : Taken). t.size) spots (λ k d lt. let none = eqb-false _ 0 (takes k d lt).some in omega arith) in
       let kids = few_children db.records labels c (sound_parts db.records labels sound.sound) own.0 in
       let held_is = capacity_is in
       let c_low = max_above db.records (kinds.Component c) own.0 in
       record {
-        volume = makes_size v (capacity + sum_by (λ (t : Taken). t.size) spots) (omega arith) (spelled_by (kinds.Volume v) (All-contains IsFitting db.records (kinds.Volume v) sound.room.each may.there));
-        component = makes_children c (c.children + length spots) (omega arith) (spelled_by (kinds.Component c) (All-contains IsFitting db.records (kinds.Component c) sound.room.each own.0));
+        volume = makes_size v _ (omega arith) (spelled_by _ (All-contains IsFitting db.records _ sound.room.each may.there));
+        component = makes_children c _ (omega arith) (spelled_by _ (All-contains IsFitting db.records _ sound.room.each own.0));
         parts = makes_span_parts (max_id db.records + 1) c.head.id capacity spots (omega arith) (omega arith) (are_numbers db.records spots takes);
         size_low = omega arith;
         children_low = omega arith;
@@ -421,7 +375,11 @@ module _ {db : Database} {labels : List Label} {v : Volume} {c : Component} {wan
   share = record { c = c; d = makes_longer.component.component; parts = makes_longer.parts.parts }
 
   taken_are : map taken_of parts ≡ spots
-  taken_are = parts_taken c.head.id (tile_extents c.head.id capacity spots) spots parts (tiles_of c.head.id capacity spots) makes_longer.parts.extents_are
+  taken_are = parts_taken _ _ spots parts (tiles_of c.head.id capacity spots) makes_longer.parts.extents_are
+
+  -- the new partitions take just these sectors
+  pub spots_are : map taken_of (parts_of (share ∷ [])) ≡ spots
+  spots_are = ap (map taken_of) (append-nil parts) ∙ taken_are
 
   new_part : (p : Partition) → Contains parts p → IsNewPart db.records c p
   new_part p at =
@@ -431,7 +389,7 @@ module _ {db : Database} {labels : List Label} {v : Volume} {c : Component} {wan
         above = (let least = follow_above (max_id db.records + 1) (records_of parts)
             (kinds.Partition p) makes_longer.parts.ids (map_there kinds.Partition parts p at) in
             omega arith);
-        parent = parts_own c.head.id (tile_extents c.head.id capacity spots) spots parts (tiles_of c.head.id capacity spots) makes_longer.parts.extents_are p at;
+        parent = parts_own _ _ spots parts (tiles_of c.head.id capacity spots) makes_longer.parts.extents_are p at;
         disk = t.disk;
         some = t.some;
       }
@@ -443,49 +401,36 @@ module _ {db : Database} {labels : List Label} {v : Volume} {c : Component} {wan
     children = (let grown = makes_longer.component.children_is in let long = length-map parts taken_of in let same = ap (λ (l : List Taken). length l) taken_are in omega arith);
     each = new_part;
     rise = parts_rise (max_id db.records + 1) parts makes_longer.parts.ids;
-    tiled = subst (λ (n : ℕ). tiles_from n (map extent_of parts) ≡ true) capacity_is
-        (subst (λ (es : List Extent). tiles_from capacity es ≡ true) {y = map extent_of parts} (sym makes_longer.parts.extents_are) (tiles_on c.head.id capacity spots));
+    tiled = rw (← capacity_is, makes_longer.parts.extents_are) (tiles_on c.head.id capacity spots);
     size = ap (sum_by (λ (e : Extent). e.size)) makes_longer.parts.extents_are ∙ tiles_sum c.head.id capacity spots;
   }
 
   -- a component has the id of the span's where it is of the span
   other : (r : Record) → Contains db.records r → span_changes v c r ≡ false → IsOther v.head.id r
-  other (kinds.Group g) at fails = tt
-  other (kinds.Disk d) at fails = tt
-  other (kinds.Partition p) at fails = tt
   other (kinds.Volume x) at fails = (or_parts (x.head.id == v.head.id) false fails).0
-  other (kinds.Component x) at fails = elim (tested (x.parent == v.head.id)) [
-    | inr off ↦ off
-    | inl own ↦ (let one = only_c x at (eqb-true x.parent v.head.id own) in
-        let same : (x.head.id == c.head.id) ≡ true = eq-eqb x.head.id c.head.id (ap (λ (y : Component). y.head.id) one) in
-        let none : (x.head.id == c.head.id) ≡ false = fails in absurd cc)
-  ]
+  other (kinds.Component x) at fails = ne_eqb x.parent v.head.id (λ parent.
+      eqb-false x.head.id c.head.id fails (ap (λ (y : Component). y.head.id) (only_c x at parent)))
+  other _ at fails = tt
 
   stays : (r : Record) → Contains db.records r → IsOther v.head.id r → span_changes v c r ≡ false
-  stays (kinds.Group g) at off = refl
-  stays (kinds.Disk d) at off = refl
-  stays (kinds.Partition p) at off = refl
   stays (kinds.Volume x) at off = ap (λ (b : Bool). b || false) off
-  stays (kinds.Component x) at off = elim (tested (x.head.id == c.head.id)) [
-    | inr none ↦ none
-    | inl same ↦ (let one : x ≡ c = one_component db.records x c up at own.0 (eqb-true x.head.id c.head.id same) in
-        let parent : (x.parent == v.head.id) ≡ true = eq-eqb x.parent v.head.id (ap (λ (y : Component). y.parent) one ∙ own.1) in
-        let other_parent : (x.parent == v.head.id) ≡ false = off in absurd cc)
-  ]
+  stays (kinds.Component x) at off = ne_eqb x.head.id c.head.id (λ same.
+      eqb-false x.parent v.head.id off (ap (λ (y : Component). y.parent) (one_component db.records x c up at own.0 same) ∙ own.1))
+  stays _ at off = refl
 
   pub lengthens : Lengthens labels db.records (lengthened db.records v c capacity spots) v makes_longer.volume.volume (sum_by (λ (t : Taken). t.size) spots) (share ∷ [])
   lengthens =
-      let all : parts ≡ parts_of (share ∷ []) = sym (append-nil parts) in
-      let takes_all : map taken_of (parts_of (share ∷ [])) ≡ spots = ap (map taken_of) (append-nil parts) ∙ taken_are in
+      let all : parts_of (share ∷ []) ≡ parts = append-nil parts in
       record {
         t = span_changes v c;
         stay = refl;
         other = other;
         stays = stays;
-        made = (λ i. cons_option (option_map kinds.Volume (makes_longer.volume.made i)) (cons_option (option_map kinds.Component (makes_longer.component.made i)) (makes_longer.parts.made_are i)))
-            ∙ ap (λ (l : List Partition). kinds.Volume makes_longer.volume.volume ∷ (kinds.Component makes_longer.component.component ∷ records_of l)) all;
+        made = λ i. cons_option (option_map kinds.Volume (makes_longer.volume.made i))
+            (cons_option (option_map kinds.Component (makes_longer.component.made i))
+            ((makes_longer.parts.made_are ∙ ap records_of (sym all)) i));
         low = (let ids = may.ids in omega arith);
-        ids = subst (IdsFrom (max_id db.records + 1)) all makes_longer.parts.ids;
+        ids = rw all makes_longer.parts.ids;
         wider = record {
           volume = may.there;
           shape = Span;
@@ -495,27 +440,8 @@ module _ {db : Database} {labels : List Label} {v : Volume} {c : Component} {wan
           same_head = makes_longer.volume.head_is;
           same_children = makes_longer.volume.children_is;
           size = makes_longer.volume.size_is;
-          each = λ s at. subst (IsShare db.records v (sum_by (λ (t : Taken). t.size) spots)) (only_one share s at) is_share;
-          within = subst (λ (l : List Taken). AllEndWithin (data_size labels db.records) l) {x = spots} (sym takes_all)
-              (ends_within are);
-          free = subst (λ (l : List Taken). AreDisjoint (taken_in db.records) l) {x = spots} (sym takes_all) (lie_apart are);
+          each = λ s at. rw (← only_one share s at) is_share;
+          within = rw spots_are (ends_within are);
+          free = rw spots_are (lie_apart are);
         };
       }
-
-  -- the new partitions take just these sectors
-  pub spots_are : map taken_of (parts_of (share ∷ [])) ≡ spots
-  spots_are = ap (map taken_of) (append-nil parts) ∙ taken_are
-
-  pub asks_longer : {n : ℕ} → n ≡ held (layout_of db.records v) → MakesLonger db v c n spots
-  asks_longer held_is = subst (λ (n : ℕ). MakesLonger db v c n spots) (sym held_is) makes_longer
-
--- the records of a longer span, pushed one after the other
-pub longer_are : (v longer : Volume) (c fuller : Component) (capacity id size : ℕ) (taken : List Taken) (none one two : List Record) → size ≡ capacity + sum_by (λ t. t.size) taken
-    → resized v size ≡ Some longer → with_children c (c.children + length taken) ≡ Some fuller → none ≡ [] → one ≡ none ++ kinds.Volume longer ∷ [] → two ≡ one ++ kinds.Component fuller ∷ []
-    → two ++ there (span_parts id c.head.id capacity taken) ≡ longer_parts v c capacity id taken
-longer_are v longer c fuller capacity id size taken none one two size_is longer_is fuller_is none_is one_is two_is =
-    let heads : two ≡ kinds.Volume longer ∷ (kinds.Component fuller ∷ []) =
-    two_is ∙ ap (λ (l : List Record). l ++ kinds.Component fuller ∷ []) (one_is ∙ ap (λ (l : List Record). l ++ kinds.Volume longer ∷ []) none_is) in
-    let volume : Some longer ≡ resized v (capacity + sum_by (λ t. t.size) taken) = sym longer_is ∙ ap (resized v) size_is in
-    ap (λ (l : List Record). l ++ there (span_parts id c.head.id capacity taken)) heads
-    ∙ (λ i. there (option_map kinds.Volume (volume i) ∷ (option_map kinds.Component (sym fuller_is i) ∷ span_parts id c.head.id capacity taken)))

@@ -1,10 +1,8 @@
 -- extend of a mirror: what lengths that nothing stands against are.
-use Rattle.std.proofs.Common.{◌≡◌, ℕ, ◌+◌, ◌<◌, ◌==◌, ◌||◌, not, false, List, [], ◌∷◌, length, get_or, arith}
+use Rattle.std.proofs.Common.{◌≡◌, ℕ, ◌+◌, ◌<◌, ◌==◌, ◌||◌, not, false, List, [], ◌∷◌, length, get_or, arith, eqb-true}
+use Rattle.ldm_edits.proofs.Common.{Record, Component, Wanted}
 use Rattle.std.specs.List.{All}
-use Rattle.std.proofs.lemmas.Bool.{not-false, or_parts, eqb-true, eqb-false}
-use Rattle.ldm_records.specs.declared.types.Record.{Record}
-use Rattle.ldm_records.specs.declared.types.Component.{Component}
-use Rattle.ldm_space.specs.declared.placed.Wanted.{Wanted}
+use Rattle.std.proofs.lemmas.Bool.{not-false, or_parts, eqb-false}
 use Rattle.ldm_edits.specs.Asked.{is_much}
 use Rattle.ldm_edits.specs.Mirroring.{component_holds}
 use Rattle.ldm_edits.proofs.AskedLaws.{low_size}

@@ -1,26 +1,21 @@
 -- The records of one volume among those that are added, beside the front: the volume is the same there as in all records.
-use Rattle.std.proofs.Common.{◌≡◌, ℕ, ◌+◌, ◌<◌, ◌≤◌, ◌==◌, ◌++◌, inl, inr, refl, sym, ap, subst, ◌∙◌, arith, Bool, true, false, cond, List, [], ◌∷◌, length, get_or, take, map, count_by, find, Option, Some, None, Contains}
-use Rattle.std.specs.Prelude.{filter, nat_le, if◌then◌else◌}
+use Rattle.std.proofs.Common.{◌≡◌, ℕ, ◌+◌, ◌<◌, ◌≤◌, ◌==◌, ◌++◌, inl, inr, refl, sym, ap, subst, ◌∙◌, arith, Bool, true, false, cond, List, [], ◌∷◌, length, get_or, take, map, count_by, find, Option, Some, None, Contains, filter, nat_le, if◌then◌else◌, eq-eqb, eqb-true}
+use Rattle.ldm_edits.proofs.Common.{Record, Volume, Label, is_child, is_volume_named, volume_in, volume_named, HasSameDisks, Rising, kind_of, in_order, place_of, Plex, plex_of, plexes_of}
 use Rattle.std.specs.List.{filter_map, list_any}
 use Rattle.std.specs.List.Sorted.{IsPermutation}
 use Rattle.std.specs.Option.{option_map}
-use Rattle.std.proofs.lemmas.Bool.{eq-eqb, eqb-true}
 use Rattle.std.proofs.lemmas.List.{map-append, take_more}
 use Rattle.std.proofs.lemmas.List.Elements.{All-contains, Contains-append_left, Contains-append_right, Contains-append_cases, Contains-get_or, filter-append, filter_map-append}
 use Rattle.std.proofs.lemmas.List.Folds.{list_any_at}
 use Rattle.std.proofs.lemmas.List.Sorted.{Contains-permutation, IsPermutation-sym}
 use Rattle.std.proofs.lemmas.List.Sums.{sum_by-append}
 use Rattle.std.proofs.lemmas.Slice.Eq.{bytes_eq-Decides}
-use Rattle.ldm_records.specs.declared.types.Record.{Record}
 use Rattle.ldm_records.specs.declared.types.Record.TheVariants as kinds
-use Rattle.ldm_records.specs.declared.types.Volume.{Volume}
-use Rattle.ldm_label.specs.declared.Label.{Label}
 use Rattle.ldm_rules.specs.Rules.{has_namesake}
 use Rattle.ldm_rules.specs.Table.{IsSound}
 use Rattle.ldm_rules.proofs.GroupLaws.{not_broken}
 use Rattle.ldm_rules.proofs.SoundLaws.{sound_parts}
-use Rattle.ldm_group.specs.Looks.{is_child, is_volume_named, volume_in, volume_named, HasSameDisks}
-use Rattle.ldm_group.specs.Order.{Rising, kind_of, in_order, place_of, place, IsLeastTwice}
+use Rattle.ldm_group.specs.Order.{place, IsLeastTwice}
 use Rattle.ldm_group.proofs.InOrder.{in_order_same, made_next, member_next, stays_next, one_place}
 use Rattle.ldm_group.proofs.KindLaws.{child_component, child_partition, named_volume}
 use Rattle.ldm_group.proofs.KinLaws.{filter_has, filter_keeps, kin_same, once_at, same_there}
@@ -28,8 +23,7 @@ use Rattle.ldm_group.proofs.LookLaws.{find_none, found_again, none_found, one_re
 use Rattle.ldm_bytes.proofs.FindLaws.{find_there}
 use Rattle.ldm_group.proofs.OrderLaws.{count_kept}
 use Rattle.ldm_group.proofs.Rise.{count_no, count_yes, tested}
-use Rattle.ldm_layout.specs.declared.parts.Plex.{Plex}
-use Rattle.ldm_layout.specs.Parts.{plex_in, plex_of, plexes_of, plexes_at}
+use Rattle.ldm_layout.specs.Parts.{plex_in, plexes_at}
 use Rattle.ldm_layout.proofs.VolumeLaws.{plex_there}
 use Rattle.ldm_edits.specs.Replacing.{AreFront, ShowsAs, ShowsNamed, is_front}
 use Rattle.ldm_edits.specs.Staying.{belongs, plex_ids}

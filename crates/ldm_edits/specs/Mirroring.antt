@@ -1,5 +1,5 @@
 -- extend of a mirror: the group whose mirror is longer, where its pieces take given sectors.
-use Rattle.std.specs.Prelude.{◌≡◌, ℕ, ◌+◌, ◌-◌, ◌^◌, ◌<◌, ◌≤◌, ◌==◌, ◌||◌, ◌++◌, Bool, false, List, [], ◌∷◌, length, map, filter, sum_by, Option, Some, None, Ok, All, Contains}
+use Rattle.std.specs.Prelude.{◌≡◌, ℕ, ◌+◌, ◌-◌, ◌^◌, ◌<◌, ◌≤◌, ◌==◌, ◌||◌, ◌++◌, Bool, false, List, [], ◌∷◌, length, map, filter, Option, Some, None, Ok, All, Contains}
 use Rattle.std.specs.List.{filter_map}
 use Rattle.std.specs.Option.{option_map}
 use Rattle.ldm_records.specs.declared.types.Record.{Record}
@@ -10,7 +10,6 @@ use Rattle.ldm_made.specs.Made.{resized, with_children, new_partition}
 use Rattle.ldm_label.specs.declared.Label.{Label}
 use Rattle.ldm_group.specs.Database.{Database}
 use Rattle.ldm_group.specs.Looks.{is_at, is_child, max_id}
-use Rattle.ldm_places.specs.declared.extent.Extent.{Extent}
 use Rattle.ldm_places.specs.declared.shape.Shape.TheVariants.{Mirror}
 use Rattle.ldm_layout.specs.Parts.{plexes_of, extents_of, by_offset, held_in}
 use Rattle.ldm_layout.specs.Volumes.{layout_of, shape_of}

@@ -134,20 +134,22 @@ pub fn max_id_with(id: u64, records: &[Record]) -> u64
     records.iter().fold(id, |top, r| id_of(r).max(top))
 }
 
+#[tactic(auto, using(crate::proofs::AdditionLaws::kept_beside))]
 impl Additions {
-    /// None to this group. It takes no memory.
-    pub fn none(alloc: Global, db: &Db) -> Additions
+    /// None to this group, and its last VBLK sequence. It takes no memory.
+    pub fn none(alloc: Global, db: &Db) -> (Additions, u32)
         requires { All IsFitting db.now.records }
-        ensures are { AreAdditions db.now.records result }
-        ensures none { result.records.items ≡ [] }
+        ensures are { AreAdditions db.now.records result.0 }
+        ensures whole { with_added db.now result.1 result.0.records.items ≡ db.now }
     {
         let _rising = db.as_slice();
-        Additions {
+        let none = Additions {
             records: Vec::new(alloc),
             maps: FreeMaps::new(alloc),
             need: db.need(),
             max_id: db.max_id(),
-        }
+        };
+        (none, db.header().last)
     }
 
     /// The group with its own record and those of its disks alone, and all other records, as if

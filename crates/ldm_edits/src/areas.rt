@@ -15,6 +15,7 @@ fn least_with(sectors: u64, labels: &[Label]) -> u64
 }
 
 // The least config area of the images, in sectors; 0 where there is none.
+#[tactic(auto, using(crate::proofs::AreaLaws::least_walked))]
 fn least_area(labels: &[Label]) -> u64
     ensures { result ≡ least_area labels.now }
 {
@@ -25,6 +26,7 @@ fn least_area(labels: &[Label]) -> u64
 }
 
 /// The most blocks that each of the config areas holds.
+#[tactic(auto, using(crate::proofs::AreaLaws::least_low))]
 pub fn most_blocks(labels: &[Label]) -> u64
     requires { AreasFit labels.now }
     ensures is { result ≡ most_blocks labels.now }

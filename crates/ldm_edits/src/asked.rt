@@ -40,6 +40,7 @@ fn wanted_of(db: &Db, labels: &Labels, name: &[u8], size: u64) -> Option<Wanted>
 
 /// What the pieces of a command ask of their disks, or the refusal of the first whose disk isn't
 /// there.
+#[tactic(auto, using(crate::proofs::AskedLaws::asks_first, crate::proofs::AskedLaws::asks_all))]
 pub fn asked_pieces(
     alloc: Global,
     db: &Db,
@@ -61,6 +62,7 @@ pub fn asked_pieces(
 }
 
 /// So many sectors of each of these disks, or the refusal of the first that isn't there.
+#[tactic(auto, using(crate::proofs::AskedLaws::asks_first, crate::proofs::AskedLaws::asks_all))]
 pub fn asked_disks(
     alloc: Global,
     db: &Db,
@@ -90,6 +92,7 @@ fn asks_of(wanted: &[Wanted], disk: u64) -> bool
 }
 
 /// Whether two are asked of one disk. There are few of them.
+#[tactic(auto, using(crate::proofs::AskedLaws::no_twin))]
 pub fn has_twins(wanted: &[Wanted]) -> bool
     ensures { result ≡ has_twins wanted.now }
 {

@@ -45,6 +45,7 @@ fn changed(
 
 /// The group with these records, of which so many are new, in the places of those that leave it,
 /// where no limit is passed. The records that stay are copied only then.
+#[tactic(auto, using(crate::proofs::LimitLaws::within_limits, crate::proofs::AreaLaws::most_low))]
 pub fn change(
     alloc: Global,
     db: &Db,

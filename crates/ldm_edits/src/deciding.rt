@@ -24,6 +24,7 @@ fn has_id(components: &[&Component], id: u64) -> bool
 }
 
 // Whether a record is a partition on this disk, and of another component than this.
+#[tactic(auto, using(crate::proofs::CrossLaws::across, crate::proofs::CrossLaws::no_part))]
 fn on_another(r: &Record, components: &[&Component], own: u64, disk: u64) -> bool
     ensures { result ≡ on_another (r.now ∷ []) (map (λ c. c.now) components.now) own disk }
 {

@@ -14,6 +14,7 @@ use ldm_label::Labels;
 use std::alloc::Global;
 
 /// The group without the volume of this name.
+#[tactic(auto, using(crate::proofs::CommandLaws::deleted_rises))]
 pub fn delete(alloc: Global, db: &Db, labels: &Labels, name: &[u8]) -> Result<Db, StepError>
     requires sound { IsSoundOn db.now labels.now }
     requires areas { AreasFit labels.now }

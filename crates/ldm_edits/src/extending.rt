@@ -1,27 +1,24 @@
 //! `extend`: more pieces at the end of a span or a mirror, or the first refusal.
-ghost use Rattle.std.specs.Prelude.{◌≡◌, ◌+◌, ◌++◌, ◌-◌, ◌^◌, ◌<◌, ◌≤◌, Some, Ok, find};
-ghost use Rattle.std.specs.Prelude.{length, List, option_copied, sum_by, true, is_some, IfOk};
-ghost use Rattle.ldm_records.specs.declared.types.Record.{Record as AnyRecord};
+ghost use Rattle.std.specs.Prelude.{◌≡◌, ◌+◌, ◌++◌, ◌^◌, ◌<◌, ◌≤◌, Some, Ok, find};
+ghost use Rattle.std.specs.Prelude.{length, All, option_copied, sum_by, true, is_some, IfOk};
 ghost use Rattle.ldm_made.specs.Made.{resized, with_children};
-ghost use Rattle.ldm_group.specs.Looks.{is_child, max_id, volume_named};
+ghost use Rattle.ldm_group.specs.Looks.{is_child, volume_named};
 ghost use Rattle.ldm_group.specs.Order.{in_order};
+ghost use Rattle.ldm_group.specs.Room.{IsFitting};
 ghost use Rattle.ldm_layout.specs.Parts.{plexes_of};
 ghost use Rattle.ldm_layout.specs.Volumes.{layout_of, shape_of};
 ghost use Rattle.ldm_rules.specs.Facts.{IsSoundOn};
 ghost use Rattle.ldm_words.specs.Limits.{ArePieces};
-ghost use Rattle.ldm_space.specs.Free.{taken_in};
-ghost use Rattle.ldm_space.specs.Placed.{AreMapsOf};
-ghost use Rattle.ldm_space.specs.declared.placed.Wanted.{Wanted as Asked};
 ghost use Rattle.ldm_edits.specs.Additions.{AddsNone, AreAdditions, with_added};
 ghost use Rattle.ldm_edits.specs.Answers.{FindsAs, StepsTo};
 ghost use Rattle.ldm_edits.specs.Replacing.{IsVolumeOf, ReplacesAs};
 ghost use Rattle.ldm_edits.specs.Asked.{words_by};
-ghost use Rattle.ldm_edits.specs.Changes.{AreasFit, change_to};
+ghost use Rattle.ldm_edits.specs.Changes.{AreasFit};
 ghost use Rattle.ldm_edits.specs.Spots.{open_wanted, CanBePlaced};
-ghost use Rattle.ldm_edits.specs.Extending.{component_in, held, longer_parts, lengthened};
-ghost use Rattle.ldm_edits.specs.Extending.{against_longer, MayExtend, longer_span, extended_span};
+ghost use Rattle.ldm_edits.specs.Extending.{against_longer, component_in, extended_span, held};
+ghost use Rattle.ldm_edits.specs.Extending.{longer_parts};
 ghost use Rattle.ldm_places.specs.declared.shape.Shape.TheVariants as shapes;
-ghost use Rattle.ldm_edits.specs.Extended.{extended_mirror, extended};
+ghost use Rattle.ldm_edits.specs.Extended.{extended};
 
 use crate::additions::Additions;
 use crate::asked::{asked_pieces, is_bad_length};
@@ -40,7 +37,7 @@ use ldm_label::Labels;
 use ldm_layout::Shape;
 use ldm_made::{Taken, resized, sectors_with, with_children, with_tiles};
 use ldm_records::{Component, Record, Volume};
-use ldm_space::{FreeMaps, Wanted};
+use ldm_space::Wanted;
 use ldm_words::Piece;
 use std::alloc::Global;
 
@@ -86,6 +83,7 @@ fn lengthened(
 }
 
 /// The group with more pieces behind those of the volume of this name.
+#[tactic(auto, using(crate::proofs::ShownLaws::shows_itself))]
 pub fn extend(
     alloc: Global,
     db: &Db,
@@ -103,8 +101,7 @@ pub fn extend(
         return Err(StepError::Refused(Refusal::NoVolume));
     };
     types_hold(db, labels);
-    let mut added = Additions::none(alloc, db);
-    let last = db.header().last;
+    let (mut added, last) = Additions::none(alloc, db);
     let step = extension(&mut added, alloc, db, last, db, labels, volume, pieces)?;
     let Replacing {
         leaving,
@@ -117,6 +114,7 @@ pub fn extend(
 
 /// What makes a volume of the group, to which records are added, longer. The records of the volume
 /// are seen alone.
+#[tactic(auto, using(crate::proofs::ShownLaws::ends_shown, crate::proofs::ShownLaws::held_shown))]
 pub fn extension(
     added: &mut Additions,
     alloc: Global,
@@ -136,88 +134,20 @@ pub fn extension(
         (Some volume.now)) }
 {
     let plan = plan_in(alloc, own, volume)?;
-    let shape = plan.shape();
-    if let Shape::Mirror = shape {
-        let capacity = plan.capacity();
-        return extend_mirror(
-            added, alloc, db, last, own, labels, volume, capacity, pieces,
-        );
-    }
     let capacity = plan.capacity();
-    extend_span(
-        added, alloc, db, last, own, labels, volume, shape, capacity, pieces,
-    )
-}
-
-// What makes a mirror longer.
-fn extend_mirror(
-    added: &mut Additions,
-    alloc: Global,
-    db: &Db,
-    last: u32,
-    own: &Db,
-    labels: &Labels,
-    volume: &Volume,
-    capacity: u128,
-    pieces: &[Piece],
-) -> Result<Replacing, StepError>
-    requires volume { IsVolumeOf db.now last added.old own.now.records labels.now volume.now }
-    requires limits { ArePieces pieces.now }
-    requires shape { shape_of (plexes_of volume.now.head.id
-        (in_order (db.now.records ++ added.old.records.items))) ≡ Some shapes.Mirror }
-    requires held { capacity ≡ held (layout_of
-        (in_order (db.now.records ++ added.old.records.items)) volume.now) }
-    ensures stays { AddsNone added.old added.new }
-    ensures is { ReplacesAs result own.now.records (with_added db.now last added.old.records.items)
-        labels.now
-        (extended_mirror (with_added db.now last added.old.records.items) labels.now pieces.now
-        volume.now) }
-{
-    if volume.size2.is_some() {
-        return Err(StepError::Refused(Refusal::ExtraSize));
+    match plan.shape() {
+        Shape::Mirror => lengthen_mirror(
+            added, alloc, db, last, own, labels, volume, capacity, pieces,
+        ),
+        Shape::Span => lengthen(
+            added, alloc, db, last, own, labels, volume, capacity, pieces,
+        ),
+        _ => Err(StepError::Refused(Refusal::NotSpan)),
     }
-    lengthen_mirror(
-        added, alloc, db, last, own, labels, volume, capacity, pieces,
-    )
-}
-
-// What makes a span longer, where this is the volume's shape.
-fn extend_span(
-    added: &mut Additions,
-    alloc: Global,
-    db: &Db,
-    last: u32,
-    own: &Db,
-    labels: &Labels,
-    volume: &Volume,
-    shape: Shape,
-    capacity: u128,
-    pieces: &[Piece],
-) -> Result<Replacing, StepError>
-    requires volume { IsVolumeOf db.now last added.old own.now.records labels.now volume.now }
-    requires limits { ArePieces pieces.now }
-    requires shape { shape_of (plexes_of volume.now.head.id
-        (in_order (db.now.records ++ added.old.records.items))) ≡ Some shape }
-    requires held { capacity ≡ held (layout_of
-        (in_order (db.now.records ++ added.old.records.items)) volume.now) }
-    ensures stays { AddsNone added.old added.new }
-    ensures is { ReplacesAs result own.now.records (with_added db.now last added.old.records.items)
-        labels.now
-        (extended_span (with_added db.now last added.old.records.items) labels.now pieces.now
-        (Some volume.now)) }
-{
-    let Shape::Span = shape else {
-        return Err(StepError::Refused(Refusal::NotSpan));
-    };
-    if volume.size2.is_some() {
-        return Err(StepError::Refused(Refusal::ExtraSize));
-    }
-    lengthen(
-        added, alloc, db, last, own, labels, volume, capacity, pieces,
-    )
 }
 
 // What the pieces ask of their disks, where their lengths are good for a span of this capacity.
+#[tactic(auto, using(crate::proofs::AskedLaws::piece_each))]
 fn open_wanted(
     alloc: Global,
     own: &Db,
@@ -241,57 +171,8 @@ fn open_wanted(
     Ok(wanted)
 }
 
-// What makes a span of this capacity longer, where its new partitions take these sectors.
-fn lengthen_at(
-    added: &Additions,
-    alloc: Global,
-    db: &Db,
-    last: u32,
-    labels: &Labels,
-    volume: &Volume,
-    component: &Component,
-    capacity: u64,
-    fresh: u64,
-    spots: &[Taken],
-    maps: FreeMaps,
-) -> Result<Replacing, StepError>
-    requires are { AreAdditions db.now.records added.now }
-    requires sound { IsSoundOn (with_added db.now last added.now.records.items) labels.now }
-    requires held { capacity ≡ held (layout_of
-        (in_order (db.now.records ++ added.now.records.items)) volume.now) }
-    requires some { 1 ≤ fresh }
-    requires may { max_id (in_order (db.now.records ++ added.now.records.items)) + fresh
-        ≤ 2 ^ 64 - 1 → (wanted : List Asked)
-        × (fresh ≡ length wanted)
-        × MayExtend (with_added db.now last added.now.records.items) labels.now volume.now
-        component.now wanted spots.now }
-    requires maps { AreMapsOf maps (spots.now
-        ++ taken_in (db.now.records ++ added.now.records.items)) }
-    ensures { (own : List AnyRecord) → ReplacesAs result own
-        (with_added db.now last added.now.records.items) labels.now
-        (change_to (with_added db.now last added.now.records.items) labels.now fresh
-        (lengthened (in_order (db.now.records ++ added.now.records.items)) volume.now component.now
-        (held (layout_of (in_order (db.now.records ++ added.now.records.items)) volume.now))
-        spots.now)) }
-{
-    let _last = last;
-    let Some(id) = first_new_id(added.max_id, fresh) else {
-        return Err(StepError::Refused(Refusal::IdsSpent));
-    };
-    let made = lengthened(alloc, volume, component, capacity, id, spots)?;
-    let leaving = Leaving::Changed {
-        volume: volume.head.id,
-        component: component.head.id,
-    };
-    Ok(Replacing {
-        leaving,
-        made,
-        fresh,
-        maps,
-    })
-}
-
 // What makes a span of this capacity longer.
+#[tactic(auto, using(crate::proofs::ShownLaws::layout_shown))]
 fn lengthen(
     added: &mut Additions,
     alloc: Global,
@@ -312,26 +193,32 @@ fn lengthen(
     ensures stays { AddsNone added.old added.new }
     ensures is { ReplacesAs result own.now.records (with_added db.now last added.old.records.items)
         labels.now
-        (longer_span (with_added db.now last added.old.records.items) labels.now pieces.now
-        volume.now) }
+        (extended_span (with_added db.now last added.old.records.items) labels.now pieces.now
+        (Some volume.now)) }
 {
+    let _last = last;
+    if volume.size2.is_some() {
+        return Err(StepError::Refused(Refusal::ExtraSize));
+    }
     let wanted = open_wanted(alloc, own, labels, volume, capacity, pieces)?;
     let Some(component) = component_of(own, volume.head.id) else {
         return Err(StepError::Refused(Refusal::NotSpan));
     };
     let (maps, spots) = added.place(alloc, db, wanted.as_slice())?;
     let fresh = wanted.len() as u64;
-    lengthen_at(
-        added,
-        alloc,
-        db,
-        last,
-        labels,
-        volume,
-        component,
-        capacity as u64,
+    let Some(id) = first_new_id(added.max_id, fresh) else {
+        return Err(StepError::Refused(Refusal::IdsSpent));
+    };
+    let capacity = capacity as u64;
+    let made = lengthened(alloc, volume, component, capacity, id, spots.as_slice())?;
+    let leaving = Leaving::Changed {
+        volume: volume.head.id,
+        component: component.head.id,
+    };
+    Ok(Replacing {
+        leaving,
+        made,
         fresh,
-        spots.as_slice(),
         maps,
-    )
+    })
 }

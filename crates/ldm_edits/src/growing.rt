@@ -34,6 +34,7 @@ pub fn components_of(alloc: Global, db: &Db, volume: u64) -> Result<Vec<&Compone
 }
 
 /// The sectors that the partitions of a component hold.
+#[tactic(auto, using(crate::proofs::GrowWalk::held_all))]
 pub fn held_by(db: &Db, component: u64) -> u128
     ensures { result ≡ held_in (by_offset (extents_of component db.now.records)) }
 {

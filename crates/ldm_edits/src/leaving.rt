@@ -32,6 +32,7 @@ fn is_component_of(db: &Db, component: u64, volume: u64) -> bool
 }
 
 // Whether the record is the volume of this id, one of its components, or one of their partitions.
+#[tactic(auto, using(crate::proofs::CommandLaws::component_is))]
 fn goes(db: &Db, volume: u64, r: &Record) -> bool
     ensures { result ≡ is_of_volume volume db.now.records r.now }
 {
@@ -74,6 +75,7 @@ impl Leaving {
 }
 
 /// Copies of the records that stay.
+#[tactic(auto, using(crate::proofs::LimitLaws::kept))]
 pub fn stay(alloc: Global, db: &Db, leaving: Leaving) -> Result<Vec<Record>, NoMemory>
     ensures is { IfOk result (λ v. v.items ≡ staying leaving db.now.records) }
     ensures rising { Rising db.now.records }

@@ -48,6 +48,7 @@ fn lesser(least: Option<u64>, id: u64) -> u64
 }
 
 // The least id of the records whose own spelling takes more than four blocks.
+#[tactic(auto, using(std::proofs::lemmas::Grind::common_steps, crate::proofs::LimitLaws::kept))]
 fn long_id(records: &[Record]) -> Option<u64>
     ensures { result ≡ long_id records.now }
 {
@@ -89,6 +90,7 @@ pub fn need_made(made: &[Record]) -> u64
 }
 
 /// How many blocks the records take that stay, and those that are made.
+#[tactic(auto, using(crate::proofs::LimitLaws::need_both))]
 pub fn need_after(db: &Db, leaving: Leaving, made: &[Record]) -> u64
     requires there { All IsFitting db.now.records }
     requires made { All IsFitting made.now }
@@ -99,6 +101,7 @@ pub fn need_after(db: &Db, leaving: Leaving, made: &[Record]) -> u64
 
 /// The first of the limits but for the ids, where the records that stay take so many blocks and the
 /// group has this sequence.
+#[tactic(auto, using(crate::proofs::LimitLaws::need_both, crate::proofs::LimitLaws::none_long))]
 pub fn later_limit(labels: &Labels, seq: u64, staying: u64, made: &[Record]) -> Option<Refusal>
     requires areas { AreasFit labels.now }
     requires few { staying < 2 ^ 63 }
@@ -122,6 +125,7 @@ pub fn later_limit(labels: &Labels, seq: u64, staying: u64, made: &[Record]) -> 
 
 /// The first reason why these records, of which so many are new, can't take the places of those
 /// that leave the group.
+#[tactic(auto, unfolding(crate::specs::Changes::limits))]
 pub fn first_limit(
     db: &Db,
     labels: &Labels,

@@ -1,24 +1,18 @@
 //! `extend` of a mirror: a piece more for each component, or the first refusal.
-ghost use Rattle.std.specs.Prelude.{◌≡◌, ◌+◌, ◌-◌, ◌^◌, ◌≤◌, false, length, map, Some, is_some};
-ghost use Rattle.std.specs.Prelude.{◌++◌, IfOk};
-ghost use Rattle.ldm_group.specs.Looks.{max_id};
+ghost use Rattle.std.specs.Prelude.{◌≡◌, ◌++◌, IfOk, length, map, Some};
 ghost use Rattle.ldm_places.specs.declared.shape.Shape.TheVariants.{Mirror};
 ghost use Rattle.ldm_group.specs.Order.{in_order};
 ghost use Rattle.ldm_layout.specs.Parts.{plexes_of};
 ghost use Rattle.ldm_layout.specs.Volumes.{layout_of, shape_of};
-ghost use Rattle.ldm_rules.specs.Facts.{IsSoundOn};
 ghost use Rattle.ldm_words.specs.Limits.{ArePieces};
-ghost use Rattle.ldm_space.specs.Free.{taken_in};
-ghost use Rattle.ldm_space.specs.Placed.{AreMapsOf};
-ghost use Rattle.ldm_edits.specs.Additions.{AddsNone, AreAdditions, with_added};
+ghost use Rattle.ldm_edits.specs.Additions.{AddsNone, with_added};
 ghost use Rattle.ldm_edits.specs.Answers.{FindsAs};
-ghost use Rattle.ldm_edits.specs.Replacing.{IsVolumeOf, ReplacesAs, ShowsAs};
+ghost use Rattle.ldm_edits.specs.Replacing.{IsVolumeOf, ReplacesAs};
 ghost use Rattle.ldm_edits.specs.Asked.{words_by};
-ghost use Rattle.ldm_edits.specs.Changes.{change_to};
 ghost use Rattle.ldm_edits.specs.Extending.{held};
-ghost use Rattle.ldm_edits.specs.Mirroring.{components_of, grown, MayGrow};
+ghost use Rattle.ldm_edits.specs.Mirroring.{components_of};
 ghost use Rattle.ldm_edits.specs.Spots.{open_wanted, CanBePlaced};
-ghost use Rattle.ldm_edits.specs.Extended.{len_of, against_growth, IsEven, extended_mirror};
+ghost use Rattle.ldm_edits.specs.Extended.{against_growth, IsEven, extended_mirror};
 
 use crate::additions::Additions;
 use crate::asked::asked_pieces;
@@ -31,13 +25,13 @@ use crate::replacing::Replacing;
 use crate::reply::Refusal;
 use ldm_group::Db;
 use ldm_label::Labels;
-use ldm_made::Taken;
 use ldm_records::{Component, Volume};
-use ldm_space::{FreeMaps, Wanted};
+use ldm_space::Wanted;
 use ldm_words::Piece;
 use std::alloc::Global;
 
 // What the pieces ask of their disks, where nothing stands against them.
+#[tactic(auto, using(std::proofs::lemmas::Grind::common_steps, crate::proofs::AskedLaws::piece_each))]
 fn open_wanted(
     alloc: Global,
     own: &Db,
@@ -68,66 +62,8 @@ fn open_wanted(
     Ok(wanted)
 }
 
-// What makes a mirror of this capacity longer, where its new partitions take these sectors.
-fn grow(
-    added: &Additions,
-    alloc: Global,
-    db: &Db,
-    last: u32,
-    own: &Db,
-    labels: &Labels,
-    volume: &Volume,
-    capacity: u64,
-    components: &[&Component],
-    wanted: &[Wanted],
-    spots: &[Taken],
-    maps: FreeMaps,
-) -> Result<Replacing, StepError>
-    requires are { AreAdditions db.now.records added.now }
-    requires sound { IsSoundOn (with_added db.now last added.now.records.items) labels.now }
-    requires own { ShowsAs own.now.records
-        (in_order (db.now.records ++ added.now.records.items)) volume.now }
-    requires components { map (λ c. c.now) components.now ≡ components_of volume.now
-        (in_order (db.now.records ++ added.now.records.items)) }
-    requires even { IsEven (in_order (db.now.records ++ added.now.records.items)) capacity
-        (components_of volume.now (in_order (db.now.records ++ added.now.records.items)))
-        wanted.now }
-    requires held { capacity ≡ held (layout_of
-        (in_order (db.now.records ++ added.now.records.items)) volume.now) }
-    requires one_each { length wanted.now ≡ length components.now }
-    requires some { 1 ≤ length wanted.now }
-    requires may { max_id (in_order (db.now.records ++ added.now.records.items))
-        + length wanted.now ≤ 2 ^ 64 - 1
-        → MayGrow (with_added db.now last added.now.records.items) labels.now volume.now
-        (len_of wanted.now) wanted.now spots.now }
-    requires maps { AreMapsOf maps (spots.now
-        ++ taken_in (db.now.records ++ added.now.records.items)) }
-    ensures { ReplacesAs result own.now.records
-        (with_added db.now last added.now.records.items) labels.now
-        (change_to (with_added db.now last added.now.records.items) labels.now
-        (length wanted.now) (grown (in_order (db.now.records ++ added.now.records.items))
-        volume.now (held (layout_of (in_order (db.now.records ++ added.now.records.items))
-        volume.now) + len_of wanted.now) spots.now)) }
-{
-    let _last = last;
-    let fresh = wanted.len() as u64;
-    let Some(id) = first_new_id(added.max_id, fresh) else {
-        return Err(StepError::Refused(Refusal::IdsSpent));
-    };
-    let size = capacity + len_of(wanted);
-    let made = grown(alloc, own, volume, size, id, components, spots)?;
-    let leaving = Leaving::Grown {
-        volume: volume.head.id,
-    };
-    Ok(Replacing {
-        leaving,
-        made,
-        fresh,
-        maps,
-    })
-}
-
 /// What makes a mirror of this capacity longer.
+#[tactic(auto, using(std::proofs::lemmas::Grind::common_steps, crate::proofs::ShownLaws::layout_shown))]
 pub fn lengthen_mirror(
     added: &mut Additions,
     alloc: Global,
@@ -143,7 +79,6 @@ pub fn lengthen_mirror(
     requires limits { ArePieces pieces.now }
     requires shape { shape_of (plexes_of volume.now.head.id
         (in_order (db.now.records ++ added.old.records.items))) ≡ Some Mirror }
-    requires plain { is_some volume.now.size2 ≡ false }
     requires held { capacity ≡ held (layout_of
         (in_order (db.now.records ++ added.old.records.items)) volume.now) }
     ensures stays { AddsNone added.old added.new }
@@ -152,6 +87,10 @@ pub fn lengthen_mirror(
         (extended_mirror (with_added db.now last added.old.records.items) labels.now
         pieces.now volume.now) }
 {
+    let _last = last;
+    if volume.size2.is_some() {
+        return Err(StepError::Refused(Refusal::ExtraSize));
+    }
     let found = components_of(alloc, own, volume.head.id)?;
     let components = found.as_slice();
     if pieces.len() != components.len() {
@@ -160,18 +99,19 @@ pub fn lengthen_mirror(
     let asked = open_wanted(alloc, own, labels, volume, capacity, components, pieces)?;
     let wanted = asked.as_slice();
     let (maps, spots) = added.place(alloc, db, wanted)?;
-    grow(
-        added,
-        alloc,
-        db,
-        last,
-        own,
-        labels,
-        volume,
-        capacity as u64,
-        components,
-        wanted,
-        spots.as_slice(),
+    let fresh = wanted.len() as u64;
+    let Some(id) = first_new_id(added.max_id, fresh) else {
+        return Err(StepError::Refused(Refusal::IdsSpent));
+    };
+    let size = capacity as u64 + len_of(wanted);
+    let made = grown(alloc, own, volume, size, id, components, spots.as_slice())?;
+    let leaving = Leaving::Grown {
+        volume: volume.head.id,
+    };
+    Ok(Replacing {
+        leaving,
+        made,
+        fresh,
         maps,
-    )
+    })
 }

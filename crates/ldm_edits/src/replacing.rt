@@ -57,6 +57,7 @@ fn need_leaving(records: &[Record], own: &Db, leaving: Leaving) -> u64
     need
 }
 
+#[tactic(auto, using(crate::proofs::AdditionLaws::kept_beside))]
 impl Additions {
     // Puts records in the places of those that leave. All memory is taken before the first change.
     fn put(

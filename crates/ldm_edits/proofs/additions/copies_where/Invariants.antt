@@ -1,5 +1,4 @@
-use Rattle.std.proofs.Common.{◌≡◌, take}
-use Rattle.std.specs.Prelude.{filter}
+use Rattle.std.proofs.Common.{◌≡◌, take, filter}
 use Rattle.ldm_edits.specs.Replacing.{stands_in}
 use Rattle.ldm_edits.proofs.additions.copies_where.Given as goal
 

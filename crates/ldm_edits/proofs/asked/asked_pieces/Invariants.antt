@@ -1,5 +1,5 @@
 use Rattle.std.proofs.Common.{map}
-use Rattle.ldm_rules.specs.Ends.{data_size}
+use Rattle.ldm_edits.proofs.Common.{data_size}
 use Rattle.ldm_edits.proofs.AskedLaws.{AreAsked}
 use Rattle.ldm_edits.proofs.asked.asked_pieces.Given as goal
 

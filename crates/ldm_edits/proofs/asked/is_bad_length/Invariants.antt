@@ -1,5 +1,4 @@
-use Rattle.std.proofs.Common.{◌≡◌, ◌==◌, ◌+◌, ◌*◌, ◌^◌, ◌<◌, take, false}
-use Rattle.std.specs.Prelude.{sum_by}
+use Rattle.std.proofs.Common.{◌≡◌, ◌==◌, ◌+◌, ◌*◌, ◌^◌, ◌<◌, take, false, sum_by}
 use Rattle.std.specs.List.{list_any}
 use Rattle.ldm_edits.proofs.asked.is_bad_length.Given as goal
 

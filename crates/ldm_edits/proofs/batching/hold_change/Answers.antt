@@ -1,5 +1,5 @@
 use Rattle.std.proofs.Common.{ap, subst, Result, Some}
-use Rattle.ldm_group.specs.Database.{Database}
+use Rattle.ldm_edits.proofs.Common.{Database}
 use Rattle.ldm_edits.specs.declared.error.StepError.{StepError}
 use Rattle.ldm_edits.specs.declared.reply.Refusal.{Refusal}
 use Rattle.ldm_edits.specs.Drafts.{Drafted}

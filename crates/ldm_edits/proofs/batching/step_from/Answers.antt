@@ -1,5 +1,5 @@
 use Rattle.std.proofs.Common.{◌≡◌, subst, IfOk}
-use Rattle.ldm_group.specs.Database.{Database}
+use Rattle.ldm_edits.proofs.Common.{Database}
 use Rattle.ldm_edits.specs.declared.stepping.Outcome.TheVariants.{Next}
 use Rattle.ldm_edits.specs.Steps.{Keeps}
 use Rattle.ldm_edits.proofs.batching.step_from.Goals as goal

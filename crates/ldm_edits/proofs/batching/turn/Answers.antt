@@ -1,5 +1,5 @@
 use Rattle.std.proofs.Common.{◌∙◌, ap, sym, arith, option_copied, ℕ}
-use Rattle.ldm_words.specs.declared.command.Command.{Command}
+use Rattle.ldm_edits.proofs.Common.{Command}
 use Rattle.ldm_edits.specs.Steps.{committed, verdict_of}
 use Rattle.ldm_edits.proofs.BatchLaws.{begun_kept, committed_kept, change_verdict, if_ok_as}
 use Rattle.ldm_edits.proofs.batching.turn.Goals as goal

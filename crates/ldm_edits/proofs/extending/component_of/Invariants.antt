@@ -1,5 +1,5 @@
 use Rattle.std.proofs.Common.{◌≡◌, drop, find}
-use Rattle.ldm_group.specs.Looks.{is_child}
+use Rattle.ldm_edits.proofs.Common.{is_child}
 use Rattle.ldm_edits.proofs.extending.component_of.Given as goal
 
 abbrev pub invariant-loop-r : goal.invariant-loop-r

@@ -1,5 +1,5 @@
 use Rattle.std.proofs.Common.{◌≡◌, ◌≤◌, ◌*◌, ◌^◌, take}
-use Rattle.ldm_layout.specs.Parts.{extents_of, held_in}
+use Rattle.ldm_edits.proofs.Common.{extents_of, held_in}
 use Rattle.ldm_edits.proofs.growing.held_by.Given as goal
 
 abbrev pub invariant-loop-r : goal.invariant-loop-r

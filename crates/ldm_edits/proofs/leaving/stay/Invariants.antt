@@ -1,5 +1,4 @@
-use Rattle.std.proofs.Common.{◌≡◌, take, not}
-use Rattle.std.specs.Prelude.{filter}
+use Rattle.std.proofs.Common.{◌≡◌, take, not, filter}
 use Rattle.ldm_edits.specs.Staying.{leaves}
 use Rattle.ldm_edits.proofs.leaving.stay.Given as goal
 

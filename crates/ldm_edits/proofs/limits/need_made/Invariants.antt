@@ -1,5 +1,5 @@
 use Rattle.std.proofs.Common.{◌≡◌, ◌≤◌, ◌*◌, take}
-use Rattle.ldm_group.specs.Room.{need_of}
+use Rattle.ldm_edits.proofs.Common.{need_of}
 use Rattle.ldm_edits.proofs.limits.need_made.Given as goal
 
 abbrev pub invariant-loop-r : goal.invariant-loop-r

@@ -1,6 +1,5 @@
-use Rattle.std.proofs.Common.{◌≡◌, ◌≤◌, ◌*◌, take, not}
-use Rattle.std.specs.Prelude.{filter}
-use Rattle.ldm_group.specs.Room.{need_of}
+use Rattle.std.proofs.Common.{◌≡◌, ◌≤◌, ◌*◌, take, not, filter}
+use Rattle.ldm_edits.proofs.Common.{need_of}
 use Rattle.ldm_edits.specs.Staying.{leaves}
 use Rattle.ldm_edits.proofs.limits.need_staying.Given as goal
 

@@ -1,6 +1,5 @@
-use Rattle.std.proofs.Common.{◌≡◌, ◌≤◌, ◌*◌, take}
-use Rattle.std.specs.Prelude.{filter}
-use Rattle.ldm_group.specs.Room.{need_of}
+use Rattle.std.proofs.Common.{◌≡◌, ◌≤◌, ◌*◌, take, filter}
+use Rattle.ldm_edits.proofs.Common.{need_of}
 use Rattle.ldm_edits.specs.Staying.{leaves}
 use Rattle.ldm_edits.proofs.replacing.need_leaving.Given as goal
 

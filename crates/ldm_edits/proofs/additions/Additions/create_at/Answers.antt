@@ -1,80 +1,57 @@
-use Rattle.std.proofs.Common.{◌∙◌, ap, sym, subst, refl, arith, ℕ, List, Option, Ok, All}
-use Rattle.ldm_bytes.specs.Tables.{unless}
-use Rattle.ldm_records.specs.declared.types.Record.{Record}
-use Rattle.ldm_vmdb.specs.declared.header.Header.{Header}
-use Rattle.ldm_edits.specs.declared.reply.Refusal.{Refusal}
-use Rattle.ldm_edits.specs.Changes.{changed, change_to}
+use Rattle.std.proofs.Common.{◌≡◌, ◌∙◌, ap, sym, refl, arith, None}
+use Rattle.ldm_edits.proofs.Common.{first_of, Header, Database}
+use Rattle.ldm_edits.specs.Changes.{Change, limits}
 use Rattle.ldm_edits.specs.Creating.{change_for, fresh_for}
-use Rattle.ldm_group.specs.Room.{IsFitting}
-use Rattle.ldm_edits.specs.Additions.{AddsVolume, AddsTo, with_added}
-use Rattle.ldm_edits.proofs.AdditionLaws.{added_none, created_additions, created_adds, limited, made_beside, need_few, need_low, top}
+use Rattle.ldm_edits.proofs.AdditionLaws.{IsMore, beside, more_additions, more_adds, more_few, more_fits, more_within, needs, top}
 use Rattle.ldm_edits.proofs.AskedLaws.{placed_taken}
-use Rattle.ldm_edits.proofs.LimitLaws.{change_spent, within_limits}
+use Rattle.ldm_edits.proofs.LimitLaws.{change_spent, ids_left}
+use Rattle.ldm_edits.proofs.additions.Additions.create_at.Goals.{After-later_limit}
 use Rattle.ldm_edits.proofs.additions.Additions.create_at.Goals as goal
 
+abbrev group : After-later_limit → Database
+group c = beside c.args.db.now c.args.last c.args.self.now
+
+abbrev change : After-later_limit → Change
+change c = change_for (group c) c.args.name.now c.args.guid c.args.layout.now c.args.spots.now
+
+made_is : (c : After-later_limit) → c.in_ok-made.made.items ≡ (change c).made
+made_is c = rw (top c.requires.are) at c.in_ok-made.ensures
+
+-- the first limit that is passed
+limited : (c : After-later_limit) → c.later_limit.result
+    ≡ first_of (limits (group c) c.args.labels.now (fresh_for c.args.layout.now) (change c))
+limited c =
+    let seq = ap (λ (h : Header). h.seq) c.header.ensures in
+    c.later_limit.ensures (group c) (change c) seq (needs c.requires.are) (c.as_slice.ensures.value ∙ made_is c)
+    ∙ ids_left _ _ _ _ (omega (arith, top c.requires.are))
+
+more : (c : After-later_limit) → c.later_limit.result ≡ None
+    → IsMore c.args.db.now c.args.labels.now c.args.last c.args.self.now c.args.name.now c.args.guid c.args.layout.now
+    c.args.spots.now c.in_ok-made.made.items
+more c none = (let within = sym (limited c) ∙ none in assumption (made_is c))
+
 pub returns-then-fresh-self-clause-is : goal.returns-then-fresh-self-clause-is
-returns-then-fresh-self-clause-is c = (
-  change_spent (with_added c.args.db.now c.args.last c.args.self.now.records.items) c.args.labels.now (fresh_for c.args.layout.now) _
-      (let same = top c.requires.are in let fresh = c.fresh_for-fresh.ensures in let more = c.if-fresh-self.true in omega arith),
-  refl,
-)
+returns-then-fresh-self-clause-is c = (change_spent _ _ _ _ (omega (arith, top c.requires.are)), refl)
 
 pub made_for-requires-clause-sizes : goal.made_for-requires-clause-sizes
 made_for-requires-clause-sizes c =
-    let same = top c.requires.are in
-    let few = c.if-fresh-self.false in
-    (placed_taken c.args.layout.now c.requires.limits.layout_is c.requires.placed.1 (omega arith)).sizes
-
-pub later_limit-requires-clause-few : goal.later_limit-requires-clause-few
-later_limit-requires-clause-few c = (let low = need_low c.args.db.now c.args.labels.now c.args.last c.args.self.now c.requires.are c.requires.sound c.ranges.last.fits in omega arith)
+    (placed_taken c.args.layout.now c.requires.limits.layout_is c.requires.placed.1 (omega (arith, top c.requires.are))).sizes
 
 pub returns-in-Some-clause-is : goal.returns-in-Some-clause-is
-returns-in-Some-clause-is c = (
-  ap (λ (o : Option Refusal). unless o (changed (with_added c.args.db.now c.args.last c.args.self.now.records.items) (change_for (with_added c.args.db.now c.args.last c.args.self.now.records.items) c.args.name.now c.args.guid c.args.layout.now c.args.spots.now))) (sym (limited c.args.guid c.args.db.now c.args.labels.now c.args.last c.args.self.now c.args.name.now c.args.layout.now c.args.spots.now c.fresh_for-fresh.result _ _ c.later_limit.result c.requires.are
-      c.fresh_for-fresh.ensures (let few = c.if-fresh-self.false in omega arith) (let fits = c.fits-self in omega arith) (ap (λ (h : Header). h.seq) c.header.ensures) (c.as_slice.ensures.value ∙ c.in_ok-made.ensures) c.later_limit.ensures) ∙ c.in-Some.is),
-  refl,
-)
-
-pub add-requires-clause-need : goal.add-requires-clause-need
-add-requires-clause-need c = (let low = need_low c.args.db.now c.args.labels.now c.args.last c.args.self.now c.requires.are c.requires.sound c.ranges.last.fits in omega arith)
+returns-in-Some-clause-is c = (rw (← limited (goal.at.returns-in-Some-clause-is c).After-later_limit, c.in-Some.is), refl)
 
 pub add-requires-clause-made : goal.add-requires-clause-made
-add-requires-clause-made c =
-    subst (All IsFitting) (sym (made_beside c.args.guid c.args.name.now c.args.layout.now c.args.spots.now c.in_ok-made.made.items c.requires.are c.in_ok-made.ensures))
-    (within_limits (with_added c.args.db.now c.args.last c.args.self.now.records.items) c.args.labels.now (fresh_for c.args.layout.now) _
-    (sym (limited c.args.guid c.args.db.now c.args.labels.now c.args.last c.args.self.now c.args.name.now c.args.layout.now c.args.spots.now c.fresh_for-fresh.result _ _ c.later_limit.result c.requires.are
-    c.fresh_for-fresh.ensures (let few = c.if-fresh-self.false in omega arith) (let fits = c.fits-self in omega arith) (ap (λ (h : Header). h.seq) c.header.ensures) (c.as_slice.ensures.value ∙ c.in_ok-made.ensures) c.later_limit.ensures) ∙ c.in_default.is)).each
-
-pub returns-in_err-add-clause-are : goal.returns-in_err-add-clause-are
-returns-in_err-add-clause-are c = added_none c.requires.are c.in_err-add.ensures.none
+add-requires-clause-made c = more_fits (more (goal.at.add-requires-clause-made c).After-later_limit c.in_default.is)
 
 pub last_for-requires : goal.last_for-requires
-last_for-requires c = need_few c.args.guid c.args.db.now c.args.labels.now c.args.last c.args.self.now c.add.new.self c.args.name.now c.args.layout.now c.requires.placed.0 c.args.spots.now c.args.maps _ refl _ refl c.requires.are
-    (record { up = c.requires.are.rising; low = c.types_hold.ensures.low; sound = c.requires.sound; small = c.ranges.last.fits }) c.requires.limits c.requires.placed.1
-    (sym (limited c.args.guid c.args.db.now c.args.labels.now c.args.last c.args.self.now c.args.name.now c.args.layout.now c.args.spots.now c.fresh_for-fresh.result _ _ c.later_limit.result c.requires.are
-    c.fresh_for-fresh.ensures (let few = c.if-fresh-self.false in omega arith) (let fits = c.fits-self in omega arith) (ap (λ (h : Header). h.seq) c.header.ensures) (c.as_slice.ensures.value ∙ c.in_ok-made.ensures) c.later_limit.ensures) ∙ c.in_default.is)
-    (subst (λ (l : List Record). AddsVolume c.args.self.now c.add.new.self l c.args.maps) (made_beside c.args.guid c.args.name.now c.args.layout.now c.args.spots.now c.in_ok-made.made.items c.requires.are c.in_ok-made.ensures) c.in_ok-add.ensures.ok) c.requires.areas
+last_for-requires c =
+    more_few (more (goal.at.last_for-requires c).After-later_limit c.in_default.is) c.in_ok-add.ensures.ok c.requires.areas
 
-pub returns-clause-are : goal.returns-clause-are
-returns-clause-are c = created_additions c.args.guid c.args.db.now c.args.labels.now c.args.last c.args.self.now c.add.new.self c.args.name.now c.args.layout.now c.requires.placed.0 c.args.spots.now c.args.maps _ refl _ refl c.requires.are
-    (record { up = c.requires.are.rising; low = c.types_hold.ensures.low; sound = c.requires.sound; small = c.ranges.last.fits }) c.requires.limits c.requires.placed.1
-    (sym (limited c.args.guid c.args.db.now c.args.labels.now c.args.last c.args.self.now c.args.name.now c.args.layout.now c.args.spots.now c.fresh_for-fresh.result _ _ c.later_limit.result c.requires.are
-    c.fresh_for-fresh.ensures (let few = c.if-fresh-self.false in omega arith) (let fits = c.fits-self in omega arith) (ap (λ (h : Header). h.seq) c.header.ensures) (c.as_slice.ensures.value ∙ c.in_ok-made.ensures) c.later_limit.ensures) ∙ c.in_default.is)
-    (subst (λ (l : List Record). AddsVolume c.args.self.now c.add.new.self l c.args.maps) (made_beside c.args.guid c.args.name.now c.args.layout.now c.args.spots.now c.in_ok-made.made.items c.requires.are c.in_ok-made.ensures) c.in_ok-add.ensures.ok) c.requires.free c.requires.maps
-
-pub returns-clause-is : goal.returns-clause-is
-returns-clause-is c =
-    subst (λ (n : ℕ). AddsTo c.args.db.now c.args.self.now.records.items c.add.new.self.records.items (Ok n) (change_to (with_added c.args.db.now c.args.last c.args.self.now.records.items) c.args.labels.now (fresh_for c.args.layout.now) (change_for (with_added c.args.db.now c.args.last c.args.self.now.records.items) c.args.name.now c.args.guid c.args.layout.now c.args.spots.now))) (sym c.last_for.ensures.is)
-    (created_adds c.args.guid c.args.db.now c.args.labels.now c.args.last c.args.self.now c.add.new.self c.args.name.now c.args.layout.now c.requires.placed.0 c.args.spots.now c.args.maps _ refl _ refl c.requires.are
-    (record { up = c.requires.are.rising; low = c.types_hold.ensures.low; sound = c.requires.sound; small = c.ranges.last.fits }) c.requires.limits c.requires.placed.1
-    (sym (limited c.args.guid c.args.db.now c.args.labels.now c.args.last c.args.self.now c.args.name.now c.args.layout.now c.args.spots.now c.fresh_for-fresh.result _ _ c.later_limit.result c.requires.are
-    c.fresh_for-fresh.ensures (let few = c.if-fresh-self.false in omega arith) (let fits = c.fits-self in omega arith) (ap (λ (h : Header). h.seq) c.header.ensures) (c.as_slice.ensures.value ∙ c.in_ok-made.ensures) c.later_limit.ensures) ∙ c.in_default.is)
-    (subst (λ (l : List Record). AddsVolume c.args.self.now c.add.new.self l c.args.maps) (made_beside c.args.guid c.args.name.now c.args.layout.now c.args.spots.now c.in_ok-made.made.items c.requires.are c.in_ok-made.ensures) c.in_ok-add.ensures.ok))
-
-pub returns-clause-unspent : goal.returns-clause-unspent
-returns-clause-unspent c =
-    let last = (within_limits (with_added c.args.db.now c.args.last c.args.self.now.records.items) c.args.labels.now (fresh_for c.args.layout.now) _
-    (sym (limited c.args.guid c.args.db.now c.args.labels.now c.args.last c.args.self.now c.args.name.now c.args.layout.now c.args.spots.now c.fresh_for-fresh.result _ _ c.later_limit.result c.requires.are
-    c.fresh_for-fresh.ensures (let few = c.if-fresh-self.false in omega arith) (let fits = c.fits-self in omega arith) (ap (λ (h : Header). h.seq) c.header.ensures) (c.as_slice.ensures.value ∙ c.in_ok-made.ensures) c.later_limit.ensures) ∙ c.in_default.is)).seq in
-    let low = c.types_hold.ensures.seq in
-    omega arith
+pub returns : goal.returns
+returns c =
+    let more = more (goal.at.returns c).After-later_limit c.in_default.is in
+    record {
+      are = more_additions more c.in_ok-add.ensures.ok c.requires.free c.requires.maps;
+      is = rw c.last_for.ensures.is (more_adds more c.in_ok-add.ensures.ok);
+      unspent = omega (arith, (more_within more).seq);
+    }

@@ -1,87 +1,66 @@
-use Rattle.std.proofs.Common.{◌∙◌, ◌++◌, ap, sym, subst, refl, arith, ℕ, Ok, All}
-use Rattle.ldm_vmdb.specs.declared.header.Header.{Header}
-use Rattle.ldm_group.specs.Order.{in_order}
-use Rattle.ldm_group.specs.Room.{IsFitting}
-use Rattle.ldm_edits.specs.Additions.{AddsTo, with_added}
-use Rattle.ldm_edits.specs.Changes.{change_to}
+use Rattle.std.proofs.Common.{◌≡◌, ◌∙◌, ℕ, ◌+◌, ◌-◌, ap, sym, refl, arith, None}
+use Rattle.ldm_edits.proofs.Common.{first_of, Header, Database, need_of}
+use Rattle.ldm_edits.proofs.AdditionLaws.{beside}
+use Rattle.ldm_edits.specs.Changes.{Change, limits}
 use Rattle.ldm_edits.specs.Staying.{change_of}
-use Rattle.ldm_edits.proofs.AdditionLaws.{added_none, need_low}
-use Rattle.ldm_edits.proofs.LimitLaws.{within_limits}
-use Rattle.ldm_edits.proofs.PlaceLaws.{added_fit, leaving_few, need_after, replaced_additions, replaced_adds, replaced_few, replaced_limit, replaced_next, replaced_refused}
+use Rattle.ldm_edits.proofs.LimitLaws.{ids_left, need_both, within_limits}
+use Rattle.ldm_edits.proofs.PlaceLaws.{IsReplaced, MayReplace, added_fit, leaving_few, need_stays, replaced_additions, replaced_adds, replaced_few}
+use Rattle.ldm_edits.proofs.additions.Additions.replace.Goals.{After-later_limit}
 use Rattle.ldm_edits.proofs.additions.Additions.replace.Goals as goal
 
+abbrev group : After-later_limit → Database
+group c = beside c.args.db.now c.args.last c.args.self.now
+
+abbrev change : After-later_limit → Change
+change c = change_of c.args.step.leaving (group c).records c.args.step.made.items
+
+may : (c : After-later_limit) → MayReplace c.args.db.now c.args.last c.args.self.now c.args.own.now.records c.args.step
+may c = assumption
+
+stays : (c : After-later_limit) → c.args.self.now.need - c.need_leaving.result ≡ need_of (change c).stay
+stays c = need_stays (may c) (rw c.as_slice.ensures.value at c.need_leaving.ensures.is)
+
+-- the first limit that is passed
+limited : (c : After-later_limit) → c.later_limit.result
+    ≡ first_of (limits (group c) c.args.labels.now c.args.step.fresh (change c))
+limited c =
+    let seq = ap (λ (h : Header). h.seq) c.header.ensures in
+    c.later_limit.ensures (group c) (change c) seq (stays c) c.as_slice-2.ensures.value ∙ ids_left _ _ _ _ c.requires.step.ids
+
+replaced : (c : After-later_limit) → c.later_limit.result ≡ None → {made : ℕ} → made ≡ need_of c.args.step.made.items
+    → IsReplaced c.args.db.now c.args.labels.now c.args.last c.args.self.now c.args.own.now.records c.args.step
+    (c.args.self.now.need - c.need_leaving.result + made)
+replaced c none made_is =
+    let within = sym (limited c) ∙ none in
+    assumption (may c, need_both (change c).stay c.args.step.made.items _ _ (stays c) made_is)
+
 pub need_leaving-requires : goal.need_leaving-requires
-need_leaving-requires c = subst (All IsFitting) (sym c.as_slice.ensures.value) (added_fit c.args.db.now.records c.args.self.now.records.items c.requires.sound.room.each)
+need_leaving-requires c = rw c.as_slice.ensures.value (added_fit c.args.db.now.records _ c.requires.sound.room.each)
 
 pub overflow_sub-staying : goal.overflow_sub-staying
-overflow_sub-staying c = leaving_few c.args.db.now c.args.labels.now c.args.last c.args.self.now c.args.own.now.records c.args.step c.requires.are c.requires.front c.requires.step
-    c.as_slice.result.now c.need_leaving.result c.as_slice.ensures.value c.need_leaving.ensures.is
-
-pub later_limit-requires-clause-few : goal.later_limit-requires-clause-few
-later_limit-requires-clause-few c = (let low = need_low c.args.db.now c.args.labels.now c.args.last c.args.self.now c.requires.are c.requires.sound c.ranges.last.fits in omega arith)
+overflow_sub-staying c =
+    let may : MayReplace c.args.db.now c.args.last c.args.self.now c.args.own.now.records c.args.step = assumption in
+    leaving_few may (rw c.as_slice.ensures.value at c.need_leaving.ensures.is)
 
 pub returns-in-Some-clause-is : goal.returns-in-Some-clause-is
-returns-in-Some-clause-is c = (
-  replaced_refused c.args.db.now c.args.labels.now c.args.last c.args.self.now c.args.own.now.records c.args.step c.requires.are c.requires.front c.requires.step c.in-Some.refusal
-      (sym c.in-Some.is ∙ replaced_limit c.args.db.now c.args.labels.now c.args.last c.args.self.now c.args.own.now.records c.args.step c.requires.are c.requires.front c.requires.step
-      c.as_slice.result.now c.need_leaving.result c.as_slice.ensures.value c.need_leaving.ensures.is
-      _ c.as_slice-2.result.now c.later_limit.result (ap (λ (h : Header). h.seq) c.header.ensures) c.as_slice-2.ensures.value c.later_limit.ensures),
-  refl,
-)
+returns-in-Some-clause-is c = (rw (← limited (goal.at.returns-in-Some-clause-is c).After-later_limit, c.in-Some.is), refl)
 
 pub need_made-requires : goal.need_made-requires
 need_made-requires c =
-    subst (All IsFitting) (sym c.as_slice-3.ensures.value)
-    (within_limits (with_added c.args.db.now c.args.last c.args.self.now.records.items) c.args.labels.now c.args.step.fresh (change_of c.args.step.leaving (in_order (c.args.db.now.records ++ c.args.self.now.records.items)) c.args.step.made.items)
-    (sym (replaced_limit c.args.db.now c.args.labels.now c.args.last c.args.self.now c.args.own.now.records c.args.step c.requires.are c.requires.front c.requires.step
-    c.as_slice.result.now c.need_leaving.result c.as_slice.ensures.value c.need_leaving.ensures.is
-    _ c.as_slice-2.result.now c.later_limit.result (ap (λ (h : Header). h.seq) c.header.ensures) c.as_slice-2.ensures.value c.later_limit.ensures) ∙ c.in_default.is)).each
-
-pub overflow_add-need : goal.overflow_add-need
-overflow_add-need c =
-    let low = need_low c.args.db.now c.args.labels.now c.args.last c.args.self.now c.requires.are c.requires.sound c.ranges.last.fits in
-    let few = c.need_made.ensures.few in
-    omega arith
-
-pub returns-in_err-put-clause-are : goal.returns-in_err-put-clause-are
-returns-in_err-put-clause-are c = added_none c.requires.are c.in_err-put.ensures.none
+    let within = within_limits _ _ _ _ (sym (limited (goal.at.need_made-requires c).After-later_limit) ∙ c.in_default.is) in
+    rw c.as_slice-3.ensures.value within.each
 
 pub last_for-requires : goal.last_for-requires
-last_for-requires c = replaced_few c.args.db.now c.args.labels.now c.args.last c.args.self.now c.args.own.now.records c.args.step c.requires.are c.requires.front c.requires.step
-    (sym (replaced_limit c.args.db.now c.args.labels.now c.args.last c.args.self.now c.args.own.now.records c.args.step c.requires.are c.requires.front c.requires.step
-    c.as_slice.result.now c.need_leaving.result c.as_slice.ensures.value c.need_leaving.ensures.is
-    _ c.as_slice-2.result.now c.later_limit.result (ap (λ (h : Header). h.seq) c.header.ensures) c.as_slice-2.ensures.value c.later_limit.ensures) ∙ c.in_default.is) _
-    (need_after c.args.db.now c.args.labels.now c.args.last c.args.self.now c.args.own.now.records c.args.step c.requires.are c.requires.front c.requires.step
-    c.as_slice.result.now c.need_leaving.result c.as_slice.ensures.value c.need_leaving.ensures.is c.as_slice-3.result.now c.need_made.result c.as_slice-3.ensures.value c.need_made.ensures.is) c.requires.areas
+last_for-requires c =
+    let made = rw c.as_slice-3.ensures.value at c.need_made.ensures.is in
+    replaced_few (replaced (goal.at.last_for-requires c).After-later_limit c.in_default.is made) c.requires.areas
 
-pub returns-clause-are : goal.returns-clause-are
-returns-clause-are c =
-    let within = sym (replaced_limit c.args.db.now c.args.labels.now c.args.last c.args.self.now c.args.own.now.records c.args.step c.requires.are c.requires.front c.requires.step
-    c.as_slice.result.now c.need_leaving.result c.as_slice.ensures.value c.need_leaving.ensures.is
-    _ c.as_slice-2.result.now c.later_limit.result (ap (λ (h : Header). h.seq) c.header.ensures) c.as_slice-2.ensures.value c.later_limit.ensures) ∙ c.in_default.is in
-    replaced_additions c.args.db.now c.args.labels.now c.args.last c.args.self.now c.args.own.now.records c.args.step c.requires.are c.requires.front c.requires.step within _
-    (need_after c.args.db.now c.args.labels.now c.args.last c.args.self.now c.args.own.now.records c.args.step c.requires.are c.requires.front c.requires.step
-    c.as_slice.result.now c.need_leaving.result c.as_slice.ensures.value c.need_leaving.ensures.is c.as_slice-3.result.now c.need_made.result c.as_slice-3.ensures.value c.need_made.ensures.is)
-    c.put.new.self c.in_ok-put.ensures.ok
-    (c.requires.disks _ (replaced_next c.args.db.now c.args.labels.now c.args.last c.args.self.now c.args.own.now.records c.args.step c.requires.are c.requires.front c.requires.step within))
-
-pub returns-clause-is : goal.returns-clause-is
-returns-clause-is c =
-    subst (λ (n : ℕ). AddsTo c.args.db.now c.args.self.now.records.items c.put.new.self.records.items (Ok n) (change_to (with_added c.args.db.now c.args.last c.args.self.now.records.items) c.args.labels.now c.args.step.fresh
-    (change_of c.args.step.leaving (in_order (c.args.db.now.records ++ c.args.self.now.records.items)) c.args.step.made.items))) (sym c.last_for.ensures.is)
-    (replaced_adds c.args.db.now c.args.labels.now c.args.last c.args.self.now c.args.own.now.records c.args.step c.requires.are c.requires.front c.requires.step
-    (sym (replaced_limit c.args.db.now c.args.labels.now c.args.last c.args.self.now c.args.own.now.records c.args.step c.requires.are c.requires.front c.requires.step
-    c.as_slice.result.now c.need_leaving.result c.as_slice.ensures.value c.need_leaving.ensures.is
-    _ c.as_slice-2.result.now c.later_limit.result (ap (λ (h : Header). h.seq) c.header.ensures) c.as_slice-2.ensures.value c.later_limit.ensures) ∙ c.in_default.is) _
-    (need_after c.args.db.now c.args.labels.now c.args.last c.args.self.now c.args.own.now.records c.args.step c.requires.are c.requires.front c.requires.step
-    c.as_slice.result.now c.need_leaving.result c.as_slice.ensures.value c.need_leaving.ensures.is c.as_slice-3.result.now c.need_made.result c.as_slice-3.ensures.value c.need_made.ensures.is)
-    c.put.new.self c.in_ok-put.ensures.ok)
-
-pub returns-clause-unspent : goal.returns-clause-unspent
-returns-clause-unspent c =
-    let last = (within_limits (with_added c.args.db.now c.args.last c.args.self.now.records.items) c.args.labels.now c.args.step.fresh (change_of c.args.step.leaving (in_order (c.args.db.now.records ++ c.args.self.now.records.items)) c.args.step.made.items)
-    (sym (replaced_limit c.args.db.now c.args.labels.now c.args.last c.args.self.now c.args.own.now.records c.args.step c.requires.are c.requires.front c.requires.step
-    c.as_slice.result.now c.need_leaving.result c.as_slice.ensures.value c.need_leaving.ensures.is
-    _ c.as_slice-2.result.now c.later_limit.result (ap (λ (h : Header). h.seq) c.header.ensures) c.as_slice-2.ensures.value c.later_limit.ensures) ∙ c.in_default.is)).seq in
-    let low = c.types_hold.ensures.seq in
-    omega arith
+pub returns : goal.returns
+returns c =
+    let made = rw c.as_slice-3.ensures.value at c.need_made.ensures.is in
+    let replaced = replaced (goal.at.returns c).After-later_limit c.in_default.is made in
+    record {
+      are = replaced_additions replaced c.in_ok-put.ensures.ok c.requires.disks;
+      is = rw c.last_for.ensures.is (replaced_adds replaced c.in_ok-put.ensures.ok);
+      unspent = omega (arith, (within_limits _ _ _ _ replaced.within).seq);
+    }
