@@ -1,6 +1,7 @@
 -- A span or mirror with more partitions: what extend makes, its layout, and what the group keeps.
-use Rattle.std.proofs.Common.{◌≡◌, ◌≢◌, ℕ, ◌+◌, ◌*◌, ◌^◌, ◌<◌, ◌≤◌, ◌==◌, not, List, [], ◌∷◌, ◌++◌, length, map, refl, sym, ap, subst, ◌∙◌, inl, inr, arith, Bool, true, false, Some, None, Ok, Contains, zero-add, ◌-◌, ◌||◌, Option, sum_by, find, filter, eq-eqb, ne_eqb, ltb-false, append-nil}
-use Rattle.ldm_edits.proofs.Common.{first_of, Record, Volume, Component, Partition, Rising, place_of, in_order, is_child, max_id, Database, IsFitting, Label, Plex, Extent, Shape, Layout, plex_of, plexes_of, extent_of, extents_of, by_offset, held_in, least, layout_of, shape_of, data_size, taken_of, taken_in, AllEndWithin, AreDisjoint, Span, IsSoundOn, Taken, Wanted, span_parts, there}
+use Rattle.std.proofs.Common.{◌≡◌, ◌≢◌, ℕ, ◌+◌, ◌*◌, ◌^◌, ◌<◌, ◌≤◌, ◌==◌, not, List, [], ◌∷◌, ◌++◌, length, map, refl, sym, ap, subst, ◌∙◌, inl, inr, arith, Bool, true, false, Some, None, Ok, Contains, zero-add, ◌-◌, ◌||◌, Option, is_some, sum_by, find, filter, eq-eqb, ne_eqb, ltb-false, append-nil}
+use Rattle.ldm_edits.proofs.Common.{first_of, resized, Record, Volume, Component, Partition, Rising, place_of, in_order, is_child, max_id, Database, IsFitting, Label, Plex, Extent, Shape, Layout, plex_of, plexes_of, extent_of, extents_of, by_offset, held_in, least, layout_of, shape_of, data_size, taken_of, taken_in, AllEndWithin, AreDisjoint, Span, IsSoundOn, Taken, Wanted, span_parts, there}
+use Rattle.ldm_made.specs.Made.{with_children}
 use Rattle.std.specs.List.{All, list_all, list_any, cons_option}
 use Rattle.std.proofs.lemmas.Bool.{not-true, eqb-false, or_parts}
 use Rattle.std.proofs.lemmas.List.{length-map}
@@ -300,6 +301,8 @@ pub record MakesLonger (db : Database) (v : Volume) (c : Component) (capacity : 
   pub size_low : capacity + sum_by (λ (t : Taken). t.size) taken < 2 ^ 64
   pub children_low : c.children + length taken < 2 ^ 64
   pub ids_low : max_id db.records + 1 + length taken ≤ 2 ^ 64
+  pub volume_there : is_some (resized v (capacity + sum_by (λ (t : Taken). t.size) taken)) ≡ true
+  pub component_there : is_some (with_children c (c.children + length taken)) ≡ true
 
 module _ {db : Database} {labels : List Label} {v : Volume} {c : Component} {wanted : List Wanted} {spots : List Taken} (up : Rising db.records) (sound : IsSoundOn db labels) (may : MayExtend db labels v c wanted spots) where
   abbrev capacity : ℕ
@@ -359,13 +362,18 @@ module _ {db : Database} {labels : List Label} {v : Volume} {c : Component} {wan
       let kids = few_children db.records labels c (sound_parts db.records labels sound.sound) own.0 in
       let held_is = capacity_is in
       let c_low = max_above db.records (kinds.Component c) own.0 in
+      let spelled = λ (r : Record) (at : Contains db.records r). spelled_by r (All-contains IsFitting db.records r sound.room.each at) in
+      let volume = makes_size v (capacity + sum_by (λ (t : Taken). t.size) spots) (omega arith) (spelled (kinds.Volume v) may.there) in
+      let component = makes_children c (c.children + length spots) (omega arith) (spelled (kinds.Component c) own.0) in
       record {
-        volume = makes_size v _ (omega arith) (spelled_by _ (All-contains IsFitting db.records _ sound.room.each may.there));
-        component = makes_children c _ (omega arith) (spelled_by _ (All-contains IsFitting db.records _ sound.room.each own.0));
+        volume = volume;
+        component = component;
         parts = makes_span_parts (max_id db.records + 1) c.head.id capacity spots (omega arith) (omega arith) (are_numbers db.records spots takes);
         size_low = omega arith;
         children_low = omega arith;
         ids_low = omega arith;
+        volume_there = ap (λ (o : Option Volume). is_some o) volume.made;
+        component_there = ap (λ (o : Option Component). is_some o) component.made;
       }
 
   abbrev parts : List Partition

@@ -1,5 +1,5 @@
 -- What a command puts in the places of records that leave a group, and the records of one volume alone.
-use Rattle.std.specs.Prelude.{◌≡◌, ℕ, ◌+◌, ◌-◌, ◌^◌, ◌≤◌, ◌==◌, ◌++◌, true, false, not, Bool, nat_le, List, filter, Contains, All, Some, Result, Ok, Err}
+use Rattle.std.specs.Prelude.{◌≡◌, ℕ, ◌+◌, ◌-◌, ◌^◌, ◌<◌, ◌≤◌, ◌==◌, ◌++◌, true, false, not, Bool, nat_le, List, filter, Contains, All, Some, Result, Ok, Err}
 use Rattle.std.specs.List.{list_any}
 use Rattle.ldm_records.specs.declared.types.Record.{Record}
 use Rattle.ldm_records.specs.declared.types.Record.TheVariants as kinds
@@ -19,6 +19,7 @@ use Rattle.ldm_edits.specs.declared.leaving.Leaving.{Leaving}
 use Rattle.ldm_edits.specs.declared.error.StepError.{StepError}
 use Rattle.ldm_edits.specs.declared.replacing.Replacing.{Replacing}
 use Rattle.ldm_edits.specs.declared.reply.Refusal.{Refusal}
+use Rattle.ldm_edits.specs.declared.subject.Subject.{Subject}
 use Rattle.ldm_edits.specs.Additions.{AreAdditions, with_added}
 use Rattle.ldm_edits.specs.Answers.{RefusesAs}
 use Rattle.ldm_edits.specs.Changes.{change_to}
@@ -53,12 +54,17 @@ pub record ShowsNamed (own all : List Record) (name : List ℕ) : Type 0 where
   pub own_named : volume_named name own ≡ Some volume
   pub shows : ShowsAs own all volume
 
--- The volume is of the group that the added records make, which is sound on disks with these labels, and is looked at among its own records.
-pub record IsVolumeOf (db : Database) (last : ℕ) (added : Additions) (own : List Record) (labels : List Label) (v : Volume) : Type 0 where
-  pub are : AreAdditions db.records added
-  pub sound : IsSoundOn (with_added db last added.records.items) labels
-  pub there : Contains (in_order (db.records ++ added.records.items)) (kinds.Volume v)
-  pub shows : ShowsAs own (in_order (db.records ++ added.records.items)) v
+-- its group, with the records that are added
+abbrev pub added_group : Additions → Subject → Database
+added_group added subject = with_added subject.db.now subject.last added.records.items
+
+-- The volume is of the group that the added records make, which is sound on disks with these labels, and shows among its own records.
+pub record IsVolumeOf (added : Additions) (subject : Subject) : Type 0 where
+  pub are : AreAdditions subject.db.now.records added
+  pub sound : IsSoundOn (added_group added subject) subject.labels.now
+  pub there : Contains (added_group added subject).records (kinds.Volume subject.volume.now)
+  pub shows : ShowsAs subject.own.now.records (added_group added subject).records subject.volume.now
+  pub last : subject.last < 2 ^ 32
 
 -- What is put in the places of what leaves the group: its records and those that stay rise, there are ids for the new ones, and the maps are
 -- beside what is taken then. Which records leave is seen among fewer records as among all.

@@ -1,5 +1,5 @@
 //! Records that are added to a group, with what the next command asks of both.
-ghost use Rattle.std.specs.Prelude.{◌≡◌, ◌++◌, ◌^◌, ◌-◌, ◌<◌, [], List, All, OnOk, OnErr, None};
+ghost use Rattle.std.specs.Prelude.{◌≡◌, ◌++◌, ◌^◌, ◌-◌, ◌<◌, List, All, OnOk, OnErr, None};
 ghost use Rattle.std.specs.Prelude.{IfOk, filter, fold, is_some, max};
 ghost use Rattle.ldm_group.specs.Database.{at_seq};
 ghost use Rattle.std.specs.List.{list_any};

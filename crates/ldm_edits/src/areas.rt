@@ -1,5 +1,5 @@
 //! How many blocks the config areas of the images hold.
-ghost use Rattle.std.specs.Prelude.{◌≡◌, ◌+◌, ◌*◌, ◌-◌, ◌<◌, ◌≤◌, ◌^◌, length, map, min, fold};
+ghost use Rattle.std.specs.Prelude.{◌≡◌, ◌*◌, ◌-◌, ◌≤◌, min, fold};
 ghost use Rattle.ldm_places.specs.Extents.{least};
 ghost use Rattle.ldm_edits.specs.Changes.{least_area, most_blocks, AreasFit};
 

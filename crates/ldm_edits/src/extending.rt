@@ -1,17 +1,15 @@
 //! `extend`: more pieces at the end of a span or a mirror, or the first refusal.
-ghost use Rattle.std.specs.Prelude.{◌≡◌, ◌+◌, ◌++◌, ◌^◌, ◌<◌, ◌≤◌, Some, Ok, find};
-ghost use Rattle.std.specs.Prelude.{length, All, option_copied, sum_by, true, is_some, IfOk};
+ghost use Rattle.std.specs.Prelude.{◌≡◌, ◌+◌, ◌^◌, ◌<◌, ◌≤◌, Some, Ok, find};
+ghost use Rattle.std.specs.Prelude.{length, option_copied, sum_by, true, is_some, IfOk};
 ghost use Rattle.ldm_made.specs.Made.{resized, with_children};
 ghost use Rattle.ldm_group.specs.Looks.{is_child, volume_named};
-ghost use Rattle.ldm_group.specs.Order.{in_order};
-ghost use Rattle.ldm_group.specs.Room.{IsFitting};
 ghost use Rattle.ldm_layout.specs.Parts.{plexes_of};
 ghost use Rattle.ldm_layout.specs.Volumes.{layout_of, shape_of};
 ghost use Rattle.ldm_rules.specs.Facts.{IsSoundOn};
 ghost use Rattle.ldm_words.specs.Limits.{ArePieces};
-ghost use Rattle.ldm_edits.specs.Additions.{AddsNone, AreAdditions, with_added};
+ghost use Rattle.ldm_edits.specs.Additions.{AddsNone};
 ghost use Rattle.ldm_edits.specs.Answers.{FindsAs, StepsTo};
-ghost use Rattle.ldm_edits.specs.Replacing.{IsVolumeOf, ReplacesAs};
+ghost use Rattle.ldm_edits.specs.Replacing.{IsVolumeOf, ReplacesAs, added_group};
 ghost use Rattle.ldm_edits.specs.Asked.{words_by};
 ghost use Rattle.ldm_edits.specs.Changes.{AreasFit};
 ghost use Rattle.ldm_edits.specs.Spots.{open_wanted, CanBePlaced};
@@ -31,6 +29,7 @@ use crate::owning::plan_in;
 use crate::replacing::Replacing;
 use crate::reply::Refusal;
 use crate::stepping::types_hold;
+use crate::subject::Subject;
 use ldm_bytes::NoMemory;
 use ldm_group::Db;
 use ldm_label::Labels;
@@ -102,7 +101,14 @@ pub fn extend(
     };
     types_hold(db, labels);
     let (mut added, last) = Additions::none(alloc, db);
-    let step = extension(&mut added, alloc, db, last, db, labels, volume, pieces)?;
+    let subject = Subject {
+        db,
+        last,
+        labels,
+        own: db,
+        volume,
+    };
+    let step = extension(&mut added, alloc, &subject, pieces)?;
     let Replacing {
         leaving,
         made,
@@ -112,36 +118,27 @@ pub fn extend(
     change(alloc, db, labels, fresh, leaving, made)
 }
 
-/// What makes a volume of the group, to which records are added, longer. The records of the volume
-/// are seen alone.
+/// What makes a volume of the group, to which records are added, longer. The volume is looked at
+/// among its own records.
 #[tactic(auto, using(crate::proofs::ShownLaws::ends_shown, crate::proofs::ShownLaws::held_shown))]
 pub fn extension(
     added: &mut Additions,
     alloc: Global,
-    db: &Db,
-    last: u32,
-    own: &Db,
-    labels: &Labels,
-    volume: &Volume,
+    subject: &Subject,
     pieces: &[Piece],
 ) -> Result<Replacing, StepError>
-    requires volume { IsVolumeOf db.now last added.old own.now.records labels.now volume.now }
+    requires volume { IsVolumeOf added.old subject.now }
     requires limits { ArePieces pieces.now }
     ensures stays { AddsNone added.old added.new }
-    ensures is { ReplacesAs result own.now.records (with_added db.now last added.old.records.items)
-        labels.now
-        (extended (with_added db.now last added.old.records.items) labels.now pieces.now
-        (Some volume.now)) }
+    ensures is { ReplacesAs result subject.now.own.now.records (added_group added.old subject.now)
+        subject.now.labels.now (extended (added_group added.old subject.now)
+        subject.now.labels.now pieces.now (Some subject.now.volume.now)) }
 {
-    let plan = plan_in(alloc, own, volume)?;
+    let plan = plan_in(alloc, subject.own, subject.volume)?;
     let capacity = plan.capacity();
     match plan.shape() {
-        Shape::Mirror => lengthen_mirror(
-            added, alloc, db, last, own, labels, volume, capacity, pieces,
-        ),
-        Shape::Span => lengthen(
-            added, alloc, db, last, own, labels, volume, capacity, pieces,
-        ),
+        Shape::Mirror => lengthen_mirror(added, alloc, subject, capacity, pieces),
+        Shape::Span => lengthen(added, alloc, subject, capacity, pieces),
         _ => Err(StepError::Refused(Refusal::NotSpan)),
     }
 }
@@ -150,21 +147,21 @@ pub fn extension(
 #[tactic(auto, using(crate::proofs::AskedLaws::piece_each))]
 fn open_wanted(
     alloc: Global,
-    own: &Db,
-    labels: &Labels,
-    volume: &Volume,
+    subject: &Subject,
     capacity: u128,
     pieces: &[Piece],
 ) -> Result<Vec<Wanted>, StepError>
     requires limits { ArePieces pieces.now }
-    requires held { capacity ≡ held (layout_of own.now.records volume.now) }
-    ensures is { FindsAs result (open_wanted own.now labels.now (words_by pieces.now)
-        (against_longer own.now.records volume.now)) }
+    requires held { capacity
+        ≡ held (layout_of subject.now.own.now.records subject.now.volume.now) }
+    ensures is { FindsAs result (open_wanted subject.now.own.now subject.now.labels.now
+        (words_by pieces.now)
+        (against_longer subject.now.own.now.records subject.now.volume.now)) }
     ensures can { IfOk result (λ v. CanBePlaced v.items) }
     ensures some { IfOk result (λ v. 1 ≤ length v.items) }
     ensures low { IfOk result (λ v. capacity < 2 ^ 64) }
 {
-    let wanted = asked_pieces(alloc, own, labels, pieces)?;
+    let wanted = asked_pieces(alloc, subject.own, subject.labels, pieces)?;
     if capacity > u128::from(u64::MAX) || is_bad_length(capacity as u64, wanted.as_slice()) {
         return Err(StepError::Refused(Refusal::BadSize));
     }
@@ -176,35 +173,30 @@ fn open_wanted(
 fn lengthen(
     added: &mut Additions,
     alloc: Global,
-    db: &Db,
-    last: u32,
-    own: &Db,
-    labels: &Labels,
-    volume: &Volume,
+    subject: &Subject,
     capacity: u128,
     pieces: &[Piece],
 ) -> Result<Replacing, StepError>
-    requires volume { IsVolumeOf db.now last added.old own.now.records labels.now volume.now }
+    requires volume { IsVolumeOf added.old subject.now }
     requires limits { ArePieces pieces.now }
-    requires span { shape_of (plexes_of volume.now.head.id
-        (in_order (db.now.records ++ added.old.records.items))) ≡ Some shapes.Span }
-    requires held { capacity ≡ held (layout_of
-        (in_order (db.now.records ++ added.old.records.items)) volume.now) }
+    requires span { shape_of (plexes_of subject.now.volume.now.head.id
+        (added_group added.old subject.now).records) ≡ Some shapes.Span }
+    requires held { capacity
+        ≡ held (layout_of (added_group added.old subject.now).records subject.now.volume.now) }
     ensures stays { AddsNone added.old added.new }
-    ensures is { ReplacesAs result own.now.records (with_added db.now last added.old.records.items)
-        labels.now
-        (extended_span (with_added db.now last added.old.records.items) labels.now pieces.now
-        (Some volume.now)) }
+    ensures is { ReplacesAs result subject.now.own.now.records (added_group added.old subject.now)
+        subject.now.labels.now (extended_span (added_group added.old subject.now)
+        subject.now.labels.now pieces.now (Some subject.now.volume.now)) }
 {
-    let _last = last;
+    let volume = subject.volume;
     if volume.size2.is_some() {
         return Err(StepError::Refused(Refusal::ExtraSize));
     }
-    let wanted = open_wanted(alloc, own, labels, volume, capacity, pieces)?;
-    let Some(component) = component_of(own, volume.head.id) else {
+    let wanted = open_wanted(alloc, subject, capacity, pieces)?;
+    let Some(component) = component_of(subject.own, volume.head.id) else {
         return Err(StepError::Refused(Refusal::NotSpan));
     };
-    let (maps, spots) = added.place(alloc, db, wanted.as_slice())?;
+    let (maps, spots) = added.place(alloc, subject.db, wanted.as_slice())?;
     let fresh = wanted.len() as u64;
     let Some(id) = first_new_id(added.max_id, fresh) else {
         return Err(StepError::Refused(Refusal::IdsSpent));

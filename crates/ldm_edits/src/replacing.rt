@@ -22,6 +22,7 @@ use crate::leaving::Leaving;
 use crate::limits::{later_limit, need_made};
 use crate::reply::Refusal;
 use crate::stepping::types_hold;
+use crate::subject::Subject;
 use ldm_bytes::NoMemory;
 use ldm_group::{Db, last_for, own_len};
 use ldm_label::Labels;
@@ -159,7 +160,14 @@ impl Additions {
         let Some(volume) = own.volume_named(name) else {
             return Err(StepError::Refused(Refusal::NoVolume));
         };
-        let step = extension(self, alloc, db, last, &own, labels, volume, pieces)?;
+        let subject = Subject {
+            db,
+            last,
+            labels,
+            own: &own,
+            volume,
+        };
+        let step = extension(self, alloc, &subject, pieces)?;
         self.replace(db, last, &own, labels, step)
     }
 

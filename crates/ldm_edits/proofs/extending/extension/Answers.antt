@@ -1,11 +1,11 @@
 use Rattle.std.proofs.Common.{◌∙◌, refl}
-use Rattle.ldm_edits.specs.Additions.{with_added}
+use Rattle.ldm_edits.specs.Replacing.{added_group}
 use Rattle.ldm_edits.proofs.ShownLaws.{layout_shown, other_shape, shape_shown}
 use Rattle.ldm_edits.proofs.extending.extension.Goals as goal
 
 pub plan_in-requires-clause-laid_out : goal.plan_in-requires-clause-laid_out
 plan_in-requires-clause-laid_out c =
-    (let laid = c.requires.volume.sound.laid_out c.args.volume.now c.requires.volume.there in (laid.0, layout_shown c.requires.volume.shows ∙ laid.1.layout))
+    (let laid = c.requires.volume.sound.laid_out c.args.subject.now.volume.now c.requires.volume.there in (laid.0, layout_shown c.requires.volume.shows ∙ laid.1.layout))
 
 pub lengthen_mirror-requires-clause-shape : goal.lengthen_mirror-requires-clause-shape
 lengthen_mirror-requires-clause-shape c = shape_shown c.requires.volume.shows c.in_ok-plan.ensures c.shape.ensures c.in-Mirror.is
@@ -23,6 +23,6 @@ returns-in-Span-clause-is c =
 
 pub returns-clause-is : goal.returns-clause-is
 returns-clause-is c =
-    let group = with_added c.args.db.now c.args.last c.args.added.now.records.items in
-    other_shape group c.args.labels.now c.args.pieces.now c.args.volume.now _
+    let group = added_group c.args.added.now c.args.subject.now in
+    other_shape group c.args.subject.now.labels.now c.args.pieces.now c.args.subject.now.volume.now _
     (shape_shown c.requires.volume.shows c.in_ok-plan.ensures c.shape.ensures refl) c.in_default.not-Mirror c.in_default.not-Span
