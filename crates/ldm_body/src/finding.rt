@@ -6,7 +6,7 @@ ghost use Rattle.ldm_written.specs.Written.{IsInUse};
 ghost use Rattle.ldm_group.specs.Order.{place_of, Rising};
 ghost use Rattle.ldm_body.specs.Body.{Store};
 ghost use Rattle.ldm_body.specs.Finding.{HoldsTable, table_place, HasPlaces, slots_in, payloads};
-ghost use Rattle.ldm_body.specs.Finding.{IsFirstPart, IsLater, IsFoundAt, HoldNone, StandsAt};
+ghost use Rattle.ldm_body.specs.Finding.{IsFirstPart, IsLater, HoldNone, StandsAt};
 ghost use Rattle.ldm_body.specs.Finding.{AreFound, stored_of};
 
 use ldm_bytes::{Bytes, NoMemory, get_u16, get_u32};

@@ -1,5 +1,5 @@
 -- The next body: the slots of its records, and what of it is the old one.
-use Rattle.std.proofs.Common.{◌≡◌, ℕ, ◌+◌, ◌<◌, ◌≤◌, not, Bool, true, false, List, [], ◌∷◌, ◌++◌, length, get_or, take, drop, refl, sym, ap, subst, ◌∙◌, arith, append_assoc, ◌≢◌, ◌-◌, ◌*◌, ◌/◌, inl, inr, map, slice_index, All, AllPairs, Contains, None, Ok, length-drop}
+use Rattle.std.proofs.Common.{◌≡◌, ℕ, ◌+◌, ◌<◌, ◌≤◌, not, Bool, true, false, List, [], ◌∷◌, ◌++◌, length, get_or, take, drop, refl, sym, ap, subst, ◌∙◌, arith, ◌≢◌, ◌-◌, ◌*◌, ◌/◌, inl, inr, map, slice_index, All, AllPairs, Contains, None, Ok, length-drop}
 use Rattle.std.specs.Prelude.{filter, if◌then◌else◌, bytes_eq}
 use Rattle.std.specs.List.Sorted.{IsPermutation}
 use Rattle.std.proofs.lemmas.List.{append-nil, take-append-drop, take_all, take_more, length-append, length-take, length_push, get_or-take, get_or-drop, get_or_default}

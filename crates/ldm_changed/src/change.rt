@@ -1,6 +1,6 @@
 //! A change of a body: the new body, and the numbers of the blocks that differ.
-ghost use Rattle.std.specs.Prelude.{◌≡◌, ◌≢◌, ◌↔◌, ℕ, ◌+◌, ◌-◌, ◌*◌, ◌≤◌, ◌<◌, ◌++◌, IsTrue};
-ghost use Rattle.std.specs.Prelude.{length, drop, map, count_by, IfOk, OnOk, All, AllPairs};
+ghost use Rattle.std.specs.Prelude.{◌≡◌, ◌≢◌, ℕ, ◌+◌, ◌-◌, ◌*◌, ◌≤◌, ◌<◌};
+ghost use Rattle.std.specs.Prelude.{length, drop, map, IfOk, All, AllPairs};
 ghost use Rattle.std.specs.Prelude.{Contains};
 ghost use Rattle.ldm_vmdb.specs.Sectors.{last_of};
 ghost use Rattle.ldm_written.specs.Headers.{written};
@@ -8,10 +8,9 @@ ghost use Rattle.ldm_frags.specs.Blocks.{count};
 ghost use Rattle.ldm_written.specs.Written.{Holds};
 ghost use Rattle.ldm_records.specs.Plain.{IsRecord};
 ghost use Rattle.ldm_records.specs.Views.{plain_of};
-ghost use Rattle.ldm_group.specs.Order.{kind_of};
 ghost use Rattle.ldm_group.specs.Room.{IsFitting, need_of, FitsHeader};
 ghost use Rattle.ldm_copy.specs.Copy.{header_sector};
-ghost use Rattle.ldm_body.specs.Body.{placed_of, Store, IsBodyOf, IsSomeBody, count_of, counts_of};
+ghost use Rattle.ldm_body.specs.Body.{placed_of, Store, IsBodyOf, counts_of};
 ghost use Rattle.ldm_changed.specs.Plan.{added_blocks, touched_blocks, changed_numbers};
 ghost use Rattle.ldm_body.specs.Body.{stored_at};
 ghost use Rattle.ldm_changed.specs.Change.{ChangesFrom, IsNextBody};

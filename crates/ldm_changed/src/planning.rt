@@ -4,13 +4,13 @@ ghost use Rattle.std.specs.Prelude.{length, take, map, filter, bytes_eq, if◌th
 ghost use Rattle.std.specs.Prelude.{IfOk, OnOk, All, AllPairs, Contains};
 ghost use Rattle.ldm_frags.specs.Blocks.{count, block_at};
 ghost use Rattle.ldm_vmdb.specs.Parts.{parts_of};
-ghost use Rattle.ldm_written.specs.Written.{IsInUse, IsPlaced, Holds};
+ghost use Rattle.ldm_written.specs.Written.{IsInUse, Holds};
 ghost use Rattle.ldm_records.specs.Plain.{own_spelling, IsRecord};
 ghost use Rattle.ldm_records.specs.Views.{plain_of};
 ghost use Rattle.ldm_group.specs.Room.{own_len, IsFitting, need_of};
 ghost use Rattle.ldm_body.specs.Body.{Stored, placed_of, Store, stored_at};
 ghost use Rattle.ldm_changed.specs.Plan.{has_record, lacks, touched_blocks, record_stays};
-ghost use Rattle.ldm_changed.specs.Plan.{record_goes, Avoids, AreFreed, KeepsOrFrees, slots_from};
+ghost use Rattle.ldm_changed.specs.Plan.{record_goes, Avoids, AreFreed, KeepsOrFrees};
 ghost use Rattle.ldm_changed.specs.Plan.{IsAdded, LeavesOrAdds, block_differs, changed_numbers};
 ghost use Rattle.ldm_written.specs.Free.{is_free, free_numbers};
 

@@ -1,5 +1,5 @@
 //! The blocks of kept and made records, in the order of the records.
-ghost use Rattle.std.specs.Prelude.{◌≡◌, ◌≤◌, ◌<◌, ◌++◌, length, filter, IsPermutation, IfOk};
+ghost use Rattle.std.specs.Prelude.{◌≡◌, ◌<◌, ◌++◌, length, filter, IsPermutation, IfOk};
 ghost use Rattle.ldm_changed.specs.Plan.{has_record, lacks, Weaves, one_of};
 ghost use Rattle.ldm_body.specs.Body.{stored_at};
 

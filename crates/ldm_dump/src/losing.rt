@@ -1,5 +1,5 @@
 //! The least sector of a volume that is lost.
-ghost use Rattle.std.specs.Prelude.{◌≡◌, ◌<◌, true, false};
+ghost use Rattle.std.specs.Prelude.{◌≡◌, ◌<◌, false};
 ghost use Rattle.ldm_places.specs.Layouts.{is_tiled};
 ghost use Rattle.ldm_dump.specs.Sources.{is_lost, IsLeastLost};
 

@@ -1,6 +1,6 @@
 -- Walks along a list that end at the first fault, the first that has a property, and the copies on the images.
 use Rattle.std.proofs.Common.{◌≡◌, ⊎_elim, ℕ, zero, suc, ◌<◌, Bool, true, false, cond, List, [], ◌∷◌, ◌++◌, length, get_or, Option, Some, None, refl, sym, ap, ◌∙◌, arith, ◌+◌, take, drop, Result, Ok, Err, subst, ◌≤◌}
-use Rattle.std.specs.Prelude.{position, nat_lt, slice_get, is_some, if◌then◌else◌, map, zip, IfSome, IsErrAnd}
+use Rattle.std.specs.Prelude.{position, nat_lt, slice_get, is_some, if◌then◌else◌, map, zip, IfSome}
 use Rattle.std.specs.List.{position_or_len}
 use Rattle.std.proofs.lemmas.Bool.{cases_lt}
 use Rattle.std.proofs.lemmas.Bool.Decides.{nat_tests}
@@ -25,7 +25,6 @@ use Rattle.ldm_found.specs.declared.fault.OpenError.{OpenError}
 use Rattle.ldm_found.specs.declared.fault.OpenError.TheVariants.{Fault, Disk, NoMemory}
 use Rattle.ldm_copy.specs.declared.notes.Note.{Note}
 use Rattle.ldm_copy.specs.declared.notes.Note.TheVariants.{Sequence}
-use Rattle.ldm_found.specs.declared.copies.Copies.{Copies}
 
 -- ---- The first of a list that has a property.
 

@@ -1,6 +1,6 @@
 -- What images hold in which a group was found.
-use Rattle.std.proofs.Common.{◌≡◌, inl, inr, ⊎_elim, ℕ, zero, suc, ◌<◌, ◌≤◌, List, [], ◌∷◌, length, refl, sym, ap, subst, ◌∙◌, arith, Bool, true, false, Option, Some, None, Result, Ok, Err}
-use Rattle.std.specs.Prelude.{map, nat_lt, slice_get, zip, if◌then◌else◌}
+use Rattle.std.proofs.Common.{◌≡◌, inl, inr, ⊎_elim, ℕ, zero, suc, ◌<◌, ◌≤◌, List, [], ◌∷◌, length, refl, sym, ap, subst, ◌∙◌, arith, Option, Some, None, Result, Ok, Err}
+use Rattle.std.specs.Prelude.{map, slice_get, zip}
 use Rattle.std.specs.Option.{option_map}
 use Rattle.std.proofs.lemmas.Bool.{cases_lt}
 use Rattle.std.proofs.lemmas.Option.{slice_get-map, slice_get_within}
@@ -17,7 +17,7 @@ use Rattle.ldm_copy.specs.declared.fault.OpenFault.{OpenFault}
 use Rattle.ldm_copy.specs.declared.notes.Note.{Note}
 use Rattle.ldm_found.specs.Gathers.{Gathers, IsFirst}
 use Rattle.ldm_found.specs.Labels.{IsLabelOf, AreApart, AreTwins}
-use Rattle.ldm_found.specs.Copies.{IsCopyIn, newer, newest, Disagrees, note_of, HasCopy, IsKnown}
+use Rattle.ldm_found.specs.Copies.{IsCopyIn, newest, Disagrees, note_of, HasCopy, IsKnown}
 use Rattle.ldm_found.specs.Editing.{blocked_in}
 use Rattle.ldm_found.specs.Opening.{IsGroupIn, IsGroupOfDisks, IsGroupOfCopies, IsNewestGroup, group_faults, group_at, found_with}
 use Rattle.ldm_found.proofs.CopyLaws.{gather_length, greatest}

@@ -1,5 +1,5 @@
 -- What was written to an image of the usual group stays, and is found there.
-use Rattle.std.proofs.Common.{◌≡◌, ◌≢◌, ℕ, ◌+◌, ◌-◌, ◌*◌, ◌/◌, ◌<◌, ◌≤◌, List, [], ◌∷◌, ◌++◌, inl, inr, length, take, drop, get_or, slice_index, Ok, refl, sym, ap, subst, ◌∙◌, arith}
+use Rattle.std.proofs.Common.{◌≡◌, ◌≢◌, ℕ, ◌+◌, ◌-◌, ◌*◌, ◌/◌, ◌<◌, ◌≤◌, List, [], ◌∷◌, ◌++◌, inl, inr, length, take, drop, get_or, Ok, sym, ap, subst, ◌∙◌, arith}
 use Rattle.std.specs.Prelude.{Vec}
 use Rattle.std.specs.declared.alloc.Global.{Global}
 use Rattle.std.proofs.lemmas.Bool.{cases_lt}
@@ -7,7 +7,6 @@ use Rattle.std.proofs.lemmas.List.{length-append, map-append, take_at, get_or_ap
 use Rattle.std.proofs.lemmas.List.Elements.{All-from_recursion}
 use Rattle.ldm_bytes.specs.Places.{put}
 use Rattle.ldm_bytes.proofs.PlaceLaws.{length-put, drop-put}
-use Rattle.ldm_bytes.proofs.ByteLaws.{put_before}
 use Rattle.ldm_host.specs.Images.{items_of}
 use Rattle.ldm_host.specs.Seen.{image}
 use Rattle.ldm_label.specs.Fields.{sector}

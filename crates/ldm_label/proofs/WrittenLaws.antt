@@ -11,11 +11,10 @@ use Rattle.ldm_label.specs.declared.Label.{Label}
 use Rattle.ldm_label.specs.Answer.{answer}
 use Rattle.ldm_label.specs.Fields.{sectors_of, sector, has_signature, has_ldm_entry, is_privhead, has_version, config_size, disk_guid, header_of, is_out_of_range, same_header, parses, toc_of, is_out_of_database}
 use Rattle.ldm_label.specs.LabelOf.{label_of, mbr_faults, header_faults, differs, copy_faults, tocs_in, some_differ, first_toc, toc_faults, Fits, SameOutsideArea}
-use Rattle.ldm_label.specs.Written.{header_fields, toc_fields, written_mbr, written_header, written_toc, HasLabel, IsKnownMinor, IsWritable, written_sectors, label_places, IsOutsideLabel, SameOutsideLabel}
+use Rattle.ldm_label.specs.Written.{header_fields, toc_fields, written_mbr, written_header, written_toc, HasLabel, IsKnownMinor, IsWritable, written_sectors, IsOutsideLabel, SameOutsideLabel}
 use Rattle.ldm_label.proofs.ReadLaws.{front_ok, label_is, same_itself}
 use Rattle.ldm_bytes.proofs.PutLaws.{InOrder, length-put_each, field_there, number_there, AllMiss, outside_each}
 use Rattle.std.proofs.lemmas.Bool.{cases_lt}
-use Rattle.std.proofs.lemmas.List.Elements.{All-from_recursion}
 use Rattle.ldm_label.specs.declared.writing.LabelSectors.{LabelSectors}
 use Rattle.ldm_label.specs.Laws.{IsClearOfLabel}
 use Rattle.ldm_label.proofs.OkLaws.{same_sector}

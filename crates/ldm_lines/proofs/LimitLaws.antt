@@ -1,5 +1,5 @@
 -- What a line says keeps the grammar's limits.
-use Rattle.std.proofs.Common.{◌≡◌, ℕ, cond, List, [], ◌∷◌, IfOk, IfSome, sym, subst, Option, Some, None, Result, Ok, Err}
+use Rattle.std.proofs.Common.{◌≡◌, ℕ, cond, List, [], ◌∷◌, IfOk, IfSome, sym, subst, Option, Result, Ok, Err}
 use Rattle.std.specs.Prelude.{bytes_eq, codes}
 use Rattle.ldm_words.specs.declared.command.Command.{Command}
 use Rattle.ldm_words.specs.declared.command.Command.TheVariants.{Begin, Commit, Cancel}

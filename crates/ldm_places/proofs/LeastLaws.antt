@@ -1,5 +1,5 @@
 -- The least of some numbers, as a fold, and that none is less.
-use Rattle.std.proofs.Common.{◌≡◌, ℕ, ◌≤◌, min, List, [], ◌∷◌, length, get_or, take, drop, ◌-◌, refl, ap, ◌∙◌, arith, map, fold}
+use Rattle.std.proofs.Common.{◌≡◌, ℕ, ◌≤◌, min, List, [], ◌∷◌, length, get_or, take, drop, ◌-◌, refl, ◌∙◌, arith, map, fold}
 use Rattle.std.proofs.lemmas.Grind.{common_steps}
 use Rattle.std.proofs.lemmas.List.{take_rest}
 use Rattle.ldm_places.specs.Extents.{least}

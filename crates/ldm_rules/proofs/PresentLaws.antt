@@ -1,15 +1,9 @@
 -- Which image is that of a disk.
-use Rattle.std.proofs.Common.{arith, ◌≡◌, ℕ, Bool, true, false, cond, List, length, Some, None, refl, ◌∙◌, ltb, slice_get, option_and_then, ap}
+use Rattle.std.proofs.Common.{arith, ◌≡◌, ℕ, Bool, true, List, ap}
 use Rattle.std.proofs.lemmas.Grind.{common_steps}
-use Rattle.std.specs.List.{position_or_len}
-use Rattle.std.proofs.lemmas.Bool.{ltb-false}
-use Rattle.std.proofs.lemmas.List.Folds.{find_at}
-use Rattle.std.proofs.lemmas.Option.{slice_get_past}
 use Rattle.ldm_label.specs.declared.Label.{Label}
-use Rattle.ldm_label.specs.Present.{has_guid, image_with, label_with}
 use Rattle.std.specs.Prelude.{position, is_none}
 use Rattle.ldm_records.specs.declared.types.Record.{Record}
-use Rattle.ldm_records.specs.declared.types.Record.TheVariants as kinds
 use Rattle.ldm_group.specs.Order.{kind_of}
 use Rattle.ldm_group.specs.Looks.{is_disk_with, disk_in, disk_with, HasSameDisks}
 use Rattle.ldm_group.proofs.KinLaws.{same_found}

@@ -1,7 +1,6 @@
 //! Copies and rows of a volume, compared.
 ghost use Rattle.std.specs.Prelude.{◌≡◌, ◌+◌, ◌-◌, ◌*◌, ◌/◌, ◌%◌, ◌<◌, ◌≤◌, ℕ, length, map, fold};
 ghost use Rattle.std.specs.Prelude.{bit_xor, slice_index, false, OnOk, IfOk, IsErr, Some};
-ghost use Rattle.std.specs.List.{list_any, range_with_len};
 ghost use Rattle.std.specs.Option.{option_to_list};
 ghost use Rattle.std.specs.Str.{bytes_eq};
 ghost use Rattle.ldm_host.specs.Moves.{Looks};

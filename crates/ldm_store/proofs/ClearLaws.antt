@@ -1,5 +1,5 @@
 -- What blocks the editing of a group: what it depends on, what a group has room for that may be edited, and labels that stay.
-use Rattle.std.proofs.Common.{◌≡◌, ⊎_elim, ℕ, suc, ◌+◌, ◌*◌, ◌≤◌, List, [], ◌∷◌, length, slice_get, Bool, true, false, Option, Some, None, Ok, refl, sym, ◌∙◌, ap, arith, ◌<◌, get_or}
+use Rattle.std.proofs.Common.{◌≡◌, ⊎_elim, ℕ, suc, ◌+◌, ◌*◌, ◌≤◌, List, [], ◌∷◌, length, slice_get, Bool, true, false, Option, Some, None, Ok, refl, sym, ◌∙◌, ap, arith, get_or}
 use Rattle.std.specs.Prelude.{position, find, nat_lt, ◌||◌, max, min, if◌then◌else◌}
 use Rattle.std.specs.Option.{option_map}
 use Rattle.std.proofs.lemmas.Bool.Decides.{nat_tests}

@@ -1,11 +1,8 @@
 //! Why a volume has no table.
-ghost use Rattle.std.specs.Prelude.{◌≡◌, ◌-◌, ◌<◌, ◌+◌, ◌≤◌, ℕ, true, false, IfOk, find, position};
-ghost use Rattle.std.specs.Prelude.{length};
+ghost use Rattle.std.specs.Prelude.{◌≡◌, ◌-◌, ◌<◌, ◌+◌, ◌≤◌, true, false, IfOk, find, position};
 ghost use Rattle.std.specs.List.{range_with_len, list_all, list_any};
 ghost use Rattle.ldm_words.specs.Names.{is_plain};
-ghost use Rattle.ldm_places.specs.Columns.{columns_of};
-ghost use Rattle.ldm_dump.specs.Sources.{is_lost};
-ghost use Rattle.ldm_table.specs.Tables.{in_rows, array_of};
+ghost use Rattle.ldm_table.specs.Tables.{in_rows};
 ghost use Rattle.ldm_table.specs.Faults.{is_bad_chunk, has_many_columns, is_rebuilt, is_colon};
 ghost use Rattle.ldm_table.specs.Faults.{begins_with_slash, is_device_word, is_no_device_word};
 ghost use Rattle.ldm_table.specs.Faults.{is_long_name, is_long_member, volume_fault, text_of_fault};

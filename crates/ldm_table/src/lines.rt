@@ -1,15 +1,13 @@
 //! The lines of a table, as text.
 ghost use Rattle.std.specs.Prelude.{◌≡◌, ◌≢◌, ◌++◌, ◌+◌, ◌-◌, ◌*◌, ◌<◌, ◌≤◌, ℕ, None, Some, Option};
-ghost use Rattle.std.specs.Prelude.{List, false, OnOk, IfOk, flat_map, length, map, slice_get};
-ghost use Rattle.std.specs.Prelude.{decimal, codes};
-ghost use Rattle.std.specs.List.{range_with_len};
+ghost use Rattle.std.specs.Prelude.{OnOk, IfOk, flat_map, length, map};
 ghost use Rattle.ldm_places.specs.Columns.{columns_of, chunk_of};
 ghost use Rattle.ldm_places.specs.declared.shape.Shape.TheVariants.{Stripe, Raid5};
 ghost use Rattle.ldm_dump.specs.Sources.{first_copy};
 ghost use Rattle.ldm_dump.specs.Runs.{LiesOn};
 ghost use Rattle.ldm_table.specs.Targets.{linear, striped, raid5_ls};
-ghost use Rattle.ldm_table.specs.Tables.{table_line, before, stretches_of, column_begin};
-ghost use Rattle.ldm_table.specs.Tables.{column_spots, whole_rows, row_sectors, in_rows, row_lines};
+ghost use Rattle.ldm_table.specs.Tables.{table_line, stretches_of, column_begin};
+ghost use Rattle.ldm_table.specs.Tables.{column_spots, whole_rows, in_rows, row_lines};
 ghost use Rattle.ldm_table.specs.Tables.{rest_lines, array_of};
 ghost use Rattle.ldm_table.specs.Spelling.{text_of_spot, text_of_sector_range, text_of_target};
 ghost use Rattle.ldm_table.specs.Spelling.{text_of_device, text_of_column, text_of_member};

@@ -1,7 +1,6 @@
 //! The devices of an array: what whole rows of a RAID-5 have of each column.
-ghost use Rattle.std.specs.Prelude.{◌≡◌, ◌*◌, ◌<◌, Some, IfOk, length, option_copied, map, find};
+ghost use Rattle.std.specs.Prelude.{◌≡◌, ◌<◌, Some, IfOk, length, find};
 ghost use Rattle.std.specs.Prelude.{false};
-ghost use Rattle.std.specs.List.{range_with_len};
 ghost use Rattle.ldm_places.specs.Columns.{columns_of};
 ghost use Rattle.ldm_places.specs.declared.shape.Shape.TheVariants.{Raid5};
 ghost use Rattle.ldm_dump.specs.Sources.{spot_of};

@@ -1,6 +1,6 @@
 //! The whole rows of a stripe or a RAID-5.
-ghost use Rattle.std.specs.Prelude.{◌≡◌, ◌+◌, ◌*◌, ◌<◌, ◌≤◌, ◌^◌, length};
-ghost use Rattle.ldm_places.specs.Columns.{columns_of, chunk_of};
+ghost use Rattle.std.specs.Prelude.{◌≡◌, ◌*◌, ◌<◌, ◌≤◌};
+ghost use Rattle.ldm_places.specs.Columns.{chunk_of};
 ghost use Rattle.ldm_table.specs.Tables.{data_columns, row_sectors, whole_rows, in_rows};
 
 use ldm_layout::{Plan, Shape};

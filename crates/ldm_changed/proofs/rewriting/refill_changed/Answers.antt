@@ -1,5 +1,4 @@
-use Rattle.std.proofs.Common.{rules, ◌+◌, ◌*◌, ◌<◌, ℕ, List, length, refl, sym, subst, arith}
-use Rattle.ldm_host.specs.Seen.{image}
+use Rattle.std.proofs.Common.{rules, ◌<◌, ℕ, List, length, refl, sym, subst, arith}
 use Rattle.ldm_body.proofs.RewriteLaws.{body_size, settled_shut, refill_fails, filled_shut, refills}
 use Rattle.ldm_changed.proofs.rewriting.refill_changed.Goals as goal
 

@@ -1,5 +1,4 @@
-use Rattle.std.proofs.Common.{rules, ◌+◌, ◌*◌, refl, arith}
-use Rattle.ldm_host.specs.Seen.{image}
+use Rattle.std.proofs.Common.{rules, refl, arith}
 use Rattle.ldm_body.proofs.RewriteLaws.{some_sectors, body_stays, after_close, rewrite_fails, rewrites}
 use Rattle.ldm_changed.proofs.rewriting.rewrite_changed.Goals as goal
 

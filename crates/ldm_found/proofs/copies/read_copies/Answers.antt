@@ -1,7 +1,6 @@
-use Rattle.std.proofs.Common.{rules, ◌≡◌, Err, length, length-append, ap, arith}
+use Rattle.std.proofs.Common.{rules, ◌≡◌, length, length-append, ap, arith}
 use Rattle.std.proofs.lemmas.Option.{slice_get-get_or}
 use Rattle.ldm_host.proofs.Relations.{looks_then}
-use Rattle.ldm_found.specs.declared.fault.OpenError.{OpenError}
 use Rattle.ldm_copy.specs.declared.notes.Note.{Note}
 use Rattle.ldm_label.proofs.ReadLaws.{handed_on}
 use Rattle.ldm_found.proofs.CopyLaws.{copies_next, copies_all, copy_fault, among_roomy}

@@ -1,5 +1,4 @@
 use Rattle.std.proofs.Common.{arith, ◌≡◌, ℕ, true, Some, Result, rules, sym, subst}
-use Rattle.std.proofs.lemmas.Grind.{common_steps}
 use Rattle.std.specs.List.{All}
 use Rattle.ldm_layout.proofs.VolumeLaws.{extents_end, plan_size, layout_is, lists_end}
 use Rattle.ldm_layout.specs.Answers.{PlansAs}

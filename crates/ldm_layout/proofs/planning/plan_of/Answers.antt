@@ -1,5 +1,4 @@
 use Rattle.std.proofs.Common.{arith}
-use Rattle.std.proofs.lemmas.Grind.{common_steps}
 use Rattle.ldm_layout.proofs.VolumeLaws.{plan_of_draft}
 use Rattle.ldm_layout.proofs.planning.plan_of.Goals as goal
 

@@ -1,5 +1,4 @@
 use Rattle.std.proofs.Common.{arith}
-use Rattle.std.specs.HashMap as hash
 use Rattle.ldm_look.proofs.MapLaws.{numbers_more}
 use Rattle.ldm_look.proofs.map_text.push_copies.Goals as goal
 

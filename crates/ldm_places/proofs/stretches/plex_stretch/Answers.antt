@@ -1,5 +1,4 @@
 use Rattle.std.proofs.Common.{arith}
-use Rattle.std.proofs.lemmas.Grind.{common_steps}
 use Rattle.ldm_places.proofs.SpotLaws.{chunked_along}
 use Rattle.ldm_places.proofs.stretches.plex_stretch.Goals as goal
 

@@ -1,5 +1,4 @@
 use Rattle.std.proofs.Common.{sym, arith}
-use Rattle.std.proofs.lemmas.Grind.{common_steps}
 use Rattle.ldm_space.specs.Free.{taken_in}
 use Rattle.ldm_space.proofs.FreeLaws.{is_first, is_none}
 use Rattle.ldm_space.proofs.free.first_fit.Goals as goal

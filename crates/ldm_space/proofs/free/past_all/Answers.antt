@@ -1,5 +1,4 @@
 use Rattle.std.proofs.Common.{refl, arith}
-use Rattle.std.proofs.lemmas.Grind.{common_steps}
 use Rattle.std.proofs.lemmas.Bool.{cases_lt}
 use Rattle.ldm_space.specs.Free.{is_taken}
 use Rattle.ldm_space.proofs.FreeLaws.{past_on, record_taken, free_more}

@@ -1,5 +1,4 @@
 use Rattle.std.proofs.Common.{arith}
-use Rattle.std.proofs.lemmas.Grind.{common_steps}
 use Rattle.ldm_places.proofs.SpotLaws.{some_plex}
 use Rattle.ldm_places.proofs.places.Plan.copies.Goals as goal
 
