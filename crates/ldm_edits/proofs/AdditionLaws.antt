@@ -61,13 +61,14 @@ added_none {records} {old} {new} are adds = record {
   maps = rw adds.records (adds.maps _ are.maps);
   need = rw adds.records (adds.need ∙ are.need);
   max_id = rw adds.records (adds.max_id ∙ are.max_id);
+  low = rw adds.last are.low;
 }
 
--- ---- what a create asks of the group that both make
+-- and the group of both is the same
+pub same_group : (db : Database) {old new : Additions} → AddsNone old new → with_added db new ≡ with_added db old
+same_group db adds = rw (adds.records, adds.last)
 
--- the group of both
-abbrev pub beside : Database → ℕ → Additions → Database
-beside db last a = with_added db last a.records.items
+-- ---- what a create asks of the group that both make
 
 -- the names and the ends of disks are the same where the disks are
 pub asked_same : (labels : List Label) (a b : List Record) → HasSameDisks a b → (at : ℕ) (words : List (List ℕ × ℕ))
@@ -95,9 +96,9 @@ top {records} {a} are = are.max_id ∙ max_same _ _ (in_order_same (records ++ a
 pub needs : {records : List Record} {a : Additions} → AreAdditions records a → a.need ≡ need_of (in_order (records ++ a.records.items))
 needs {records} {a} are = are.need ∙ sym (sum_by-IsPermutation (λ (r : Record). blocks_in (own_len r)) _ _ (in_order_same (records ++ a.records.items)))
 
-pub need_low : (db : Database) (labels : List Label) (last : ℕ) (a : Additions) → AreAdditions db.records a
-    → IsSoundOn (beside db last a) labels → last < 2 ^ 32 → a.need < 2 ^ 32
-need_low db labels last a are sound low = omega (arith, needs are, sound.room.need)
+pub need_low : (db : Database) (labels : List Label) (a : Additions) → AreAdditions db.records a
+    → IsSoundOn (with_added db a) labels → a.need < 2 ^ 32
+need_low db labels a are sound = omega (arith, needs are, sound.room.need, are.low)
 
 -- with these most of what the methods of the additions ask for is found
 pub ruleset kept_beside = (added_none, need_low)
@@ -110,21 +111,21 @@ named_in {records} {a} are name = sym (list_any-append (is_volume_named name) re
 -- ---- one volume more
 
 -- what is made for it, where no limit refuses it
-pub record IsMore (db : Database) (labels : List Label) (last : ℕ) (old : Additions) (name : List ℕ) (guid : ℕ)
+pub record IsMore (db : Database) (labels : List Label) (old : Additions) (name : List ℕ) (guid : ℕ)
     (layout : NewLayout) (ts : List Taken) (made : List Record) : Type 0 where
   pub are : AreAdditions db.records old
-  pub given : IsGiven (beside db last old) labels
+  pub given : IsGiven (with_added db old) labels
   pub grammar : IsCreate name layout
-  pub placed : (wanted : List Wanted) × ArePlaced (beside db last old) labels (words_of layout) (against_layout layout) wanted ts
-  pub made_is : made ≡ (change_for (beside db last old) name guid layout ts).made
-  pub within : first_of (limits (beside db last old) labels (fresh_for layout)
-      (change_for (beside db last old) name guid layout ts)) ≡ None
+  pub placed : (wanted : List Wanted) × ArePlaced (with_added db old) labels (words_of layout) (against_layout layout) wanted ts
+  pub made_is : made ≡ (change_for (with_added db old) name guid layout ts).made
+  pub within : first_of (limits (with_added db old) labels (fresh_for layout)
+      (change_for (with_added db old) name guid layout ts)) ≡ None
 
 -- what is kept beside the records, and the next group but for its sequence
-module _ {db : Database} {labels : List Label} {last : ℕ} {old : Additions} {name : List ℕ} {guid : ℕ} {layout : NewLayout}
-    {ts : List Taken} {made : List Record} (more : IsMore db labels last old name guid layout ts made) where
+module _ {db : Database} {labels : List Label} {old : Additions} {name : List ℕ} {guid : ℕ} {layout : NewLayout}
+    {ts : List Taken} {made : List Record} (more : IsMore db labels old name guid layout ts made) where
   abbrev group : Database
-  group = beside db last old
+  group = with_added db old
 
   abbrev change : Change
   change = change_for group name guid layout ts
@@ -138,6 +139,12 @@ module _ {db : Database} {labels : List Label} {last : ℕ} {old : Additions} {n
   volume : MakesNew (max_id group.records + 1) name change.made ts
   volume = placed_new guid more.grammar more.placed.1 (omega (arith, more_within.ids))
 
+  both_need : old.need + need_of made ≡ need_in change
+  both_need = rw more.made_is (need_both group.records change.made _ _ (needs more.are) refl)
+
+  pub more_few : AreasFit labels → old.need + need_of made + 7 < 2 ^ 32
+  more_few areas = omega (arith, more_within.room, most_low labels areas, both_need)
+
   module _ {new : Additions} {maps : FreeMaps} (adds_made : AddsVolume old new made maps) where
     adds : AddsVolume old new change.made maps
     adds = rw more.made_is at adds_made
@@ -148,14 +155,11 @@ module _ {db : Database} {labels : List Label} {last : ℕ} {old : Additions} {n
     joined : in_order (group.records ++ change.made) ≡ in_order (db.records ++ new.records.items)
     joined = rw adds.records (both_joined db.records old.records.items change.made up)
 
-    need_is : new.need ≡ need_in change
-    need_is = adds.need ∙ need_both group.records change.made _ _ (needs more.are) refl
+    last_is : last_for old.last (need_in change) ≡ new.last
+    last_is = rw (adds.last, adds_made.need, both_need)
 
     whole : (db.records ++ old.records.items) ++ change.made ≡ db.records ++ new.records.items
     whole = rw (adds.records, append_assoc)
-
-    pub more_few : AreasFit labels → new.need + 7 < 2 ^ 32
-    more_few areas = omega (arith, more_within.room, most_low labels areas, need_is)
 
     pub more_additions : volume_named name group.records ≡ None
         → AreMapsOf maps (ts ++ taken_in (db.records ++ old.records.items)) → AreAdditions db.records new
@@ -168,15 +172,16 @@ module _ {db : Database} {labels : List Label} {last : ℕ} {old : Additions} {n
       need = rw (adds.need, ← whole) (need_both (db.records ++ old.records.items) change.made _ _ more.are.need refl);
       max_id = rw (adds.max_id, ← whole, more.are.max_id)
           (sym (fold-append (λ m r. max m (id_of r)) 0 (db.records ++ old.records.items) change.made));
+      low = adds.low;
     }
 
-    pub more_adds : AddsTo db old.records.items new.records.items (Ok (last_for last new.need))
+    pub more_adds : AddsTo group (with_added db new) (Ok tt)
         (change_to group labels (fresh_for layout) change)
     more_adds = (
       changed group change,
       rw more.within,
       (λ i. record {
-        header = grown_to db.header (last_for last (sym need_is i)) db.header.seq;
+        header = grown_to db.header (last_is i) db.header.seq;
         records = joined i;
       }),
     )
@@ -205,32 +210,33 @@ module _ (db : Database) (up : Rising db.records) where
   in_its_order = one_next _ _ (IsPermutation-refl db.records) up (rises_again _ _ (IsPermutation-refl db.records) up)
 
   -- a group to which nothing is added is itself,
-  pub with_none : (last : ℕ) (added : List Record) → added ≡ [] → last ≡ db.header.last → with_added db last added ≡ db
-  with_none last added none same = rw (none, same, append-nil, ← in_its_order)
+  pub with_none : (a : Additions) → a.records.items ≡ [] → a.last ≡ db.header.last → with_added db a ≡ db
+  with_none a none same = rw (none, same, append-nil, ← in_its_order)
 
   -- and what is kept beside it is the group's
   pub none_added : (a : Additions) → a.records.items ≡ [] → AreMapsOf a.maps (taken_in db.records) → a.need ≡ need_of db.records
-      → a.max_id ≡ max_id db.records → AreAdditions db.records a
-  none_added a none maps need top = record {
+      → a.max_id ≡ max_id db.records → a.last < 2 ^ 32 → AreAdditions db.records a
+  none_added a none maps need top low = record {
     rising = rw (none, append-nil, ← in_its_order) up;
     disks = rw (none, append-nil, ← in_its_order);
     maps = rw (none, append-nil) maps;
     need = rw (none, append-nil) need;
     max_id = rw (none, append-nil) top;
+    low = low;
   }
 
 -- ---- create, where both are the group
 
 -- no other volume has the name
-pub record IsNew (db : Database) (labels : List Label) (last : ℕ) (a : Additions) (name : List ℕ) (guid : ℕ) (layout : NewLayout)
+pub record IsNew (db : Database) (labels : List Label) (a : Additions) (name : List ℕ) (guid : ℕ) (layout : NewLayout)
     : Type 0 where
   pub are : AreAdditions db.records a
   pub free : is_some (volume_named name (in_order (db.records ++ a.records.items))) ≡ false
 
-module _ {db : Database} {labels : List Label} {last : ℕ} {a : Additions} {name : List ℕ} {guid : ℕ} {layout : NewLayout}
-    (new : IsNew db labels last a name guid layout) where
+module _ {db : Database} {labels : List Label} {a : Additions} {name : List ℕ} {guid : ℕ} {layout : NewLayout}
+    (new : IsNew db labels a name guid layout) where
   abbrev both : Database
-  both = beside db last a
+  both = with_added db a
 
   -- what is asked of a group
   abbrev asks : Database → Result (List Wanted) Refusal
@@ -255,10 +261,10 @@ module _ {db : Database} {labels : List Label} {last : ℕ} {a : Additions} {nam
 
 -- ---- create, where no batch is open: nothing was added before
 
-pub created_next : (db : Database) (labels : List Label) (name : List ℕ) (guid : ℕ) (layout : NewLayout) (first last seq : ℕ) (old new : List Record) → with_added db first old ≡ db
-    → AddsTo db old new (Ok last) (created (with_added db first old) labels name guid layout) → seq ≡ db.header.seq + 1
-    → created db labels name guid layout ≡ Ok (at_seq seq (with_added db last new))
-created_next db labels name guid layout first last seq old new whole (next, is, same) seq_is =
+pub created_next : (db : Database) (labels : List Label) (name : List ℕ) (guid : ℕ) (layout : NewLayout) (seq : ℕ) (old new : Additions) → with_added db old ≡ db
+    → AddsTo (with_added db old) (with_added db new) (Ok tt) (created (with_added db old) labels name guid layout) → seq ≡ db.header.seq + 1
+    → created db labels name guid layout ≡ Ok (at_seq seq (with_added db new))
+created_next db labels name guid layout seq old new whole (next, is, same) seq_is =
     let next_is : created db labels name guid layout ≡ Ok next = rw whole at is in
     let seqs : next.header.seq ≡ seq = ap (λ (d : Database). d.header.seq) (sym (created_done db labels name guid layout next next_is).next_is) ∙ sym seq_is in
     next_is ∙ (λ i. Ok (at_seq (seqs i) (same i)))

@@ -1,5 +1,5 @@
 -- A group whose own record and those of its disks stand apart: all other records are as if they were added to these.
-use Rattle.std.proofs.Common.{◌≡◌, ℕ, ◌++◌, ◌<◌, ◌==◌, refl, sym, ap, subst, ◌∙◌, true, false, Bool, List, get_or, filter}
+use Rattle.std.proofs.Common.{◌^◌, ◌≡◌, ℕ, ◌++◌, ◌<◌, ◌==◌, refl, sym, ap, subst, ◌∙◌, true, false, Bool, List, get_or, filter}
 use Rattle.ldm_edits.proofs.Common.{Record, Header, grown_to, Database, max_id, HasSameDisks, Rising, kind_of, place_of, in_order, own_len, need_of, taken_in, AreMapsOf}
 use Rattle.std.specs.List.{Contains}
 use Rattle.std.specs.List.Sorted.{IsPermutation}
@@ -53,16 +53,17 @@ module _ (db front : Database) (a : Additions) (head : Header) (up : Rising db.r
       (λ r h at. Contains-permutation _ front.records r is.same (filter_keeps (stands_in true) db.records r at (disk_front r h)))
 
   pub apart_additions : AreMapsOf a.maps (taken_in (front.records ++ a.records.items)) → a.need ≡ need_of db.records → a.max_id ≡ max_id db.records
-      → AreAdditions front.records a
-  apart_additions maps need top = record {
+      → a.last < 2 ^ 32 → AreAdditions front.records a
+  apart_additions maps need top low = record {
     rising = rises;
     disks = subst (HasSameDisks front.records) whole disks;
     maps = maps;
     need = need ∙ sum_by-IsPermutation (λ (r : Record). blocks_in (own_len r)) _ _ both;
     max_id = top ∙ sym (max_same _ _ both);
+    low = low;
   }
 
-  pub apart_whole : (last seq : ℕ) → head ≡ with_seq db.header seq → seq ≡ db.header.seq → last ≡ db.header.last → with_added front last a.records.items ≡ db
-  apart_whole last seq head_is seq_is last_is =
+  pub apart_whole : (seq : ℕ) → head ≡ with_seq db.header seq → seq ≡ db.header.seq → a.last ≡ db.header.last → with_added front a ≡ db
+  apart_whole seq head_is seq_is last_is =
       let header : front.header ≡ db.header = is.header_is ∙ head_is ∙ ap (with_seq db.header) seq_is in
       λ i. record { header = grown_to (header i) (last_is i) (ap (λ (h : Header). h.seq) header i); records = sym whole i }

@@ -27,7 +27,7 @@ use Rattle.std.specs.Global.{Vec}
 use Rattle.ldm_edits.specs.Replacing.{AreFront, Replaces, ShowsAs, ShowsNamed, TakesPlaces, is_front}
 use Rattle.ldm_edits.specs.Staying.{change_of, leaves}
 use Rattle.ldm_group.proofs.AddedLaws.{rises_again}
-use Rattle.ldm_edits.proofs.AdditionLaws.{beside, top}
+use Rattle.ldm_edits.proofs.AdditionLaws.{top}
 use Rattle.ldm_edits.proofs.AreaLaws.{most_low}
 use Rattle.ldm_edits.proofs.CommandLaws.{deleted_done, deleted_rises, extended_done}
 use Rattle.ldm_edits.proofs.ShownLaws.{plexes_shown}
@@ -89,15 +89,15 @@ added_fit records added each k d lt =
 -- ---- the records of both
 
 -- what is known of a group some of whose records leave it
-pub record MayReplace (db : Database) (last : ℕ) (old : Additions) (own : List Record) (p : Replacing) : Type 0 where
+pub record MayReplace (db : Database) (old : Additions) (own : List Record) (p : Replacing) : Type 0 where
   pub are : AreAdditions db.records old
   pub front : AreFront db.records
-  pub step : Replaces own (beside db last old) p
+  pub step : Replaces own (with_added db old) p
 
-module _ {db : Database} {last : ℕ} {old : Additions} {own : List Record} {p : Replacing}
-    (may : MayReplace db last old own p) where
+module _ {db : Database} {old : Additions} {own : List Record} {p : Replacing}
+    (may : MayReplace db old own p) where
   abbrev group : Database
-  group = beside db last old
+  group = with_added db old
 
   abbrev change : Change
   change = change_of p.leaving group.records p.made.items
@@ -138,17 +138,17 @@ module _ {db : Database} {last : ℕ} {old : Additions} {own : List Record} {p :
 -- ---- where no limit is passed
 
 -- and the blocks that all records take then are known
-pub record IsReplaced (db : Database) (labels : List Label) (last : ℕ) (old : Additions) (own : List Record) (p : Replacing)
+pub record IsReplaced (db : Database) (labels : List Label) (old : Additions) (own : List Record) (p : Replacing)
     (need : ℕ) : Type 0 where
-  pub may : MayReplace db last old own p
-  pub within : first_of (limits (beside db last old) labels p.fresh
-      (change_of p.leaving (beside db last old).records p.made.items)) ≡ None
-  pub need_is : need ≡ need_in (change_of p.leaving (beside db last old).records p.made.items)
+  pub may : MayReplace db old own p
+  pub within : first_of (limits (with_added db old) labels p.fresh
+      (change_of p.leaving (with_added db old).records p.made.items)) ≡ None
+  pub need_is : need ≡ need_in (change_of p.leaving (with_added db old).records p.made.items)
 
-module _ {db : Database} {labels : List Label} {last : ℕ} {old : Additions} {own : List Record} {p : Replacing} {need : ℕ}
-    (given : IsReplaced db labels last old own p need) where
+module _ {db : Database} {labels : List Label} {old : Additions} {own : List Record} {p : Replacing} {need : ℕ}
+    (given : IsReplaced db labels old own p need) where
   abbrev before : Database
-  before = beside db last old
+  before = with_added db old
 
   abbrev replacing : Change
   replacing = change_of p.leaving before.records p.made.items
@@ -168,6 +168,9 @@ module _ {db : Database} {labels : List Label} {last : ℕ} {old : Additions} {o
     joined : in_order (replacing.stay ++ p.made.items) ≡ in_order (db.records ++ new.records.items)
     joined = one_next _ _ in_both given.may.step.rising (rises_again _ _ in_both given.may.step.rising)
 
+    last_is : last_for old.last (need_in replacing) ≡ new.last
+    last_is = rw (takes.last_is, given.need_is)
+
     pub replaced_additions : ((next : Database) → change_to before labels p.fresh replacing ≡ Ok next
         → HasSameDisks before.records next.records) → AreAdditions db.records new
     replaced_additions disks = record {
@@ -176,15 +179,16 @@ module _ {db : Database} {labels : List Label} {last : ℕ} {old : Additions} {o
       maps = rw takes.maps_are (maps_same p.maps _ _ (λ disk s. sym (taken_permuted _ _ same disk 1 s)) given.may.step.maps);
       need = takes.need_is ∙ given.need_is ∙ sum_by-IsPermutation (λ (r : Record). blocks_in (own_len r)) _ _ same;
       max_id = takes.max_id_is;
+      low = takes.low;
     }
 
-    pub replaced_adds : AddsTo db old.records.items new.records.items (Ok (last_for last need))
+    pub replaced_adds : AddsTo before (with_added db new) (Ok tt)
         (change_to before labels p.fresh replacing)
     replaced_adds = (
       changed before replacing,
       rw given.within,
       (λ i. record {
-        header = grown_to db.header (last_for last (sym given.need_is i)) db.header.seq;
+        header = grown_to db.header (last_is i) db.header.seq;
         records = joined i;
       }),
     )
@@ -203,10 +207,10 @@ goes_shown : (own all : List Record) (volume : ℕ) → plexes_of volume own ≡
 goes_shown own all volume plexes (kinds.Partition x) = rw plexes
 goes_shown own all volume plexes _ = refl
 
-pub deleted_step : (db : Database) (last : ℕ) (a : Additions) (own : List Record) (v : Volume) (made : Vec Record) (maps : FreeMaps) → AreAdditions db.records a → a.max_id < 2 ^ 64
+pub deleted_step : (db : Database) (a : Additions) (own : List Record) (v : Volume) (made : Vec Record) (maps : FreeMaps) → AreAdditions db.records a → a.max_id < 2 ^ 64
     → ShowsAs own (in_order (db.records ++ a.records.items)) v → made.items ≡ [] → ((taken : List Taken) → AreMapsOf maps taken)
-    → Replaces own (with_added db last a.records.items) (record { leaving = leavings.Deleted v.head.id; made = made; fresh = 0; maps = maps })
-deleted_step db last a own v made maps are low shows none all_maps = record {
+    → Replaces own (with_added db a) (record { leaving = leavings.Deleted v.head.id; made = made; fresh = 0; maps = maps })
+deleted_step db a own v made maps are low shows none all_maps = record {
   ids = omega (arith, top are);
   rising = rw none (deleted_rises v (in_order (db.records ++ a.records.items)) are.rising);
   maps = all_maps _;
@@ -220,10 +224,10 @@ pub deleted_disks : (group : Database) (labels : List Label) (v : Volume) (made 
 deleted_disks group labels v made given none next h =
     ((deleted_done {Grammar = Unit {0}} group labels (Some v) next (rw none at h)).keeps given tt).disks
 
-pub extended_disks : (db : Database) (labels : List Label) (last : ℕ) (name : List ℕ) (pieces : List Piece) (v : Volume) (p : Replacing) (old new : List Record) → new ≡ old → IsGiven (with_added db last old) labels
-    → IsExtend name pieces → Some v ≡ volume_named name (in_order (db.records ++ old))
-    → extended (with_added db last old) labels pieces (Some v) ≡ change_to (with_added db last old) labels p.fresh (change_of p.leaving (in_order (db.records ++ old)) p.made.items) → (next : Database)
-    → change_to (with_added db last new) labels p.fresh (change_of p.leaving (in_order (db.records ++ new)) p.made.items) ≡ Ok next → HasSameDisks (in_order (db.records ++ new)) next.records
-extended_disks db labels last name pieces v p old new same given grammar named is next =
-    let done = extended_done (with_added db last old) labels name pieces next in
+pub extended_disks : (labels : List Label) (name : List ℕ) (pieces : List Piece) (v : Volume) (p : Replacing) {old new : Database} → new ≡ old → IsGiven old labels
+    → IsExtend name pieces → Some v ≡ volume_named name old.records
+    → extended old labels pieces (Some v) ≡ change_to old labels p.fresh (change_of p.leaving old.records p.made.items) → (next : Database)
+    → change_to new labels p.fresh (change_of p.leaving new.records p.made.items) ≡ Ok next → HasSameDisks new.records next.records
+extended_disks labels name pieces v p {old} same given grammar named is next =
+    let done = extended_done old labels name pieces next in
     rw same (λ h. ((done (rw (← named) (is ∙ h))).keeps given grammar).disks)

@@ -8,6 +8,7 @@ use Rattle.ldm_label.specs.declared.Label.{Label}
 use Rattle.ldm_group.specs.Database.{Database}
 use Rattle.ldm_group.specs.Looks.{is_child, max_id, volume_named, HasSameDisks}
 use Rattle.ldm_group.specs.Order.{Rising, kind_of, in_order}
+use Rattle.ldm_group.specs.Room.{last_for}
 use Rattle.ldm_layout.specs.Parts.{plexes_of}
 use Rattle.ldm_layout.specs.Volumes.{volume_with}
 use Rattle.ldm_rules.specs.Facts.{IsSoundOn}
@@ -56,7 +57,7 @@ pub record ShowsNamed (own all : List Record) (name : List ℕ) : Type 0 where
 
 -- its group, with the records that are added
 abbrev pub added_group : Additions → Subject → Database
-added_group added subject = with_added subject.db.now subject.last added.records.items
+added_group added subject = with_added subject.db.now added
 
 -- The volume is of the group that the added records make, which is sound on disks with these labels, and shows among its own records.
 pub record IsVolumeOf (added : Additions) (subject : Subject) : Type 0 where
@@ -64,7 +65,6 @@ pub record IsVolumeOf (added : Additions) (subject : Subject) : Type 0 where
   pub sound : IsSoundOn (added_group added subject) subject.labels.now
   pub there : Contains (added_group added subject).records (kinds.Volume subject.volume.now)
   pub shows : ShowsAs subject.own.now.records (added_group added subject).records subject.volume.now
-  pub last : subject.last < 2 ^ 32
 
 -- What is put in the places of what leaves the group: its records and those that stay rise, there are ids for the new ones, and the maps are
 -- beside what is taken then. Which records leave is seen among fewer records as among all.
@@ -79,9 +79,12 @@ abbrev pub ReplacesAs : Result Replacing StepError → List Record → Database 
 ReplacesAs (Ok p) own db labels step = (step ≡ change_to db labels p.fresh (change_of p.leaving db.records p.made.items)) × Replaces own db p
 ReplacesAs (Err error) own db labels step = RefusesAs error step
 
--- These records take the places of those that leave, and these are the maps and the blocks that all records take then.
+-- These records take the places of those that leave, and these are the maps and the blocks that all records take then, by which the last
+-- VBLK sequence rises.
 pub record TakesPlaces (front own : List Record) (leaving : Leaving) (made : List Record) (need : ℕ) (maps : FreeMaps) (old new : Additions) : Type 0 where
   pub records : new.records.items ≡ filter (λ r. not (leaves leaving own r)) old.records.items ++ made
   pub maps_are : new.maps ≡ maps
   pub need_is : new.need ≡ need
   pub max_id_is : new.max_id ≡ max_id (front ++ new.records.items)
+  pub last_is : new.last ≡ last_for old.last need
+  pub low : new.last < 2 ^ 32

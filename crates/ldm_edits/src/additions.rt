@@ -1,12 +1,12 @@
 //! Records that are added to a group, with what the next command asks of both.
-ghost use Rattle.std.specs.Prelude.{◌≡◌, ◌++◌, ◌^◌, ◌-◌, ◌<◌, List, All, OnOk, OnErr, None};
+ghost use Rattle.std.specs.Prelude.{◌≡◌, ◌+◌, ◌++◌, ◌^◌, ◌-◌, ◌<◌, List, All, OnOk, OnErr, None};
 ghost use Rattle.std.specs.Prelude.{IfOk, filter, fold, is_some, max};
 ghost use Rattle.ldm_group.specs.Database.{at_seq};
 ghost use Rattle.std.specs.List.{list_any};
 ghost use Rattle.ldm_group.specs.Looks.{is_volume_named, volume_named};
 ghost use Rattle.ldm_group.specs.Order.{id_of, in_order};
 ghost use Rattle.ldm_group.specs.Partitions.{EndsInRange};
-ghost use Rattle.ldm_group.specs.Room.{IsFitting};
+ghost use Rattle.ldm_group.specs.Room.{IsFitting, need_of};
 ghost use Rattle.ldm_rules.specs.Facts.{IsSoundOn};
 ghost use Rattle.ldm_space.specs.Free.{taken_in};
 ghost use Rattle.ldm_space.specs.Placed.{AreMapsOf};
@@ -48,6 +48,8 @@ pub struct Additions {
     pub need: u64,
     /// The greatest id of the group's records and of these.
     pub max_id: u64,
+    /// The last VBLK sequence of the group with these.
+    pub last: u32,
 }
 
 // By hand, so that a function that lets them go has one step for all that they have.
@@ -58,6 +60,7 @@ impl Drop for Additions {
             maps: _,
             need: _,
             max_id: _,
+            last: _,
         } = self;
     }
 }
@@ -127,6 +130,14 @@ fn has_named(records: &[Record], name: &[u8]) -> bool
     records.iter().any(|r| is_named(r, name))
 }
 
+// The last VBLK sequence of a group, which is a number of the format.
+fn last_of(db: &Db) -> u32
+    ensures is { result ≡ db.now.header.last }
+    ensures low { result < 2 ^ 32 }
+{
+    db.header().last
+}
+
 /// The greatest of an id and those of these records.
 pub fn max_id_with(id: u64, records: &[Record]) -> u64
     ensures { result ≡ fold (λ top r. max top (id_of r)) id records.now }
@@ -136,20 +147,20 @@ pub fn max_id_with(id: u64, records: &[Record]) -> u64
 
 #[tactic(auto, using(crate::proofs::AdditionLaws::kept_beside))]
 impl Additions {
-    /// None to this group, and its last VBLK sequence. It takes no memory.
-    pub fn none(alloc: Global, db: &Db) -> (Additions, u32)
+    /// None to this group. It takes no memory.
+    pub fn none(alloc: Global, db: &Db) -> Additions
         requires { All IsFitting db.now.records }
-        ensures are { AreAdditions db.now.records result.0 }
-        ensures whole { with_added db.now result.1 result.0.records.items ≡ db.now }
+        ensures are { AreAdditions db.now.records result }
+        ensures whole { with_added db.now result ≡ db.now }
     {
         let _rising = db.as_slice();
-        let none = Additions {
+        Additions {
             records: Vec::new(alloc),
             maps: FreeMaps::new(alloc),
             need: db.need(),
             max_id: db.max_id(),
-        };
-        (none, db.header().last)
+            last: last_of(db),
+        }
     }
 
     /// The group with its own record and those of its disks alone, and all other records, as if
@@ -158,8 +169,7 @@ impl Additions {
         requires { All IsFitting db.now.records }
         ensures are { IfOk result (λ parts. AreAdditions parts.0.records parts.1) }
         ensures front { IfOk result (λ parts. AreFront parts.0.records) }
-        ensures is { IfOk result (λ parts. with_added parts.0 db.now.header.last
-            parts.1.records.items ≡ db.now) }
+        ensures is { IfOk result (λ parts. with_added parts.0 parts.1 ≡ db.now) }
     {
         let header = db.header().with_seq(alloc, db.header().seq)?;
         let front = copies_where(alloc, db.as_slice(), true)?;
@@ -172,6 +182,7 @@ impl Additions {
                     maps: FreeMaps::new(alloc),
                     need: db.need(),
                     max_id: db.max_id(),
+                    last: last_of(db),
                 },
             )),
             Err(DbError::NoMemory) => Err(NoMemory),
@@ -212,8 +223,8 @@ impl Additions {
 
     // Adds what was made for a volume. All memory is taken before the first change.
     fn add(&mut self, made: Vec<Record>, maps: FreeMaps) -> Result<(), NoMemory>
-        requires need { self.old.need < 2 ^ 63 }
         requires made { All IsFitting made.items }
+        requires few { self.old.need + need_of made.items + 7 < 2 ^ 32 }
         ensures ok { OnOk result (AddsVolume self.old self.new made.items maps) }
         ensures none { OnErr result (AddsNone self.old self.new) }
     {
@@ -221,6 +232,7 @@ impl Additions {
         self.records.reserve(made.len())?;
         self.need += need_made(made.as_slice());
         self.max_id = max_id_with(self.max_id, made.as_slice());
+        self.last = last_for(self.last, self.need);
         self.maps = maps;
         let Ok(()) = self.records.append(&mut made) else {
             unreachable!()
@@ -233,29 +245,28 @@ impl Additions {
         &mut self,
         alloc: Global,
         db: &Db,
-        last: u32,
         labels: &Labels,
         name: &[u8],
         guid: u128,
         layout: &NewLayout,
         spots: &[Taken],
         maps: FreeMaps,
-    ) -> Result<u32, StepError>
+    ) -> Result<(), StepError>
         requires are { AreAdditions db.now.records self.old }
-        requires sound { IsSoundOn (with_added db.now last self.old.records.items) labels.now }
+        requires sound { IsSoundOn (with_added db.now self.old) labels.now }
         requires areas { AreasFit labels.now }
         requires limits { IsCreate name.now layout.now }
         requires free { volume_named name.now
             (in_order (db.now.records ++ self.old.records.items)) ≡ None }
         requires placed { (wanted : List Wanted)
-            × ArePlaced (with_added db.now last self.old.records.items) labels.now
+            × ArePlaced (with_added db.now self.old) labels.now
             (words_of layout.now) (against_layout layout.now) wanted spots.now }
         requires maps { AreMapsOf maps (spots.now
             ++ taken_in (db.now.records ++ self.old.records.items)) }
         ensures are { AreAdditions db.now.records self.new }
-        ensures is { AddsTo db.now self.old.records.items self.new.records.items result
-            (change_to (with_added db.now last self.old.records.items) labels.now
-            (fresh_for layout.now) (change_for (with_added db.now last self.old.records.items)
+        ensures is { AddsTo (with_added db.now self.old) (with_added db.now self.new) result
+            (change_to (with_added db.now self.old) labels.now
+            (fresh_for layout.now) (change_for (with_added db.now self.old)
             name.now guid layout.now spots.now)) }
         ensures unspent { OnOk result (db.now.header.seq < 2 ^ 64 - 1) }
     {
@@ -270,27 +281,26 @@ impl Additions {
             return Err(StepError::Refused(refusal));
         }
         self.add(made, maps)?;
-        Ok(last_for(last, self.need))
+        Ok(())
     }
 
-    /// Adds a new volume, and says the last VBLK sequence of the group then, which was this before.
+    /// Adds a new volume.
     pub fn create(
         &mut self,
         alloc: Global,
         db: &Db,
-        last: u32,
         labels: &Labels,
         name: &[u8],
         guid: u128,
         layout: &NewLayout,
-    ) -> Result<u32, StepError>
+    ) -> Result<(), StepError>
         requires are { AreAdditions db.now.records self.old }
-        requires sound { IsSoundOn (with_added db.now last self.old.records.items) labels.now }
+        requires sound { IsSoundOn (with_added db.now self.old) labels.now }
         requires areas { AreasFit labels.now }
         requires limits { IsCreate name.now layout.now }
         ensures are { AreAdditions db.now.records self.new }
-        ensures is { AddsTo db.now self.old.records.items self.new.records.items result
-            (created (with_added db.now last self.old.records.items) labels.now
+        ensures is { AddsTo (with_added db.now self.old) (with_added db.now self.new) result
+            (created (with_added db.now self.old) labels.now
             name.now guid layout.now) }
         ensures unspent { OnOk result (db.now.header.seq < 2 ^ 64 - 1) }
     {
@@ -302,7 +312,6 @@ impl Additions {
         self.create_at(
             alloc,
             db,
-            last,
             labels,
             name,
             guid,
@@ -312,13 +321,12 @@ impl Additions {
         )
     }
 
-    /// A copy of the group with them, with this last VBLK sequence and this committed sequence.
-    pub fn joined(&self, alloc: Global, db: &Db, last: u32, seq: u64) -> Result<Db, NoMemory>
+    /// A copy of the group with them, with this committed sequence.
+    pub fn joined(&self, alloc: Global, db: &Db, seq: u64) -> Result<Db, NoMemory>
         requires { AreAdditions db.now.records self.now }
-        ensures { IfOk result (λ both. both
-            ≡ at_seq seq (with_added db.now last self.now.records.items)) }
+        ensures { IfOk result (λ both. both ≡ at_seq seq (with_added db.now self.now)) }
     {
-        let header = db.header().grown_to(alloc, last, seq)?;
+        let header = db.header().grown_to(alloc, self.last, seq)?;
         let records = copies_of(alloc, db.as_slice(), self.records.as_slice())?;
         match Db::new(alloc, header, records) {
             Ok(both) => Ok(both),

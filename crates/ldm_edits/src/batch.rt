@@ -16,8 +16,6 @@ pub struct Draft {
     db: Db,
     // All other records.
     added: Additions,
-    // The last VBLK sequence of both.
-    last: u32,
     filled: bool,
 }
 
@@ -27,7 +25,6 @@ impl Drop for Draft {
         let Draft {
             db: _,
             added: _,
-            last: _,
             filled: _,
         } = self;
     }
@@ -41,7 +38,7 @@ impl Model for Draft {
     ghost Value = { Drafted };
 
     ghost view = { λ d. record {
-      db = with_added d.db d.last d.added.records.items;
+      db = with_added d.db d.added;
       filled = d.filled;
     } };
 
@@ -63,14 +60,8 @@ impl Draft {
         requires { All IsFitting db.now.records }
         ensures { IfOk result (λ draft. draft ≡ record { db = db.now; filled = filled }) }
     {
-        let last = db.header().last;
         let (db, added) = Additions::apart(alloc, db)?;
-        Ok(Draft {
-            db,
-            added,
-            last,
-            filled,
-        })
+        Ok(Draft { db, added, filled })
     }
 
     /// A law of the types: the records rise, and the last VBLK sequence is a number of the format.
@@ -78,7 +69,7 @@ impl Draft {
         ensures rising { Rising self.now.db.records }
         ensures last { self.now.db.header.last < 2 ^ 32 }
     {
-        let _last = self.last;
+        let _last = self.added.last;
     }
 
     /// Whether it has held a command.
@@ -94,7 +85,7 @@ impl Draft {
         ensures { IfOk result (λ db. db ≡ self.now.db) }
     {
         let seq = self.db.header().seq;
-        self.added.joined(alloc, &self.db, self.last, seq)
+        self.added.joined(alloc, &self.db, seq)
     }
 
     /// Holds a create, an extend or a delete, which copies no records but those of its volume.
@@ -113,28 +104,18 @@ impl Draft {
         let Draft {
             db,
             mut added,
-            last,
             filled,
         } = self;
-        match added.change(alloc, &db, last, labels, command) {
-            Ok(last) => (
+        match added.change(alloc, &db, labels, command) {
+            Ok(()) => (
                 Draft {
                     db,
                     added,
-                    last,
                     filled: true,
                 },
                 Ok(()),
             ),
-            Err(error) => (
-                Draft {
-                    db,
-                    added,
-                    last,
-                    filled,
-                },
-                Err(error),
-            ),
+            Err(error) => (Draft { db, added, filled }, Err(error)),
         }
     }
 }

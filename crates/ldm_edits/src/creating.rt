@@ -167,7 +167,7 @@ pub fn create(
     ensures { StepsTo result (created db.now labels.now name.now guid layout.now) }
 {
     types_hold(db, labels);
-    let (mut added, last) = Additions::none(alloc, db);
-    let last = added.create(alloc, db, last, labels, name, guid, layout)?;
-    Ok(added.joined(alloc, db, last, db.header().seq + 1)?)
+    let mut added = Additions::none(alloc, db);
+    added.create(alloc, db, labels, name, guid, layout)?;
+    Ok(added.joined(alloc, db, db.header().seq + 1)?)
 }

@@ -100,10 +100,9 @@ pub fn extend(
         return Err(StepError::Refused(Refusal::NoVolume));
     };
     types_hold(db, labels);
-    let (mut added, last) = Additions::none(alloc, db);
+    let mut added = Additions::none(alloc, db);
     let subject = Subject {
         db,
-        last,
         labels,
         own: db,
         volume,

@@ -1,5 +1,5 @@
 //! What a command puts in the places of records that leave the group, and a change of a batch.
-ghost use Rattle.std.specs.Prelude.{◌≡◌, ◌++◌, ◌^◌, ◌-◌, ◌<◌, filter, All};
+ghost use Rattle.std.specs.Prelude.{◌≡◌, ◌+◌, ◌++◌, ◌^◌, ◌-◌, ◌<◌, filter, All};
 ghost use Rattle.std.specs.Prelude.{OnOk, OnErr, Ok};
 ghost use Rattle.ldm_group.specs.Database.{Database};
 ghost use Rattle.ldm_group.specs.Looks.{HasSameDisks, volume_named};
@@ -60,7 +60,8 @@ fn need_leaving(records: &[Record], own: &Db, leaving: Leaving) -> u64
 
 #[tactic(auto, using(crate::proofs::AdditionLaws::kept_beside))]
 impl Additions {
-    // Puts records in the places of those that leave. All memory is taken before the first change.
+    // Puts records in the places of those that leave, and all take this many blocks then. All
+    // memory is taken before the first change.
     fn put(
         &mut self,
         db: &Db,
@@ -70,6 +71,7 @@ impl Additions {
         need: u64,
         maps: FreeMaps,
     ) -> Result<(), NoMemory>
+        requires { need + 7 < 2 ^ 32 }
         ensures ok { OnOk result (TakesPlaces db.now.records own.now.records leaving made.items
             need maps self.old self.new) }
         ensures none { OnErr result (AddsNone self.old self.new) }
@@ -82,35 +84,34 @@ impl Additions {
         };
         self.need = need;
         self.max_id = max_id_with(db.max_id(), self.records.as_slice());
+        self.last = last_for(self.last, need);
         self.maps = maps;
         Ok(())
     }
 
-    // Puts what a command makes in the places of those that leave the group, and says the last VBLK
-    // sequence of the group then, which was this before. No record of the group and its disks
-    // leaves it.
+    // Puts what a command makes in the places of those that leave the group. No record of the group
+    // and its disks leaves it.
     fn replace(
         &mut self,
         db: &Db,
-        last: u32,
         own: &Db,
         labels: &Labels,
         step: Replacing,
-    ) -> Result<u32, StepError>
+    ) -> Result<(), StepError>
         requires are { AreAdditions db.now.records self.old }
         requires front { AreFront db.now.records }
-        requires sound { IsSoundOn (with_added db.now last self.old.records.items) labels.now }
+        requires sound { IsSoundOn (with_added db.now self.old) labels.now }
         requires areas { AreasFit labels.now }
         requires step { Replaces own.now.records
-            (with_added db.now last self.old.records.items) step }
+            (with_added db.now self.old) step }
         requires disks { (next : Database) → change_to
-            (with_added db.now last self.old.records.items) labels.now step.fresh
+            (with_added db.now self.old) labels.now step.fresh
             (change_of step.leaving (in_order (db.now.records ++ self.old.records.items))
             step.made.items) ≡ Ok next
             → HasSameDisks (in_order (db.now.records ++ self.old.records.items)) next.records }
         ensures are { AreAdditions db.now.records self.new }
-        ensures is { AddsTo db.now self.old.records.items self.new.records.items result
-            (change_to (with_added db.now last self.old.records.items) labels.now step.fresh
+        ensures is { AddsTo (with_added db.now self.old) (with_added db.now self.new) result
+            (change_to (with_added db.now self.old) labels.now step.fresh
             (change_of step.leaving (in_order (db.now.records ++ self.old.records.items))
             step.made.items)) }
         ensures unspent { OnOk result (db.now.header.seq < 2 ^ 64 - 1) }
@@ -129,7 +130,7 @@ impl Additions {
         }
         let need = staying + need_made(made.as_slice());
         self.put(db, own, leaving, made, need, maps)?;
-        Ok(last_for(last, need))
+        Ok(())
     }
 
     // Makes the volume of this name longer.
@@ -137,19 +138,18 @@ impl Additions {
         &mut self,
         alloc: Global,
         db: &Db,
-        last: u32,
         labels: &Labels,
         name: &[u8],
         pieces: &[Piece],
-    ) -> Result<u32, StepError>
+    ) -> Result<(), StepError>
         requires are { AreAdditions db.now.records self.old }
         requires front { AreFront db.now.records }
-        requires sound { IsSoundOn (with_added db.now last self.old.records.items) labels.now }
+        requires sound { IsSoundOn (with_added db.now self.old) labels.now }
         requires areas { AreasFit labels.now }
         requires limits { IsExtend name.now pieces.now }
         ensures are { AreAdditions db.now.records self.new }
-        ensures is { AddsTo db.now self.old.records.items self.new.records.items result
-            (extended (with_added db.now last self.old.records.items) labels.now pieces.now
+        ensures is { AddsTo (with_added db.now self.old) (with_added db.now self.new) result
+            (extended (with_added db.now self.old) labels.now pieces.now
             (volume_named name.now (in_order (db.now.records ++ self.old.records.items)))) }
         ensures unspent { OnOk result (db.now.header.seq < 2 ^ 64 - 1) }
     {
@@ -162,13 +162,12 @@ impl Additions {
         };
         let subject = Subject {
             db,
-            last,
             labels,
             own: &own,
             volume,
         };
         let step = extension(self, alloc, &subject, pieces)?;
-        self.replace(db, last, &own, labels, step)
+        self.replace(db, &own, labels, step)
     }
 
     // A law of the types: the greatest id is a number of the format.
@@ -183,17 +182,16 @@ impl Additions {
         &mut self,
         alloc: Global,
         db: &Db,
-        last: u32,
         labels: &Labels,
         name: &[u8],
-    ) -> Result<u32, StepError>
+    ) -> Result<(), StepError>
         requires are { AreAdditions db.now.records self.old }
         requires front { AreFront db.now.records }
-        requires sound { IsSoundOn (with_added db.now last self.old.records.items) labels.now }
+        requires sound { IsSoundOn (with_added db.now self.old) labels.now }
         requires areas { AreasFit labels.now }
         ensures are { AreAdditions db.now.records self.new }
-        ensures is { AddsTo db.now self.old.records.items self.new.records.items result
-            (deleted (with_added db.now last self.old.records.items) labels.now
+        ensures is { AddsTo (with_added db.now self.old) (with_added db.now self.new) result
+            (deleted (with_added db.now self.old) labels.now
             (volume_named name.now (in_order (db.now.records ++ self.old.records.items)))) }
         ensures unspent { OnOk result (db.now.header.seq < 2 ^ 64 - 1) }
     {
@@ -213,35 +211,32 @@ impl Additions {
             fresh: 0,
             maps: FreeMaps::new(alloc),
         };
-        self.replace(db, last, &own, labels, step)
+        self.replace(db, &own, labels, step)
     }
 
-    /// Does a create, an extend or a delete, and says the last VBLK sequence of the group then,
-    /// which was this before.
+    /// Does a create, an extend or a delete.
     pub fn change(
         &mut self,
         alloc: Global,
         db: &Db,
-        last: u32,
         labels: &Labels,
         command: &Command,
-    ) -> Result<u32, StepError>
+    ) -> Result<(), StepError>
         requires are { AreAdditions db.now.records self.old }
         requires front { AreFront db.now.records }
-        requires sound { IsSoundOn (with_added db.now last self.old.records.items) labels.now }
+        requires sound { IsSoundOn (with_added db.now self.old) labels.now }
         requires areas { AreasFit labels.now }
         requires limits { IsCommand command.now }
         requires change { IsChange command.now }
         ensures are { AreAdditions db.now.records self.new }
-        ensures is { AddsTo db.now self.old.records.items self.new.records.items result
-            (next_of (with_added db.now last self.old.records.items) labels.now command.now) }
+        ensures is { AddsTo (with_added db.now self.old) (with_added db.now self.new) result
+            (next_of (with_added db.now self.old) labels.now command.now) }
         ensures unspent { OnOk result (db.now.header.seq < 2 ^ 64 - 1) }
     {
         match command {
             Command::Create { name, guid, layout } => self.create(
                 alloc,
                 db,
-                last,
                 labels,
                 name.as_slice(),
                 *guid,
@@ -250,12 +245,11 @@ impl Additions {
             Command::Extend { name, pieces } => self.extend(
                 alloc,
                 db,
-                last,
                 labels,
                 name.as_slice(),
                 pieces.as_slice(),
             ),
-            Command::Delete { name } => self.delete(alloc, db, last, labels, name.as_slice()),
+            Command::Delete { name } => self.delete(alloc, db, labels, name.as_slice()),
             Command::Begin | Command::Commit | Command::Cancel => unreachable!(),
         }
     }

@@ -9,8 +9,6 @@ use ldm_records::Volume;
 pub struct Subject<'a> {
     /// The group, to which records may be added.
     pub db: &'a Db,
-    /// Its last VBLK sequence with these.
-    pub last: u32,
     /// The labels of its images.
     pub labels: &'a Labels,
     /// Fewer records of both, among which the volume is as among all.

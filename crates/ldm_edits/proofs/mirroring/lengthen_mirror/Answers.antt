@@ -33,7 +33,7 @@ may c =
     mirror_may c.args.subject.now.own.now (group c) c.args.subject.now.labels.now _ c.args.pieces.now
     volume.shows c.is_some.ensures c.if-is_some.false many _ c.in_ok-asked.ensures.is c.as_slice-wanted.ensures.value
     _ c.in_ok-maps.ensures.is.0 volume.there c.requires.shape c.requires.held
-    c.in_ok-asked.ensures.even (omega arith) each volume.last (omega arith)
+    c.in_ok-asked.ensures.even (omega arith) each volume.are.low (omega arith)
 
 pub returns-in_err-asked-clause-is : goal.returns-in_err-asked-clause-is
 returns-in_err-asked-clause-is c =

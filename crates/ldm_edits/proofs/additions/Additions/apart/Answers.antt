@@ -1,4 +1,4 @@
-use Rattle.std.proofs.Common.{◌≡◌, ap, refl, true, filter}
+use Rattle.std.proofs.Common.{◌≡◌, ap, true, filter}
 use Rattle.ldm_edits.proofs.Common.{Header}
 use Rattle.ldm_group.proofs.InOrder.{never_twice}
 use Rattle.ldm_edits.specs.declared.additions.Additions.{Additions}
@@ -22,11 +22,11 @@ returns-in-Ok c =
     let is = rw (heads (goal.at.returns-in-Ok c).In_ok-front) at c.in-Ok.ensures in
     let rest = rw c.as_slice-2.ensures.all at c.in_ok-records.ensures in
     let a : Additions =
-    record { records = c.in_ok-records.records; maps = c.new-in-Ok.result; need = c.need.result; max_id = c.max_id.result } in
+    record { records = c.in_ok-records.records; maps = c.new-in-Ok.result; need = c.need.result; max_id = c.max_id.result; last = c.last_of.result } in
     let header = rw c.header.ensures at c.in_ok-header.ensures in
     record {
-      are = apart_additions c.args.db.now c.in-Ok.front a _ up is rest (c.new-in-Ok.ensures _) c.need.ensures c.max_id.ensures;
+      are = apart_additions c.args.db.now c.in-Ok.front a _ up is rest (c.new-in-Ok.ensures _) c.need.ensures c.max_id.ensures c.last_of.ensures.low;
       front = apart_front c.args.db.now c.in-Ok.front a _ up is rest;
-      is = apart_whole c.args.db.now c.in-Ok.front a _ up is rest c.args.db.now.header.last c.header-2.result.now.seq header
-          (ap (λ (h : Header). h.seq) c.header-2.ensures) refl;
+      is = apart_whole c.args.db.now c.in-Ok.front a _ up is rest c.header-2.result.now.seq header
+          (ap (λ (h : Header). h.seq) c.header-2.ensures) c.last_of.ensures.is;
     }

@@ -1,4 +1,4 @@
-use Rattle.std.proofs.Common.{rules, sym, refl, not, max, ℕ}
+use Rattle.std.proofs.Common.{arith, rules, sym, refl, not, max, ℕ}
 use Rattle.ldm_edits.proofs.Common.{Record, id_of}
 use Rattle.std.proofs.lemmas.Fn.{filter_same}
 use Rattle.ldm_edits.specs.Staying.{leaves}
@@ -13,6 +13,8 @@ returns-clause-ok c =
       records = rw (kept, c.reserve.ensures.items) at c.in-Ok.ensures.items;
       maps_are = refl;
       need_is = refl;
+      last_is = c.last_for-self.ensures.is;
+      low = omega arith;
       max_id_is = rw (c.max_id_with-self.ensures, c.max_id.ensures, c.as_slice.ensures.value)
           (sym (fold-append (λ (top : ℕ) (r : Record). max top (id_of r)) 0 c.args.db.now.records c.append.new.self.items));
     }

@@ -1,6 +1,6 @@
 use Rattle.std.proofs.Common.{◌≡◌, ◌∙◌, ℕ, ◌+◌, ◌-◌, ap, sym, refl, arith, None}
 use Rattle.ldm_edits.proofs.Common.{first_of, Header, Database, need_of}
-use Rattle.ldm_edits.proofs.AdditionLaws.{beside}
+use Rattle.ldm_edits.specs.Additions.{with_added}
 use Rattle.ldm_edits.specs.Changes.{Change, limits}
 use Rattle.ldm_edits.specs.Staying.{change_of}
 use Rattle.ldm_edits.proofs.LimitLaws.{ids_left, need_both, within_limits}
@@ -9,12 +9,12 @@ use Rattle.ldm_edits.proofs.additions.Additions.replace.Goals.{After-later_limit
 use Rattle.ldm_edits.proofs.additions.Additions.replace.Goals as goal
 
 abbrev group : After-later_limit → Database
-group c = beside c.args.db.now c.args.last c.args.self.now
+group c = with_added c.args.db.now c.args.self.now
 
 abbrev change : After-later_limit → Change
 change c = change_of c.args.step.leaving (group c).records c.args.step.made.items
 
-may : (c : After-later_limit) → MayReplace c.args.db.now c.args.last c.args.self.now c.args.own.now.records c.args.step
+may : (c : After-later_limit) → MayReplace c.args.db.now c.args.self.now c.args.own.now.records c.args.step
 may c = assumption
 
 stays : (c : After-later_limit) → c.args.self.now.need - c.need_leaving.result ≡ need_of (change c).stay
@@ -28,7 +28,7 @@ limited c =
     c.later_limit.ensures (group c) (change c) seq (stays c) c.as_slice-2.ensures.value ∙ ids_left _ _ _ _ c.requires.step.ids
 
 replaced : (c : After-later_limit) → c.later_limit.result ≡ None → {made : ℕ} → made ≡ need_of c.args.step.made.items
-    → IsReplaced c.args.db.now c.args.labels.now c.args.last c.args.self.now c.args.own.now.records c.args.step
+    → IsReplaced c.args.db.now c.args.labels.now c.args.self.now c.args.own.now.records c.args.step
     (c.args.self.now.need - c.need_leaving.result + made)
 replaced c none made_is =
     let within = sym (limited c) ∙ none in
@@ -39,7 +39,7 @@ need_leaving-requires c = rw c.as_slice.ensures.value (added_fit c.args.db.now.r
 
 pub overflow_sub-staying : goal.overflow_sub-staying
 overflow_sub-staying c =
-    let may : MayReplace c.args.db.now c.args.last c.args.self.now c.args.own.now.records c.args.step = assumption in
+    let may : MayReplace c.args.db.now c.args.self.now c.args.own.now.records c.args.step = assumption in
     leaving_few may (rw c.as_slice.ensures.value at c.need_leaving.ensures.is)
 
 pub returns-in-Some-clause-is : goal.returns-in-Some-clause-is
@@ -50,10 +50,10 @@ need_made-requires c =
     let within = within_limits _ _ _ _ (sym (limited (goal.at.need_made-requires c).After-later_limit) ∙ c.in_default.is) in
     rw c.as_slice-3.ensures.value within.each
 
-pub last_for-requires : goal.last_for-requires
-last_for-requires c =
+pub put-requires : goal.put-requires
+put-requires c =
     let made = rw c.as_slice-3.ensures.value at c.need_made.ensures.is in
-    replaced_few (replaced (goal.at.last_for-requires c).After-later_limit c.in_default.is made) c.requires.areas
+    replaced_few (replaced (goal.at.put-requires c).After-later_limit c.in_default.is made) c.requires.areas
 
 pub returns : goal.returns
 returns c =
@@ -61,6 +61,6 @@ returns c =
     let replaced = replaced (goal.at.returns c).After-later_limit c.in_default.is made in
     record {
       are = replaced_additions replaced c.in_ok-put.ensures.ok c.requires.disks;
-      is = rw c.last_for.ensures.is (replaced_adds replaced c.in_ok-put.ensures.ok);
+      is = replaced_adds replaced c.in_ok-put.ensures.ok;
       unspent = omega (arith, (within_limits _ _ _ _ replaced.within).seq);
     }
