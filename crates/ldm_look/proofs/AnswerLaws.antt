@@ -9,7 +9,8 @@ use Rattle.ldm_label.specs.LabelOf.{label_of}
 use Rattle.ldm_copy.specs.Copy.{config_area}
 use Rattle.ldm_copy.proofs.OneCopy.{one_copy}
 use Rattle.ldm_words.specs.declared.job.Job.{Job}
-use Rattle.ldm_words.specs.declared.job.Job.TheVariants.{Disk, Records, Show, Check, Map}
+use Rattle.ldm_words.specs.declared.job.Job.TheVariants.{Disk, Records, Scan, Show, Check, Map}
+use Rattle.ldm_words.specs.declared.job.Format.TheVariants.{Lines, Json}
 use Rattle.ldm_words.specs.declared.status.Status.{Status}
 use Rattle.ldm_words.specs.declared.status.Status.TheVariants.{Usage, NoMemory}
 use Rattle.ldm_words.specs.Jobs.{job_of}
@@ -17,8 +18,13 @@ use Rattle.ldm_copy.specs.declared.found.Found.{Found}
 use Rattle.ldm_found.proofs.GroupLaws.{one_group}
 use Rattle.ldm_look.specs.Said.{Answer, IsUnread}
 use Rattle.ldm_look.specs.Mapping.{is_bad_range, map_answer}
-use Rattle.ldm_look.specs.Looks.{copy_answer, group_answer, show_answer, check_answer, look_of, IsRecordsAnswer, IsGroupAnswer, IsLookAnswer, IsAnswerOf, IsLookAt}
+use Rattle.ldm_look.specs.Looks.{copy_answer, group_answer, show_answer, check_answer, group_json_answer, scan_answer, look_of, IsRecordsAnswer, IsGroupAnswer, IsGroupJson, IsScanAnswer, IsLookAnswer, IsAnswerOf, IsLookAt}
 use Rattle.ldm_look.specs.Runs.{Completes, NoFault, OfLook, OnlyReads}
+use Rattle.json.specs.Json as json
+use Rattle.ldm_look.specs.ShowJson.{show_json}
+use Rattle.ldm_look.specs.CheckJson.{check_json}
+use Rattle.ldm_look.specs.declared.scanned.Scanned.{Scanned}
+use Rattle.ldm_look.proofs.ScanLaws.{one_scanned}
 use Rattle.ldm_look.proofs.EndLaws.{complete, unread_is}
 
 -- ---- What `map` is asked.
@@ -44,11 +50,21 @@ one_records (Err fault) bytes a b x y = x ∙ sym y
 pub one_of_group : (answer_of : Found → Answer) (images : List (List ℕ)) (a b : Answer) → IsGroupAnswer answer_of images a → IsGroupAnswer answer_of images b → a ≡ b
 one_of_group answer_of images a b x y = x.2 ∙ ap (group_answer answer_of) (one_group images x.0 y.0 x.1 y.1) ∙ sym y.2
 
+one_of_json : (paths : List (List ℕ)) (json_of : Found → json.Json) (images : List (List ℕ)) (a b : Answer) → IsGroupJson paths json_of images a → IsGroupJson paths json_of images b → a ≡ b
+one_of_json paths json_of images a b x y = x.2 ∙ ap (group_json_answer paths json_of) (one_group images x.0 y.0 x.1 y.1) ∙ sym y.2
+
+one_scan : (answer_of : List Scanned → Answer) (images : List (List ℕ)) (a b : Answer) → IsScanAnswer answer_of images a → IsScanAnswer answer_of images b → a ≡ b
+one_scan answer_of images a b x y = x.2 ∙ ap answer_of (one_scanned images x.0 y.0 x.1 y.1) ∙ sym y.2
+
 pub one_of_look : (job : Job) (images : List (List ℕ)) (a b : Answer) → IsLookAnswer job images a → IsLookAnswer job images b → a ≡ b
-one_of_look Disk images a b x y = x ∙ sym y
+one_of_look (Disk Lines) images a b x y = x ∙ sym y
+one_of_look (Disk (Json paths)) images a b x y = x ∙ sym y
+one_of_look (Scan format) images a b x y = one_scan (scan_answer format) images a b x y
 one_of_look Records images a b x y = one_records (label_of (image images 0)) (image images 0) a b x y
-one_of_look Show images a b x y = one_of_group show_answer images a b x y
-one_of_look Check images a b x y = one_of_group check_answer images a b x y
+one_of_look (Show Lines) images a b x y = one_of_group show_answer images a b x y
+one_of_look (Show (Json paths)) images a b x y = one_of_json paths (show_json paths) images a b x y
+one_of_look (Check Lines) images a b x y = one_of_group check_answer images a b x y
+one_of_look (Check (Json paths)) images a b x y = one_of_json paths (check_json paths) images a b x y
 one_of_look (Map name first count) images a b x y = one_of_group (map_answer name first count) images a b x y
 one_of_look other images a b x y = absurd x
 

@@ -1,6 +1,12 @@
 pub mod Opening
+pub mod Paths
 pub mod Check
 pub mod Show
+pub mod ShowJson
+pub mod FaultJson
+pub mod LabelJson
+pub mod CheckJson
+pub mod Scan
 pub mod Map
 pub mod Volumes
 pub mod Said

@@ -1,7 +1,7 @@
 -- What the program is to answer to a command line: a text and a status.
 use Rattle.std.specs.Prelude.{◌≡◌, ℕ, Bool, true, false, List, [], ◌∷◌, codes, Option, Some, None}
 use Rattle.ldm_words.specs.declared.job.Job.{Job}
-use Rattle.ldm_words.specs.declared.job.Job.TheVariants.{Disk, Records, Show, Check, Map, Dump, Scrub, Table, Try, Edit, One, Init, Sample}
+use Rattle.ldm_words.specs.declared.job.Job.TheVariants.{Disk, Records, Scan, Show, Check, Map, Dump, Scrub, Table, Try, Edit, One, Init, Sample}
 use Rattle.ldm_words.specs.declared.status.Status.TheVariants.{Usage}
 use Rattle.ldm_words.specs.Jobs.{job_of}
 use Rattle.ldm_copy.specs.declared.found.Found.{Found}
@@ -32,10 +32,11 @@ pub data Basis : Type 0 where
   OfSeed : ℕ → Basis
 
 abbrev pub basis_of : Job → Basis
-basis_of Disk = OfLook Disk
+basis_of (Disk format) = OfLook (Disk format)
 basis_of Records = OfLook Records
-basis_of Show = OfLook Show
-basis_of Check = OfLook Check
+basis_of (Scan format) = OfLook (Scan format)
+basis_of (Show format) = OfLook (Show format)
+basis_of (Check format) = OfLook (Check format)
 basis_of (Map name first count) = OfLook (Map name first count)
 basis_of (Dump name) = OfGroup (dump_answer name)
 basis_of (Scrub name) = OfGroup (scrub_answer name)

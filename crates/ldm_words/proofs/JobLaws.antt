@@ -1,5 +1,5 @@
 -- What the words before `on` say.
-use Rattle.std.proofs.Common.{◌≡◌, ◌∙◌, ℕ, ◌==◌, ◌&&◌, ◌+◌, ◌≤◌, Bool, true, false, cond, List, [], ◌∷◌, length, take, drop, bytes_eq, refl, sym, subst, ap, arith, Option, Some, None, IfSome, is_some, unwrap_or, String, string_bytes}
+use Rattle.std.proofs.Common.{◌≡◌, ◌∙◌, ℕ, ◌==◌, ◌&&◌, ◌+◌, ◌-◌, ◌≤◌, ◌<◌, zero, suc, Bool, true, false, cond, List, [], ◌∷◌, length, take, drop, bytes_eq, refl, sym, subst, ap, arith, Option, Some, None, IfSome, is_some, unwrap_or, String, string_bytes}
 use Rattle.std.specs.Prelude.{nat_le}
 use Rattle.std.specs.Option.{option_map}
 use Rattle.std.proofs.Math.Dec.{ltb}
@@ -14,7 +14,7 @@ use Rattle.ldm_words.specs.declared.job.Job.TheVariants.{Disk, Records, Table, O
 use Rattle.ldm_bytes.specs.Guid.{guid_of}
 use Rattle.ldm_words.specs.Commands.{many, command_of}
 use Rattle.ldm_words.specs.NewGroup.{new_group_name, AreInitWords}
-use Rattle.ldm_words.specs.Jobs.{texts, is_on, image_words, images_of, images_behind, Form, forms, form_in, is_group, takes, fits, job_of, job_form, with_images, HasCount}
+use Rattle.ldm_words.specs.Jobs.{texts, is_on, image_words, images_of, images_behind, Form, forms, form_in, is_group, takes, fits, job_of, or_else, optioned, with_options, job_form, with_images, HasCount}
 use Rattle.ldm_words.proofs.LimitLaws.{within}
 use Rattle.ldm_words.proofs.NewGroupLaws.{IsGroupName, is_new_group_name, AreGuids, are_guids}
 
@@ -44,8 +44,33 @@ no_form [] word rest none = refl
 no_form (form ∷ forms) word rest none = rw (other_word word form.0 none.0) (no_form forms word rest none.1)
 
 -- where the first word is none of the jobs' own, the words are a command
-pub no_other : (words rest : List (List ℕ)) (word : List ℕ) (behind : List (List ℕ)) → words ≡ word ∷ rest → HasNone (forms behind) word → option_map One (command_of words) ≡ job_form words behind
-no_other words rest word behind is none = rw is (no_form (forms behind) word rest none)
+pub no_other : (word : List ℕ) (rest behind : List (List ℕ)) → HasNone (forms behind) word → option_map One (command_of (word ∷ rest)) ≡ form_in (forms behind) word rest
+no_other word rest behind none = no_form (forms behind) word rest none
+
+-- words that have a reading without options keep it
+pub plain_first : (word : List ℕ) (rest behind : List (List ℕ)) (job : Job) → form_in (forms behind) word rest ≡ Some job → job_form (word ∷ rest) behind ≡ Some job
+plain_first word [] behind job is = is
+plain_first word (option ∷ rest) behind job is = rw is refl
+
+module _ (behind : List (List ℕ)) (read : List (List ℕ) → Option Job) where
+  -- the reading of words as they stand
+  pub read_plain : (most : ℕ) (words : List (List ℕ)) (found : Option Job) (job : Job) → found ≡ read words → found ≡ Some job → Some job ≡ with_options behind most read words
+  read_plain zero words found job is some = sym some ∙ is
+  read_plain (suc most) [] found job is some = sym some ∙ is
+  read_plain (suc most) (word ∷ words) found job is some =
+      ap (λ (o : Option Job). or_else o (optioned behind word (with_options behind most read words))) (sym some ∙ is)
+
+  -- and of words whose first is an option
+  pub read_option : (most : ℕ) (word : List ℕ) (words all : List (List ℕ)) (found inner : Option Job) → 0 < most → all ≡ word ∷ words → found ≡ read all → found ≡ None
+      → inner ≡ with_options behind (most - 1) read words → optioned behind word inner ≡ with_options behind most read all
+  read_option zero word words all found inner some cut is none rest = absurd (omega arith)
+  read_option (suc most) word words all found inner some cut is none rest =
+      ap (optioned behind word) (rest ∙ ap (λ (n : ℕ). with_options behind n read words) (less most))
+      ∙ ap (λ (o : Option Job). or_else o (optioned behind word (with_options behind most read words))) (sym none ∙ is ∙ ap read cut)
+      ∙ ap (with_options behind (suc most) read) (sym cut)
+    where
+      less : (n : ℕ) → suc n - 1 ≡ n
+      less n = omega arith
 
 -- ---- the grammar's limits
 
@@ -68,7 +93,7 @@ as_many images count is =
     (group.0, group.1, grind (arith, nat_tests, parts.1))
 
 takes_count : (job : Job) (images : ℕ) → takes job images ≡ true → HasCount job images
-takes_count Disk images is = grind (arith, nat_tests, is)
+takes_count (Disk format) images is = grind (arith, nat_tests, is)
 takes_count Records images is = grind (arith, nat_tests, is)
 takes_count (Table name words) images is = as_many images (length words) is
 takes_count (Init name guid disks) images is = as_many images (length disks) is

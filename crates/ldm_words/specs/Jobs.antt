@@ -1,12 +1,14 @@
 -- What a command line says: JOB on IMAGE.., where the first word `on` separates, or a job without images. A word is one
--- token.
-use Rattle.std.specs.Prelude.{◌≡◌, ◌≤◌, ℕ, ◌==◌, ◌&&◌, nat_le, Bool, true, false, List, [], ◌∷◌, length, map, position, codes, bytes_eq, if◌then◌else◌, Option, Some, None, is_some, String, string_bytes}
+-- token. Options may stand behind the first word of a job.
+use Rattle.std.specs.Prelude.{◌≡◌, ◌≤◌, ℕ, zero, suc, ◌==◌, ◌&&◌, nat_le, Bool, true, false, List, [], ◌∷◌, length, map, position, codes, bytes_eq, if◌then◌else◌, Option, Some, None, is_some, String, string_bytes}
 use Rattle.std.specs.List.{before_first, after_first}
 use Rattle.std.specs.Option.{option_map}
 use Rattle.std.specs.declared.alloc.Global.{Global}
 use Rattle.ldm_bytes.specs.Guid.{guid_of}
+use Rattle.ldm_words.specs.declared.job.Format.{Format}
+use Rattle.ldm_words.specs.declared.job.Format.TheVariants.{Lines, Json}
 use Rattle.ldm_words.specs.declared.job.Job.{Job}
-use Rattle.ldm_words.specs.declared.job.Job.TheVariants.{Disk, Records, Show, Check, Map, Dump, Scrub, Table, Try, Edit, One, Init, Sample}
+use Rattle.ldm_words.specs.declared.job.Job.TheVariants.{Disk, Records, Scan, Show, Check, Map, Dump, Scrub, Table, Try, Edit, One, Init, Sample}
 use Rattle.ldm_words.specs.Numbers.{number_of}
 use Rattle.ldm_words.specs.Names.{name_of}
 use Rattle.ldm_words.specs.Commands.{all_three, many, command_of}
@@ -74,10 +76,11 @@ Form = List ℕ × (List (List ℕ) → Option Job)
 -- The jobs: the first word of each, and its form. A table takes the words behind `on` too.
 abbrev pub forms : List (List ℕ) → List Form
 forms behind =
-    (codes "disk", plain_job Disk)
+    (codes "disk", plain_job (Disk Lines))
     ∷ (codes "records", plain_job Records)
-    ∷ (codes "show", plain_job Show)
-    ∷ (codes "check", plain_job Check)
+    ∷ (codes "scan", plain_job (Scan Lines))
+    ∷ (codes "show", plain_job (Show Lines))
+    ∷ (codes "check", plain_job (Check Lines))
     ∷ (codes "map", map_form)
     ∷ (codes "dump", named Dump)
     ∷ (codes "scrub", named Scrub)
@@ -93,10 +96,47 @@ abbrev pub form_in : List Form → List ℕ → List (List ℕ) → Option Job
 form_in [] word rest = option_map One (command_of (word ∷ rest))
 form_in (form ∷ forms) word rest = if bytes_eq word form.0 then form.1 rest else form_in forms word rest
 
--- the job that stands before `on`, with these words behind it
+-- ---- options
+
+-- the job whose answer is JSON, over the images of these words; none, where it has no such answer or has it already
+abbrev pub as_json : List (List ℕ) → Job → Option Job
+as_json paths (Disk Lines) = Some (Disk (Json paths))
+as_json paths (Scan Lines) = Some (Scan (Json paths))
+as_json paths (Show Lines) = Some (Show (Json paths))
+as_json paths (Check Lines) = Some (Check (Json paths))
+as_json paths _ = None
+
+-- a word, and what it makes of a job that takes it
+abbrev pub JobOption : Type 0
+JobOption = List ℕ × (Job → Option Job)
+
+-- the options of a job with these words behind `on`
+abbrev pub options : List (List ℕ) → List JobOption
+options behind = (codes "--json", as_json behind) ∷ []
+
+-- what the word makes of the job, by the first option of this word
+abbrev pub optioned_in : List JobOption → List ℕ → Job → Option Job
+optioned_in [] word job = None
+optioned_in (option ∷ options) word job = if bytes_eq word option.0 then option.1 job else optioned_in options word job
+
+abbrev pub optioned : List (List ℕ) → List ℕ → Option Job → Option Job
+optioned behind word None = None
+optioned behind word (Some job) = optioned_in (options behind) word job
+
+abbrev pub or_else : Option Job → Option Job → Option Job
+or_else (Some job) other = Some job
+or_else None other = other
+
+-- the reading of words with up to so many options before them; words that have a reading as they stand are read so
+abbrev pub with_options : List (List ℕ) → ℕ → (List (List ℕ) → Option Job) → List (List ℕ) → Option Job
+with_options behind zero read words = read words
+with_options behind (suc most) read [] = read []
+with_options behind (suc most) read (word ∷ words) = or_else (read (word ∷ words)) (optioned behind word (with_options behind most read words))
+
+-- the job that stands before `on`, with these words behind it; each option may stand once, in any order
 abbrev pub job_form : List (List ℕ) → List (List ℕ) → Option Job
 job_form [] behind = None
-job_form (word ∷ rest) behind = form_in (forms behind) word rest
+job_form (word ∷ rest) behind = with_options behind (length (options behind)) (form_in (forms behind) word) rest
 
 -- ---- its images
 
@@ -106,7 +146,7 @@ is_group images = nat_le 1 images && nat_le images 64
 
 -- how many a job takes behind `on`: those of a group, where nothing else is said
 abbrev pub takes : Job → ℕ → Bool
-takes Disk images = images == 1
+takes (Disk format) images = images == 1
 takes Records images = images == 1
 takes (Table name words) images = is_group images && images == length words
 takes (Init name guid disks) images = is_group images && images == length disks
@@ -135,7 +175,7 @@ job_of words = with_images (images_of words) (images_behind words) (job_form (be
 
 -- how many images a job has
 abbrev pub HasCount : Job → ℕ → Type 0
-HasCount Disk images = images ≡ 1
+HasCount (Disk format) images = images ≡ 1
 HasCount Records images = images ≡ 1
 HasCount (Table name words) images = (1 ≤ images) × (images ≤ 64) × (images ≡ length words)
 HasCount (Init name guid disks) images = (1 ≤ images) × (images ≤ 64) × (images ≡ length disks)

@@ -1,11 +1,14 @@
 //! Command lines: the words of a job, and its images.
-ghost use Rattle.std.specs.Prelude.{◌≡◌, ◌≤◌, IfOk, IfSome, length};
+ghost use Rattle.std.specs.Prelude.{◌≡◌, ◌≤◌, ◌∷◌, IfOk, IfSome, length, string_bytes};
 ghost use Rattle.std.specs.Option.{option_map};
 ghost use Rattle.std.specs.List.{position_or_len};
 ghost use Rattle.ldm_words.specs.declared.job.Job.TheVariants as jobs;
+ghost use Rattle.ldm_words.specs.declared.job.Format.TheVariants.{Lines};
 ghost use Rattle.ldm_words.specs.Jobs.{texts, is_on, image_words, images_of, images_behind};
-ghost use Rattle.ldm_words.specs.Jobs.{plain_job, named_in, named, map_form, init_form};
-ghost use Rattle.ldm_words.specs.Jobs.{sample_form, job_form, is_group, takes, fits, job_of};
+ghost use Rattle.ldm_words.specs.Jobs.{plain_job, named_in, named, map_form};
+ghost use Rattle.ldm_words.specs.Jobs.{init_form, sample_form, forms, form_in, as_json, options};
+ghost use Rattle.ldm_words.specs.Jobs.{optioned_in, with_options, job_form, is_group, takes, fits};
+ghost use Rattle.ldm_words.specs.Jobs.{job_of};
 ghost use Rattle.ldm_words.specs.Jobs.{HasCount, KeepsLimits, job_kind, writes};
 ghost use Rattle.ldm_words.specs.Commands.{token_bytes, command_of};
 ghost use Rattle.ldm_words.specs.Readings.{ReadsWords};
@@ -14,22 +17,32 @@ use crate::command::{Command, Names};
 use crate::name::read_name;
 use crate::new_group::{Guids, read_group_name, read_guids};
 use crate::number::read_number;
+use crate::paths::Paths;
 use crate::reading::read_command;
 use ldm_bytes::{Bytes, NoMemory, read_guid};
 use std::alloc::Global;
 use thiserror::Error;
 
+/// How an answer is said: in lines of words, or as JSON, which names each image by its word too.
+#[derive(Drop)]
+pub enum Format {
+    Lines,
+    Json(Paths),
+}
+
 /// What a command line asks for.
 #[derive(Drop)]
 pub enum Job {
     /// The private header of one disk.
-    Disk,
+    Disk(Format),
     /// The copy of the database on one disk.
     Records,
+    /// The group and the disk that each image is of, or why it is of none.
+    Scan(Format),
     /// The group that the disks hold.
-    Show,
+    Show(Format),
     /// What each disk of a group holds, and whether the group may be edited.
-    Check,
+    Check(Format),
     /// Where `count` sectors of a volume lie, from the sector `first` on.
     Map {
         name: Bytes,
@@ -78,7 +91,7 @@ impl Job {
         ensures { result ≡ takes self.now images }
     {
         match self {
-            Job::Disk | Job::Records => images == 1,
+            Job::Disk(_) | Job::Records => images == 1,
             Job::Table { images: words, .. } => {
                 is_group(images) && images == words.as_slice().len()
             }
@@ -296,31 +309,37 @@ fn tokens_of(alloc: Global, words: &[String]) -> Result<Vec<&[u8]>, NoMemory>
     Ok(tokens)
 }
 
-// A command, whose tokens the words are.
-fn read_one(alloc: Global, words: &[String]) -> Result<Option<Job>, NoMemory>
-    ensures is { IfOk result (λ found. found ≡ option_map jobs.One (command_of (texts words.now))) }
+// A command, whose tokens are the word and the rest.
+fn read_one(alloc: Global, word: &String, rest: &[String]) -> Result<Option<Job>, NoMemory>
+    ensures is { IfOk result (λ found. found
+        ≡ option_map jobs.One (command_of (string_bytes word.now ∷ texts rest.now))) }
     ensures limits { IfOk result (λ found. IfSome found KeepsLimits) }
 {
-    let tokens = tokens_of(alloc, words)?;
+    let mut tokens = tokens_of(alloc, rest)?;
+    tokens.insert(0, word.as_bytes())?;
     match read_command(alloc, &tokens)? {
         Some(command) => Ok(Some(Job::One(command))),
         None => Ok(None),
     }
 }
 
-// The job that stands before `on`, with the words behind it.
-fn read_job(alloc: Global, words: &[String], behind: &[String]) -> Result<Option<Job>, NoMemory>
-    ensures is { IfOk result (λ found. found ≡ job_form (texts words.now) (texts behind.now)) }
+// The job of the first word and the rest as they stand, with the words behind `on`.
+fn read_form(
+    alloc: Global,
+    word: &String,
+    rest: &[String],
+    behind: &[String],
+) -> Result<Option<Job>, NoMemory>
+    ensures is { IfOk result (λ found. found
+        ≡ form_in (forms (texts behind.now)) (string_bytes word.now) (texts rest.now)) }
     ensures limits { IfOk result (λ found. IfSome found KeepsLimits) }
 {
-    let [word, rest @ ..] = words else {
-        return Ok(None);
-    };
     match word.as_str() {
-        "disk" => Ok(plain(Job::Disk, rest)),
+        "disk" => Ok(plain(Job::Disk(Format::Lines), rest)),
         "records" => Ok(plain(Job::Records, rest)),
-        "show" => Ok(plain(Job::Show, rest)),
-        "check" => Ok(plain(Job::Check, rest)),
+        "scan" => Ok(plain(Job::Scan(Format::Lines), rest)),
+        "show" => Ok(plain(Job::Show(Format::Lines), rest)),
+        "check" => Ok(plain(Job::Check(Format::Lines), rest)),
         "map" => read_map(alloc, rest),
         "dump" => read_dump(alloc, rest),
         "scrub" => read_scrub(alloc, rest),
@@ -329,7 +348,80 @@ fn read_job(alloc: Global, words: &[String], behind: &[String]) -> Result<Option
         "edit" => Ok(plain(Job::Edit, rest)),
         "init" => read_init(alloc, rest),
         "sample" => Ok(read_sample(rest)),
-        _ => read_one(alloc, words),
+        _ => read_one(alloc, word, rest),
+    }
+}
+
+// The job whose answer is JSON, over the images of these words.
+fn as_json(job: Job, paths: Paths) -> Option<Job>
+    requires { KeepsLimits job }
+    ensures is { result ≡ as_json paths job }
+    ensures limits { IfSome result KeepsLimits }
+{
+    match job {
+        Job::Disk(Format::Lines) => Some(Job::Disk(Format::Json(paths))),
+        Job::Scan(Format::Lines) => Some(Job::Scan(Format::Json(paths))),
+        Job::Show(Format::Lines) => Some(Job::Show(Format::Json(paths))),
+        Job::Check(Format::Lines) => Some(Job::Check(Format::Json(paths))),
+        _ => None,
+    }
+}
+
+// What an option makes of a job with the words behind `on`.
+fn optioned(
+    alloc: Global,
+    word: &String,
+    job: Job,
+    behind: &[String],
+) -> Result<Option<Job>, NoMemory>
+    requires { KeepsLimits job }
+    ensures is { IfOk result (λ found. found
+        ≡ optioned_in (options (texts behind.now)) (string_bytes word.now) job) }
+    ensures limits { IfOk result (λ found. IfSome found KeepsLimits) }
+{
+    match word.as_str() {
+        "--json" => Ok(as_json(job, Paths::of(alloc, behind)?)),
+        _ => Ok(None),
+    }
+}
+
+// How many options there are.
+const OPTIONS: u8 = 1;
+
+// The job of the first word and the rest, which up to so many options stand before.
+fn read_with_options(
+    alloc: Global,
+    most: u8,
+    word: &String,
+    rest: &[String],
+    behind: &[String],
+) -> Result<Option<Job>, NoMemory>
+    ensures is { IfOk result (λ found. found ≡ with_options (texts behind.now) most
+        (form_in (forms (texts behind.now)) (string_bytes word.now)) (texts rest.now)) }
+    ensures limits { IfOk result (λ found. IfSome found KeepsLimits) }
+{
+    if let Some(job) = read_form(alloc, word, rest, behind)? {
+        return Ok(Some(job));
+    }
+    match rest {
+        [option, rest @ ..] if most > 0 => {
+            match read_with_options(alloc, most - 1, word, rest, behind)? {
+                Some(job) => optioned(alloc, option, job, behind),
+                None => Ok(None),
+            }
+        }
+        _ => Ok(None),
+    }
+}
+
+// The job that stands before `on`, with the words behind it.
+fn read_job(alloc: Global, words: &[String], behind: &[String]) -> Result<Option<Job>, NoMemory>
+    ensures is { IfOk result (λ found. found ≡ job_form (texts words.now) (texts behind.now)) }
+    ensures limits { IfOk result (λ found. IfSome found KeepsLimits) }
+{
+    match words {
+        [word, rest @ ..] => read_with_options(alloc, OPTIONS, word, rest, behind),
+        [] => Ok(None),
     }
 }
 

@@ -1,0 +1,100 @@
+//! The JSON of `check`.
+ghost use Rattle.std.specs.Prelude.{◌≡◌, ◌++◌, OnOk, IfOk, flat_map, is_none, map};
+ghost use Rattle.std.specs.List.{enumerate_from};
+ghost use Rattle.json.specs.Tree.{json_tokens};
+ghost use Rattle.ldm_json.specs.Values.{json_of, line_of_json};
+ghost use Rattle.ldm_look.specs.CheckJson.{sequence_of, note_json, note_jsons, kind_json};
+ghost use Rattle.ldm_look.specs.CheckJson.{reason_json, check_json};
+
+use crate::fault_json::kind_word;
+use crate::opening::fault_text;
+use ldm_bytes::{Bytes, NoMemory};
+use ldm_copy::{Found, Note};
+use ldm_json::{Json, Scalar};
+use ldm_words::Paths;
+use std::alloc::Global;
+
+fn sequence_of(note: &Note) -> Option<u64>
+    ensures { result ≡ sequence_of note.now }
+{
+    match note {
+        Note::Closed => None,
+        Note::Sequence(seq) => Some(*seq),
+    }
+}
+
+// What an image holds.
+fn push_note(
+    json: &mut Json,
+    paths: &Paths,
+    image: usize,
+    note: &Note,
+) -> Result<(), NoMemory>
+    ensures { OnOk result (json.new
+        ≡ json.old ++ json_tokens (note_json paths.now (image, note.now))) }
+{
+    let fields = [
+        ("image", Scalar::Number(image as u64)),
+        ("path", Scalar::MaybeWord(paths.get(image))),
+        ("sequence", Scalar::Maybe(sequence_of(note))),
+    ];
+    json.object(&fields)
+}
+
+// What each image holds.
+fn push_notes(json: &mut Json, paths: &Paths, notes: &[Note]) -> Result<(), NoMemory>
+    ensures { OnOk result (json.new
+        ≡ json.old ++ flat_map json_tokens (note_jsons paths.now notes.now)) }
+{
+    for (image, note) in notes.iter().enumerate() {
+        push_note(json, paths, image, note)?;
+    }
+    Ok(())
+}
+
+fn is_editable(found: &Found) -> bool
+    ensures { result ≡ is_none found.now.blocked }
+{
+    match &found.blocked {
+        None => true,
+        Some(_) => false,
+    }
+}
+
+// The line, where these say why the group may not be edited.
+fn check_with<'a>(
+    alloc: Global,
+    paths: &Paths,
+    found: &Found,
+    kind: Scalar<'a>,
+    reason: Scalar<'a>,
+) -> Result<Bytes, NoMemory>
+    requires kind { json_of kind ≡ kind_json found.now.blocked }
+    requires reason { json_of reason ≡ reason_json found.now.blocked }
+    ensures { IfOk result (λ text. text ≡ line_of_json (check_json paths.now found.now)) }
+{
+    let fields = [
+        ("editable", Scalar::Flag(is_editable(found))),
+        ("kind", kind),
+        ("reason", reason),
+    ];
+    let mut json = Json::new(alloc);
+    json.open(&fields, "images")?;
+    push_notes(&mut json, paths, found.notes.as_slice())?;
+    json.close()?;
+    json.into_line()
+}
+
+/// The JSON of what each image holds, and of whether the group may be edited, on a line.
+pub(crate) fn check_line(alloc: Global, paths: &Paths, found: &Found) -> Result<Bytes, NoMemory>
+    ensures { IfOk result (λ text. text ≡ line_of_json (check_json paths.now found.now)) }
+{
+    match &found.blocked {
+        None => check_with(alloc, paths, found, Scalar::Null, Scalar::Null),
+        Some(fault) => {
+            let text = fault_text(alloc, fault)?;
+            let kind = Scalar::Word(kind_word(fault));
+            check_with(alloc, paths, found, kind, Scalar::Said(text.as_slice()))
+        }
+    }
+}

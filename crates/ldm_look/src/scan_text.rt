@@ -1,0 +1,246 @@
+//! What is said of images that were scanned.
+ghost use Rattle.std.specs.Prelude.{◌≡◌, ◌++◌, OnOk, IfOk, flat_map, map, codes};
+ghost use Rattle.std.specs.List.{enumerate_from};
+
+ghost use Rattle.json.specs.Tree.{json_tokens};
+ghost use Rattle.std.specs.Option.{option_map};
+ghost use Rattle.ldm_look.specs.declared.scanned.Scanned.TheVariants as Scanned;
+ghost use Rattle.ldm_json.specs.Values.{line_of_json};
+ghost use Rattle.ldm_look.specs.Scan.{text_of_member_disk, text_of_member, text_of_scanned};
+ghost use Rattle.ldm_look.specs.Scan.{line_of_scanned, text_of_scan, refused_json, scanned_json};
+ghost use Rattle.ldm_look.specs.Scan.{scan_jsons, scan_json};
+
+use crate::scanned::{Member, Scanned};
+use ldm_bytes::{Bytes, NoMemory};
+use ldm_json::{Json, Scalar};
+use ldm_text::{Part, Text, copy_fault_text, label_fault_text, push_named, push_number, push_parts};
+use ldm_words::Paths;
+use std::alloc::Global;
+
+// The disk of a group.
+fn push_member_disk(text: &mut Text, disk: &Option<Bytes>) -> Result<(), NoMemory>
+    ensures { OnOk result (text.new ≡ text.old ++ text_of_member_disk disk.now) }
+{
+    match disk {
+        None => text.push(b" no disk "),
+        Some(name) => {
+            let parts = [
+                Part::Word(b" disk "),
+                Part::Name(name.as_slice()),
+                Part::Word(b" "),
+            ];
+            push_parts(text, &parts)
+        }
+    }
+}
+
+// The group of an image, and its disk.
+#[tactic(auto, unfolding(crate::specs::Scan::text_of_member))]
+fn push_member(text: &mut Text, m: &Member) -> Result<(), NoMemory>
+    ensures { OnOk result (text.new ≡ text.old ++ text_of_member m.now) }
+{
+    push_named(text, b" group ", m.group.as_slice(), m.group_guid)?;
+    push_member_disk(text, &m.disk)?;
+    text.push_guid(m.disk_guid)?;
+    push_number(text, b" sequence ", m.seq)?;
+    text.push(b"\n")
+}
+
+// refused: REASON, and the end of the line
+fn push_refused(text: &mut Text, fault: &[u8]) -> Result<(), NoMemory>
+    ensures { OnOk result (text.new ≡ text.old ++ (codes " refused: " ++ (fault.now ++ codes "\n"))) }
+{
+    let parts = [
+        Part::Word(b" refused: "),
+        Part::Word(fault),
+        Part::Word(b"\n"),
+    ];
+    push_parts(text, &parts)
+}
+
+// What follows image I.
+fn push_scanned(alloc: Global, text: &mut Text, scanned: &Scanned) -> Result<(), NoMemory>
+    ensures { OnOk result (text.new ≡ text.old ++ text_of_scanned scanned.now) }
+{
+    match scanned {
+        Scanned::BadLabel(fault) => {
+            let fault = label_fault_text(alloc, *fault)?;
+            push_refused(text, fault.as_slice())
+        }
+        Scanned::BadCopy(fault) => {
+            let fault = copy_fault_text(alloc, *fault)?;
+            push_refused(text, fault.as_slice())
+        }
+        Scanned::Closed(disk) => {
+            let parts = [
+                Part::Word(b" closed disk "),
+                Part::Guid(*disk),
+                Part::Word(b"\n"),
+            ];
+            push_parts(text, &parts)
+        }
+        Scanned::Open(m) => push_member(text, m),
+    }
+}
+
+// The line of an image.
+fn push_line(
+    alloc: Global,
+    text: &mut Text,
+    image: usize,
+    scanned: &Scanned,
+) -> Result<(), NoMemory>
+    ensures { OnOk result (text.new ≡ text.old ++ line_of_scanned (image, scanned.now)) }
+{
+    push_number(text, b"image ", image as u64)?;
+    push_scanned(alloc, text, scanned)
+}
+
+/// A line for each image.
+pub(crate) fn scan_text(alloc: Global, scanned: &[Scanned]) -> Result<Bytes, NoMemory>
+    ensures { IfOk result (λ text. text ≡ text_of_scan scanned.now) }
+{
+    let mut text = Text::new(alloc);
+    for (image, one) in scanned.iter().enumerate() {
+        push_line(alloc, &mut text, image, one)?;
+    }
+    Ok(text.into_bytes())
+}
+
+// The object of an image that is refused.
+fn push_refused_json<'a>(
+    json: &mut Json,
+    paths: &'a Paths,
+    image: usize,
+    fault: &'a [u8],
+) -> Result<(), NoMemory>
+    ensures { OnOk result (json.new
+        ≡ json.old ++ json_tokens (refused_json paths.now image fault.now)) }
+{
+    let fields = [
+        ("image", Scalar::Number(image as u64)),
+        ("path", Scalar::MaybeWord(paths.get(image))),
+        ("state", Scalar::Word("refused")),
+        ("group", Scalar::Null),
+        ("group_guid", Scalar::Null),
+        ("disk", Scalar::Null),
+        ("disk_guid", Scalar::Null),
+        ("sequence", Scalar::Null),
+        ("reason", Scalar::Said(fault)),
+    ];
+    json.object(&fields)
+}
+
+// The object of an image whose copy is closed.
+fn push_closed_json(
+    json: &mut Json,
+    paths: &Paths,
+    image: usize,
+    disk: u128,
+) -> Result<(), NoMemory>
+    ensures { OnOk result (json.new
+        ≡ json.old ++ json_tokens (scanned_json paths.now (image, Scanned.Closed disk))) }
+{
+    let fields = [
+        ("image", Scalar::Number(image as u64)),
+        ("path", Scalar::MaybeWord(paths.get(image))),
+        ("state", Scalar::Word("closed")),
+        ("group", Scalar::Null),
+        ("group_guid", Scalar::Null),
+        ("disk", Scalar::Null),
+        ("disk_guid", Scalar::Guid(disk)),
+        ("sequence", Scalar::Null),
+        ("reason", Scalar::Null),
+    ];
+    json.object(&fields)
+}
+
+// The name of a disk.
+fn name_in(disk: &Option<Bytes>) -> Option<&[u8]>
+    ensures { option_map (λ n. n.now) result ≡ disk.now }
+{
+    match disk {
+        Some(name) => Some(name.as_slice()),
+        None => None,
+    }
+}
+
+// The object of an image of a group.
+fn push_open_json<'a>(
+    json: &mut Json,
+    paths: &'a Paths,
+    image: usize,
+    m: &'a Member,
+) -> Result<(), NoMemory>
+    ensures { OnOk result (json.new
+        ≡ json.old ++ json_tokens (scanned_json paths.now (image, Scanned.Open m.now))) }
+{
+    let fields = [
+        ("image", Scalar::Number(image as u64)),
+        ("path", Scalar::MaybeWord(paths.get(image))),
+        ("state", Scalar::Word("open")),
+        ("group", Scalar::Name(m.group.as_slice())),
+        ("group_guid", Scalar::Guid(m.group_guid)),
+        ("disk", Scalar::MaybeName(name_in(&m.disk))),
+        ("disk_guid", Scalar::Guid(m.disk_guid)),
+        ("sequence", Scalar::Number(m.seq)),
+        ("reason", Scalar::Null),
+    ];
+    json.object(&fields)
+}
+
+// The object of an image.
+fn push_scanned_json(
+    alloc: Global,
+    json: &mut Json,
+    paths: &Paths,
+    image: usize,
+    scanned: &Scanned,
+) -> Result<(), NoMemory>
+    ensures { OnOk result (json.new
+        ≡ json.old ++ json_tokens (scanned_json paths.now (image, scanned.now))) }
+{
+    match scanned {
+        Scanned::BadLabel(fault) => {
+            let fault = label_fault_text(alloc, *fault)?;
+            push_refused_json(json, paths, image, fault.as_slice())
+        }
+        Scanned::BadCopy(fault) => {
+            let fault = copy_fault_text(alloc, *fault)?;
+            push_refused_json(json, paths, image, fault.as_slice())
+        }
+        Scanned::Closed(disk) => push_closed_json(json, paths, image, *disk),
+        Scanned::Open(m) => push_open_json(json, paths, image, m),
+    }
+}
+
+// The objects of all images.
+fn push_all_json(
+    alloc: Global,
+    json: &mut Json,
+    paths: &Paths,
+    scanned: &[Scanned],
+) -> Result<(), NoMemory>
+    ensures { OnOk result (json.new
+        ≡ json.old ++ flat_map json_tokens (scan_jsons paths.now scanned.now)) }
+{
+    for (image, one) in scanned.iter().enumerate() {
+        push_scanned_json(alloc, json, paths, image, one)?;
+    }
+    Ok(())
+}
+
+/// An array with an object for each image, on a line.
+pub(crate) fn scan_line(
+    alloc: Global,
+    paths: &Paths,
+    scanned: &[Scanned],
+) -> Result<Bytes, NoMemory>
+    ensures { IfOk result (λ text. text ≡ line_of_json (scan_json paths.now scanned.now)) }
+{
+    let mut json = Json::new(alloc);
+    json.begin_array()?;
+    push_all_json(alloc, &mut json, paths, scanned)?;
+    json.end_array()?;
+    json.into_line()
+}
