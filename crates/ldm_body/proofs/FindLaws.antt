@@ -311,7 +311,7 @@ module _ (blocks places : List ℕ) (has : HasPlaces blocks (count blocks) place
       ap (λ (x : ℕ). x ∷ map f (numbers_from (a + 1) n)) (same a (omega arith) (omega arith))
       ∙ ap (λ (l : List ℕ). h a ∷ l) (mapped f h (a + 1) n (λ p low high. same p (omega (arith, low)) (omega (arith, high))))
 
-  -- so the slots are those by the heads
+  -- the slots of a record by the table of places are those by the heads of the blocks
   pub slots_are_by : (number n : ℕ) → 4 ≤ number → number < count blocks + 4 → 1 ≤ n → n ≤ 4 → slots_in places number n ≡ slots_by blocks number n
   unfolding slots_by
   slots_are_by number n low high some few =

@@ -124,7 +124,7 @@ impl<T: Drop> From<AllocFailed<T>> for BodyError {
     }
 }
 
-// So many bytes of the copy on a disk, from its gate on.
+// The first `len` bytes of the copy on a disk, from its gate on.
 fn copy_bytes<H: Host>(
     alloc: Global,
     host: &mut H,

@@ -105,7 +105,7 @@ fn spellings(alloc: Global, records: &[Record]) -> Result<Vec<Bytes>, NoMemory>
     Ok(list)
 }
 
-// So many blocks that hold the payloads one after the other, which they have room for.
+// The blocks that hold the payloads one after the other, of which there are enough.
 fn blocks_of(alloc: Global, payloads: &[Bytes], blocks: u32) -> Result<Bytes, NoMemory>
     requires sized { All IsSized payloads.now }
     requires few { blocks ≤ 8192 }
@@ -119,8 +119,8 @@ fn blocks_of(alloc: Global, payloads: &[Bytes], blocks: u32) -> Result<Bytes, No
     }
 }
 
-// So many blocks that hold the records one after the other, each in its own spelling, which they
-// have room for.
+// The blocks that hold the records one after the other, each in its own spelling. There are
+// enough of them.
 fn blocks_with(alloc: Global, records: &[Record], blocks: u32) -> Result<Bytes, NoMemory>
     requires each { All IsFitting records.now }
     requires few { blocks ≤ 8192 }

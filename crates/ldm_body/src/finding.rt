@@ -249,7 +249,7 @@ fn are_of(found: &[Found], records: &[Record]) -> bool
     true
 }
 
-// Their slots.
+// The numbers of the blocks of each record that was found.
 fn slots_of(alloc: Global, found: &[Found]) -> Result<Vec<Slots>, NoMemory>
     ensures { IfOk result (λ table. table.items ≡ map (λ f. f.slots) found.now) }
 {

@@ -55,7 +55,7 @@ pub same_number_at : (xs ys : List ℕ) (at n : ℕ) → ((k : ℕ) → at ≤ k
 same_number_at xs ys at n same =
     same_from 0 n (drop at xs) (drop at ys) (λ k from to. get_or-drop at xs k 0 ∙ same (at + k) (omega arith) (omega arith) ∙ sym (get_or-drop at ys k 0))
 
--- so does a range
+-- lists of one length whose bytes in a range are alike have one range
 pub same_range : (xs ys : List ℕ) (from to : ℕ) → length xs ≡ length ys → ((k : ℕ) → from ≤ k → k < to → get_or xs k 0 ≡ get_or ys k 0)
     → slice_range xs from to ≡ slice_range ys from to
 same_range xs ys from to size same =

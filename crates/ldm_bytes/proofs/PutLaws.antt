@@ -23,7 +23,7 @@ ends_inside from size (field ∷ fields) order =
     let first = order.0 in
     omega arith
 
--- the same for the list in which the first was put
+-- the fields behind the first are in order in the list in which the first was put
 behind_first : (old : List ℕ) (from : ℕ) (field : ℕ × List ℕ) (fields : List (ℕ × List ℕ)) → InOrder from (length old) (field ∷ fields)
     → InOrder (field.0 + length field.1) (length (put old field.0 field.1)) fields
 behind_first old from field fields order =
@@ -71,7 +71,7 @@ field_there old from (field ∷ fields) zero d lt order = first_there old from f
 field_there old from (field ∷ fields) (suc i) d lt order =
     field_there (put old field.0 field.1) (field.0 + length field.1) fields i d (omega arith) (behind_first old from field fields order)
 
--- and so is a number of n bytes
+-- a number of n bytes, high byte first, is read back where its bytes stand
 pub number_there : (list : List ℕ) (at n v : ℕ) → v < 256 ^ n → slice_range list at (at + length (big_bytes n v)) ≡ big_bytes n v → big_number n (drop at list) ≡ v
 number_there list at n v small there =
     let len : at + length (big_bytes n v) - at ≡ n = omega (arith, length-bytes_high_first n v) in

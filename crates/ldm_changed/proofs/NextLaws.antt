@@ -236,7 +236,7 @@ unlisted_there old new j whole full lt same = elim (cases_lt j (length old)) [
       absurd (omega (arith, lengths, one, two, three, four, whole, full, lt, beyond))
 ]
 
--- so each byte behind the header that is in no changed block is that of the old body, which has it
+-- a byte behind the header that is in no changed block is that of the old body, which has it
 pub changes_from : (old sector blocks numbers : List ℕ) → length sector ≡ 512 → 512 ≤ length old → length (drop 512 old) ≡ 128 * count (drop 512 old)
     → length blocks ≡ 128 * count blocks → numbers ≡ changed_numbers (drop 512 old) blocks → ChangesFrom old (record { body = sector ++ blocks; numbers = numbers })
 changes_from old sector blocks numbers whole some even full is = record {

@@ -33,7 +33,7 @@ added_blocks old new = 4 * (new / 4 - old / 4)
 
 -- ---- records that stay or go
 
--- the record record_stays, or record_goes
+-- the record stays, or goes
 abbrev pub record_stays : List Record → Stored → Bool
 record_stays new s = has_record new s.record_is
 
@@ -49,7 +49,7 @@ pub record AreFreed (slots : List ℕ) (old new : List ℕ) : Type 0 where
   pub unused : All (λ b. block_at new b ≡ unused_block b) slots
   pub others : (b : ℕ) → 4 ≤ b → All (λ n. n ≢ b) slots → block_at new b ≡ block_at old b
 
--- where a record record_stays its slots are kept, else its blocks are freed
+-- where a record stays its slots are kept, else its blocks are freed
 abbrev pub KeepsOrFrees : Bool → List ℕ → List (List ℕ) → List (List ℕ) → List ℕ → List ℕ → Type 0
 KeepsOrFrees true slots kept next old new = (next ≡ kept ++ slots ∷ []) × (new ≡ old)
 KeepsOrFrees false slots kept next old new = (next ≡ kept) × AreFreed slots old new

@@ -144,7 +144,7 @@ pub fn next_body(alloc: Global, body: &Body, old: &Db, new: &Db) -> Result<Chang
     ensures few { IfOk result (λ change. length change.numbers
         ≤ touched_blocks old.now.records new.now.records
         + added_blocks (last_of (header_sector body.now)) new.now.header.last) }
-    // So writing them takes no more bytes than writing the whole body.
+    // To write the changed blocks takes no more bytes than to write the whole body.
     ensures most { IfOk result (λ change. 513 + 128 * length change.numbers
         ≤ length change.body + 1) }
 {

@@ -22,7 +22,7 @@ const THOUSANDS: [&str; 6] = ["kB", "MB", "GB", "TB", "PB", "EB"];
 
 const BINARIES: [&str; 6] = ["KiB", "MiB", "GiB", "TiB", "PiB", "EiB"];
 
-// So many bytes, and the names of the units of which each is so many of the one before.
+// A number of bytes, and the names of the units of which each is `step` of the one before.
 #[derive(Clone, Copy)]
 struct Amount {
     bytes: u64,
@@ -71,7 +71,8 @@ impl fmt::Display for Amount {
     }
 }
 
-/// So many bytes, after so many milliseconds. The text is in the manner of `dd status=progress`.
+/// How many bytes there were, after how many milliseconds. The text is in the manner of
+/// `dd status=progress`.
 #[derive(Clone, Copy, Debug)]
 pub struct Progress {
     pub bytes: u64,

@@ -102,7 +102,7 @@ area_length label image on =
 
 -- ---- the sectors of two images, one part after the other
 
--- the same so far, and in the next sectors
+-- ranges of two images are alike where their first m sectors are, and the n sectors behind these
 pub same_more : (x y : List ℕ) (f g m n k : ℕ) → k ≡ m + n → sectors_from f m x ≡ sectors_from g m y → sectors_from (f + m) n x ≡ sectors_from (g + m) n y
     → sectors_from f k x ≡ sectors_from g k y
 same_more x y f g m n k is before next =

@@ -50,7 +50,7 @@ fault_first [] (s ∷ records) joined more block fault before has at = absurd be
 fault_first (j ∷ list) [] joined more block fault before has at = absurd before
 fault_first (j ∷ list) (s ∷ records) joined more block fault before has at = inr ((s, before.0), fault_first list records joined more block fault before.1 has at)
 
--- the same of a list, by the place of the payload
+-- the first payloads of a list spell one record more where the next payload spells it
 pub spell_next : (list : List Joined) (i : ℕ) (records : List Record) (joined : Joined) (r : Record) → i < length list → joined ≡ get_or list i joined
     → SpellRecords (take i list) records → Spells (plain_of r) joined.payload → SpellRecords (take (i + 1) list) (records ++ r ∷ [])
 spell_next list i records joined r lt is before spells =

@@ -3,7 +3,7 @@ use Rattle.std.specs.Prelude.{◌≡◌, ℕ, ◌+◌, ◌*◌, ◌/◌, ◌≤�
 use Rattle.ldm_label.specs.declared.Label.{Label}
 use Rattle.ldm_copy.specs.Copy.{config_area}
 
--- so many sectors of an image, from this one on
+-- n sectors of an image, from this one on
 abbrev pub sectors_from : ℕ → ℕ → List ℕ → List ℕ
 sectors_from from n image = slice_range image (512 * from) (512 * (from + n))
 

@@ -357,7 +357,7 @@ left_image images i found fewer disk j is less core at = go (disk_in (by_id 2 di
               ∙ sym (ap (λ (o : Option Label). unwrap_or (option_map (λ (l : Label). l.data_start) o) 0) there));
         }
 
--- ---- A redundant volume reads the same without_place an image.
+-- ---- A redundant volume reads the same without an image.
 
 -- ---- exclusive-or
 
@@ -416,7 +416,7 @@ module _ (images : List (List ℕ)) (i : ℕ) (found fewer : Found) (is : IsGrou
   abbrev some : List (List ℕ)
   some = without_place i images
 
-  -- a place that is there without_place the image reads the same
+  -- a place that is there without the image reads the same
   place_same : (p : Option Place) (j : ℕ) → is_here fewer p ≡ true → byte_of some j (spot_at fewer p) ≡ byte_of images j (spot_at found p)
   place_same None j here = absurd cc
   place_same (Some place) j here = go (image_of place.disk fewer.db.records fewer.labels) refl here

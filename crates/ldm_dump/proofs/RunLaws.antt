@@ -99,7 +99,7 @@ pub copy_kept : (found : Found) (l : Layout) (x c : ℕ) → Some c ≡ first_co
 unfolding sources_of
 copy_kept found l x c is = sym (ap (λ (o : Option ℕ). is_none (sources_by found l x o (can_rebuild found l x))) is)
 
--- and one that isn't is lost where it can't be made
+-- a sector that is read from no copy is lost where it can't be made
 pub none_lost : (found : Found) (l : Layout) (x : ℕ) → None ≡ first_copy found l x → is_lost found l x ≡ not (can_rebuild found l x)
 unfolding sources_of
 none_lost found l x is = sym (ap (λ (o : Option ℕ). is_none (sources_by found l x o (can_rebuild found l x))) is) ∙ go (can_rebuild found l x)
@@ -110,7 +110,7 @@ none_lost found l x is = sym (ap (λ (o : Option ℕ). is_none (sources_by found
 
 -- ---- the copies so far
 
--- so many sectors lie side by side in each copy so far
+-- the next n sectors lie side by side in each copy in front of this one
 pub record Along (l : Layout) (x copy n : ℕ) : Type 0 where
   pub some : 0 < n
   pub within : x + n ≤ l.size
@@ -118,7 +118,7 @@ pub record Along (l : Layout) (x copy n : ℕ) : Type 0 where
   pub own : (i : ℕ) → 0 < copy → i < n → l.shape ≡ Raid5 → own_column l (x + i) ≡ own_column l x
   pub columns : (i column : ℕ) → 0 < copy → i < n → l.shape ≡ Raid5 → column_in l (x + i) column ≡ option_map (moved i) (column_in l x column)
 
--- and none of them is on an image
+-- no copy of the sector in front of this one is on an image
 abbrev pub AllAbsent : Found → Layout → ℕ → ℕ → Type 0
 AllAbsent found l x copy = (c : ℕ) → c < copy → is_here found (place_in l x c) ≡ false
 
@@ -493,7 +493,7 @@ none_before found l n y tiled columned kept lt =
     let e = early found l y tiled columned is in
     true≢false (sym e.lost ∙ kept e.column (chunk_below l.chunk e.column n y e.low lt)))
 
--- and none at all, where those of all columns aren't
+-- no sector is lost where the first sectors of all columns aren't
 pub none_there : (found : Found) (l : Layout) (y : ℕ) → is_tiled l.shape ≡ false → IsColumned l → ((c : ℕ) → c < length (columns_of l) → is_lost found l (l.chunk * c) ≡ false) → is_lost found l y ≡ false
 none_there found l y tiled columned kept =
     false_from_ne_true (is_lost found l y) (λ is. let e = early found l y tiled columned is in true≢false (sym e.lost ∙ kept e.column e.there))

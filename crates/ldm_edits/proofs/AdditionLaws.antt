@@ -64,7 +64,7 @@ added_none {records} {old} {new} are adds = record {
   low = rw adds.last are.low;
 }
 
--- and the group of both is the same
+-- the group with the records that are added is the same where none is added
 pub same_group : (db : Database) {old new : Additions} → AddsNone old new → with_added db new ≡ with_added db old
 same_group db adds = rw (adds.records, adds.last)
 
@@ -213,7 +213,7 @@ module _ (db : Database) (up : Rising db.records) where
   pub with_none : (a : Additions) → a.records.items ≡ [] → a.last ≡ db.header.last → with_added db a ≡ db
   with_none a none same = rw (none, same, append-nil, ← in_its_order)
 
-  -- and what is kept beside it is the group's
+  -- where no record is added, what is kept beside the records is the group's
   pub none_added : (a : Additions) → a.records.items ≡ [] → AreMapsOf a.maps (taken_in db.records) → a.need ≡ need_of db.records
       → a.max_id ≡ max_id db.records → a.last < 2 ^ 32 → AreAdditions db.records a
   none_added a none maps need top low = record {

@@ -41,7 +41,7 @@ no_twin wanted at d lt none so_far = rw none at (so_far ∙ ap has_twins (drop_m
 abbrev pub asked_of : (ℕ → ℕ) → ℕ → Option Disk → Option Wanted
 asked_of sectors size disk = option_map (λ d. record { disk = d.head.id; limit = sectors d.head.id; size = size }) disk
 
--- so much of the words is asked, of disks whose sizes are numbers of the format
+-- the words in front of a place are asked for, of disks whose sizes are numbers of the format
 pub record AreAsked (sectors : ℕ → ℕ) (records : List Record) (words : List (List ℕ × ℕ)) (at : ℕ)
     (done : List Wanted) : Type 0 where
   pub asked : asked_for sectors records 0 words ≡ ahead done (asked_for sectors records at (drop at words))
@@ -193,7 +193,7 @@ module _ {db : Database} {labels : List Label} {words : List (List ℕ × ℕ)} 
   pub lie_apart : AreDisjoint (taken_in db.records) spots
   lie_apart = fits_apart wanted (taken_in db.records) spots first_fits
 
-  -- and where good sizes are asked for it is some sectors of a disk of the group
+  -- where good sizes are asked for, what is taken is some sectors of a disk of the group
   pub are_taken : max_id db.records < 2 ^ 64 → All (λ w. IsSize w.size) wanted
       → All (IsTaken db.records) spots
   are_taken ids sizes = taken_all (IsTaken db.records) wanted (taken_in db.records) spots first_fits
@@ -217,7 +217,7 @@ place_ok refusal o list h = grind (arith, common_steps)
 pub not_refused : {T : Type 0} (o : Option Refusal) (made : Result T Refusal) (next : T) → refused_or o made ≡ Ok next → (o ≡ None) × (made ≡ Ok next)
 not_refused o made next h = grind (arith, common_steps)
 
--- and so is what comes before
+-- a step that follows another makes something only where the first makes what it takes
 pub then_ok : {X Y : Type 0} (r : Result X Refusal) (next : X → Result Y Refusal) (made : Y) → and_then r next ≡ Ok made → (x : X) × (r ≡ Ok x) × (next x ≡ Ok made)
 then_ok r next made h = grind (arith, common_steps)
 
@@ -290,7 +290,7 @@ placed_taken layout {db} {labels} {wanted} {ts} grammar are low =
       each = are_taken are low (sizes_asked layout grammar good found);
     }
 
--- all are of one size
+-- each takes this number of sectors
 abbrev pub AllSized : ℕ → List Taken → Type 0
 AllSized size taken = All (λ t. t.size ≡ size) taken
 

@@ -122,7 +122,7 @@ held_verdict labels db draft command b c d is =
     ap (λ (n : ℕ). held_at n (next_of draft.db labels command)) (ap (λ (h : Header). h.seq) is.header)
     ∙ change_verdict labels db (Some draft) command b c d
 
--- and a draft as before
+-- a change of a draft comes to a draft of the group, or is refused
 change_kept : (labels : List Label) (db : Database) (draft : Drafted) (command : Command)
     → IsDraftOf labels db draft → IsGiven draft.db labels
     → IsCommand command → draft.db.header.seq < 2 ^ 64 - 1
@@ -149,7 +149,7 @@ some_draft : (labels : List Label) (db : Database) (draft : Drafted) → IsDraft
     → AreDrafts labels db (Some draft)
 some_draft labels db draft is d same = (let one : draft ≡ d = cc in subst (IsDraftOf labels db) one is)
 
--- so is the one that is open then, where what the line comes to keeps what it should if it is held,
+-- the batch that is open behind a line is a draft of the group, where a line that is held comes to one
 then_draft : (labels : List Label) (db : Database) (verdict : Verdict) (old : Option Drafted) (answer : Answer) (new : Option Drafted) → AreDrafts labels db old
     → (answer ≡ answers.Held → VerdictKeeps labels db verdict) → AnswersTo verdict old answer new → AreDrafts labels db new
 then_draft labels db verdict old (answers.Next next) new of keeps is = subst (AreDrafts labels db) (sym is.1) of
@@ -158,7 +158,7 @@ then_draft labels db verdict old answers.Held new of keeps is =
 then_draft labels db verdict old answers.Dropped new of keeps is = subst (AreDrafts labels db) (sym is.1) (no_draft labels db)
 then_draft labels db verdict old (answers.Refused refusal) new of keeps is = subst (AreDrafts labels db) (sym is.1) of
 
--- and a next group keeps what it should
+-- the next group that a line answers with keeps what it should of the group
 then_next : (labels : List Label) (db : Database) (verdict : Verdict) (old : Option Drafted) (answer : Answer) (new : Option Drafted) → VerdictKeeps labels db verdict
     → AnswersTo verdict old answer new → (next : Database) → answer ≡ answers.Next next → Keeps labels db next
 then_next labels db verdict old (answers.Next made) new keeps is next same =

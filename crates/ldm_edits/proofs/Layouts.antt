@@ -93,7 +93,7 @@ tiles_sum c at ts = sym (sum-map (λ (e : Extent). e.size) (tile_extents c at ts
 pub parts_taken : (c : ℕ) (extents : List Extent) (ts : List Taken) (parts : List Partition) → AreExtentsOf c extents ts → map extent_of parts ≡ extents → map taken_of parts ≡ ts
 parts_taken c extents ts parts are read = sym (map_map sectors_of extent_of parts) ∙ ap (map sectors_of) read ∙ are.taken_are
 
--- and are of the component
+-- partitions that a layout reads as these extents are the component's
 pub parts_own : (c : ℕ) (extents : List Extent) (ts : List Taken) (parts : List Partition) → AreExtentsOf c extents ts → map extent_of parts ≡ extents → (p : Partition) → Contains parts p → p.parent ≡ c
 parts_own c extents ts parts are read p at =
     All-contains (λ (e : Extent). e.component ≡ c) extents (extent_of p) are.own

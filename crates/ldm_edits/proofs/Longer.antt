@@ -157,7 +157,7 @@ module _ {labels : List Label} {old : List Record} {change : Change} {v w : Volu
   cross r (kinds.Partition x) at (s, here, made) = place_below r x (max_id old) (max_above old r at.0) is.low ((is.wider.each s here).each x made).above
   cross r _ at made = absurd made
 
-  -- so the next group has its order
+  -- the next group is in rising order
   pub longer_rises : Rising (in_order (change.stay ++ change.made))
   longer_rises =
       next_rises change.stay change.made (rw is.stay (AllPairs-filter Below (λ r. not (is.t r)) old up)) (rw is.made rise)

@@ -137,7 +137,7 @@ module _ {db : Database} {old : Additions} {own : List Record} {p : Replacing}
 
 -- ---- where no limit is passed
 
--- and the blocks that all records take then are known
+-- the volume may be replaced within the limits, and this is how many blocks all records take then
 pub record IsReplaced (db : Database) (labels : List Label) (old : Additions) (own : List Record) (p : Replacing)
     (need : ℕ) : Type 0 where
   pub may : MayReplace db old own p

@@ -64,7 +64,7 @@ module _ {labels : List Label} {old next : List Record} {new : List Partition} (
                 (apart_new (taken_in old) (map taken_of new) j i (taken_of p) placed.free high (omega arith)))
           ]
 
--- so what a change carries over keeps the rules, where no two volumes have one name
+-- the next group keeps the rules where a change carries the others over, the new partitions are placed, and no two volumes have one name
 pub placed_carried : (labels : List Label) (old next : List Record) (new : List Partition) → Carries old next
     → EachRule old labels → ArePlaced labels old next new
     → first_broken (has_namesake (λ name. count_by (is_volume_named name) next)) next ≡ None → EachRule next labels
@@ -73,7 +73,7 @@ placed_carried labels old next new carries each placed names =
 
 -- ---- components with new partitions
 
--- so a volume that is new or changed leaves the rules kept
+-- a volume that is new or changed leaves the rules kept
 pub remade_each : {old next : List Record} {q : ℕ} {w : Volume} {ss : List Share} → IsRemade old next q w ss → KeepsVolume next w → (labels : List Label) → EachRule old labels
     → AllEndWithin (data_size labels old) (map taken_of (parts_of ss))
     → AreDisjoint (taken_in old) (map taken_of (parts_of ss))

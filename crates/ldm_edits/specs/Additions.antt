@@ -1,4 +1,4 @@
--- The records that the creates of a batch add to a group, and what is kept beside them.
+-- The records that a batch has added to its group, also where it extends or deletes, and what is kept beside them.
 use Rattle.std.specs.Prelude.{◌≡◌, ◌+◌, fold, max, ◌-◌, ◌^◌, ◌<◌, ◌++◌, true, List, Result, Ok, Err}
 use Rattle.std.specs.Global.{Vec}
 use Rattle.ldm_records.specs.declared.types.Record.{Record}
@@ -43,7 +43,7 @@ pub record AddsVolume (old new : Additions) (made : List Record) (maps : FreeMap
   pub last : new.last ≡ last_for old.last new.need
   pub low : new.last < 2 ^ 32
 
--- nothing is
+-- no record is added; the blocks, the greatest id, the last VBLK sequence, and what the maps are of stay
 pub record AddsNone (old new : Additions) : Type 0 where
   pub records : new.records.items ≡ old.records.items
   pub maps : (taken : List Taken) → AreMapsOf old.maps taken → AreMapsOf new.maps taken

@@ -47,7 +47,7 @@ made_for (layouts.Stripe chunk len disks) id name guid taken = stripe_made id na
 made_for (layouts.Mirror len disks) id name guid taken = mirror_made id name guid len taken
 made_for (layouts.Raid5 chunk len disks) id name guid taken = raid5_made id name guid chunk len taken
 
--- and how many they are
+-- how many records a new volume of this layout has
 abbrev pub fresh_for : NewLayout → ℕ
 fresh_for (layouts.Span pieces) = 2 + length pieces
 fresh_for (layouts.Stripe chunk len disks) = 2 + length disks

@@ -45,7 +45,7 @@ component_holds records c = held_in (by_offset (extents_of c.head.id records))
 abbrev pub grown_components : List Component → List (Option Record)
 grown_components cs = map (λ c. option_map kinds.Component (with_children c (c.children + 1))) cs
 
--- and a partition for each, from an id on, behind those that it has
+-- a new partition for each component, with ids from one on, behind the partitions that the component has
 abbrev pub grown_parts : List Record → ℕ → List Component → List Taken → List (Option Record)
 grown_parts records id [] taken = []
 grown_parts records id (c ∷ cs) [] = []

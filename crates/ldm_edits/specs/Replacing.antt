@@ -35,7 +35,7 @@ abbrev pub stands_in : Bool → Record → Bool
 stands_in true r = is_front r
 stands_in false r = not (is_front r)
 
--- all are
+-- every record is the group's or a disk's
 abbrev pub AreFront : List Record → Type 0
 AreFront records = All (λ r. is_front r ≡ true) records
 
@@ -48,7 +48,7 @@ pub record ShowsAs (own all : List Record) (v : Volume) : Type 0 where
   pub components : filter (is_child 3 v.head.id) own ≡ filter (is_child 3 v.head.id) all
   pub partitions : (id : ℕ) → list_any (λ plex. plex.id == id) (plexes_of v.head.id all) ≡ true → filter (is_child 4 id) own ≡ filter (is_child 4 id) all
 
--- and found by its name
+-- The volume of this name among all records is that among these, and is there as among all.
 pub record ShowsNamed (own all : List Record) (name : List ℕ) : Type 0 where
   pub volume : Volume
   pub named : volume_named name all ≡ Some volume

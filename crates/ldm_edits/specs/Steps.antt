@@ -60,7 +60,7 @@ abbrev pub at_once : Result Database Refusal → Verdict
 at_once (Ok next) = verdicts.Next next
 at_once (Err refusal) = verdicts.Refused refusal
 
--- and in a batch, where it changes the draft alone, which keeps the sequence
+-- what a change comes to in a batch: it changes the draft alone, which keeps the sequence
 abbrev pub held_at : ℕ → Result Database Refusal → Verdict
 held_at seq (Ok next) = verdicts.Hold (record { db = at_seq seq next; filled = true })
 held_at seq (Err refusal) = verdicts.Refused refusal
@@ -110,7 +110,7 @@ VerdictKeeps labels db (verdicts.Hold draft) = IsDraftOf labels db draft
 VerdictKeeps labels db verdicts.GiveUp = Unit {0}
 VerdictKeeps labels db (verdicts.Refused refusal) = Unit {0}
 
--- the same where the batch is handed over: what is answered, and the batch that is open then
+-- a line with this verdict, to which the batch was handed over, has this answer, and then this batch is open
 abbrev pub AnswersTo : Verdict → Option Drafted → Answer → Option Drafted → Type 0
 AnswersTo verdict old (answers.Next next) new = (verdict ≡ verdicts.Next next) × (new ≡ old)
 AnswersTo verdict old answers.Held new = (draft : Drafted) × (verdict ≡ verdicts.Hold draft) × (new ≡ Some draft)

@@ -20,7 +20,7 @@ use ldm_space::Wanted;
 use ldm_words::Piece;
 use std::alloc::Global;
 
-// So many sectors of the disk of this name.
+// This number of sectors on the disk of this name.
 fn wanted_of(db: &Db, labels: &Labels, name: &[u8], size: u64) -> Option<Wanted>
     ensures is { result ≡ option_map (λ d. record {
       disk = d.head.id;
@@ -61,7 +61,7 @@ pub fn asked_pieces(
     Ok(wanted)
 }
 
-/// So many sectors of each of these disks, or the refusal of the first that isn't there.
+/// This number of sectors on each of these disks, or the refusal of the first that isn't there.
 #[tactic(auto, using(crate::proofs::AskedLaws::asks_first, crate::proofs::AskedLaws::asks_all))]
 pub fn asked_disks(
     alloc: Global,

@@ -79,7 +79,7 @@ fn at_once(outcome: Outcome) -> Turn
     }
 }
 
-// And one in a batch, where the group has this sequence.
+// What a change in a batch comes to, where the group has this sequence.
 fn hold(alloc: Global, seq: u64, outcome: Outcome) -> Result<Turn, NoMemory>
     requires { (next : Database) → outcome ≡ Next next → All IsFitting next.records }
     ensures is { (step : Result Database Reason) → StepsAs outcome step

@@ -76,7 +76,7 @@ fn need_staying(db: &Db, leaving: Leaving) -> u64
     need
 }
 
-/// And those that are made.
+/// How many blocks these new records take.
 pub fn need_made(made: &[Record]) -> u64
     requires { All IsFitting made.now }
     ensures is { result ≡ need_of made.now }

@@ -17,7 +17,7 @@ pub fn take_closed_streams(rt: &HostRuntime) -> io::Result<()> {
         if null.as_raw_fd() >= STREAMS {
             break;
         }
-        // So it stays open.
+        // The descriptor stays open, as nothing owns it any more.
         let _ = null.into_raw_fd();
     }
     Ok(())

@@ -5,7 +5,7 @@ pub trait Watch {
     /// These bytes were said whole.
     fn said(&mut self, bytes: &[u8]);
 
-    /// So many bytes were to be read of an image.
+    /// This number of bytes was to be read of an image.
     fn read(&mut self, bytes: usize);
 }
 

@@ -165,7 +165,7 @@ fn long_blocks(record: &[u8; 301]) -> [u8; 512] {
     blocks
 }
 
-// So many blocks with that record.
+// This number of blocks, with the long record in them.
 fn split_long(alloc: Global, blocks: u8) -> Result<Bytes, SplitError> {
     let record = Bytes::from_slice(alloc, &long_record())?;
     let payloads = vec![in alloc; record].or(Err(SplitError::NoMemory))?;

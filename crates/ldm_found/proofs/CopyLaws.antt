@@ -101,7 +101,7 @@ gather_at Is (x ∷ xs) [] k d b all at = absurd all
 gather_at {B = B} Is (x ∷ xs) (c ∷ bs) zero d b all at = let same : c ≡ b = cc in subst (λ (e : B). Is x (Ok e)) same all.0
 gather_at Is (x ∷ xs) (c ∷ bs) (suc k) d b all at = gather_at Is xs bs k d b all.1 at
 
--- the same by the place in a list
+-- what is gathered of the front of a list goes on with what the next element is
 pub gather_next : {A B F : Type 0} (Is : A → Result B F → Type 0) (xs : List A) (i : ℕ) (bs : List B) (d : A) (b : B) → i < length xs
     → Gathers Is (take i xs) (Ok bs) → Is (get_or xs i d) (Ok b) → Gathers Is (take (i + 1) xs) (Ok (bs ++ b ∷ []))
 gather_next {A = A} {B = B} {F = F} Is xs i bs d b lt before here =
@@ -208,7 +208,7 @@ below_both Closed later seq below = (tt, below)
 below_both (Valid e) None seq below = (below, tt)
 below_both (Valid e) (Some at) seq below = below_chosen e at seq _ refl below
 
--- so each stands below what the newest stands below
+-- each open copy stands below what the newest stands below
 each_below : (copies : List CopyState) (seq k : ℕ) (e : Database) → IsBelow (newest copies) seq
     → slice_get copies k ≡ Some (Valid e) → e.header.seq < seq
 each_below [] seq k e below at = absurd cc
@@ -246,7 +246,7 @@ newest_at (x ∷ copies) at is = by x (newest copies) (λ b e. newest_at copies 
     by (Valid e) (Some b) there is = chosen e b (nat_lt e.header.seq b.1.header.seq) (there b refl)
         is
 
--- and no open copy has a greater sequence
+-- the copy at this place is open, and no open copy has a greater sequence
 pub record IsGreatest (copies : List CopyState) (at : ℕ × Database) : Type 0 where
   pub there : slice_get copies at.0 ≡ Some (Valid at.1)
   pub top : (k : ℕ) (e : Database) → slice_get copies k ≡ Some (Valid e) → e.header.seq ≤ at.1.header.seq
@@ -264,7 +264,7 @@ other_seq : (db : Database) (c : CopyState) → HasBelow c db.header.seq → Dis
 other_seq db Closed below differs = differs
 other_seq db (Valid e) below differs = let same = differs.0 in omega (arith, same, below)
 
--- so none disagrees with a database of a greater sequence
+-- no copy disagrees with a database of a greater sequence
 none_disagrees : (copies : List CopyState) (db : Database) → IsBelow (newest copies) db.header.seq → IsFirst (Disagrees db) copies None
 none_disagrees [] db below = tt
 none_disagrees (c ∷ copies) db below =

@@ -35,7 +35,7 @@ ReadsLabels images (Err (Fault fault)) = IsGroupIn images (Err fault)
 ReadsLabels images (Err Disk) = Unit {0}
 ReadsLabels images (Err NoMemory) = Unit {0}
 
--- the same, where no two are of one disk
+-- the labels of all images, no two of one disk, or a fault, which is the first
 abbrev pub ReadsDisks : List (List ℕ) → Result (List Label) OpenError → Type 0
 ReadsDisks images (Ok labels) = Gathers IsLabelOf images (Ok labels) × AreApart labels
 ReadsDisks images (Err (Fault fault)) = IsGroupIn images (Err fault)

@@ -45,7 +45,8 @@ fn check_group(alloc: Global, db: &Db, labels: &Labels) -> Result<(), OpenError>
     }
 }
 
-// The same, and that no other image has another group at the sequence of the newest copy.
+// That no other image has another group at the sequence of the newest copy, no image is of a
+// strange disk, and no rule is broken.
 fn check_newest(alloc: Global, newest: &Newest, labels: &Labels) -> Result<(), OpenError>
     ensures is { ChecksGroup result (first_of (newest_faults newest.now labels.now)) }
     ensures own { OnOk result (stranger newest.now.db.records labels.now ≡ None) }

@@ -100,7 +100,7 @@ count_before blocks j k s lt frag of =
     let none = none_there k j (is_mixed blocks (group blocks k) (parts blocks k)) lt (s.unmixed frag) in
     eqb-true _ _ (not-false (eqb (parts blocks j) (parts blocks k)) (rw of at none))
 
--- the same seen from the other one
+-- a fragment is of the group of each block that is of its group
 turned : (blocks : List ℕ) (j k : ℕ) → is_fragment blocks k ≡ true → is_of blocks (group blocks k) j ≡ true → is_of blocks (group blocks j) k ≡ true
 turned blocks j k frag of =
     let both = and_parts (is_fragment blocks j) (eqb (group blocks j) (group blocks k)) of in
@@ -309,7 +309,7 @@ pub fault_before : (blocks more : List ℕ) (k : ℕ) → k < count blocks → b
 fault_before blocks more k lt =
     fault_same (blocks ++ more) blocks k (λ j below. same_before blocks more j (omega arith)) (same_before blocks more k lt)
 
--- and so do the faults below a number
+-- the first fault among some blocks doesn't depend on the blocks behind them
 pub faults_before : (blocks more : List ℕ) → first_below (count blocks) (block_fault (blocks ++ more)) ≡ first_below (count blocks) (block_fault blocks)
 faults_before blocks more = first_same (count blocks) (block_fault (blocks ++ more)) (block_fault blocks) (fault_before blocks more)
 

@@ -49,7 +49,7 @@ part_of q p parent = ap (λ (b : Bool). b || false) (eq-eqb p.parent q parent)
 
 -- ---- ids that follow one another
 
--- their ids follow one another
+-- the ids of the records follow one another from this one on
 abbrev pub IdsFollow : ℕ → List Record → Type 0
 IdsFollow id [] = Unit {0}
 IdsFollow id (r ∷ rs) = (id_of r ≡ id) × IdsFollow (id + 1) rs

@@ -118,7 +118,7 @@ first_made k c xs = by (nat_lt k (length xs)) refl
 pub first_found : (t : Record → Bool) (records : List Record) → find t records ≡ first_in records (hits t records)
 first_found t records = find_at t records ∙ first_made (position_or_len t records) (count_by t records) records
 
--- and how many they are
+-- the hits that are made have this count
 count_made : (k n c : ℕ) → k ≤ n → (k ≡ n → c ≡ 0) → count_in (made k n c) ≡ c
 count_made k n c le none = grind arith
 

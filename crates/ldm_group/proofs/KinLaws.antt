@@ -156,11 +156,11 @@ found_of_kind kind t (r ∷ records) only = by (t r) refl (kind_of r == kind) re
     by true e false k rest = absurd (let yes = eq-eqb (kind_of r) kind (only r e) in cc)
     by false e false k rest = rest
 
--- so lists with the same records of that kind have the same first
+-- lists with the same records of a kind have the same first record of that kind that passes a test
 pub same_found : (kind : ℕ) (t : Record → Bool) (old next : List Record) → ((r : Record) → t r ≡ true → kind_of r ≡ kind) → of_kind kind old ≡ of_kind kind next → find t old ≡ find t next
 same_found kind t old next only same = found_of_kind kind t old only ∙ ap (find t) same ∙ sym (found_of_kind kind t next only)
 
--- and the same records of it
+-- lists with the same records of a kind contain the same records of it
 pub same_there : (kind : ℕ) (old next : List Record) (r : Record) → of_kind kind old ≡ of_kind kind next → kind_of r ≡ kind → Contains old r → Contains next r
 same_there kind old next r same is there =
     (filter_has (λ x. kind_of x == kind) next r (subst (λ (l : List Record). Contains l r) same (filter_keeps (λ x. kind_of x == kind) old r there (eq-eqb (kind_of r) kind is)))).0

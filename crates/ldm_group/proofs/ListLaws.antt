@@ -116,7 +116,7 @@ same_true true b to back = sym (to refl)
 same_true false true to back = back refl
 same_true false false to back = refl
 
--- nothing is there
+-- an option that isn't some is none
 pub none_some : {X : Type 0} (o : Option X) → is_some o ≡ false → o ≡ None
 none_some None h = refl
 none_some (Some x) h = absurd cc

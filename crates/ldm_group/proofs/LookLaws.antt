@@ -8,7 +8,7 @@ use Rattle.ldm_records.specs.declared.types.Record.{Record}
 use Rattle.ldm_group.specs.Order.{Rising, kind_of, id_of, place_of}
 use Rattle.ldm_group.specs.Looks.{is_at, by_id}
 
--- nothing is found only where no element passes
+-- where a search finds nothing, no element passes
 pub none_found : {X : Type 0} (t : X → Bool) (xs : List X) (k : ℕ) (d : X) → find t xs ≡ None → k < length xs → t (get_or xs k d) ≡ false
 none_found t [] k d e lt = absurd (omega (arith, lt))
 none_found {X} t (x ∷ xs) k d e lt = go (t x) refl e k lt (λ j f l. none_found t xs j d f l)

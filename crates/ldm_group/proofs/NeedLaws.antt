@@ -32,7 +32,7 @@ few_records (r ∷ records) =
     let rest : length records ≤ need_of records = few_records records in
     omega (arith, sum_by-cons (λ (r : Record). parts_of (own_len r)) r records)
 
--- and each payload may be written where the records fit
+-- each spelling may be written where the records fit
 pub sized_spellings : (records : List Record) → All IsFitting records → All IsSized (map (λ r. own_spelling (plain_of r)) records)
 unfolding own_len
 sized_spellings [] fitting = All-nil IsSized

@@ -37,7 +37,7 @@ one_place p (x ∷ xs) d h = elim (tested (p x)) [
       (suc rest.0, omega arith, rest.2))
 ]
 
--- and two where two are
+-- two elements pass where two are counted
 pub two_places : {X : Type 0} (p : X → Bool) (xs : List X) (d : X) → 2 ≤ count_by p xs
     → (i : ℕ) × (j : ℕ) × (i < j) × (j < length xs) × (p (get_or xs i d) ≡ true) × (p (get_or xs j d) ≡ true)
 two_places p [] d h = absurd (omega arith)

@@ -28,6 +28,6 @@ is_object kind id key = (kind == key.kind) && (id == key.id)
 abbrev pub at_object : {S : Type 0} → IndexMap ObjectId Hits S → ℕ → ℕ → Option Hits
 at_object map kind id = get_by (is_object kind id) map
 
--- and at a name
+-- what a map has at a name
 abbrev pub at_name : {A S : Type 0} → IndexMap (Vec ℕ A) Hits S → List ℕ → Option Hits
 at_name map name = get_by (λ key. bytes_eq name key.items) map

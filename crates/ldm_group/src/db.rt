@@ -115,7 +115,7 @@ impl Db {
         })
     }
 
-    /// The same database with this sequence. It takes no memory.
+    /// This database with another sequence. It takes no memory.
     pub fn with_seq(self, seq: u64) -> Db
         ensures { result ≡ at_seq seq self }
     {

@@ -92,7 +92,7 @@ fn note<K: Eq + Hash + Drop>(map: &mut IndexMap<K, Hits>, key: K, at: usize) -> 
     Ok(())
 }
 
-// The same of a name.
+// One more record, at this place, has the name.
 fn note_name(
     names: &mut IndexMap<Vec<u8>, Hits>,
     alloc: Global,

@@ -14,7 +14,7 @@ use std::test::Fail;
 const RAID5: &str =
     "2.2.50.2 2.3.51.3 2.4.52.4 3.5.0.0.24 4.6.0.0.5.3.4.3 5.7.0.0.12.6.4.0.3 5.8.0.0.12.6.2 5.9.0.0.12.6.3.0.2";
 
-// Their group, of which these disks are present.
+// The group of the RAID-5, of which these disks are present.
 fn found_on(alloc: Global, disks: &[u128]) -> Result<Found, Fail> {
     let db = database(alloc, 64, RAID5)?;
     let mut labels = Vec::new(alloc);

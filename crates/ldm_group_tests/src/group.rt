@@ -9,7 +9,7 @@ use std::test::Fail;
 const MIXED: &str =
     "5.1.71.0.8.7.2 2.3.65.65 3.6.68.1.8 4.7.67.1.6 1.9.70 3.4.68.1.8 2.2.65.65 4.1.67.1.6 5.8.68.0.8.7.2";
 
-// Their kinds and ids, as they stand.
+// The kinds and ids of those records, as they stand.
 const ORDER: [(u8, u64); 9] = [
     (1, 9),
     (2, 2),

@@ -25,7 +25,7 @@ fn group(alloc: Global) -> Result<Db, Fail>
     Ok(db)
 }
 
-// So many sectors of the disk, of which it has 50.
+// Some sectors of the disk, of which it has 50.
 fn wanted(size: u64) -> Wanted
     requires { 0 < size }
     ensures { result ≡ record { disk = 2; limit = 50; size = size } }

@@ -208,7 +208,8 @@ type Case = (
 const LONG: &str =
     "6.5.68.1.254 4.6.99.1.5.2 5.7.112.0.254.6.2 6.8.88.1.1.128 4.9.99.1.8.2 5.10.112.0.1.9.3";
 
-// The same, and a mirror that has a second size: 24 blocks with the disks.
+// A long volume of a span, one that has a second size, and a mirror that has one: 24 blocks with
+// the disks.
 const FULL: &str = "\
 6.5.68.1.255 4.6.99.1.5.2 5.7.112.0.255.6.2 6.8.88.1.1.128 4.9.99.1.8.2 5.10.112.0.1.9.3 \
 6.11.77.2.1.128 4.12.99.1.11.2 5.13.112.1.1.12.3 4.14.99.1.11.2 5.15.112.0.1.14.4";

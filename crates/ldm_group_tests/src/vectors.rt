@@ -88,7 +88,7 @@ fn row(image: &[u8], base: usize, row: &Row) -> Option<usize> {
     }
 }
 
-// The same of all rows of a table together.
+// How many bytes of all rows of a table aren't zero, where they stand in the image.
 fn rows(image: &[u8], base: usize, table: &[Row]) -> Option<usize> {
     let mut total: usize = 0;
     for one in table {

@@ -22,12 +22,12 @@ AtEachMoment start host P = (images : List (List ℕ)) (said : List ℕ) → hos
 abbrev pub Begins : List ℕ → List ℕ → Type 0
 Begins front whole = (rest : List ℕ) × (whole ≡ front ++ rest)
 
--- the same bytes, but for any bytes in a range
+-- the bytes stay, but for any bytes in a range
 pub record Torn (at n : ℕ) (old new : List ℕ) : Type 0 where
   pub size : length new ≡ length old
   pub outside : (k : ℕ) → (k < at) ⊎ (at + n ≤ k) → slice_index new k ≡ slice_index old k
 
--- the same images, but for any bytes in a range of one disk
+-- the images stay, but for any bytes in a range of one disk
 pub record TornAt (disk at n : ℕ) (old new : List (List ℕ)) : Type 0 where
   pub count : length new ≡ length old
   pub here : Torn at n (image old disk) (image new disk)
@@ -114,7 +114,7 @@ pub record Syncs (disk : ℕ) (old new : Seen) : Type 0 where
   pub left_others : (other : ℕ) (c : List ℕ) → other ≢ disk → new.may_leave other c ↔ old.may_leave other c
   pub moments : AtEachMoment old new (λ images said. Leaves old images × (said ≡ old.said))
 
--- Nothing is pending on a disk: a stop leaves what a read gives.
+-- A disk has no write pending: a stop leaves what a read gives.
 abbrev pub Settled : Seen → ℕ → Type 0
 Settled host disk = (c : List ℕ) → host.may_leave disk c → c ≡ image host.content disk
 

@@ -131,7 +131,7 @@ pub trait Host {
     /// What a stop may leave of a disk is bytes.
     ghost left_bytes: { (host : Self) (disk : ℕ) (c : List ℕ) → (seen host).may_leave disk c → IsBytes c };
 
-    /// So is what a stop could leave at any moment.
+    /// What a stop could leave at any moment is bytes.
     ghost bytes_since: { (host : Self) (t : ℕ) (images : List (List ℕ)) (said : List ℕ)
         → (seen host).left_since t images said → (disk : ℕ) → disk < length (seen host).sizes
         → IsBytes (image images disk) };

@@ -41,7 +41,7 @@ pub record AreUsualImages (disks : ℕ) (images : List (List ℕ)) : Type 0 wher
   pub count : length images ≡ disks
   pub each : (disk : ℕ) → disk < disks → IsUsualImage disk (image images disk)
 
--- the same image up to the end of that sector
+-- the image stays up to the end of sector 6161, which holds the header
 pub record KeepsHeader (old new : List ℕ) : Type 0 where
   pub size : length new ≡ length old
   pub before : (k : ℕ) → k < 512 * 6162 → slice_index new k ≡ slice_index old k

@@ -193,7 +193,7 @@ module _ (sizes guids : List ℕ) where
       slice_get-get_or (new_labels sizes guids) k none (omega (arith, lt, labels_count))
       ∙ ap Some (get_or-map-range_with_len (λ disk. new_label (slice_index sizes disk) (slice_index guids disk)) 0 (length guids) k k none lt (omega arith))
 
-  -- their GUIDs are those of the disks
+  -- the GUIDs of the new labels are those of the disks
   pub labels_guids : map (λ label. label.disk_guid) (new_labels sizes guids) ≡ guids
   labels_guids =
       let guid : Label → ℕ = λ label. label.disk_guid in

@@ -3,12 +3,12 @@ use Rattle.std.specs.Prelude.{◌≡◌, ◌≢◌, ◌⊎◌, ◌↔◌, ℕ, �
 use Rattle.ldm_host.specs.Seen.{Seen, Leaves, image}
 use Rattle.ldm_host.specs.Moves.{Later, Quiet, AtEachMoment}
 
--- the same image, but for any bytes at the places that aren't kept
+-- the image stays, but for any bytes at the places that aren't kept
 pub record SameAt (kept : ℕ → Type 0) (old new : List ℕ) : Type 0 where
   pub size : length new ≡ length old
   pub same : (k : ℕ) → kept k → slice_index new k ≡ slice_index old k
 
--- the same images, but for such bytes of one disk
+-- the images stay, but for any bytes of one disk at the places that aren't kept
 pub record SameAtOn (kept : ℕ → Type 0) (disk : ℕ) (old new : List (List ℕ)) : Type 0 where
   pub count : length new ≡ length old
   pub here : SameAt kept (image old disk) (image new disk)

@@ -40,7 +40,7 @@ ChecksDisks guids sizes images (Err (errors.Fault fault)) = IsFaultOf guids size
 ChecksDisks guids sizes images (Err errors.Disk) = Unit {0}
 ChecksDisks guids sizes images (Err errors.NoMemory) = ⊥
 
--- the same of images of whole disks
+-- this is the fault of whole disks that are to be a new group
 abbrev pub IsInitFault : List ℕ → List (List ℕ) → Option InitFault → Type 0
 IsInitFault guids images fault = IsFaultOf guids (map sectors_of images) images fault
 

@@ -26,7 +26,7 @@ NewOpens = (db : Database) (labels : List Label) (images : List (List ℕ)) → 
 abbrev pub HasOwnArea : ℕ → Label → Type 0
 HasOwnArea last label = (is_small last label ≡ false) × (clashes label ≡ false)
 
--- and it may be edited, where there are two disks at least
+-- a new group may be edited, where there are two disks at least
 abbrev pub NewIsEditable : Type 0
 NewIsEditable = (db : Database) (labels : List Label) → IsNewOn db.records labels → All (HasOwnArea db.header.last) labels
     → blocked_in db labels ≡ (if nat_lt (length labels) 2 then Some faults.FewDisks else None)

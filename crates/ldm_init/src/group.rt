@@ -23,7 +23,7 @@ use ldm_label::Label;
 use ldm_words::Guids;
 use std::alloc::Global;
 
-// So many bytes.
+// This number of zeros.
 fn zeros(alloc: Global, count: usize) -> Result<Vec<u8>, NoMemory>
     ensures { IfOk result (λ bytes. length bytes.items ≡ count) }
 {
@@ -119,7 +119,7 @@ pub fn init<H: Host>(
     requires count { length disks.now ≡ length (H.seen host.old).sizes }
     // Exactly the first fault of the disks is answered.
     ensures answers { H.tells_disks → InitAnswers disks.now (H.seen host.old).content result }
-    // Nothing is written after a fault or want of memory, nor where there is a fault, whatever is
+    // No byte is written after a fault or want of memory, nor where there is a fault, whatever is
     // answered.
     ensures unwritten { MayHaveWritten result ⊎ Still (H.seen host.old) (H.seen host.new) }
     ensures faulty { H.tells_disks → (fault : InitFault)

@@ -44,7 +44,7 @@ const GREATEST: &str = "\
 0.copy+500=56424c4b0000000a0000000a00000001000000330000002e0107027037
 0.copy+529=ffffffffffffffff 0.copy+539=08ffffffffffffffff01060104";
 
-// The same of one sector, from 2^64 - 2 on.
+// Block 10: the partition 7 on disk 4, of one sector, which is the sector 2^64 - 2.
 const LAST_SECTOR: &str = "\
 0.copy+500=56424c4b0000000a0000000a0000000100000033000000270107027037
 0.copy+529=fffffffffffffffe 0.copy+539=010101060104";

@@ -49,7 +49,7 @@ value_row : {A : Type 0} (there : Bool) (fault : LabelFault) (a value : A) (x : 
 value_row true fault a value x h e = absurd cc
 value_row false fault a value x h e = h e
 
--- and the answer is the value
+-- where rows of tests answer with a value, it is the one that was handed to them
 pub ok_value : {A : Type 0} (rows : List (LabelFault × Bool)) (a value : A) → answer rows a ≡ Ok value → a ≡ value
 ok_value [] a value e = cc
 ok_value (row ∷ rows) a value e = value_row row.1 row.0 a value (first_fault rows) (ok_value rows a value) e
@@ -291,7 +291,7 @@ none_differ : some_differ [] ≡ false
 unfolding some_differ
 none_differ = refl
 
--- where all were joined_tables, all that parse agree, and what they say is what the first says
+-- where all four were joined, all that parse agree, and what they say is what the first says
 pub joined_is : (read : ℕ → Option Toc) (xs : List ℕ) → all_joined read None xs ≡ answer ((TocsDiffer, some_differ (filter_map read xs)) ∷ []) (slice_get (filter_map read xs) 0)
 unfolding all_joined
 joined_is read [] = rw (none_differ) refl
@@ -305,7 +305,7 @@ none_left : (read : ℕ → Option Toc) (common : Option Toc) (i : ℕ) → 4 �
 unfolding all_joined
 none_left read common i le = rw (drop_all i places (omega arith)) refl
 
--- what is known of an image where some of the four were joined_tables
+-- what is known of an image where some of the four were joined
 module _ (image : List ℕ) (start : ℕ) (common : Option Toc) (i : ℕ)
     (so_far : all_joined (reads image start) None places ≡ all_joined (reads image start) common (drop i places)) where
   pub common_next : (toc next : Option Toc) (read : List ℕ) → i < 4 → read ≡ sector image (start + get_or places i 0) → toc ≡ toc_of read → Ok next ≡ joined_tables common toc
@@ -350,7 +350,7 @@ abbrev pub checked_of : {A : Type 0} → Result Toc LabelFault → A → Result 
 checked_of (Ok toc) value = Ok value
 checked_of (Err fault) value = Err fault
 
--- and where they agree, the rest is the test of what they say
+-- where the tables agree, the rest is the test of what they say
 pub tocs_ok : {A : Type 0} (tocs : List Toc) (common : Option Toc) (value : A)
     → answer ((TocsDiffer, some_differ tocs) ∷ []) (slice_get tocs 0) ≡ Ok common → answer (toc_faults tocs) value ≡ checked_of (in_database common) value
 unfolding toc_faults

@@ -102,7 +102,7 @@ IsOutsideArea label k =
     let area = label.config_start + label.area_start in
     (k < 512 * area) ⊎ (512 * (area + label.area_sectors) ≤ k)
 
--- the same image, but for any bytes in the config area
+-- the image stays, but for any bytes in the config area
 pub record SameOutsideArea (label : Label) (old new : List ℕ) : Type 0 where
   pub size : length new ≡ length old
   pub outside : (k : ℕ) → IsOutsideArea label k → slice_index new k ≡ slice_index old k

@@ -11,7 +11,7 @@ has_guid guid label = label.disk_guid == guid
 abbrev pub image_with : ℕ → List Label → Option ℕ
 image_with guid labels = position (has_guid guid) labels
 
--- and its label
+-- the label of the first image of the disk
 abbrev pub label_with : ℕ → List Label → Option Label
 label_with guid labels = find (has_guid guid) labels
 

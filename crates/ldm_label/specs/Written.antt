@@ -79,7 +79,7 @@ label_places label =
 abbrev pub IsOutsideLabel : Label → ℕ → Type 0
 IsOutsideLabel label k = All (λ place. k / 512 ≢ place) (label_places label)
 
--- the same image, but for any bytes in those sectors
+-- the image stays, but for any bytes in the sectors of the label
 pub record SameOutsideLabel (label : Label) (old new : List ℕ) : Type 0 where
   pub size : length new ≡ length old
   pub outside : (k : ℕ) → IsOutsideLabel label k → slice_index new k ≡ slice_index old k

@@ -34,7 +34,7 @@ none_of n k (x ∷ xs) above =
 none_below : {X : Type 0} (n : X → ℕ) (k : ℕ) (x : X) (xs : List X) → IsNonDecreasingBy n (x ∷ xs) → k < n x → of_number n k (x ∷ xs) ≡ []
 none_below n k x xs up h = none_of n k (x ∷ xs) (λ i d lt. let first : n x ≤ n (get_or (x ∷ xs) i d) = up 0 i d (omega arith) lt in omega arith)
 
--- so the first of two lists with the same elements of each number have one number
+-- a list that rises begins with no greater number than a list with the same elements of each number
 first_least : {X : Type 0} (n : X → ℕ) (x y : X) (xs ys : List X) → IsNonDecreasingBy n (x ∷ xs) → of_number n (n y) (x ∷ xs) ≡ of_number n (n y) (y ∷ ys) → n x ≤ n y
 first_least n x y xs ys up same = grind (arith, cases_lt, none_below, number_yes)
 

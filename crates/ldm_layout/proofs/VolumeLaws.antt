@@ -49,7 +49,7 @@ plexes_by q (kinds.Component c ∷ records) =
     [ true ↦ ap (λ (l : List Plex). plex_of c ∷ l) rest | false ↦ rest ]
 plexes_by q (r ∷ records) = plexes_by q records
 
--- and the partitions of a component
+-- the partitions of a component are what its children say
 pub extents_by : (q : ℕ) (records : List Record) → extents_of q records ≡ filter_map extent_in (filter (is_child 4 q) records)
 extents_by q [] = refl
 extents_by q (kinds.Partition p ∷ records) =

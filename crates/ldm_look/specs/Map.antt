@@ -63,6 +63,6 @@ text_of_sector disks l x = flat_map (text_of_copy_number disks l x) (range_with_
 abbrev pub text_of_sectors : (ℕ → Option MappedDisk) → Layout → ℕ → ℕ → List ℕ
 text_of_sectors disks l first count = flat_map (text_of_sector disks l) (range_with_len first count)
 
--- the same for a volume of the group with this layout
+-- the text of a map of some sectors of a volume of the group, which has this layout
 abbrev pub text_of_map : Found → Layout → ℕ → ℕ → List ℕ
 text_of_map found l first count = text_of_sectors (mapped_at found.labels found.db.records) l first count

@@ -165,7 +165,7 @@ component_is id parent layout children striping a b c d r is =
     let m = makes_component id parent layout children striping a b c d in
     m.made ∙ ap (λ (x : Record). Some x) (one_record (kinds.Component m.component) r (m.plain_is ∙ sym is))
 
--- the same component with another number of partitions
+-- a component is made again with another number of partitions
 pub record MakesChildren (c : Component) (children : ℕ) : Type 0 where
   pub component : Component
   pub made : with_children c children ≡ Some component
@@ -239,7 +239,7 @@ volume_is id name guid raid children size a b c d r is =
     let m = makes_volume id name guid raid children size a b c d in
     m.made ∙ ap (λ (x : Record). Some x) (one_record (kinds.Volume m.volume) r (m.plain_is ∙ sym is))
 
--- the same volume of another size
+-- a volume is made again with another size
 pub record MakesSize (v : Volume) (size : ℕ) : Type 0 where
   pub volume : Volume
   pub made : resized v size ≡ Some volume

@@ -22,7 +22,7 @@ left_on (Fill byte) disk = overlaid byte disk.pending disk.content
 abbrev pub left_of : Filling → Story → List (List ℕ)
 left_of filling story = map (left_on filling) (run (fresh_state story.first) story.calls).disks
 
--- So many calls end with the last sync of a disk, and there are none where it was never synced.
+-- The first `count` calls end with the last sync of a disk, and are none where it was never synced.
 pub record IsLastSync (calls : List Call) (disk count : ℕ) : Type 0 where
   pub within : count ≤ length calls
   pub is_sync : (count ≡ 0) ⊎ (get_or calls (count - 1) Nothing ≡ Sync disk)

@@ -21,7 +21,7 @@ IsNothing call = call ≡ Call.Nothing
 abbrev pub IsWriteOf : ℕ → ℕ → List ℕ → ℕ → Call → Type 0
 IsWriteOf disk at taken asked call = (copy : Vec ℕ Global) × (call ≡ Write disk at copy asked) × (copy.items ≡ taken)
 
--- so many of these bytes were, as the outcome says
+-- as many of these bytes were written as the outcome says
 abbrev pub IsWrite : Outcome → ℕ → ℕ → List ℕ → Call → Type 0
 IsWrite Whole disk at bytes call = IsWriteOf disk at bytes (length bytes) call
 IsWrite Half disk at bytes call = IsWriteOf disk at (first_half bytes) (length bytes) call
@@ -32,13 +32,13 @@ IsSync Whole disk call = call ≡ Sync disk
 IsSync Half disk call = IsNothing call
 IsSync Nothing disk call = IsNothing call
 
--- so many bytes of the script were heard, where so many had been before
+-- where the outcome is whole, some more bytes of the script were heard than before, else none
 abbrev pub IsHear : Outcome → ℕ → ℕ → Call → Type 0
 IsHear Whole heard later call = (count : ℕ) × (call ≡ Hear count) × (later ≡ heard + count)
 IsHear Half heard later call = IsNothing call × (later ≡ heard)
 IsHear Nothing heard later call = IsNothing call × (later ≡ heard)
 
--- so many bytes of the script were moved to the front of the buffer
+-- n bytes of the script were moved to the front of the buffer
 abbrev pub Moved : List ℕ → ℕ → ℕ → ℕ → List ℕ → Type 0
 Moved script heard later n buf = (drop heard script ≡ take n buf ++ drop later script)
     × (take later script ≡ take heard script ++ take n buf)
@@ -48,7 +48,7 @@ Moved script heard later n buf = (drop heard script ≡ take n buf ++ drop later
 abbrev pub IsSayOf : List ℕ → Call → Type 0
 IsSayOf bytes call = (copy : Vec ℕ Global) × (call ≡ Say copy) × (copy.items ≡ bytes)
 
--- so many of these bytes were, as the outcome says
+-- as many of these bytes were said as the outcome says
 abbrev pub IsSay : Outcome → List ℕ → Call → Type 0
 IsSay Whole bytes call = IsSayOf bytes call
 IsSay Half bytes call = IsSayOf (first_half bytes) call
@@ -60,21 +60,21 @@ is_whole Whole = true
 is_whole Half = false
 is_whole Nothing = false
 
--- the images, with bytes bytes_placed in one where it found memory
+-- the images, with these bytes in one of them where memory was found
 abbrev pub bytes_placed : Bool → ℕ → ℕ → List ℕ → List (List ℕ) → List (List ℕ)
 bytes_placed found disk at taken held = if found then set held disk (put (image held disk) at taken) else held
 
--- with so many of the bytes as the outcome says
+-- the images, with as many of the bytes in one of them as the outcome says
 abbrev pub held_after : Outcome → Bool → ℕ → ℕ → List ℕ → List (List ℕ) → List (List ℕ)
 held_after Whole found disk at bytes held = bytes_placed found disk at bytes held
 held_after Half found disk at bytes held = bytes_placed found disk at (first_half bytes) held
 held_after Nothing found disk at bytes held = held
 
--- what was said, and these bytes where it found memory
+-- what was said, and these bytes where memory was found
 abbrev pub said_more : Bool → List ℕ → List ℕ → List ℕ
 said_more found bytes said = if found then said ++ bytes else said
 
--- and so many of the bytes as the outcome says
+-- what was said, and as many of these bytes as the outcome says
 abbrev pub said_after : Outcome → Bool → List ℕ → List ℕ → List ℕ
 said_after Whole found bytes said = said_more found bytes said
 said_after Half found bytes said = said_more found (first_half bytes) said

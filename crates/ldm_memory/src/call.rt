@@ -10,11 +10,11 @@ pub enum Call {
         bytes: Vec<u8>,
         asked: usize,
     },
-    /// Nothing is pending on the disk from then on.
+    /// The disk has no write pending from then on.
     Sync {
         disk: usize,
     },
-    /// So many bytes of the input were heard.
+    /// This number of bytes of the input was heard.
     Hear {
         count: usize,
     },

@@ -45,7 +45,7 @@ fn copies(alloc: Global, images: &[Vec<u8>]) -> Result<Vec<Vec<u8>>, AllocError>
     Ok(all)
 }
 
-// So many counts of 0.
+// This number of counts of 0.
 fn zeros(alloc: Global, count: usize) -> Result<Vec<u64>, AllocError>
     ensures { IfOk result (λ all. all.items ≡ replicate count 0) }
 {

@@ -93,7 +93,7 @@ pub rest_is : (o : Opening) (type : ℕ) (kinds : List FieldKind) (rest : List �
 unfolding rest_at
 rest_is o type kinds rest x e = rw e refl
 
--- the same of what was returned
+-- what was returned is the record with the fields after the name, where these were read
 pub rest_gives : (o : Opening) (type : ℕ) (kinds : List FieldKind) (rest : List ℕ) (x : List Value × List ℕ) (r : Result Record RecordError)
     → read_values (drop 2 kinds) rest ≡ Some x → Gives plain_of r (with_room o.room (opened o type x)) → Gives plain_of r (rest_at o type kinds rest)
 rest_gives o type kinds rest x r e g = subst (λ (read : Option Plain). Gives plain_of r read) (sym (rest_is o type kinds rest x e)) g

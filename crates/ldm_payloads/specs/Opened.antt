@@ -12,7 +12,7 @@ use Rattle.ldm_payloads.specs.Steps.{◌>>=◌, read_values, with_room}
 abbrev pub opened : Opening → ℕ → List Value × List ℕ → Plain
 opened o type x = made o.mark o.flags type (Number o.id ∷ Text o.name.now ∷ x.0, x.1)
 
--- the same of a head and a tail
+-- the record of this type with a head, these values after the name, and a tail
 abbrev pub ended : ℕ → List Value → Head × List ℕ → Plain
 ended type values x = made x.0.mark x.0.flags type (Number x.0.id ∷ Text x.0.name ∷ values, x.1)
 

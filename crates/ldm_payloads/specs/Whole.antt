@@ -15,7 +15,7 @@ GivesTyped type (Err errors.NoMemory) read = Unit {0}
 GivesTyped type (Err (errors.Fault faults.Malformed)) read = (read ≡ None) × (is_known type ≡ true)
 GivesTyped type (Err (errors.Fault (faults.UnknownType t))) read = (t ≡ type) × (is_known type ≡ false)
 
--- the same of a whole payload, which may be too short for a type byte
+-- what was returned of a whole payload, which may be too short for a type byte
 abbrev pub GivesWhole : List ℕ → Result Record RecordError → Option Plain → Type 0
 GivesWhole payload (Ok r) read = read ≡ Some (plain_of r)
 GivesWhole payload (Err errors.NoMemory) read = Unit {0}

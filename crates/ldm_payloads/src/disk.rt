@@ -25,7 +25,7 @@ pub struct Disk3Fields<'a> {
     pub tail: &'a [u8],
 }
 
-/// The same of version 4.
+/// The fields of a disk of version 4 after its name, and the tail, where they stand.
 #[derive(Clone, Copy)]
 pub struct Disk4Fields<'a> {
     pub guid: u128,

@@ -26,7 +26,7 @@ pub struct Group3Fields<'a> {
     pub tail: &'a [u8],
 }
 
-/// The same of version 4.
+/// The fields of a group of version 4 after its name, and the tail, where they stand.
 #[derive(Clone, Copy)]
 pub struct Group4Fields<'a> {
     pub fixed44: [u8; 44],

@@ -135,7 +135,7 @@ begins_behind at (e ∷ es) (suc k) d tiled h =
     let later : at + e.size ≤ (get_or es k d).offset = begins_behind (at + e.size) es k d (first_tile at e es tiled).1 (omega arith) in
     omega arith
 
--- so they rise by what doesn't fall from a tile to one behind it
+-- tiles rise by each number that doesn't fall from one tile to those behind it
 pub tiles_rise : (n : Extent → ℕ) (at : ℕ) (es : List Extent)
     → ((e f : Extent) → e.offset + e.size ≤ f.offset → n e ≤ n f) → tiles_from at es ≡ true
     → IsNonDecreasingBy n es
@@ -346,7 +346,7 @@ raid5_spot_inside P es u x d hu hk all h =
     let inside = raid5_inside (length es) u (least (sizes es)) x hu hk h in
     column_inside P es (raid5_column (length es) u x) (raid5_offset (length es) u x) d all inside.0 inside.2
 
--- and its parity too
+-- the parity of a RAID-5 sector lies inside an extent
 pub parity_spot_inside : (P : Extent → Type 0) (es : List Extent) (u x : ℕ) (d : Extent) → 0 < u → 2 ≤ length es → All P es → x < raid5_capacity (length es) u (least (sizes es)) → IsInside P (parity_spot es u x)
 parity_spot_inside P es u x d hu hk all h =
     let inside = raid5_inside (length es) u (least (sizes es)) x hu hk h in
@@ -364,7 +364,7 @@ pub parity_spot_shared : (es : List Extent) (u x y : ℕ) (e : Extent) (o : ℕ)
     → (x / (u * (length es - 1)) ≡ y / (u * (length es - 1))) × (x % u ≡ y % u)
 parity_spot_shared es u x y e o hu up f g = grind (arith, in_column, one_parity, rise_apart)
 
--- and the other way round
+-- two sectors in one row of chunks, at one offset in their chunks, have one parity
 pub parity_spot_same : (es : List Extent) (u x y : ℕ) → 0 < u → x / (u * (length es - 1)) ≡ y / (u * (length es - 1)) → x % u ≡ y % u → parity_spot es u x ≡ parity_spot es u y
 parity_spot_same es u x y hu rows rests = grind (arith, one_parity)
 

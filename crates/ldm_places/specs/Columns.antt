@@ -36,8 +36,8 @@ column_in l x column = option_map place_at (column_spot (columns_of l) l.chunk x
 abbrev pub moved : ℕ → Place → Place
 moved i place = record { disk = place.disk; sector = place.sector + i }
 
--- So many sectors from this one on, in front of the volume's end, lie side by side in this copy. In a RAID-5 they lie in one
--- chunk, so what is beside them in each column does too.
+-- A stretch of n sectors from this one on, in front of the volume's end, lies side by side in this copy. In a RAID-5 it lies in one
+-- chunk, and what is beside it in each column lies side by side too.
 pub record IsStretch (l : Layout) (x copy n : ℕ) : Type 0 where
   pub some : 0 < n
   pub within : x + n ≤ l.size

@@ -54,7 +54,7 @@ plex_capacity Stripe chunk es = stripe_capacity (length es) chunk (least (map (�
 plex_capacity Raid5 chunk es = raid5_capacity (length es) chunk (least (map (λ e. e.size) es))
 plex_capacity _ chunk es = sum_by (λ e. e.size) es
 
--- and that all of them hold
+-- the sectors of the volume that every component holds
 abbrev pub capacity_of : Layout → ℕ
 capacity_of l = least (map (plex_capacity l.shape l.chunk) l.plexes)
 
@@ -101,7 +101,7 @@ parity_at _ u es x = None
 abbrev pub spot_in : Layout → ℕ → ℕ → Option (Extent × ℕ)
 spot_in l x copy = option_and_then (λ es. plex_spot l.shape l.chunk es x) (slice_get l.plexes copy)
 
--- and where its parity does
+-- where the parity of sector x lies
 abbrev pub parity_spot_in : Layout → ℕ → Option (Extent × ℕ)
 parity_spot_in l x = option_and_then (λ es. parity_at l.shape l.chunk es x) (slice_get l.plexes 0)
 

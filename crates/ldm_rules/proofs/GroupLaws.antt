@@ -43,7 +43,7 @@ map_none f o h = grind (arith, common_steps)
 pub not_broken : (broken : Record → Bool) (records : List Record) (r : Record) → first_broken broken records ≡ None → Contains records r → broken r ≡ false
 not_broken broken records r sound at = grind (arith, none_found, map_none)
 
--- and one that holds of each record isn't
+-- a rule that holds of each record isn't broken
 pub none_broken : (broken : Record → Bool) (records : List Record) → ((r : Record) → Contains records r → broken r ≡ false) → first_broken broken records ≡ None
 none_broken broken records keeps = ap (option_map id_of) (find_none broken records (λ k d lt. keeps (get_or records k d) (Contains-get_or records k d lt)))
 
@@ -102,7 +102,7 @@ pub record SameHeads (old next : List Record) : Type 0 where
   pub there : (r : Record) → kind_of r ≤ 2 → Contains old r → Contains next r
   pub back : (r : Record) → kind_of r ≤ 2 → Contains next r → Contains old r
 
--- so they have the same disk records
+-- lists with the same group and disk records have the same disks
 pub same_disks : (old next : List Record) → SameHeads old next → HasSameDisks old next
 same_disks old next heads = kin_same (λ r. kind_of r == 2) old next heads.up heads.vp (λ r is. heads.there r (of_two r is)) (λ r is. heads.back r (of_two r is))
   where

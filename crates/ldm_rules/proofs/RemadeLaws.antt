@@ -312,7 +312,7 @@ module _ (v : Volume) (old next : List Record) (is : IsWithout v old next) where
       → c.parent ≡ w.head.id → Contains next (kinds.Component c)
   component_stays w there c at parent = is.there (kinds.Component c) at (ap (λ (n : ℕ). n == v.head.id) parent ∙ (is.back (kinds.Volume w) there).1)
 
-  -- and so do its partitions
+  -- a partition of a component that stays isn't of the volume that goes
   partition_stays : (c : Component) → Contains next (kinds.Component c) → (p : Partition) → p.parent ≡ c.head.id
       → is_of_volume v.head.id old (kinds.Partition p) ≡ false
   partition_stays c there p parent = elim (tested (is_of_volume v.head.id old (kinds.Partition p))) [
@@ -325,7 +325,7 @@ module _ (v : Volume) (old next : List Record) (is : IsWithout v old next) where
         absurd cc)
   ]
 
-  -- so each has the same children
+  -- each volume that stays has the same components
   components_stay : (w : Volume) → Contains next (kinds.Volume w) → SameComponents old next w.head.id
   components_stay w there = record { stay = λ c parent at. component_stays w there c at parent; back = λ c parent at. (is.back (kinds.Component c) at).0 }
 
@@ -385,7 +385,7 @@ block s = kinds.Component s.d ∷ records_of s.parts
 abbrev pub blocks : List Share → List Record
 blocks ss = flat_map block ss
 
--- their components rise, and the partitions of each
+-- the new components of blocks whose ids follow one another rise
 pub blocks_rise : (id : ℕ) (ss : List Share) → IdsFollow id (blocks ss) → Rising (news ss)
 unfolding place_of
 blocks_rise id [] h = λ i j d lt within. absurd (omega arith)

@@ -329,7 +329,7 @@ sound_from records labels each = grind (arith, all_none)
 next_none : (rule : ℕ) (o : Option ℕ) (rest : List (Option (ℕ × ℕ))) → first_of (broken_at rule o ∷ rest) ≡ None → (o ≡ None) × (first_of rest ≡ None)
 next_none rule o rest h = grind (arith, common_steps)
 
--- and each is kept where none is
+-- each rule is kept where none is broken
 pub sound_parts : (records : List Record) (labels : List Label) → IsSound records labels → EachRule records labels
 unfolding first_broken_rule name_rules tree_rules sector_rules
 sound_parts records labels sound =

@@ -57,14 +57,14 @@ pub record HasDisjointPlaces (records : List Record) : Type 0 where
   pub laid_out : AllLaidOut records
   -- each sector has a place, which lies in its own volume
   pub inside : (v : Volume) (l : Layout) (x copy : ℕ) → IsSector records v l x copy → IsSomeAnd (volume_place records v x copy) (LiesInOwn records v)
-  -- which no other has
+  -- no other sector has that place
   pub apart : (v w : Volume) (l m : Layout) (x y c d : ℕ) → IsSector records v l x c → IsSector records w m y d
       → volume_place records v x c ≡ volume_place records w y d → (v ≡ w) × (x ≡ y) × (c ≡ d)
-  -- and so has its parity,
+  -- the parity of each RAID-5 sector has a place, which lies in its own volume
   pub parity_inside : (v : Volume) (l : Layout) (x : ℕ) → IsRaid5Sector records v l x → IsSomeAnd (parity_of records v x) (LiesInOwn records v)
-  -- whose place no sector has,
+  -- no sector has the place of a parity
   pub beside : (v w : Volume) (l m : Layout) (x y d : ℕ) → IsRaid5Sector records v l x → IsSector records w m y d → parity_of records v x ≢ volume_place records w y d
-  -- and no parity but that of the same row
+  -- two sectors have one place of parity where they are of one volume and in one row, and only there
   pub shared : (v w : Volume) (l m : Layout) (x y : ℕ) → IsRaid5Sector records v l x → IsRaid5Sector records w m y
       → (parity_of records v x ≡ parity_of records w y) ↔ ((v ≡ w) × IsSameRow l x y)
 
@@ -72,6 +72,6 @@ pub record HasDisjointPlaces (records : List Record) : Type 0 where
 abbrev pub SoundIsDisjoint : Type 0
 SoundIsDisjoint = (records : List Record) (labels : List Label) → Rising records → IsSound records labels → HasDisjointPlaces records
 
--- and its partitions end within the numbers of the format, where the labels' sizes are such numbers
+-- the partitions of a sound group end within the numbers of the format, where the labels' sizes are such numbers
 abbrev pub SoundEndsInRange : Type 0
 SoundEndsInRange = (records : List Record) (labels : List Label) → All (λ l. l.data_size < 2 ^ 64) labels → IsSound records labels → All EndsInRange records

@@ -15,7 +15,7 @@ use Rattle.ldm_rules.specs.declared.fault.RuleError.TheVariants.{Fault, NoMemory
 abbrev pub broken_at : ℕ → Option ℕ → Option (ℕ × ℕ)
 broken_at rule id = option_map (λ id. (rule, id)) id
 
--- each rule: those on the group record, GUIDs and names,
+-- the rules on the group record, GUIDs and names
 unfoldable pub name_rules : List Record → List (Option (ℕ × ℕ))
 name_rules records =
     broken_at 1 (group_fault (filter_map group_id records))
@@ -23,7 +23,7 @@ name_rules records =
     ∷ broken_at 3 (first_broken (has_namesake (λ name. count_by (is_volume_named name) records)) records)
     ∷ []
 
--- on parents and children,
+-- the rules on parents and children
 unfoldable pub tree_rules : List Record → List (Option (ℕ × ℕ))
 tree_rules records =
     broken_at 4 (first_broken (lacks_volume (λ id. count_by (is_at 3 id) records)) records)
@@ -33,7 +33,7 @@ tree_rules records =
     ∷ broken_at 8 (first_broken (miscounts_partitions (λ id. children_of 4 id records)) records)
     ∷ []
 
--- and on sectors
+-- the rules on sectors
 unfoldable pub sector_rules : List Record → List Label → List (Option (ℕ × ℕ))
 sector_rules records labels =
     broken_at 9 (first_broken has_no_sectors records)

@@ -105,7 +105,7 @@ fn are_apart(spans: &[Span]) -> bool
     true
 }
 
-// The same in rising order.
+// The spans of all partitions, in rising start.
 fn sorted_spans(alloc: Global, records: &[Record]) -> Result<Vec<Span>, NoMemory>
     requires { All EndsInRange records.now }
     ensures same { IfOk result (λ v. IsPermutation (filter_map span_of records.now) v.items) }

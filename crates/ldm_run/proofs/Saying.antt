@@ -26,7 +26,7 @@ failing old new TalkFault rose = record { none = λ has. has; no_usage = λ is. 
 failing old new NoMemory free = record { none = λ has. has; no_usage = λ is. cc; causes = record { disk = λ is. absurd cc; talk = λ is. absurd cc } }
 failing old new other never = absurd never
 
--- so it is since a sooner state
+-- a call that fails since a state fails since a sooner one
 pub failing_since : {old mid new : Seen} {status : Status} → Later old mid → Failing mid new status → Failing old new status
 failing_since {old} {mid} {new} {status} later fails = record { none = fails.none; no_usage = fails.no_usage; causes = causes_since old mid new status later fails.causes }
 
@@ -122,7 +122,7 @@ stopped {old = old} {new = new} {status = status} failed front still input = (le
 
 -- ---- What is heard piece by piece.
 
--- so many bytes more were heard
+-- n bytes more were heard
 pub takes_more : (old mid new : Seen) (taken bytes : List ℕ) (n : ℕ) → Takes old mid taken → n ≤ length bytes → mid.input ≡ take n bytes ++ new.input → new.heard ≡ mid.heard ++ take n bytes
     → length taken + n ≤ 1048577 → Takes old new (taken ++ take n bytes)
 takes_more old mid new taken bytes n first within input heard few = record {

@@ -26,7 +26,7 @@ use Rattle.ldm_run.specs.Written.{HoldsAfter}
 abbrev pub text_of_counts : (seed done refused : ℕ) → List ℕ
 text_of_counts seed done refused = codes "sample " ++ decimal seed ++ codes " ok " ++ decimal done ++ codes " refused " ++ decimal refused
 
--- and what the group is then
+-- the group's sequence, and how many blocks it has and needs, as text
 abbrev pub text_of_sample : (seq need room : ℕ) → List ℕ
 text_of_sample seq need room = codes " sequence " ++ decimal seq ++ codes " blocks " ++ decimal need ++ codes " of " ++ decimal room ++ codes "\n"
 

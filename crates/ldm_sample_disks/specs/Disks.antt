@@ -26,7 +26,7 @@ sample_label disk = record {
 abbrev pub sample_labels : ℕ → List Label
 sample_labels disks = map sample_label (range_with_len 0 disks)
 
--- so many zeros
+-- the bytes are this number of zeros
 pub record IsZeros (count : ℕ) (bytes : List ℕ) : Type 0 where
   pub size : length bytes ≡ count
   pub zeros : (k : ℕ) → slice_index bytes k ≡ 0

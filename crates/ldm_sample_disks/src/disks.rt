@@ -6,7 +6,7 @@ use ldm_bytes::NoMemory;
 use ldm_label::Label;
 use std::alloc::Global;
 
-/// So many zeros, as an image begins.
+/// This number of zeros, as an image begins.
 pub fn zeros(alloc: Global, count: usize) -> Result<Vec<u8>, NoMemory>
     ensures { IfOk result (λ bytes. IsZeros count bytes.items) }
 {

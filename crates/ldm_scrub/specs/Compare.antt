@@ -44,13 +44,13 @@ places_of l = filter (λ p. nat_lt (place_sector l p) l.size) (range_with_len 0 
 abbrev pub is_bad_at : List (List ℕ) → Found → Layout → ℕ → Bool
 is_bad_at images found l p = is_bad images found l (place_sector l p)
 
--- so many places there are
+-- the volume has this number of places
 pub record IsCount (l : Layout) (count : ℕ) : Type 0 where
   pub all : places_of l ≡ range_with_len 0 count
   pub each : (p : ℕ) → p < count → place_sector l p < l.size
   pub others : is_raid5 l.shape ≡ false → count ≡ l.size
 
--- So many sectors from this one on, in front of the volume's end, lie side by side in each copy.
+-- The n sectors from this one on, in front of the volume's end, lie side by side in each copy.
 pub record IsCommonRun (l : Layout) (x n : ℕ) : Type 0 where
   pub some : 0 < n
   pub within : x + n ≤ l.size

@@ -79,7 +79,7 @@ unfolding first_free_start
 none_is taken disk size len e q ends =
     not-false _ (first_none (suc (size - len)) 0 q (λ p. not (is_taken taken disk len p)) (sym (cond-false (ltb size len) None _ (le-ltb size len (omega arith))) ∙ e) (omega arith) (omega arith))
 
--- so what is found is the only one that is first
+-- the first free start is what is found
 pub is_first : (taken : List Taken) (disk size len p : ℕ) → IsFirstFree taken disk size len p → first_free_start taken disk size len ≡ Some p
 is_first taken disk size len p h = go (first_free_start taken disk size len) refl
   where
@@ -108,11 +108,11 @@ not_met taken disk len p t free at = grind (arith, false_from_ne_true, false≢t
 
 -- ---- a walk past what is taken
 
--- a step goes back nowhere,
+-- a step past what is taken never goes back
 pub past_on : (disk len at : ℕ) (o : Option Taken) → at ≤ past disk len at o
 past_on disk len at o = grind (arith, common_steps, ltb-true, and_parts)
 
--- skips no free start,
+-- a step past what is taken skips no free start
 pub past_taken : (taken : List Taken) (disk len at : ℕ) (t : Taken) (q : ℕ) → Contains taken t → at ≤ q → q < past disk len at (Some t) → is_taken taken disk len q ≡ true
 unfolding is_taken
 past_taken taken disk len at t q there above below = go (takes_one disk len at t) refl below
@@ -125,7 +125,7 @@ past_taken taken disk len at t q there above below = go (takes_one disk len at t
         let more : max q t.start < min (q + len) (t.start + t.size) = omega arith in
         list_any_at (takes_one disk len q) taken there.0 t there.1 (ap (takes_one disk len q) there.2 ∙ and_from (disk == t.disk) _ both.0 (lt-ltb _ _ more))
 
--- and stays only where it takes_one nothing
+-- a step stays only where the sectors from there on meet nothing that is taken
 pub past_stays : (disk len at : ℕ) (t : Taken) → past disk len at (Some t) ≡ at → takes_one disk len at t ≡ false
 past_stays disk len at t e = go (takes_one disk len at t) refl e
   where
@@ -133,7 +133,7 @@ past_stays disk len at t e = go (takes_one disk len at t) refl e
     go false met is = met
     go true met is = let lt : max at t.start < min (at + len) (t.start + t.size) = ltb-true _ _ (and_parts (disk == t.disk) _ met).1 in absurd (omega arith)
 
--- the same of a record of the group, which may be none that takes sectors
+-- a step past a record of the group, which may take no sectors, skips no free start
 pub record_taken : (records : List Record) (disk len at k : ℕ) (r : Record) (q : ℕ) → k < length records → get_or records k r ≡ r → at ≤ q → q < past disk len at (taken_by r) → is_taken (taken_in records) disk len q ≡ true
 record_taken records disk len at k r q lt is above below = go (taken_by r) refl below
   where
@@ -217,7 +217,7 @@ placed_same a b at (w ∷ more) same =
 
 -- ---- the walk
 
--- so many are placed, and the rest is placed beside them
+-- what is wanted in front of a place is placed, and the rest is placed beside it
 abbrev pub IsPlacedTo : List Taken → List Wanted → ℕ → List Taken → Type 0
 IsPlacedTo taken wanted at spots = placed taken 0 wanted ≡ ahead spots (placed (spots ++ taken) at (drop at wanted))
 
@@ -287,13 +287,13 @@ fits_within sectors (w ∷ more) taken (s ∷ spots) limits h =
 
 -- ---- what lies apart
 
--- from what was taken before all of them,
+-- what is placed lies apart from what was taken before
 pub apart_old : (taken new : List Taken) (a b : Taken) → AreDisjoint taken new → Contains new a → Contains taken b → clash a b ≡ false
 apart_old taken [] a b h (k, lt, is) there = absurd (omega arith)
 apart_old taken (t ∷ more) a b h (zero, lt, is) there = ap (λ (x : Taken). clash x b) (sym is) ∙ not_met taken t.disk t.size t.start b h.0 there
 apart_old taken (t ∷ more) a b h (suc k, lt, is) there = apart_old (t ∷ taken) more a b h.1 (k, omega arith, is) (suc there.0, (let n = there.1 in omega arith), there.2)
 
--- and from each other
+-- any two that are placed lie apart
 pub apart_new : (taken new : List Taken) (i j : ℕ) (d : Taken) → AreDisjoint taken new → i < j → j < length new → clash (get_or new j d) (get_or new i d) ≡ false
 apart_new taken [] i j d h lt within = absurd (omega arith)
 apart_new taken (t ∷ more) i zero d h lt within = absurd (omega arith)

@@ -187,7 +187,7 @@ on_disk records disk s = any_by_each (taken_on disk) (takes_one disk 1 s) record
 pub sorted_same : (records : List Record) (taken : List Taken) (disk s : ℕ) → IsPermutation (filter_map (taken_on disk) records) taken → is_taken taken disk 1 s ≡ is_taken (taken_in records) disk 1 s
 sorted_same records taken disk s moved = sym (taken_moved (filter_map (taken_on disk) records) taken disk 1 s moved) ∙ on_disk records disk s
 
--- and each of these is one of its sectors or more
+-- what is taken is one or more sectors of this disk
 pub record IsOn (disk : ℕ) (t : Taken) : Type 0 where
   pub on : t.disk ≡ disk
   pub some : 0 < t.size
@@ -241,7 +241,7 @@ pub taken_last : (taken : List Taken) (t : Taken) (disk s : ℕ) → is_taken (t
 unfolding is_taken
 taken_last taken t disk s = list_any-append (takes_one disk 1 s) taken (t ∷ [])
 
--- and then comes what is taken next
+-- the gaps in front of a sector are those in front of a later one, where what is taken next covers the sectors between
 met : (gaps : List Gap) (taken : List Taken) (disk low high : ℕ) (t : Taken) → AreGaps gaps taken disk low → t.disk ≡ disk → All (λ g. g.start + g.len ≤ t.start) gaps → low ≤ high
     → ((s : ℕ) → low ≤ s → s < high → (t.start ≤ s) × (s < t.start + t.size)) → AreGaps gaps (taken ++ t ∷ []) disk high
 met gaps taken disk low high t are on behind le covers = record {
@@ -276,7 +276,7 @@ gaps_to gaps taken disk at until size le are apart passed = elim (cases_lt at un
       (subst (λ (n : ℕ). AreGaps gaps taken disk n) end are))
 ]
 
--- so far it has met all gaps before a sector
+-- the walk has met all gaps in front of a sector
 pub record IsWalked (taken : List Taken) (disk size k at : ℕ) (gaps : List Gap) : Type 0 where
   pub are : AreGaps gaps (take k taken) disk (min at size)
   pub apart : All (λ g. g.start + g.len < at) gaps
@@ -311,7 +311,7 @@ walk_more taken disk size k at gaps t rising on lt is walked =
           (All-weaker (λ (x : Taken). x.start + x.size ≤ at) (λ (x : Taken). x.start + x.size ≤ end) (λ x e. omega arith) (take k taken) walked.passed) (omega arith));
     }
 
--- and the end
+-- at the end of the walk the gaps are those of the disk
 pub walk_done : (taken : List Taken) (disk size k at : ℕ) (gaps : List Gap) → length taken ≤ k → IsWalked taken disk size k at gaps → AreGaps (with_gap gaps at size) taken disk size
 walk_done taken disk size k at gaps le walked =
     let end : max (min at size) size ≡ size = omega arith in
@@ -556,7 +556,7 @@ maps_begun taken maps are = record { each = λ disk. go disk (get nat_cmp maps.m
     go disk None e = λ s. refl
     go disk (Some gaps) e = are.each disk gaps e
 
--- and those that are handed on
+-- the maps that are handed on are of all that is taken
 pub maps_ended : (taken spots : List Taken) (maps : FreeMaps) → AreMaps taken spots maps.maps → AreMapsOf maps (spots ++ taken)
 maps_ended taken spots maps are = record { each = λ disk gaps e. subst (IsMapOf taken spots disk) e (are.each disk) }
 

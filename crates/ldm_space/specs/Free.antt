@@ -38,7 +38,7 @@ first_from (suc n) p test = if test p then Some p else first_from n (p + 1) test
 unfoldable pub first_free_start : List Taken → ℕ → ℕ → ℕ → Option ℕ
 first_free_start taken disk size len = if nat_lt size len then None else first_from (suc (size - len)) 0 (λ p. not (is_taken taken disk len p))
 
--- the same in words: the sectors lie below size, none of them is taken, and no lower start is free
+-- the least free start in words: the sectors lie below size, none of them is taken, and no lower start is free
 pub record IsFirstFree (taken : List Taken) (disk size len p : ℕ) : Type 0 where
   pub ends : p + len ≤ size
   pub free : is_taken taken disk len p ≡ false

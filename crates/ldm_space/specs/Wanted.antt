@@ -5,7 +5,7 @@ pub use Rattle.ldm_space.specs.declared.placed.Wanted.{Wanted}
 pub use Rattle.ldm_made.specs.declared.taken.Taken.{Taken}
 use Rattle.ldm_space.specs.Free.{first_free_start}
 
--- so many sectors of its disk, from a start on
+-- the sectors that are wanted of a disk, from a start on
 abbrev pub placing : Wanted → ℕ → Taken
 placing w start = record { disk = w.disk; start = start; size = w.size }
 

@@ -114,8 +114,8 @@ impl FreeMap {
         FreeMap::beside(alloc, db.as_slice(), &[], disk, data_size)
     }
 
-    /// The same beside the partitions among two lists of records. One walk over what is taken in
-    /// rising start, past the end of all before.
+    /// The gaps of the disk beside the partitions among two lists of records. One walk over what
+    /// is taken in rising start, past the end of all before.
     pub(crate) fn beside(
         alloc: Global,
         records: &[Record],

@@ -38,7 +38,7 @@ use Rattle.ldm_group.proofs.NeedLaws.{few_records}
 
 -- ---- What a group that may be edited has: no fault on its disks, and bodies that fit each of them.
 
--- nothing is at fault with it
+-- an editable group has no fault on its disks, and may be edited
 pub may_of : (db : Database) (labels : List Label) → IsEditable db labels → MayEdit db labels
 unfolding group_faults
 may_of db labels editable = record { faultless = none; unblocked = editable.unblocked }
@@ -51,14 +51,14 @@ some_need : (records : List Record) → group_fault (filter_map group_id records
 some_need [] none = absurd cc
 some_need (r ∷ rest) none = let few : length (r ∷ rest) ≤ need_of (r ∷ rest) = few_records (r ∷ rest) in omega (arith, few)
 
--- so its header leaves it blocks
+-- the header of a sound group leaves it blocks
 pub low_last : (db : Database) (labels : List Label) → IsSoundOn db labels → 4 ≤ db.header.last
 low_last db labels group =
     let some = some_need db.records (sound_parts db.records labels group.sound).one_group in
     let room = group.room.need in
     omega (arith, some, room)
 
--- and no more than the greatest area has
+-- a group that may be edited has no more blocks than the greatest area
 pub high_last : (db : Database) (labels : List Label) (sizes : List ℕ) → LieOn labels sizes → blocked_in db labels ≡ None → db.header.last ≤ 8192
 high_last db [] sizes lie unblocked = let several = (clear_of db [] unblocked).several in absurd (omega (arith, several))
 high_last db (label ∷ labels) sizes lie unblocked =

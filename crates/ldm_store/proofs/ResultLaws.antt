@@ -6,7 +6,7 @@ pub fails : {T E : Type 0} (handed : Result T E) (error : E) (Is : T → Type 0)
 fails (Ok value) error Is is = absurd is
 fails (Err given) error Is is = tt
 
--- and it is that of the call
+-- an error that was handed on is that of the call
 pub same_error : {T E : Type 0} (handed : Result T E) (error other : E) → IsErrAnd handed (λ e. e ≡ error) → handed ≡ Err other → error ≡ other
 same_error (Ok value) error other is e = absurd is
 same_error (Err given) error other is e = (let same : given ≡ other = cc e in sym is ∙ same)

@@ -25,7 +25,7 @@ pub record TellsSame (a b : Found) : Type 0 where
   pub notes : a.notes ≡ b.notes
   pub blocked : a.blocked ≡ b.blocked
 
--- the same fault, or groups of which all but the carried bytes is the same
+-- equal faults, or groups of which all but the carried bytes is equal
 abbrev pub AnswerAlike : Result Found OpenFault → Result Found OpenFault → Type 0
 AnswerAlike (Ok a) (Ok b) = TellsSame a b
 AnswerAlike (Err f) (Err g) = f ≡ g

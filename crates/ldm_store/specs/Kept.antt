@@ -40,7 +40,7 @@ pub record IsKept (labels : List Label) (older newer : Database) (start : Seen) 
 abbrev pub AlwaysKept : List Label → Database → Database → Seen → Seen → Type 0
 AlwaysKept labels older newer start host = AtEachMoment start host (IsKept labels older newer start)
 
--- nothing is at fault with the group on disks with these labels, and it may be edited
+-- the group has no fault on disks with these labels, and may be edited
 pub record MayEdit (db : Database) (labels : List Label) : Type 0 where
   pub faultless : first_of (group_faults db labels) ≡ None
   pub unblocked : blocked_in db labels ≡ None

@@ -15,7 +15,7 @@ use Rattle.ldm_store.specs.Kept.{IsCurrent, AlwaysKept}
 abbrev pub IsBodyOnEach : Database → List Label → List ℕ → Type 0
 IsBodyOnEach db labels body = (disk : ℕ) (label : Label) → slice_get labels disk ≡ Some label → IsBodyOn db label body
 
--- nothing is pending on a disk that has a label
+-- a disk that has a label has no write pending
 abbrev pub AllSettled : List Label → Seen → Type 0
 AllSettled labels host = (disk : ℕ) → disk < length labels → Settled host disk
 

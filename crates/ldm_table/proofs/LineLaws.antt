@@ -135,7 +135,7 @@ in_stretch x s lines low high = in_first x (table_line s) lines low high ∙ of_
 
 -- ---- the lines of sectors, each of which is on one image
 
--- so many of them from the first on
+-- the lines are those of n sectors from the first on
 pub record AreLinesOf (g : ℕ → Spot) (first n : ℕ) (lines : List Line) : Type 0 where
   pub tile : Tile first (first + n) lines
   pub sectors : (x : ℕ) → first ≤ x → x < first + n → spots_in lines x ≡ some_spot (g x).image (g x).sector

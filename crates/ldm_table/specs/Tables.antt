@@ -85,7 +85,7 @@ name_in _ = []
 unfoldable pub partition_name : Place → List Record → List ℕ
 partition_name place records = unwrap_or (option_map name_in (find (begins_at place) records)) []
 
--- so many sectors from this place on, as a device
+-- some sectors from this place on, as a device
 abbrev pub member_of : Found → ℕ → Place → Spot → Member
 member_of found sectors place spot = record { name = part_device found.db.header.name (partition_name place found.db.records); spot = spot; sectors = sectors }
 

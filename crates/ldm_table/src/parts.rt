@@ -57,7 +57,7 @@ fn partition_name(place: Place, records: &[Record]) -> &[u8]
     }
 }
 
-// So many sectors from this place on, as a device.
+// A device of this number of sectors, from this place on.
 fn member_from<H: Host>(
     alloc: Global,
     host: &H,

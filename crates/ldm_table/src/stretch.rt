@@ -10,7 +10,7 @@ use ldm_found::Found;
 use ldm_host::Host;
 use ldm_layout::Plan;
 
-/// So many sectors of a volume, from `start` on, and where on an image the first of them is.
+/// Some sectors of a volume, from `start` on, and where on an image the first of them is.
 #[derive(Clone, Copy)]
 pub struct Stretch {
     pub start: u64,

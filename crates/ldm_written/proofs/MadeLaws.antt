@@ -147,7 +147,7 @@ module _ (name : List ℕ) (guid : ℕ) (few : length name ≤ 30) where
       ∙ get_or-put_outside front 0x16 name k name_fits (inr (omega (arith, le, few)))
       ∙ front_zero k (omega arith)
 
-  -- and in front of the sizes, where the last VBLK sequence is
+  -- zeros stand in front of the sizes, where the last VBLK sequence is
   zero_last : (k : ℕ) → 4 ≤ k → k < 8 → get_or raw k 0 ≡ 0
   unfolding named
   zero_last k from to =

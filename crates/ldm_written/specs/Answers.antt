@@ -22,7 +22,7 @@ Refuses (Ok given) fault = ⊥
 Refuses (Err NoMemory) fault = Unit {0}
 Refuses (Err (Fault found)) fault = found ≡ fault
 
--- so many blocks, which hold the records of the payloads in their order, or no room, with both numbers
+-- the blocks that were asked for, which hold the records of the payloads in their order, or no room, with how many are needed and how many there are
 abbrev pub SplitAnswers : List (List ℕ) → ℕ → Result (List ℕ) SplitError → Type 0
 SplitAnswers payloads blocks (Ok out) =
     (blocks_needed payloads ≤ blocks) × (length out ≡ 128 * blocks) × Holds out (laid_in_order 4 payloads)

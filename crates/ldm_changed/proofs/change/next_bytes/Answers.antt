@@ -23,7 +23,7 @@ records_are body table records tabled up store = same_records tabled.db body rec
 last_is : (body : List ℕ) (table : List (List ℕ)) (tabled : IsTabled body table) → tabled.db.header.last ≡ last_of (header_sector body)
 last_is body table tabled = tabled.body.is.header_is.last_is
 
--- so it has so many blocks
+-- the old body has as many blocks as its last VBLK sequence says
 size_is : (body : List ℕ) (table : List (List ℕ)) (tabled : IsTabled body table) → length (drop 512 body) ≡ 128 * room_of (last_of (header_sector body))
 size_is body table tabled = (let last = last_is body table tabled in let size = tabled.body.is.size in let low = tabled.body.low in omega (arith, length-drop 512 body))
 

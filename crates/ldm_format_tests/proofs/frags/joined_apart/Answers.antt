@@ -11,7 +11,7 @@ apart_three a b c first second third =
     (AllPairs-cons (λ (x y : ℕ). x ≢ y) b (c ∷ []) (All-cons (λ (y : ℕ). b ≢ y) c [] third (All-nil (λ (y : ℕ). b ≢ y)))
     (AllPairs-cons (λ (x y : ℕ). x ≢ y) c [] (All-nil (λ (y : ℕ). c ≢ y)) (λ i j d below lt. absurd (omega (arith, lt)))))
 
--- and are in use
+-- three blocks are all in use
 within_three : (blocks : List ℕ) (a b c : ℕ) → IsInUse blocks a → IsInUse blocks b → IsInUse blocks c → All (IsInUse blocks) (a ∷ b ∷ c ∷ [])
 within_three blocks a b c first second third =
     All-cons (IsInUse blocks) a (b ∷ c ∷ []) first (All-cons (IsInUse blocks) b (c ∷ []) second (All-cons (IsInUse blocks) c [] third (All-nil (IsInUse blocks))))

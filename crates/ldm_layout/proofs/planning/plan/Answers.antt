@@ -19,7 +19,7 @@ plan_of-requires c =
     lists_end c.in_ok-parts.parts records c.in-Some.volume.now.head.id lists
     (extents_end records c.in-Some.volume.now.head.id (subst (λ (n : ℕ). All (λ r. is_partition_of n records r ≡ true → EndsInRange r) records) (sym id) c.requires.ends))
 
--- what the answer of plan_of is of the volume
+-- what plan_of answers is of the volume
 planned : (c : After-drop-parts-inside-in-Some) → PlansAs c.plan_of.result (layout_of c.args.db.now.records c.in-Some.volume.now)
 planned c =
     let records = c.args.db.now.records in

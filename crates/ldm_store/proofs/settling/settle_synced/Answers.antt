@@ -13,7 +13,7 @@ use Rattle.ldm_store.proofs.OpensLaws.{bodies_for}
 use Rattle.ldm_store.proofs.SettleLaws.{one_label, kept_from, kept_if, hands_none, healing_group, healing_hands, healed_session}
 use Rattle.ldm_store.proofs.settling.settle_synced.Goals as goal
 
--- nothing is pending on a disk that has a label
+-- a disk that has a label has no write pending
 all_settled : (a : Seen) (found : Found) → length a.sizes ≡ length found.labels → ((disk : ℕ) → disk < length a.sizes → Settled a disk) → AllSettled found.labels a
 all_settled a found one_each settled disk lt = settled disk (omega (arith, lt, one_each))
 

@@ -19,7 +19,7 @@ invariant_of-self c =
     let step = c.hear_part-heard in
     record { kept = kept_hear_part (items_of m.first.items) m.calls.items m.script.items m.held.items m.said.items m.heard m.handed.items m.kept c.next_outcome-outcome.result (is_ok step.result) step.new.calls.items step.new.heard step.ensures.calls (from_err (step.new.heard ≡ m.heard) step.result step.ensures.stays) step.ensures.fits }
 
--- so many bytes of the input were heard
+-- n bytes of the input were heard
 abbrev Hears : Seen → Seen → ℕ → List ℕ → Type 0
 Hears old new n buf = (old.input ≡ take n buf ++ new.input) × (new.heard ≡ old.heard ++ take n buf) × (n ≡ 0 → length old.input ≡ 0)
 
