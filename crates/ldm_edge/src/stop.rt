@@ -75,11 +75,13 @@ impl fmt::Display for Written {
             ),
             Written::Lines(count) => write!(
                 f,
-                "ldm: {count} lines were answered; the next may be done: run check, then edit again\n"
+                "ldm: {count} lines were answered; the next may be done: run check, \
+                 then edit again\n"
             ),
             Written::NewGroup => write!(
                 f,
-                "ldm: the new group may be there in part: run check; if it refuses the disks, zero them as README says under \"A new group\", then run init again\n"
+                "ldm: the new group may be there in part: run check; if it refuses the disks, \
+                 zero them as README says under \"A new group\", then run init again\n"
             ),
         }
     }

@@ -15,7 +15,9 @@ use std::io::ErrorKind;
 pub fn words_of<'a, U>(alloc: Global, rt: &HostRuntime) -> Result<Vec<String>, Stop<'a, U>> {
     let args = match env::args(rt) {
         Ok(args) => args,
-        Err(error) if error.kind() == ErrorKind::OutOfMemory => return Err(Stop::NoMemory(Written::Never)),
+        Err(error) if error.kind() == ErrorKind::OutOfMemory => return Err(Stop::NoMemory(
+            Written::Never,
+        )),
         Err(_) => return Err(Stop::NotUtf8),
     };
     let mut words = Vec::new(alloc);

@@ -74,7 +74,7 @@ struct Row {
     text: &'static str,
 }
 
-fn row(name: &'static str, told: &'static [Told], text: &'static str) -> Row {
+fn with(name: &'static str, told: &'static [Told], text: &'static str) -> Row {
     Row {
         name,
         told,
@@ -154,20 +154,20 @@ const SWAPS: Told = (
 #[test]
 fn tells_what_a_disk_is_used_for(rt: HostRuntime) -> Result<(), Fail> {
     let rows = [
-        row("nothing", &[], "free"),
-        row("read-only", &[("sys/dev/block/8:0/ro", "1\n")], "read-only"),
-        row(
+        with("nothing", &[], "free"),
+        with("read-only", &[("sys/dev/block/8:0/ro", "1\n")], "read-only"),
+        with(
             "a partition is read-only",
             &[("sys/dev/block/8:0/sda1/ro", "1\n")],
             "read-only",
         ),
-        row("holders", &[("sys/dev/block/8:0/holders/dm-0", "")], BELOW),
-        row(
+        with("holders", &[("sys/dev/block/8:0/holders/dm-0", "")], BELOW),
+        with(
             "holders of a partition",
             &[("sys/dev/block/8:0/sda1/holders/md0", "")],
             BELOW,
         ),
-        row(
+        with(
             "mounted",
             &[(
                 "proc/self/mountinfo",
@@ -175,7 +175,7 @@ fn tells_what_a_disk_is_used_for(rt: HostRuntime) -> Result<(), Fail> {
             )],
             MOUNTED,
         ),
-        row(
+        with(
             "a partition is mounted",
             &[(
                 "proc/self/mountinfo",
@@ -183,7 +183,7 @@ fn tells_what_a_disk_is_used_for(rt: HostRuntime) -> Result<(), Fail> {
             )],
             MOUNTED,
         ),
-        row(
+        with(
             "another is mounted, whose path is nothing here",
             &[(
                 "proc/self/mountinfo",
@@ -191,28 +191,28 @@ fn tells_what_a_disk_is_used_for(rt: HostRuntime) -> Result<(), Fail> {
             )],
             "free",
         ),
-        row(
+        with(
             "a file system with a number of its own, by the name of its device",
             &[BTRFS, ("sys/class/block/sda1/dev", "8:1\n")],
             MOUNTED,
         ),
-        row(
+        with(
             "such a one on another device",
             &[BTRFS, ("sys/class/block/sda1/dev", "8:17\n")],
             "free",
         ),
-        row(
+        with(
             "such a one, on a device that nothing tells of",
             &[BTRFS],
             UNTOLD,
         ),
-        row(
+        with(
             "swap",
             &[SWAPS, ("sys/class/block/sda1/dev", "8:1\n")],
             SWAP,
         ),
-        row("swap on a device that nothing tells of", &[SWAPS], UNTOLD),
-        row(
+        with("swap on a device that nothing tells of", &[SWAPS], UNTOLD),
+        with(
             "a line that is none of a mount",
             &[("proc/self/mountinfo", "30 1\n")],
             UNTOLD,
@@ -238,13 +238,13 @@ const LOOP: Told = (
 #[test]
 fn tells_what_a_loop_device_over_a_file_is_used_for(rt: HostRuntime) -> Result<(), Fail> {
     let rows = [
-        row("nothing", &[], "free"),
-        row(
+        with("nothing", &[], "free"),
+        with(
             "mounted",
             &[LOOP],
             "a loop device over it (/dev/loop3) is mounted",
         ),
-        row(
+        with(
             "a partition is mounted",
             &[
                 ("sys/block/loop3/loop3p1/dev", "259:0\n"),
@@ -258,27 +258,27 @@ fn tells_what_a_loop_device_over_a_file_is_used_for(rt: HostRuntime) -> Result<(
             ],
             "a loop device over it (/dev/loop3) is mounted",
         ),
-        row(
+        with(
             "swap",
             &[SWAPS, ("sys/class/block/sda1/dev", "7:3\n")],
             "a loop device over it (/dev/loop3) is used as swap",
         ),
-        row(
+        with(
             "holders",
             &[("sys/block/loop3/holders/dm-0", "")],
             "another device stands on a loop device over it (/dev/loop3), as of md or dm",
         ),
-        row(
+        with(
             "mounted, and read-only",
             &[LOOP, ("sys/block/loop3/ro", "1\n")],
             "free",
         ),
-        row(
+        with(
             "mounted, over another file",
             &[LOOP, ("sys/block/loop3/loop/backing_file", "/dev/null\n")],
             "free",
         ),
-        row(
+        with(
             "mounted, over a file whose name is gone",
             &[
                 LOOP,
@@ -286,7 +286,7 @@ fn tells_what_a_loop_device_over_a_file_is_used_for(rt: HostRuntime) -> Result<(
             ],
             UNTOLD,
         ),
-        row(
+        with(
             "unused, over a file whose name is gone",
             &[("sys/block/loop3/loop/backing_file", "IMAGE (deleted)\n")],
             "free",
