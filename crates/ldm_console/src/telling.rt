@@ -3,7 +3,7 @@ ghost use Rattle.std.specs.Prelude.{◌≡◌, ◌⊎◌, Ok};
 ghost use Rattle.ldm_words.specs.declared.status.Status.TheVariants.{Done, TalkFault};
 ghost use Rattle.ldm_edge.specs.Ends.{end_status};
 
-use ldm_edge::{Stop, ending};
+use ldm_edge::{Stop, Written, ending};
 use ldm_files::Failure;
 use ldm_words::Status;
 use std::io::Write;
@@ -16,6 +16,9 @@ where
 {
     match output.write_all(text.as_bytes()) {
         Ok(()) => Ok(Status::Done),
-        Err(error) => ending(Status::TalkFault, &[], Some(Failure::Output(error)), None),
+        Err(error) => {
+            let failure = Some(Failure::Output(error));
+            ending(Status::TalkFault, &[], failure, Written::Never)
+        }
     }
 }

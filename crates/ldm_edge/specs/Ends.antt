@@ -11,7 +11,7 @@ stop_status (Usage error) = statuses.Usage
 stop_status NotUtf8 = statuses.Usage
 stop_status (CannotOpen image name error) = statuses.DiskFault
 stop_status (Disk fault) = statuses.DiskFault
-stop_status (NoMemory answered) = statuses.NoMemory
+stop_status (NoMemory written) = statuses.NoMemory
 stop_status (Talk fault) = statuses.TalkFault
 
 abbrev pub end_status : {U : Type 0} → Result Status (Stop U) → Status

@@ -3,19 +3,19 @@ ghost use Rattle.std.specs.Prelude.{◌≡◌, ◌⊎◌, IfOk};
 ghost use Rattle.ldm_words.specs.declared.status.Status.TheVariants.{Done, Refused};
 ghost use Rattle.ldm_edge.specs.Ends.{end_status};
 
-use crate::stop::{Fault, Stop};
+use crate::stop::{Fault, Stop, Written};
 use ldm_files::Failure;
 use ldm_words::Status;
 use std::fmt;
 use std::process::ExitCode;
 
-/// How a run ended with this status, after which the host has these counts: the call that failed
-/// last, and how many lines were answered, where the job writes.
+/// How a run ended with this status, after which the host tells the call that failed last, and what
+/// was written.
 pub fn ending<'a, U>(
     status: Status,
     names: &'a [String],
     failure: Option<Failure>,
-    answered: Option<u64>,
+    written: Written,
 ) -> Result<Status, Stop<'a, U>>
     ensures same { end_status result ≡ status }
     ensures answer { IfOk result (λ status. (status ≡ Done) ⊎ (status ≡ Refused)) }
@@ -23,13 +23,13 @@ pub fn ending<'a, U>(
     let fault = Fault {
         failure,
         names,
-        answered,
+        written,
     };
     match status {
         Status::Done | Status::Refused => Ok(status),
         Status::Usage => Err(Stop::Usage(None)),
         Status::DiskFault => Err(Stop::Disk(fault)),
-        Status::NoMemory => Err(Stop::NoMemory(answered)),
+        Status::NoMemory => Err(Stop::NoMemory(written)),
         Status::TalkFault => Err(Stop::Talk(fault)),
     }
 }

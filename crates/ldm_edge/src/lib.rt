@@ -12,6 +12,6 @@ mod text;
 pub use ends::{ending, exit_code};
 pub use forms::{by_form, form_in, form_of, help_to, images, part, parts, split_on, word_of};
 pub use shown::{FormError, Shown};
-pub use stop::{Fault, Stop};
+pub use stop::{Fault, Stop, Written};
 pub use taking::{open_images, stop_unopened, words_of};
 pub use text::{HELP, VERSION};

@@ -3,17 +3,30 @@ ghost use Rattle.std.specs.Prelude.{◌≡◌};
 ghost use Rattle.ldm_edge.specs.Ends.{stop_status};
 
 use crate::shown::Shown;
-use ldm_files::{DiskCall, Failure, ImageError};
+use ldm_files::{Failure, ImageError};
 use ldm_words::Status;
 use std::fmt;
 
-/// A fault of a run: the call that failed last, the names of the images, and how many lines were
-/// answered, where the job writes.
+/// What a run has written that didn't come to its end.
+#[derive(Clone, Copy, Debug, PartialEq, Eq)]
+pub enum Written {
+    /// The job is none that writes, or isn't known yet: nothing is said of it.
+    Never,
+    /// No byte was handed to any disk.
+    Nothing,
+    /// An edit handed bytes to the disks, and has answered so many lines.
+    Lines(u64),
+    /// Bytes of a new group were handed to the disks.
+    NewGroup,
+}
+
+/// A fault of a run: the call that failed last, the names of the images, and what the run has
+/// written.
 #[derive(Clone, Copy)]
 pub struct Fault<'a> {
     pub failure: Option<Failure>,
     pub names: &'a [String],
-    pub answered: Option<u64>,
+    pub written: Written,
 }
 
 /// Why there is no answer.
@@ -29,7 +42,7 @@ pub enum Stop<'a, U> {
         error: ImageError,
     },
     Disk(Fault<'a>),
-    NoMemory(Option<u64>),
+    NoMemory(Written),
     Talk(Fault<'a>),
 }
 
@@ -50,42 +63,42 @@ impl<U> Stop<'_, U> {
     }
 }
 
-// What is so after a job that writes didn't come to its end.
-fn write_answered<W: fmt::Write>(answered: Option<u64>, f: &mut fmt::Formatter<W>) -> fmt::Result {
-    match answered {
-        None => Ok(()),
-        Some(1) => write!(
-            f,
-            "ldm: 1 line was answered; the next may be done: run check, then edit again\n"
-        ),
-        Some(count) => write!(
-            f,
-            "ldm: {count} lines were answered; the next may be done: run check, then edit again\n"
-        ),
-    }
-}
-
-// The name of a call.
-fn call_text(call: DiskCall) -> &'static str {
-    match call {
-        DiskCall::Read => "read",
-        DiskCall::Write => "write",
-        DiskCall::Sync => "sync",
+// It is a line of its own, or none. The README's section on new groups says how disks are zeroed.
+impl fmt::Display for Written {
+    fn fmt<W: fmt::Write>(&self, f: &mut fmt::Formatter<W>) -> fmt::Result {
+        match self {
+            Written::Never => Ok(()),
+            Written::Nothing => write!(f, "ldm: nothing was written\n"),
+            Written::Lines(1) => write!(
+                f,
+                "ldm: 1 line was answered; the next may be done: run check, then edit again\n"
+            ),
+            Written::Lines(count) => write!(
+                f,
+                "ldm: {count} lines were answered; the next may be done: run check, \
+                 then edit again\n"
+            ),
+            Written::NewGroup => write!(
+                f,
+                "ldm: the new group may be there in part: run check; if it refuses the disks, \
+                 zero them as README says under \"A new group\", then run init again\n"
+            ),
+        }
     }
 }
 
 impl fmt::Display for Fault<'_> {
     fn fmt<W: fmt::Write>(&self, f: &mut fmt::Formatter<W>) -> fmt::Result {
         match self.failure {
-            None => write!(f, "\n"),
+            None => write!(f, "\n")?,
             Some(Failure::Disk { image, call, error }) => {
                 let name = self.names.get(image).map_or("", |name| name.as_str());
-                let call = call_text(call);
-                write!(f, ": image {image} ({}): {call}: {error}\n", Shown(name))
+                write!(f, ": image {image} ({}): {call}: {error}\n", Shown(name))?;
             }
-            Some(Failure::Input(error)) => write!(f, ": standard input: {error}\n"),
-            Some(Failure::Output(error)) => write!(f, ": standard output: {error}\n"),
+            Some(Failure::Input(error)) => write!(f, ": standard input: {error}\n")?,
+            Some(Failure::Output(error)) => write!(f, ": standard output: {error}\n")?,
         }
+        write!(f, "{}", self.written)
     }
 }
 
@@ -95,28 +108,6 @@ fn write_usage<W: fmt::Write, U: fmt::Display>(why: &U, f: &mut fmt::Formatter<W
         f,
         "ldm: usage: ldm JOB on IMAGE...\nldm: {why}\nldm: ldm --help says more\n"
     )
-}
-
-// What is said where no memory was to be had.
-fn write_no_memory<W: fmt::Write>(answered: Option<u64>, f: &mut fmt::Formatter<W>) -> fmt::Result {
-    write!(f, "ldm: no memory\n")?;
-    write_answered(answered, f)
-}
-
-// What is said of a fault of the disks.
-fn write_disk<W: fmt::Write>(fault: &Fault<'_>, f: &mut fmt::Formatter<W>) -> fmt::Result {
-    write!(f, "ldm: disk fault{fault}")?;
-    write_answered(fault.answered, f)
-}
-
-// What is said of a fault of the talk.
-fn write_talk<W: fmt::Write>(fault: &Fault<'_>, f: &mut fmt::Formatter<W>) -> fmt::Result {
-    write!(f, "ldm: talk fault{fault}")?;
-    match (fault.failure, fault.answered) {
-        // A script is heard whole before a disk is called.
-        (Some(Failure::Input(_)), Some(_)) => write!(f, "ldm: nothing was written\n"),
-        (_, answered) => write_answered(answered, f),
-    }
 }
 
 impl<U: fmt::Display> fmt::Display for Stop<'_, U> {
@@ -131,9 +122,9 @@ impl<U: fmt::Display> fmt::Display for Stop<'_, U> {
             Stop::CannotOpen { image, name, error } => {
                 write!(f, "ldm: cannot open: image {image} ({name}): {error}\n")
             }
-            Stop::Disk(fault) => write_disk(fault, f),
-            Stop::NoMemory(answered) => write_no_memory(*answered, f),
-            Stop::Talk(fault) => write_talk(fault, f),
+            Stop::Disk(fault) => write!(f, "ldm: disk fault{fault}"),
+            Stop::NoMemory(written) => write!(f, "ldm: no memory\n{written}"),
+            Stop::Talk(fault) => write!(f, "ldm: talk fault{fault}"),
         }
     }
 }

@@ -4,7 +4,7 @@ ghost use Rattle.ldm_words.specs.declared.status.Status.TheVariants.{DiskFault, 
 ghost use Rattle.ldm_edge.specs.Ends.{stop_status};
 
 use crate::shown::Shown;
-use crate::stop::Stop;
+use crate::stop::{Stop, Written};
 use ldm_files::{Access, ImageError, ImageFile};
 use std::alloc::Global;
 use std::env;
@@ -15,13 +15,15 @@ use std::io::ErrorKind;
 pub fn words_of<'a, U>(alloc: Global, rt: &HostRuntime) -> Result<Vec<String>, Stop<'a, U>> {
     let args = match env::args(rt) {
         Ok(args) => args,
-        Err(error) if error.kind() == ErrorKind::OutOfMemory => return Err(Stop::NoMemory(None)),
+        Err(error) if error.kind() == ErrorKind::OutOfMemory => return Err(Stop::NoMemory(
+            Written::Never,
+        )),
         Err(_) => return Err(Stop::NotUtf8),
     };
     let mut words = Vec::new(alloc);
     for word in args.skip(1) {
         if words.push(word).is_err() {
-            return Err(Stop::NoMemory(None));
+            return Err(Stop::NoMemory(Written::Never));
         }
     }
     Ok(words)
@@ -32,7 +34,7 @@ pub fn stop_unopened<U>(image: usize, name: &str, error: ImageError) -> Stop<'_,
     ensures { (stop_status result ≡ DiskFault) ⊎ (stop_status result ≡ NoMemory) }
 {
     match error {
-        ImageError::NoMemory => Stop::NoMemory(None),
+        ImageError::NoMemory => Stop::NoMemory(Written::Never),
         error => Stop::CannotOpen {
             image,
             name: Shown(name),
@@ -57,7 +59,7 @@ pub fn open_images<'a, U>(
             Err(error) => return Err(stop_unopened(images.len(), name.as_str(), error)),
         };
         if images.push(image).is_err() {
-            return Err(Stop::NoMemory(None));
+            return Err(Stop::NoMemory(Written::Never));
         }
     }
     Ok(images)

@@ -1,5 +1,6 @@
 //! A host over files, standard input and standard output.
-ghost use Rattle.std.specs.Prelude.{◌≡◌, ◌≤◌, ◌<◌, ◌+◌, ◌-◌, ◌^◌, length, map, min, set};
+ghost use Rattle.std.specs.Prelude.{◌≡◌, ◌≤◌, ◌<◌, ◌↔◌, ◌+◌, ◌-◌, ◌^◌, ◌/◌, ◌%◌, length, map, min};
+ghost use Rattle.std.specs.Prelude.{set, All, IsFalse};
 ghost use Rattle.std.specs.Prelude.{slice_index, IfOk, IsErr, is_ok};
 ghost use Rattle.ldm_host.specs.Moves.{Rose};
 
@@ -8,15 +9,52 @@ use crate::watch::Watch;
 use ldm_bytes::NoMemory;
 use ldm_host::{Failed, Host};
 use std::alloc::Global;
+use std::fmt;
 use std::io::{self, ErrorKind, Read, Write};
 use std::os::unix::fs::FileExt;
 
-/// What a call of a disk did.
+/// Sectors of 512 bytes of an image, from the first of them on.
+#[derive(Clone, Copy, Debug, PartialEq, Eq)]
+pub struct Sectors {
+    pub first: u64,
+    pub count: u64,
+}
+
+impl Sectors {
+    /// Those that hold so many bytes from a place on, in bytes.
+    pub fn touched(at: u64, length: usize) -> Sectors
+        ensures first { result.first ≡ at / 512 }
+        ensures count { result.count ≡ (min (at % 512 + length) (2 ^ 64 - 1) + 511) / 512 }
+    {
+        Sectors {
+            first: at / 512,
+            count: (at % 512).saturating_add(length as u64).div_ceil(512),
+        }
+    }
+}
+
+impl fmt::Display for Sectors {
+    fn fmt<W: fmt::Write>(&self, f: &mut fmt::Formatter<W>) -> fmt::Result {
+        write!(f, "sectors {}+{}", self.first, self.count)
+    }
+}
+
+/// A call of a disk, with the sectors that it touches.
 #[derive(Clone, Copy, Debug, PartialEq, Eq)]
 pub enum DiskCall {
-    Read,
-    Write,
+    Read(Sectors),
+    Write(Sectors),
     Sync,
+}
+
+impl fmt::Display for DiskCall {
+    fn fmt<W: fmt::Write>(&self, f: &mut fmt::Formatter<W>) -> fmt::Result {
+        match self {
+            DiskCall::Read(sectors) => write!(f, "read of {sectors}"),
+            DiskCall::Write(sectors) => write!(f, "write of {sectors}"),
+            DiskCall::Sync => f.write_str("sync"),
+        }
+    }
 }
 
 /// A call of the host that failed, and what the system said.
@@ -81,6 +119,13 @@ impl<I, O, W> FileHost<I, O, W> {
         ensures { result ≡ self.now.failure }
     {
         self.failure
+    }
+
+    /// Whether any byte was handed to a disk, to be written.
+    pub fn has_written(&self) -> bool
+        ensures { IsFalse result ↔ All (λ count. count ≡ 0) self.now.wrote.items }
+    {
+        self.wrote.iter().any(|count| *count != 0)
     }
 
     /// What watches it.
@@ -199,7 +244,7 @@ impl<I: Read, O: Write, W: Watch> Host for FileHost<I, O, W> {
             &mut self.failure,
             &mut self.disk_faults,
             disk,
-            DiskCall::Read,
+            DiskCall::Read(Sectors::touched(at, buf.len())),
             done,
         )
     }
@@ -211,7 +256,7 @@ impl<I: Read, O: Write, W: Watch> Host for FileHost<I, O, W> {
             &mut self.failure,
             &mut self.disk_faults,
             disk,
-            DiskCall::Write,
+            DiskCall::Write(Sectors::touched(at, bytes.len())),
             done,
         )
     }

@@ -38,6 +38,12 @@ pub enum ImageError {
     Swap,
     #[error("another device stands on it or on a partition of it, as of md or dm")]
     Below,
+    #[error("a loop device over it (/dev/loop{0}) is mounted")]
+    LoopMounted(u32),
+    #[error("a loop device over it (/dev/loop{0}) is used as swap")]
+    LoopSwap(u32),
+    #[error("another device stands on a loop device over it (/dev/loop{0}), as of md or dm")]
+    LoopBelow(u32),
     #[error("the system does not tell in /sys and /proc who uses it")]
     Untold,
     #[error("a standard stream is closed, and the image would take its place")]

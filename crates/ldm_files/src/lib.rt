@@ -10,7 +10,7 @@ mod image;
 mod streams;
 mod watch;
 
-pub use file_host::{DiskCall, Failure, FileHost};
+pub use file_host::{DiskCall, Failure, FileHost, Sectors};
 pub use image::{Access, FileId, ImageError, ImageFile};
 pub use streams::{STREAMS, take_closed_streams};
 pub use watch::{Unwatched, Watch};

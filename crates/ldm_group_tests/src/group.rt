@@ -1,6 +1,6 @@
 //! Databases: the order of records, look-ups, and ids that two records have.
 use crate::made::{database, database_error, kinds_of};
-use ldm_group::{Db, DbError};
+use ldm_group::{Db, DbError, id_of, kind_of};
 use std::alloc::Global;
 use std::test::Fail;
 
@@ -27,6 +27,24 @@ fn records_stand_in_order(rt: HostRuntime) -> Result<(), Fail> {
     let db = database(rt.alloc(), 64, MIXED)?;
     let order = kinds_of(rt.alloc(), &db)?;
     assert!(rt; order.as_slice() == ORDER.as_slice());
+    Ok(())
+}
+
+// The kinds and ids of the records, each taken by its place.
+fn kinds_by_place(alloc: Global, db: &Db) -> Result<Vec<(u8, u64)>, Fail> {
+    let mut kinds = Vec::new(alloc);
+    for place in 0..db.count() {
+        let r = db.at(place);
+        kinds.push((kind_of(r), id_of(r)))?;
+    }
+    Ok(kinds)
+}
+
+#[test]
+fn records_are_taken_by_place(rt: HostRuntime) -> Result<(), Fail> {
+    let db = database(rt.alloc(), 64, MIXED)?;
+    let kinds = kinds_by_place(rt.alloc(), &db)?;
+    assert!(rt; kinds.as_slice() == ORDER.as_slice());
     Ok(())
 }
 

@@ -4,6 +4,8 @@
 #[cfg(test)]
 mod absent;
 #[cfg(test)]
+mod batches;
+#[cfg(test)]
 mod copy;
 #[cfg(test)]
 mod found;
@@ -19,6 +21,8 @@ mod layout_columns;
 mod made;
 #[cfg(test)]
 mod rules;
+#[cfg(test)]
+mod sectors;
 #[cfg(test)]
 mod space;
 #[cfg(test)]

@@ -138,7 +138,7 @@ pub(crate) fn kinds_of(alloc: Global, db: &Db) -> Result<Vec<(u8, u64)>, Fail> {
 const AREA: usize = 512 * (6144 + 17);
 
 // Puts bytes at a place, if they lie in the image.
-fn put_at(image: &mut [u8], start: usize, bytes: &[u8]) {
+pub(crate) fn put_at(image: &mut [u8], start: usize, bytes: &[u8]) {
     let end = start.saturating_add(bytes.len());
     if end <= image.len() && start <= end && end - start == bytes.len() {
         image[start..end].copy_from_slice(bytes);

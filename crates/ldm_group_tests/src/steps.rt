@@ -71,7 +71,7 @@ fn put_record(image: &mut [u8], block: u8, payload: &[u8]) -> u8 {
 
 // Puts the records of a text's words from block 8 on: 6 and a long volume's id, name, children,
 // size and flags, or a row.
-fn put_records(image: &mut [u8], text: &str) {
+pub(crate) fn put_records(image: &mut [u8], text: &str) {
     let mut block = 8;
     for word in text.split_whitespace() {
         let row = row_of(word);
@@ -84,7 +84,7 @@ fn put_records(image: &mut [u8], text: &str) {
 }
 
 // The group of so many disks, with this header and these records on each image.
-fn group_of(alloc: Global, disks: u8, header: &str, records: &str) -> Result<Found, Fail>
+pub(crate) fn group_of(alloc: Global, disks: u8, header: &str, records: &str) -> Result<Found, Fail>
     ensures sound { IfOk result (λ found. IsSoundOn found.db found.labels) }
     ensures areas { IfOk result (λ found. AreasFit found.labels) }
 {
@@ -134,7 +134,7 @@ fn reply_of(alloc: Global, outcome: &Outcome) -> Result<Bytes, Fail> {
 // An id, and then of a volume its children number and size; of a component its volume, layout,
 // children number, chunk and columns; and of a partition its component, disk, start, size, offset
 // and index.
-type Numbers = [u64; 7];
+pub(crate) type Numbers = [u64; 7];
 
 fn numbers_of(r: &Record) -> Option<Numbers> {
     match r {
@@ -158,7 +158,7 @@ fn numbers_of(r: &Record) -> Option<Numbers> {
 }
 
 // The numbers of all records that have some.
-fn all_numbers(alloc: Global, db: &Db) -> Result<Vec<Numbers>, Fail> {
+pub(crate) fn all_numbers(alloc: Global, db: &Db) -> Result<Vec<Numbers>, Fail> {
     let mut all = Vec::new(alloc);
     for r in db.as_slice() {
         if let Some(numbers) = numbers_of(r) {
@@ -169,7 +169,7 @@ fn all_numbers(alloc: Global, db: &Db) -> Result<Vec<Numbers>, Fail> {
 }
 
 // A line of a script, where a star stands for a GUID.
-fn line_of(alloc: Global, line: &str) -> Result<String, AllocError> {
+pub(crate) fn line_of(alloc: Global, line: &str) -> Result<String, AllocError> {
     line.replace(alloc, "*", "cccccccc-cccc-cccc-cccc-cccccccccccc")
 }
 

@@ -12,6 +12,7 @@ fn sectors_of(name: &str) -> &'static [usize] {
         "mbr" => &[0],
         "head" => &[6],
         "heads" => &[6, 8000, 8191],
+        "second" => &[8000],
         "toc" => &[6145],
         "tocs" => &[6145, 6146, 8189, 8190],
         "copy" => &[6161],
@@ -52,7 +53,8 @@ fn bytes_of(alloc: Global, digits: &str) -> Result<Vec<u8>, Fail> {
     Ok(bytes)
 }
 
-// Changes an image at a place SECTORS+OFFSET to these bytes, or cuts it at this sector.
+// Changes an image at a place SECTORS+OFFSET to these bytes, or cuts it at this sector, or makes
+// this sector all zero.
 fn change(image: &mut Vec<u8>, place: &str, bytes: &[u8]) -> Result<(), Fail> {
     let Some((name, offset)) = place.split_once('+') else {
         return Err(Fail::from("no place"));
@@ -60,6 +62,9 @@ fn change(image: &mut Vec<u8>, place: &str, bytes: &[u8]) -> Result<(), Fail> {
     let offset = number_of(offset)?;
     if name == "cut" {
         image.truncate(offset.saturating_mul(512));
+    }
+    if name == "zero" {
+        put(image.as_mut_slice(), offset.saturating_mul(512), &[0; 512]);
     }
     for sector in sectors_of(name) {
         put(
@@ -81,8 +86,8 @@ fn is_named(which: &str, image: usize) -> bool {
     }
 }
 
-// Does a change IMAGE.SECTORS+OFFSET=BYTES or IMAGE.cut+SECTOR=, or one of all images where IMAGE
-// is a star.
+// Does a change IMAGE.SECTORS+OFFSET=BYTES, IMAGE.cut+SECTOR= or IMAGE.zero+SECTOR=, or one of all
+// images where IMAGE is a star.
 pub(crate) fn change_images(alloc: Global, images: &mut [Vec<u8>], text: &str) -> Result<(), Fail> {
     let Some((which, rest)) = text.split_once('.') else {
         return Err(Fail::from("no image"));

@@ -163,3 +163,71 @@ fn finds_a_usual_group_tidy(rt: HostRuntime) -> Result<(), Fail> {
         )],
     )
 }
+
+// A change of the images, a script, what is said of it, and the most bytes that each image is
+// handed. No script has a line that is refused but the word that is none.
+type Edit = (&'static str, &'static str, &'static str, [u64; 2]);
+
+const EDITS: [Edit; 5] = [
+    ("", "nonsense\n", "1 refused: bad line\n", [0, 0]),
+    (
+        "",
+        "create One bbbbbbbb-bbbb-bbbb-bbbb-bbbbbbbbbbbb span Disk1=10\n",
+        "1 ok 8\n",
+        [897, 897],
+    ),
+    (
+        "",
+        "nonsense\ncreate One bbbbbbbb-bbbb-bbbb-bbbb-bbbbbbbbbbbb span Disk1=10\n",
+        "1 refused: bad line\n2 ok 8\n",
+        [897, 897],
+    ),
+    (
+        "",
+        "begin\ncreate One bbbbbbbb-bbbb-bbbb-bbbb-bbbbbbbbbbbb span Disk1=10\n",
+        "1 held\n2 held\n",
+        [0, 0],
+    ),
+    // The copy of the second image is behind: it gets a body of 16 sectors.
+    (
+        "1.copy+7c=06",
+        "nonsense\n",
+        "1 refused: bad line\n",
+        [0, 8193],
+    ),
+];
+
+// Edits the sample group of two disks so.
+fn edits(alloc: Global, rt: &impl Abort, (changes, script, said, most): Edit) -> Result<(), Fail> {
+    let mut images = sample_group(alloc, 2, 64)?;
+    for text in changes.split_whitespace() {
+        change_images(alloc, images.as_mut_slice(), text)?;
+    }
+    let mut host = MemoryHost::new(alloc, images, script.as_bytes().to_vec(alloc)?)?;
+    let status = run_over(alloc, &words_in(alloc, "edit on A B")?, &mut host);
+    let wanted = if script.starts_with("nonsense") {
+        Status::Refused
+    } else {
+        Status::Done
+    };
+    assert_eq!(rt;
+        (status, host.said()),
+        (Some(wanted), said.as_bytes()),
+        "{script}"
+    );
+    let handed = [handed_to(&host, 0), handed_to(&host, 1)];
+    assert!(rt;
+        handed[0] <= most[0] && handed[1] <= most[1],
+        "{script}: {handed:?}"
+    );
+    Ok(())
+}
+
+// A line that isn't done hands no byte to a disk, and one that is, only the blocks of its records.
+#[test]
+fn hands_a_disk_nothing_for_lines_that_are_not_done(rt: HostRuntime) -> Result<(), Fail> {
+    for edit in EDITS {
+        edits(rt.alloc(), &rt, edit)?;
+    }
+    Ok(())
+}

@@ -2,7 +2,11 @@
 #![tactic(auto)]
 
 #[cfg(test)]
+mod changed;
+#[cfg(test)]
 mod copies;
+#[cfg(test)]
+mod damaged;
 #[cfg(test)]
 mod edit;
 #[cfg(test)]
@@ -25,6 +29,8 @@ mod sample;
 mod scripts;
 #[cfg(test)]
 mod stop;
+#[cfg(test)]
+mod store;
 #[cfg(test)]
 mod table;
 #[cfg(test)]

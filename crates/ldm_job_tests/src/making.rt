@@ -1,5 +1,6 @@
 //! A new group on empty disks: its images, what disks are refused, and what a stop leaves.
 use crate::jobs::{answer_of, expect, put, run_over, sample_group, words_in};
+use ldm_host::Host;
 use ldm_memory::{Filling, MemoryHost};
 use ldm_run::Status;
 use std::alloc::Global;
@@ -64,41 +65,53 @@ fn makes_the_images_of_a_new_group(rt: HostRuntime) -> Result<(), Fail> {
     )
 }
 
+// Three images of 8192 sectors of zeros, but for byte 0 of sector 62 of the second.
+fn one_filled(alloc: Global) -> Result<Vec<Vec<u8>>, Fail> {
+    let mut images = zeros(alloc, 8192)?;
+    if let Some(image) = images.get_mut(1) {
+        put(image, 512 * 62, b"\x01");
+    }
+    Ok(images)
+}
+
+// Compares how a run ends, and what is said. No image is handed a byte, nor is changed.
+fn makes_nothing(
+    alloc: Global,
+    rt: &impl Abort,
+    words: &str,
+    images: Vec<Vec<u8>>,
+    (text, status): (&str, Status),
+) -> Result<(), Fail> {
+    let before = images.clone()?;
+    let mut host = MemoryHost::new(alloc, images, Vec::new(alloc))?;
+    let ended = run_over(alloc, &words_in(alloc, words)?, &mut host);
+    assert_eq!(rt;
+        (ended, host.said()),
+        (Some(status), text.as_bytes()),
+        "{text}"
+    );
+    for disk in 0..host.disks() {
+        assert_eq!(rt; host.handed(disk), 0, "{text}");
+    }
+    assert!(rt; host.left(alloc, Filling::New)? == before, "{text}");
+    Ok(())
+}
+
 #[test]
 fn refuses_disks_that_are_not_empty_or_too_small(rt: HostRuntime) -> Result<(), Fail> {
     let alloc = rt.alloc();
-    let mut full = zeros(alloc, 8192)?;
-    if let Some(image) = full.get_mut(1) {
-        put(image, 512 * 62, b"\x01");
-    }
-    let not_empty = "refused: image 1: not empty\n";
-    expect(alloc, &rt, INIT, full, b"", (not_empty, Status::Refused))?;
-    let small = "refused: image 0: too small\n";
-    expect(
-        alloc,
-        &rt,
-        INIT,
-        zeros(alloc, 2111)?,
-        b"",
-        (small, Status::Refused),
-    )?;
-    let same = "refused: GUIDs 0 and 2 are one\n";
-    expect(
-        alloc,
-        &rt,
-        SAME,
-        zeros(alloc, 8192)?,
-        b"",
-        (same, Status::Refused),
-    )?;
-    expect(
-        alloc,
-        &rt,
-        FEW,
-        zeros(alloc, 8192)?,
-        b"",
-        ("", Status::Usage),
-    )
+    let filled = ("refused: image 1: not empty\n", Status::Refused);
+    makes_nothing(alloc, &rt, INIT, one_filled(alloc)?, filled)?;
+    let small = ("refused: image 0: too small\n", Status::Refused);
+    makes_nothing(alloc, &rt, INIT, zeros(alloc, 2111)?, small)
+}
+
+#[test]
+fn refuses_guids_that_are_one_or_too_few(rt: HostRuntime) -> Result<(), Fail> {
+    let alloc = rt.alloc();
+    let same = ("refused: GUIDs 0 and 2 are one\n", Status::Refused);
+    makes_nothing(alloc, &rt, SAME, zeros(alloc, 8192)?, same)?;
+    makes_nothing(alloc, &rt, FEW, zeros(alloc, 8192)?, ("", Status::Usage))
 }
 
 // Puts the last byte of the signature into each image, if one has it. Then all else is there on all

@@ -40,9 +40,11 @@ fn deletes_the_first_volume_first(rt: HostRuntime) -> Result<(), Fail> {
     Ok(())
 }
 
+// The first line is refused, since no volume is there yet.
 #[test]
 fn replies_to_each_line_of_the_sample(rt: HostRuntime) -> Result<(), Fail> {
     let host = sample_host(rt.alloc(), 0)?;
+    assert!(rt; host.said().starts_with(b"1 refused: no volume\n"));
     let lines = host.said().iter().filter(|byte| **byte == b'\n').count();
     assert!(rt; host.dry() == 0 && lines == 200);
     Ok(())

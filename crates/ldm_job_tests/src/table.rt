@@ -71,6 +71,30 @@ fn spells_tables(rt: HostRuntime) -> Result<(), Fail> {
     play(rt.alloc(), &rt, 3, 64, TABLES)
 }
 
+// The names of the three partitions stand in the blocks 10 to 12: P1, P2 and P1, and then P1, P2 and
+// P3.
+const NAMESAKES: &str = "\
+$ create R cccccccc-cccc-cccc-cccc-cccccccccccc raid5 8 16 Disk1 Disk2 Disk3 on A B C
+1 ok 8
+= 0 ABC
+! *.copy+51b=5031
+! *.copy+59b=5032
+! *.copy+61b=5031
+$ table R on A B C
+refused: two parts have one name
+= 1
+! *.copy+61b=5033
+$ table R on A B C
+ldm_part_Dg0_P1,,,ro,0 16 linear A 63;ldm_part_Dg0_P2,,,ro,0 16 linear B 63;ldm_part_Dg0_P3,,,ro,0 16 linear C 63;\
+ldm_vol_Dg0_R,LDM-cccccccc-cccc-cccc-cccc-cccccccccccc,,ro,0 32 raid raid5_ls 2 8 nosync 3 \
+- /dev/mapper/ldm_part_Dg0_P1 - /dev/mapper/ldm_part_Dg0_P2 - /dev/mapper/ldm_part_Dg0_P3
+= 0";
+
+#[test]
+fn refuses_two_parts_of_one_name(rt: HostRuntime) -> Result<(), Fail> {
+    play(rt.alloc(), &rt, 3, 64, NAMESAKES)
+}
+
 // Where the size of the volume stands whose GUID is sixteen of these bytes, in the last megabyte of
 // an image: a number of one byte, and then five bytes up to the GUID.
 fn size_place(image: &[u8], guid: u8) -> Option<usize> {

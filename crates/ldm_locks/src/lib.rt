@@ -5,5 +5,13 @@
 
 mod device;
 mod holding;
+mod locks;
+mod loops;
+mod system;
+mod uses;
 
 pub use holding::hold;
+pub use system::System;
+
+#[cfg(test)]
+mod tests;

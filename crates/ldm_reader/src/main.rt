@@ -8,7 +8,8 @@
 
 use ldm_bytes::NoMemory;
 use ldm_edge::{
-    FormError, Shown, Stop, by_form, ending, exit_code, form_of, open_images, split_on, words_of,
+    FormError, Shown, Stop, Written, by_form, ending, exit_code, form_of, open_images, split_on,
+    words_of,
 };
 use ldm_files::{Access, FileHost, Unwatched, take_closed_streams};
 use ldm_look::{is_look, look};
@@ -61,17 +62,17 @@ fn run_words<'a>(
     let alloc = rt.alloc();
     let count = match read_words(alloc, words) {
         Ok((job, count)) if is_look(&job) => count,
-        Err(WordsError::NoMemory) => return Err(Stop::NoMemory(None)),
+        Err(WordsError::NoMemory) => return Err(Stop::NoMemory(Written::Never)),
         _ => return Err(Stop::Usage(usage_error(alloc, words))),
     };
     let names = &words[words.len() - count..];
     let images = open_images::<UsageError<'a>>(alloc, rt, names, Access::Read)?;
     let mut host = match FileHost::new(alloc, images, rt.stdin(), rt.stdout(), Unwatched) {
         Ok(host) => host,
-        Err(NoMemory) => return Err(Stop::NoMemory(None)),
+        Err(NoMemory) => return Err(Stop::NoMemory(Written::Never)),
     };
     let status = look(alloc, words, &mut host);
-    ending(status, names, host.failure(), None)
+    ending(status, names, host.failure(), Written::Never)
 }
 
 fn main(rt: HostRuntime) -> ExitCode {

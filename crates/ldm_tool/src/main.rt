@@ -7,9 +7,11 @@
 
 use ldm_bytes::NoMemory;
 use ldm_console::{Counted, Meter, Tally, UsageError, tell, usage_error};
-use ldm_edge::{HELP, Stop, VERSION, ending, exit_code, open_images, stop_unopened, words_of};
+use ldm_edge::{
+    HELP, Stop, VERSION, Written, ending, exit_code, open_images, stop_unopened, words_of,
+};
 use ldm_files::{Access, Failure, FileHost, ImageFile, take_closed_streams};
-use ldm_locks::hold;
+use ldm_locks::{System, hold};
 use ldm_run::run;
 use ldm_words::{Job, Status, WordsError, read_words};
 use std::io;
@@ -25,11 +27,12 @@ fn told(words: &[String]) -> Option<&'static str> {
     }
 }
 
-// What a job asks of the outside before it begins: how it opens its images, whether it hears a
-// script, and which of its bytes tell how far it has come.
+// What a job asks of the outside before it begins: how it opens its images, whether it makes a new
+// group of them, whether it hears a script, and which of its bytes tell how far it has come.
 #[derive(Clone, Copy)]
 struct Needs {
     access: Access,
+    makes: bool,
     script: bool,
     counted: Option<Counted>,
 }
@@ -48,6 +51,7 @@ fn needs_of(job: &Job) -> Needs {
         } else {
             Access::Read
         },
+        makes: matches!(job, Job::Init { .. }),
         script: matches!(job, Job::Try | Job::Edit),
         counted: match job {
             Job::Dump { .. } => Some(Counted::Said),
@@ -86,14 +90,26 @@ fn tally_of<'a>(rt: &'a HostRuntime, needs: Needs, terminals: Terminals) -> Tall
     }
 }
 
+// What a job has written by its end: whether it handed a byte to a disk, and the lines that it said,
+// where they are counted.
+fn written_by(needs: Needs, has_written: bool, lines: Option<u64>) -> Written {
+    match lines {
+        _ if needs.access == Access::Read => Written::Never,
+        _ if !has_written => Written::Nothing,
+        _ if needs.makes => Written::NewGroup,
+        lines => Written::Lines(lines.unwrap_or(0)),
+    }
+}
+
 // Holds the images of these names for a job that writes, in their order.
 fn hold_images<'a>(
     rt: &HostRuntime,
     images: &[ImageFile],
     names: &'a [String],
 ) -> Result<(), Stop<'a, UsageError<'a>>> {
+    let system = System::of_machine();
     for (i, image) in images.iter().enumerate() {
-        if let Err(error) = hold(rt, image, &images[..i]) {
+        if let Err(error) = hold(rt, &system, image, &images[..i]) {
             let name = names.get(i).map_or("", |name| name.as_str());
             return Err(stop_unopened(i, name, error));
         }
@@ -117,17 +133,18 @@ where
     let alloc = rt.alloc();
     let (needs, count) = match read_words(alloc, words) {
         Err(WordsError::Usage) => return Err(Stop::Usage(usage_error(alloc, words))),
-        Err(WordsError::NoMemory) => return Err(Stop::NoMemory(None)),
+        Err(WordsError::NoMemory) => return Err(Stop::NoMemory(Written::Never)),
         Ok((job, count)) => (needs_of(&job), count),
     };
     let names = &words[words.len() - count..];
+    let unwritten = written_by(needs, false, None);
     let images = open_images::<UsageError<'a>>(alloc, rt, names, needs.access)?;
     if needs.access == Access::Edit {
         hold_images(rt, images.as_slice(), names)?;
     }
     if let Err(error) = try_output(needs, &mut output) {
         let failure = Some(Failure::Output(error));
-        return ending(Status::TalkFault, names, failure, None);
+        return ending(Status::TalkFault, names, failure, unwritten);
     }
     if terminals.input && needs.script {
         let _ = eprint!(rt;
@@ -137,11 +154,12 @@ where
     let tally = tally_of(rt, needs, terminals);
     let mut host = match FileHost::new(alloc, images, input, output, tally) {
         Ok(host) => host,
-        Err(NoMemory) => return Err(Stop::NoMemory(None)),
+        Err(NoMemory) => return Err(Stop::NoMemory(unwritten)),
     };
     let status = run(alloc, words, &mut host);
     host.watch().end();
-    ending(status, names, host.failure(), host.watch().lines())
+    let written = written_by(needs, host.has_written(), host.watch().lines());
+    ending(status, names, host.failure(), written)
 }
 
 // Does what the words of the command line ask.

@@ -4,7 +4,7 @@ ghost use Rattle.std.specs.Prelude.{◌<◌, ◌≤◌, ◌+◌, ◌*◌, length
 use super::*;
 use ldm_console::Progress;
 use ldm_edge::Fault;
-use ldm_files::{DiskCall, ImageFile, Unwatched};
+use ldm_files::{DiskCall, ImageFile, Sectors, Unwatched};
 use ldm_host::{Failed, Host};
 use ldm_memory::MemoryHost;
 use ldm_vectors::sample_images;
@@ -210,16 +210,19 @@ fn leaves_in_files_the_bytes_of_disks_in_memory(rt: HostRuntime) -> Result<(), F
 #[test]
 fn ends_with_a_talk_fault_where_nothing_can_be_said(rt: HostRuntime) -> Result<(), Fail> {
     let folder = sample_folder(&rt, "closed")?;
-    for (job, name) in [("disk", "a.img"), ("delete Volume1", "a.img")] {
-        let words = words_on(&rt, job, &folder, &[name])?;
+    for (job, written) in [
+        ("disk", ""),
+        ("delete Volume1", "ldm: nothing was written\n"),
+    ] {
+        let words = words_on(&rt, job, &folder, &["a.img"])?;
         // As standard output is where the program was started without one.
         let null = File::open(&rt, "/dev/null")?;
         let (status, error) = end_of(&rt, &words, b"", null)?;
+        let text = format!(in rt.alloc();
+            "ldm: talk fault: standard output: Bad file descriptor (os error 9)\n{written}"
+        )?;
         assert_eq!(rt; status, Status::TalkFault);
-        assert_eq!(rt;
-            error.as_str(),
-            "ldm: talk fault: standard output: Bad file descriptor (os error 9)\n"
-        );
+        assert_eq!(rt; error.as_str(), text.as_str());
     }
     fs::remove_dir_all(&rt, &folder)?;
     Ok(())
@@ -328,7 +331,8 @@ fn host_in(
 fn handles_each_file_for_its_disk(rt: HostRuntime) -> Result<(), Fail> {
     let folder = folder_for(&rt, "disks")?;
     let mut host = host_in(&rt, &folder)?;
-    assert!(rt; write(&mut host, 1, 510, b"xyz") == Ok(()));
+    assert!(rt; read(&mut host, 0, 0) == Ok(*b"aaaaa") && !host.has_written());
+    assert!(rt; write(&mut host, 1, 510, b"xyz") == Ok(()) && host.has_written());
     // The last byte of the second sector is there, and no third one is.
     for (disk, at, bytes) in [(1, 509, b"bxyzb"), (0, 509, b"aaaaa"), (1, 1019, b"bbbbb")] {
         assert!(rt; read(&mut host, disk, at) == Ok(*bytes), "{at}");
@@ -342,6 +346,46 @@ fn handles_each_file_for_its_disk(rt: HostRuntime) -> Result<(), Fail> {
     fs::write(&rt, path_in(&rt, &folder, "a")?.as_str(), b"short")?;
     assert!(rt; read(&mut host, 0, 509) == Err(Failed));
     fs::remove_dir_all(&rt, &folder)?;
+    Ok(())
+}
+
+#[test]
+fn counts_the_sectors_that_bytes_touch(rt: HostRuntime) -> Result<(), Fail> {
+    for (at, length, first, count) in [
+        (0, 512, 0, 1),
+        (511, 2, 0, 2),
+        (512, 0, 1, 0),
+        (3_154_433, 511, 6161, 1),
+        (u64::MAX, 1, 36_028_797_018_963_967, 1),
+    ] {
+        assert!(rt;
+            Sectors::touched(at, length) == Sectors { first, count },
+            "{at}"
+        );
+    }
+    Ok(())
+}
+
+#[test]
+fn says_what_a_job_has_written(rt: HostRuntime) -> Result<(), Fail> {
+    let alloc = rt.alloc();
+    let guid = "11111111-1111-1111-1111-111111111111";
+    let other = "22222222-2222-2222-2222-222222222222";
+    let init = format!(in alloc; "init Dg0 {guid} {guid} {other}")?;
+    for (job, untouched, touched) in [
+        ("show", Written::Never, Written::Never),
+        ("edit", Written::Nothing, Written::Lines(3)),
+        ("delete Volume1", Written::Nothing, Written::Lines(3)),
+        (init.as_str(), Written::Nothing, Written::NewGroup),
+    ] {
+        let words = words_on(&rt, job, &PathBuf::new(alloc), &["a.img", "b.img"])?;
+        let Ok((job, _)) = read_words(alloc, &words) else {
+            return Err(Fail::from("no job"));
+        };
+        let needs = needs_of(&job);
+        assert!(rt; written_by(needs, false, Some(0)) == untouched);
+        assert!(rt; written_by(needs, true, Some(3)) == touched);
+    }
     Ok(())
 }
 
@@ -377,18 +421,38 @@ fn no_space() -> io::Error {
     io::Error::from_raw_os_error(28)
 }
 
-// A fault of a job that writes, over an image of this name.
-fn fault(names: &[String], failure: Failure) -> Fault<'_> {
+// A fault of a job over an image of this name, which has written so.
+fn fault(names: &[String], failure: Failure, written: Written) -> Fault<'_> {
     Fault {
         failure: Some(failure),
         names,
-        answered: Some(2),
+        written,
     }
 }
 
+// A fault of a call of the first image.
+fn disk_fault(names: &[String], call: DiskCall, written: Written) -> Fault<'_> {
+    let failure = Failure::Disk {
+        image: 0,
+        call,
+        error: no_space(),
+    };
+    fault(names, failure, written)
+}
+
 const FULL: &str = "\
-ldm: disk fault: image 0 (a\\x0ab): write: No space left on device (os error 28)
+ldm: disk fault: image 0 (a\\x0ab): write of sectors 6161+1: No space left on device (os error 28)
 ldm: 2 lines were answered; the next may be done: run check, then edit again
+";
+
+const UNREAD: &str = "\
+ldm: disk fault: image 0 (a\\x0ab): read of sectors 1000+8: No space left on device (os error 28)
+";
+
+const UNSYNCED: &str = "\
+ldm: disk fault: image 0 (a\\x0ab): sync: No space left on device (os error 28)
+ldm: the new group may be there in part: run check; if it refuses the disks, zero them \
+as README says under \"A new group\", then run init again
 ";
 
 const UNSAID: &str = "\
@@ -423,19 +487,31 @@ fn says_why_there_is_no_answer(rt: HostRuntime) -> Result<(), Fail> {
     let alloc = rt.alloc();
     let mut names = Vec::new(alloc);
     names.push(String::from_str(alloc, "a\nb")?)?;
-    let disk = Failure::Disk {
-        image: 0,
-        call: DiskCall::Write,
-        error: no_space(),
-    };
+    let write = DiskCall::Write(Sectors::touched(6161 * 512 + 1, 511));
+    let read = DiskCall::Read(Sectors::touched(1000 * 512, 8 * 512));
     let output = Failure::Output(no_space());
     let input = Failure::Input(no_space());
+    let two = Written::Lines(2);
     let rows = [
-        (Stop::Disk(fault(&names, disk)), FULL, 3),
-        (Stop::Talk(fault(&names, output)), UNSAID, 5),
-        (Stop::Talk(fault(&names, input)), UNHEARD, 5),
-        (Stop::NoMemory(Some(1)), NO_MEMORY, 4),
-        (Stop::NoMemory(None), "ldm: no memory\n", 4),
+        (Stop::Disk(disk_fault(&names, write, two)), FULL, 3),
+        (
+            Stop::Disk(disk_fault(&names, read, Written::Never)),
+            UNREAD,
+            3,
+        ),
+        (
+            Stop::Disk(disk_fault(&names, DiskCall::Sync, Written::NewGroup)),
+            UNSYNCED,
+            3,
+        ),
+        (Stop::Talk(fault(&names, output, two)), UNSAID, 5),
+        (
+            Stop::Talk(fault(&names, input, Written::Nothing)),
+            UNHEARD,
+            5,
+        ),
+        (Stop::NoMemory(Written::Lines(1)), NO_MEMORY, 4),
+        (Stop::NoMemory(Written::Never), "ldm: no memory\n", 4),
         (Stop::NotUtf8, NOT_UTF8, 2),
         (Stop::Usage(Some(UsageError::NoJob)), NO_JOB, 2),
     ];
