@@ -1,6 +1,5 @@
 //! JSON that grows.
 ghost use Rattle.std.specs.Prelude.{◌≡◌, ◌++◌, [], ◌∷◌, OnOk, IfOk, map, flat_map, codes};
-
 ghost use Rattle.json.specs.Token.{begin_array, end_array};
 ghost use Rattle.json.specs.Tree.{json_tokens};
 ghost use Rattle.json.specs.Print.{print};

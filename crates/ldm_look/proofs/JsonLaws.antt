@@ -105,31 +105,31 @@ more_item {X} {Y} g f xs i x start old new lt is before after =
 pub partition_is : (disk : Option MappedDisk) (p : Partition) (name : List ℕ) (disk_name : Option (List ℕ)) (at : Option ℕ)
     → name ≡ p.head.name → disk_name ≡ option_map (λ d. d.name) disk → at ≡ image_sector disk p.start
     → object_of (
-      (codes "id", number_json p.head.id) ∷ (codes "name", name_json name) ∷ (codes "disk", maybe_name_json disk_name) ∷ (codes "disk_id", number_json p.disk)
-      ∷ (codes "start", number_json p.start) ∷ (codes "image_start", maybe_json at) ∷ (codes "size", number_json p.size) ∷ (codes "offset", number_json p.offset)
-      ∷ (codes "index", maybe_json p.index) ∷ []) ≡ partition_json disk p
+    (codes "id", number_json p.head.id) ∷ (codes "name", name_json name) ∷ (codes "disk", maybe_name_json disk_name) ∷ (codes "disk_id", number_json p.disk)
+    ∷ (codes "start", number_json p.start) ∷ (codes "image_start", maybe_json at) ∷ (codes "size", number_json p.size) ∷ (codes "offset", number_json p.offset)
+    ∷ (codes "index", maybe_json p.index) ∷ []) ≡ partition_json disk p
 partition_is disk p name disk_name at a b c = rw (a, b, c) refl
 
 pub component_is : (disks : ℕ → Option MappedDisk) (partitions : List Partition) (c : Component) (name layout : List ℕ) (chunk columns : Option ℕ)
     → name ≡ c.head.name → layout ≡ layout_word c.layout → chunk ≡ option_map (λ s. s.chunk) c.striping → columns ≡ option_map (λ s. s.columns) c.striping
     → object_of (
-      (codes "id", number_json c.head.id) ∷ (codes "name", name_json name) ∷ (codes "layout", string layout) ∷ (codes "chunk", maybe_json chunk) ∷ (codes "columns", maybe_json columns)
-      ∷ (codes "partitions", array_of (partition_jsons disks partitions)) ∷ []) ≡ component_json disks partitions c
+    (codes "id", number_json c.head.id) ∷ (codes "name", name_json name) ∷ (codes "layout", string layout) ∷ (codes "chunk", maybe_json chunk) ∷ (codes "columns", maybe_json columns)
+    ∷ (codes "partitions", array_of (partition_jsons disks partitions)) ∷ []) ≡ component_json disks partitions c
 component_is disks partitions c name layout chunk columns n l k m = rw (n, l, k, m) refl
 
 pub volume_is : (components : List Json) (v : Volume) (shape : Shape) (name word : List ℕ) (guid : ℕ) (bytes : Option ℕ) (hint : Option (List ℕ))
     → name ≡ v.head.name → guid ≡ guid_of_volume v → word ≡ text_of_shape shape → bytes ≡ in_64_bits (v.size * 512) → hint ≡ v.hint
     → object_of (
-      (codes "id", number_json v.head.id) ∷ (codes "name", name_json name) ∷ (codes "guid", guid_json guid) ∷ (codes "type", string word) ∷ (codes "size", number_json v.size)
-      ∷ (codes "bytes", maybe_json bytes) ∷ (codes "hint", maybe_name_json hint) ∷ (codes "components", array_of components) ∷ []) ≡ volume_json components v shape
+    (codes "id", number_json v.head.id) ∷ (codes "name", name_json name) ∷ (codes "guid", guid_json guid) ∷ (codes "type", string word) ∷ (codes "size", number_json v.size)
+    ∷ (codes "bytes", maybe_json bytes) ∷ (codes "hint", maybe_name_json hint) ∷ (codes "components", array_of components) ∷ []) ≡ volume_json components v shape
 volume_is components v shape name word guid bytes hint n g w b h = rw (n, g, w, b, h) refl
 
 pub disk_is : (paths : List (List ℕ)) (used : ℕ) (labels : List Label) (d : Disk) (name : List ℕ) (at image : Option ℕ) (path : Option (List ℕ)) (start size free : Option ℕ) (label : Option Label)
     → name ≡ d.head.name → at ≡ image → path ≡ path_of paths image → image ≡ image_with d.guid labels → label ≡ label_with d.guid labels → start ≡ option_map (λ l. l.data_start) label
     → size ≡ option_map (λ l. l.data_size) label → free ≡ option_map (λ l. l.data_size - used) label
     → object_of (
-      (codes "id", number_json d.head.id) ∷ (codes "name", name_json name) ∷ (codes "guid", guid_json d.guid) ∷ (codes "image", maybe_json at) ∷ (codes "path", maybe_text_json path)
-      ∷ (codes "data_start", maybe_json start) ∷ (codes "data_size", maybe_json size) ∷ (codes "free", maybe_json free) ∷ []) ≡ disk_json paths used labels d
+    (codes "id", number_json d.head.id) ∷ (codes "name", name_json name) ∷ (codes "guid", guid_json d.guid) ∷ (codes "image", maybe_json at) ∷ (codes "path", maybe_text_json path)
+    ∷ (codes "data_start", maybe_json start) ∷ (codes "data_size", maybe_json size) ∷ (codes "free", maybe_json free) ∷ []) ≡ disk_json paths used labels d
 disk_is paths used labels d name at image path start size free label n t p i l a b c = rw (n, t, p, i, a, b, c, l) refl
 
 -- ---- values that stand alone
@@ -148,17 +148,17 @@ closed_alone one two three four op ms key js a b is c d =
 
 pub open_is : (paths : List (List ℕ)) (image : ℕ) (path : Option (List ℕ)) (m : InGroup) (group : List ℕ) (disk : Option (List ℕ)) → path ≡ slice_get paths image → group ≡ m.group → disk ≡ m.disk
     → object_of (
-      (codes "image", number_json image) ∷ (codes "path", maybe_text_json path) ∷ (codes "state", string (codes "open")) ∷ (codes "group", name_json group)
-      ∷ (codes "group_guid", guid_json m.group_guid) ∷ (codes "disk", maybe_name_json disk) ∷ (codes "disk_guid", guid_json m.disk_guid)
-      ∷ (codes "sequence", number_json m.seq) ∷ (codes "reason", null) ∷ []) ≡ scanned_json paths (image, Open m)
+    (codes "image", number_json image) ∷ (codes "path", maybe_text_json path) ∷ (codes "state", string (codes "open")) ∷ (codes "group", name_json group)
+    ∷ (codes "group_guid", guid_json m.group_guid) ∷ (codes "disk", maybe_name_json disk) ∷ (codes "disk_guid", guid_json m.disk_guid)
+    ∷ (codes "sequence", number_json m.seq) ∷ (codes "reason", null) ∷ []) ≡ scanned_json paths (image, Open m)
 open_is paths image path m group disk p a b = rw (p, a, b) refl
 
 pub label_is : (label : Label) (minor : ℕ) → minor ≡ label.minor
     → object_of (
-      (codes "sector_size", number_json 512) ∷ (codes "guid", guid_json label.disk_guid) ∷ (codes "version_minor", number_json minor) ∷ (codes "data_start", number_json label.data_start)
-      ∷ (codes "data_size", number_json label.data_size) ∷ (codes "database_start", number_json label.config_start) ∷ (codes "database_size", number_json 2048)
-      ∷ (codes "area_start", number_json label.area_start) ∷ (codes "area_size", number_json label.area_sectors) ∷ (codes "log_start", number_json label.log_start)
-      ∷ (codes "log_size", number_json label.log_sectors) ∷ []) ≡ label_json label
+    (codes "sector_size", number_json 512) ∷ (codes "guid", guid_json label.disk_guid) ∷ (codes "version_minor", number_json minor) ∷ (codes "data_start", number_json label.data_start)
+    ∷ (codes "data_size", number_json label.data_size) ∷ (codes "database_start", number_json label.config_start) ∷ (codes "database_size", number_json 2048)
+    ∷ (codes "area_start", number_json label.area_start) ∷ (codes "area_size", number_json label.area_sectors) ∷ (codes "log_start", number_json label.log_start)
+    ∷ (codes "log_size", number_json label.log_sectors) ∷ []) ≡ label_json label
 label_is label minor a = rw a refl
 
 pub check_is : (paths : List (List ℕ)) (found : Found) (editable : Bool) (kind reason : Json) (notes : List Note) → editable ≡ is_none found.blocked → kind ≡ kind_json found.blocked
@@ -169,8 +169,8 @@ check_is paths found editable kind reason notes a b c d = rw (a, b, c, d) refl
 pub group_is : (disks volumes : List Json) (found : Found) (header : Header) (name : List ℕ) (need room : ℕ) → header ≡ found.db.header → name ≡ header.name
     → need ≡ need_of found.db.records → room ≡ room_of found.db.header.last
     → object_of (
-      (codes "sector_size", number_json 512) ∷ (codes "name", name_json name) ∷ (codes "guid", guid_json header.guid) ∷ (codes "sequence", number_json header.seq)
-      ∷ (codes "blocks", number_json need) ∷ (codes "blocks_room", number_json room) ∷ (codes "disks", array_of disks) ∷ (codes "volumes", array_of volumes) ∷ [])
+    (codes "sector_size", number_json 512) ∷ (codes "name", name_json name) ∷ (codes "guid", guid_json header.guid) ∷ (codes "sequence", number_json header.seq)
+    ∷ (codes "blocks", number_json need) ∷ (codes "blocks_room", number_json room) ∷ (codes "disks", array_of disks) ∷ (codes "volumes", array_of volumes) ∷ [])
     ≡ group_json disks volumes found
 group_is disks volumes found header name need room h n a b = rw (n, a, b, h) refl
 

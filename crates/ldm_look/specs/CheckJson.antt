@@ -19,10 +19,10 @@ sequence_of (Sequence seq) = Some seq
 abbrev pub note_json : List (List ℕ) → ℕ × Note → Json
 note_json paths (image, note) =
     object_of (
-      (codes "image", number_json image)
-      ∷ (codes "path", maybe_text_json (slice_get paths image))
-      ∷ (codes "sequence", maybe_json (sequence_of note))
-      ∷ [])
+    (codes "image", number_json image)
+    ∷ (codes "path", maybe_text_json (slice_get paths image))
+    ∷ (codes "sequence", maybe_json (sequence_of note))
+    ∷ [])
 
 abbrev pub note_jsons : List (List ℕ) → List Note → List Json
 note_jsons paths notes = map (note_json paths) (enumerate_from 0 notes)
@@ -38,8 +38,8 @@ reason_json (Some fault) = said_json (text_of_open_fault fault)
 abbrev pub check_json : List (List ℕ) → Found → Json
 check_json paths found =
     object_of (
-      (codes "editable", boolean (is_none found.blocked))
-      ∷ (codes "kind", kind_json found.blocked)
-      ∷ (codes "reason", reason_json found.blocked)
-      ∷ (codes "images", array_of (note_jsons paths found.notes))
-      ∷ [])
+    (codes "editable", boolean (is_none found.blocked))
+    ∷ (codes "kind", kind_json found.blocked)
+    ∷ (codes "reason", reason_json found.blocked)
+    ∷ (codes "images", array_of (note_jsons paths found.notes))
+    ∷ [])

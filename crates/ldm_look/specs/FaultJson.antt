@@ -42,15 +42,15 @@ named_in (AreaClash i) = naming (Some i) None None None
 abbrev pub named_json : List (List ℕ) → List ℕ → Named → List ℕ → Json
 named_json paths kind named text =
     object_of (
-      (codes "kind", string kind)
-      ∷ (codes "image", maybe_json named.image)
-      ∷ (codes "path", maybe_text_json (path_of paths named.image))
-      ∷ (codes "other_image", maybe_json named.other)
-      ∷ (codes "other_path", maybe_text_json (path_of paths named.other))
-      ∷ (codes "rule", maybe_json named.rule)
-      ∷ (codes "id", maybe_json named.id)
-      ∷ (codes "reason", said_json text)
-      ∷ [])
+    (codes "kind", string kind)
+    ∷ (codes "image", maybe_json named.image)
+    ∷ (codes "path", maybe_text_json (path_of paths named.image))
+    ∷ (codes "other_image", maybe_json named.other)
+    ∷ (codes "other_path", maybe_text_json (path_of paths named.other))
+    ∷ (codes "rule", maybe_json named.rule)
+    ∷ (codes "id", maybe_json named.id)
+    ∷ (codes "reason", said_json text)
+    ∷ [])
 
 -- the fault of images that have these words
 abbrev pub fault_json : List (List ℕ) → OpenFault → Json

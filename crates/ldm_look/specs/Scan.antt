@@ -27,8 +27,11 @@ use Rattle.ldm_look.specs.declared.scanned.Scanned.TheVariants.{BadLabel, BadCop
 abbrev pub member_of_group : Label → Database → Member
 member_of_group label db =
     record {
-      group = db.header.name; group_guid = db.header.guid; seq = db.header.seq;
-      disk = option_map (λ d. d.head.name) (disk_with label.disk_guid db.records); disk_guid = label.disk_guid
+      group = db.header.name;
+      group_guid = db.header.guid;
+      seq = db.header.seq;
+      disk = option_map (λ d. d.head.name) (disk_with label.disk_guid db.records);
+      disk_guid = label.disk_guid;
     }
 
 abbrev pub scanned_copy : Label → Result CopyState CopyFault → Scanned
@@ -85,16 +88,16 @@ text_of_scan scanned = flat_map line_of_scanned (enumerate_from 0 scanned)
 abbrev pub state_json : List (List ℕ) → ℕ → List ℕ → Json → Json → Json → Json → Json → Json → Json
 state_json paths image state group group_guid disk disk_guid seq reason =
     object_of (
-      (codes "image", number_json image)
-      ∷ (codes "path", maybe_text_json (slice_get paths image))
-      ∷ (codes "state", string state)
-      ∷ (codes "group", group)
-      ∷ (codes "group_guid", group_guid)
-      ∷ (codes "disk", disk)
-      ∷ (codes "disk_guid", disk_guid)
-      ∷ (codes "sequence", seq)
-      ∷ (codes "reason", reason)
-      ∷ [])
+    (codes "image", number_json image)
+    ∷ (codes "path", maybe_text_json (slice_get paths image))
+    ∷ (codes "state", string state)
+    ∷ (codes "group", group)
+    ∷ (codes "group_guid", group_guid)
+    ∷ (codes "disk", disk)
+    ∷ (codes "disk_guid", disk_guid)
+    ∷ (codes "sequence", seq)
+    ∷ (codes "reason", reason)
+    ∷ [])
 
 abbrev pub refused_json : List (List ℕ) → ℕ → List ℕ → Json
 refused_json paths image fault = state_json paths image (codes "refused") null null null null null (said_json fault)

@@ -38,16 +38,16 @@ image_sector disk sector = option_and_then (λ start. in_64_bits (start + sector
 abbrev pub partition_json : Option MappedDisk → Partition → Json
 partition_json disk p =
     object_of (
-      (codes "id", number_json p.head.id)
-      ∷ (codes "name", name_json p.head.name)
-      ∷ (codes "disk", maybe_name_json (option_map (λ d. d.name) disk))
-      ∷ (codes "disk_id", number_json p.disk)
-      ∷ (codes "start", number_json p.start)
-      ∷ (codes "image_start", maybe_json (image_sector disk p.start))
-      ∷ (codes "size", number_json p.size)
-      ∷ (codes "offset", number_json p.offset)
-      ∷ (codes "index", maybe_json p.index)
-      ∷ [])
+    (codes "id", number_json p.head.id)
+    ∷ (codes "name", name_json p.head.name)
+    ∷ (codes "disk", maybe_name_json (option_map (λ d. d.name) disk))
+    ∷ (codes "disk_id", number_json p.disk)
+    ∷ (codes "start", number_json p.start)
+    ∷ (codes "image_start", maybe_json (image_sector disk p.start))
+    ∷ (codes "size", number_json p.size)
+    ∷ (codes "offset", number_json p.offset)
+    ∷ (codes "index", maybe_json p.index)
+    ∷ [])
 
 -- the record, where it is a partition of the component
 abbrev pub partition_in : ℕ → Record → List Partition
@@ -71,13 +71,13 @@ layout_word layout = if layout == 1 then codes "stripe" else if layout == 3 then
 abbrev pub component_json : (ℕ → Option MappedDisk) → List Partition → Component → Json
 component_json disks partitions c =
     object_of (
-      (codes "id", number_json c.head.id)
-      ∷ (codes "name", name_json c.head.name)
-      ∷ (codes "layout", string (layout_word c.layout))
-      ∷ (codes "chunk", maybe_json (option_map (λ s. s.chunk) c.striping))
-      ∷ (codes "columns", maybe_json (option_map (λ s. s.columns) c.striping))
-      ∷ (codes "partitions", array_of (partition_jsons disks partitions))
-      ∷ [])
+    (codes "id", number_json c.head.id)
+    ∷ (codes "name", name_json c.head.name)
+    ∷ (codes "layout", string (layout_word c.layout))
+    ∷ (codes "chunk", maybe_json (option_map (λ s. s.chunk) c.striping))
+    ∷ (codes "columns", maybe_json (option_map (λ s. s.columns) c.striping))
+    ∷ (codes "partitions", array_of (partition_jsons disks partitions))
+    ∷ [])
 
 abbrev pub component_in : ℕ → Record → List Component
 component_in volume (kinds.Component c) = if c.parent == volume then c ∷ [] else []
@@ -97,15 +97,15 @@ component_jsons disks partitions components = map (λ c. component_json disks (p
 abbrev pub volume_json : List Json → Volume → Shape → Json
 volume_json components v shape =
     object_of (
-      (codes "id", number_json v.head.id)
-      ∷ (codes "name", name_json v.head.name)
-      ∷ (codes "guid", guid_json (guid_of_volume v))
-      ∷ (codes "type", string (text_of_shape shape))
-      ∷ (codes "size", number_json v.size)
-      ∷ (codes "bytes", maybe_json (in_64_bits (v.size * 512)))
-      ∷ (codes "hint", maybe_name_json v.hint)
-      ∷ (codes "components", array_of components)
-      ∷ [])
+    (codes "id", number_json v.head.id)
+    ∷ (codes "name", name_json v.head.name)
+    ∷ (codes "guid", guid_json (guid_of_volume v))
+    ∷ (codes "type", string (text_of_shape shape))
+    ∷ (codes "size", number_json v.size)
+    ∷ (codes "bytes", maybe_json (in_64_bits (v.size * 512)))
+    ∷ (codes "hint", maybe_name_json v.hint)
+    ∷ (codes "components", array_of components)
+    ∷ [])
 
 -- nothing where the components make no shape: a group that is found has no such volume
 abbrev pub shaped_volume : List Json → Volume → Option Shape → List Json
@@ -126,15 +126,15 @@ volume_jsons shapes components records = flat_map (volume_in shapes components) 
 abbrev pub disk_json : List (List ℕ) → ℕ → List Label → Disk → Json
 disk_json paths used labels d =
     object_of (
-      (codes "id", number_json d.head.id)
-      ∷ (codes "name", name_json d.head.name)
-      ∷ (codes "guid", guid_json d.guid)
-      ∷ (codes "image", maybe_json (image_with d.guid labels))
-      ∷ (codes "path", maybe_text_json (path_of paths (image_with d.guid labels)))
-      ∷ (codes "data_start", maybe_json (option_map (λ label. label.data_start) (label_with d.guid labels)))
-      ∷ (codes "data_size", maybe_json (option_map (λ label. label.data_size) (label_with d.guid labels)))
-      ∷ (codes "free", maybe_json (option_map (λ label. label.data_size - used) (label_with d.guid labels)))
-      ∷ [])
+    (codes "id", number_json d.head.id)
+    ∷ (codes "name", name_json d.head.name)
+    ∷ (codes "guid", guid_json d.guid)
+    ∷ (codes "image", maybe_json (image_with d.guid labels))
+    ∷ (codes "path", maybe_text_json (path_of paths (image_with d.guid labels)))
+    ∷ (codes "data_start", maybe_json (option_map (λ label. label.data_start) (label_with d.guid labels)))
+    ∷ (codes "data_size", maybe_json (option_map (λ label. label.data_size) (label_with d.guid labels)))
+    ∷ (codes "free", maybe_json (option_map (λ label. label.data_size - used) (label_with d.guid labels)))
+    ∷ [])
 
 abbrev pub disk_at : List (List ℕ) → (ℕ → ℕ) → List Label → Record → List Json
 disk_at paths used labels (kinds.Disk d) = disk_json paths (used d.head.id) labels d ∷ []
@@ -149,15 +149,15 @@ disk_jsons paths used labels records = flat_map (disk_at paths used labels) reco
 abbrev pub group_json : List Json → List Json → Found → Json
 group_json disks volumes found =
     object_of (
-      (codes "sector_size", number_json 512)
-      ∷ (codes "name", name_json found.db.header.name)
-      ∷ (codes "guid", guid_json found.db.header.guid)
-      ∷ (codes "sequence", number_json found.db.header.seq)
-      ∷ (codes "blocks", number_json (need_of found.db.records))
-      ∷ (codes "blocks_room", number_json (room_of found.db.header.last))
-      ∷ (codes "disks", array_of disks)
-      ∷ (codes "volumes", array_of volumes)
-      ∷ [])
+    (codes "sector_size", number_json 512)
+    ∷ (codes "name", name_json found.db.header.name)
+    ∷ (codes "guid", guid_json found.db.header.guid)
+    ∷ (codes "sequence", number_json found.db.header.seq)
+    ∷ (codes "blocks", number_json (need_of found.db.records))
+    ∷ (codes "blocks_room", number_json (room_of found.db.header.last))
+    ∷ (codes "disks", array_of disks)
+    ∷ (codes "volumes", array_of volumes)
+    ∷ [])
 
 -- the group with all its disks, and its volumes in rising id
 unfoldable pub all_volume_jsons : List Label → List Record → List Json

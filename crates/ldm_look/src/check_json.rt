@@ -24,12 +24,7 @@ fn sequence_of(note: &Note) -> Option<u64>
 }
 
 // What an image holds.
-fn push_note(
-    json: &mut Json,
-    paths: &Paths,
-    image: usize,
-    note: &Note,
-) -> Result<(), NoMemory>
+fn push_note(json: &mut Json, paths: &Paths, image: usize, note: &Note) -> Result<(), NoMemory>
     ensures { OnOk result (json.new
         ≡ json.old ++ json_tokens (note_json paths.now (image, note.now))) }
 {

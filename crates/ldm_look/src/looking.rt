@@ -127,11 +127,7 @@ pub fn open_group<H: Host>(alloc: Global, host: &mut H) -> Result<Found, Status>
 
 // The group that the images hold, and nothing was said; or how the run ends where there is none, when
 // the fault is said as JSON.
-fn open_for_json<H: Host>(
-    alloc: Global,
-    host: &mut H,
-    paths: &Paths,
-) -> Result<Found, Status>
+fn open_for_json<H: Host>(alloc: Global, host: &mut H, paths: &Paths) -> Result<Found, Status>
     requires { 0 < length (H.seen host.old).sizes }
     ensures found { H.tells_disks → IfOk result (λ found. IsGroupIn
         (H.seen host.old).content (Ok found)) }
@@ -172,7 +168,11 @@ fn scan_as_json<H: Host>(alloc: Global, host: &mut H, paths: &Paths) -> Status
     match scan_images(alloc, host) {
         Err(ScanError::Disk) => Status::DiskFault,
         Err(ScanError::NoMemory) => Status::NoMemory,
-        Ok(scanned) => say_made(host, scan_line(alloc, paths, scanned.as_slice()), Status::Done),
+        Ok(scanned) => say_made(
+            host,
+            scan_line(alloc, paths, scanned.as_slice()),
+            Status::Done,
+        ),
     }
 }
 
@@ -281,12 +281,7 @@ pub fn is_look(job: &Job) -> bool
 {
     matches!(
         job,
-        Job::Disk(_)
-            | Job::Records
-            | Job::Scan(_)
-            | Job::Show(_)
-            | Job::Check(_)
-            | Job::Map { .. }
+        Job::Disk(_) | Job::Records | Job::Scan(_) | Job::Show(_) | Job::Check(_) | Job::Map { .. }
     )
 }
 

@@ -1,7 +1,6 @@
 //! What is said of images that were scanned.
 ghost use Rattle.std.specs.Prelude.{◌≡◌, ◌++◌, OnOk, IfOk, flat_map, map, codes};
 ghost use Rattle.std.specs.List.{enumerate_from};
-
 ghost use Rattle.json.specs.Tree.{json_tokens};
 ghost use Rattle.std.specs.Option.{option_map};
 ghost use Rattle.ldm_look.specs.declared.scanned.Scanned.TheVariants as Scanned;
@@ -13,7 +12,9 @@ ghost use Rattle.ldm_look.specs.Scan.{scan_jsons, scan_json};
 use crate::scanned::{Member, Scanned};
 use ldm_bytes::{Bytes, NoMemory};
 use ldm_json::{Json, Scalar};
-use ldm_text::{Part, Text, copy_fault_text, label_fault_text, push_named, push_number, push_parts};
+use ldm_text::{
+    Part, Text, copy_fault_text, label_fault_text, push_named, push_number, push_parts,
+};
 use ldm_words::Paths;
 use std::alloc::Global;
 

@@ -365,12 +365,7 @@ fn push_all_disks(
 }
 
 // The group.
-fn push_group(
-    alloc: Global,
-    json: &mut Json,
-    paths: &Paths,
-    found: &Found,
-) -> Result<(), NoMemory>
+fn push_group(alloc: Global, json: &mut Json, paths: &Paths, found: &Found) -> Result<(), NoMemory>
     requires { All IsFitting found.now.db.records }
     ensures { OnOk result (json.new ≡ json.old ++ json_tokens (show_json paths.now found.now)) }
 {

@@ -18,9 +18,9 @@ returns-in-Some-2-clause-is t c =
     let option = string_bytes c.option-item.result in
     let cut : texts c.args.rest.now ≡ option ∷ texts (drop 1 c.args.rest.now) = search rules in
     let same : optioned behind option (Some c.in-Some-2.job) ≡ with_options behind c.args.most read (texts c.args.rest.now) =
-      ap (optioned behind option) (sym c.in-Some-2.is)
-      ∙ read_option behind read c.args.most option (texts (drop 1 c.args.rest.now)) (texts c.args.rest.now) c.in_ok-job.field-0 c.in_ok-job-in-len1-up.field-0 (search rules) cut
-      c.in_ok-job.ensures.is (search rules) (c.in_ok-job-in-len1-up.ensures.is ∙ ap (λ (l : List (String Global)). with_options behind (c.args.most - 1) read (texts l)) (take_all (length c.args.rest.now - 1) (drop 1 c.args.rest.now) (omega (arith, length-drop 1 c.args.rest.now)))) in
+    ap (optioned behind option) (sym c.in-Some-2.is)
+    ∙ read_option behind read c.args.most option (texts (drop 1 c.args.rest.now)) (texts c.args.rest.now) c.in_ok-job.field-0 c.in_ok-job-in-len1-up.field-0 (search rules) cut
+    c.in_ok-job.ensures.is (search rules) (c.in_ok-job-in-len1-up.ensures.is ∙ ap (λ (l : List (String Global)). with_options behind (c.args.most - 1) read (texts l)) (take_all (length c.args.rest.now - 1) (drop 1 c.args.rest.now) (omega (arith, length-drop 1 c.args.rest.now)))) in
     subst (λ (form : Option Job). IfOk c.optioned.result (λ found. found ≡ form)) same c.optioned.ensures.is
 
 pub returns-in-None-clause-is : goal.returns-in-None-clause-is
