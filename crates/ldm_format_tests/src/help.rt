@@ -16,7 +16,13 @@ map|V|1|on|a => COUNT is missing: the form is map VOLUME FIRST COUNT on IMAGE...
 map|V|1|2|3|on|a => "3" is a word too many: the form is map VOLUME FIRST COUNT on IMAGE...
 map|V|-1|2|on|a => FIRST "-1" is no number, of 1 to 20 decimal digits and below 2^64
 map|V|1|18446744073709551616|on|a => COUNT "18446744073709551616" is no number, of 1 to 20 decimal digits and below 2^64
-map|a b|1|2|on|a => VOLUME "a b" is no name, of 255 bytes at most: a backslash, or a byte that isn't visible ASCII, is written \xHH, and no byte \e
+map|a b|1|2|on|a => VOLUME "a b" is no name, as it has a space: write the space as \x20
+map|aé|1|2|on|a => VOLUME "aé" is no name, of 255 bytes at most: a backslash, or a byte that isn't visible ASCII, is written \xHH, and no byte \e
+-v => "-v" is no job; ldm --help lists them
+|on|a => "" is no job; ldm --help lists them
+hepl => "hepl" is no job; the nearest is "help"
+help|recrods => "recrods" is no job; the nearest is "records"
+help|map|x => "x" is a word too many: the form is help JOB
 map|V|1|2 => "on" is missing between map and its images
 dump|on|a => VOLUME is missing: the form is dump VOLUME on IMAGE...
 dump|\x4|on|a => VOLUME "\x4" is no name, of 255 bytes at most: a backslash, or a byte that isn't visible ASCII, is written \xHH, and no byte \e
@@ -30,11 +36,12 @@ init|G|GUID|GUID|on|a => init takes 2 to 64 DISKGUIDs, and 1 are named
 init|G|GUID|GUID|1234|on|a|b => "1234" is no GUID, which is 8-4-4-4-12 hexadecimal digits as uuidgen makes them
 init|G|GUID|GUID|GUID|on|a|b|c => init takes a DISKGUID for each image: 2 are named, and 3 images
 init|G|GUID|GUID|GUID => "on" is missing between init and its images
-sample => SEED is missing: the form is sample SEED
 sample|1|on|a => sample takes no images
 sample|1|2 => "2" is a word too many: the form is sample SEED
 create|V|on|a => GUID is missing: the form is create NAME GUID span|stripe|mirror|raid5 .. on IMAGE...
 create|\e|G|span|on|a => the name of a new volume has 1 to 63 bytes, and "\e" has 0
+create|My|Volume|GUID|span|D=1|on|a => "Volume" is no GUID; if it is of the name "My Volume", write the space as \x20
+create|My Volume|GUID|span|D=1|on|a => NAME "My Volume" is no name, as it has a space: write the space as \x20
 create|V|1234|span|D=1|on|a => "1234" is no GUID, which is 8-4-4-4-12 hexadecimal digits as uuidgen makes them
 create|V|GUID|raid6|on|a => "raid6" is no kind of volume: span, stripe, mirror or raid5
 create|V|GUID|span|on|a => a span takes 1 to 64 pieces, and 0 are named
@@ -90,7 +97,7 @@ fn says_what_is_wrong(rt: HostRuntime) -> Result<(), Fail> {
             lines_of(alloc, text)?.as_str()
         );
     }
-    let text = "\"a\\x0ab\" is no job; the nearest is \"map\"";
+    let text = "\"a\\x0ab\" is no job; ldm --help lists them";
     assert_eq!(rt;
         said_in(alloc, "a\nb|on|a")?.as_str(),
         lines_of(alloc, text)?.as_str()
