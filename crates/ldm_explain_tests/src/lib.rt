@@ -1,0 +1,5 @@
+//! Tests of what is explained at a terminal: each text, and that its cause is found.
+#![tactic(auto)]
+
+#[cfg(test)]
+mod lines;
