@@ -20,7 +20,7 @@ pub use command::CommandText;
 pub use explaining::explain;
 pub use group::GroupText;
 pub use image::ImageText;
-pub use line::LineText;
+pub use line::{LineText, line_words, of_line};
 pub use made::InitText;
 pub use name::{Guid, Name, Names};
 pub use sight::{Glimpse, Group, Sight};

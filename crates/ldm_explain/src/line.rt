@@ -29,7 +29,7 @@ impl fmt::Debug for LineText<'_> {
 }
 
 /// The words of a line, which are separated by spaces.
-pub fn words_of(alloc: Global, line: &str) -> Result<Vec<String>, NoMemory> {
+pub fn line_words(alloc: Global, line: &str) -> Result<Vec<String>, NoMemory> {
     let mut words = Vec::new(alloc);
     for word in line.split(' ') {
         if !word.is_empty() {

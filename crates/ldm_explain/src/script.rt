@@ -3,7 +3,7 @@ ghost use Rattle.ldm_words.specs.Limits.{IsCommand};
 ghost use Rattle.ldm_edits.specs.Steps.{IsGood};
 
 use crate::command::of_command;
-use crate::line::{of_line, words_of};
+use crate::line::{LineText, line_words, of_line};
 use crate::sight::Group;
 use ldm_bytes::NoMemory;
 use ldm_edits::{Answer, Draft, Refusal, take_turn};
@@ -99,10 +99,10 @@ fn refused_text(
 // Why a line has no reading.
 fn unread_text(alloc: Global, line: &[u8]) -> Result<String, NoMemory> {
     let Ok(said) = str::from_utf8(line) else {
-        let text = crate::line::LineText::NotUtf8;
+        let text = LineText::NotUtf8;
         return Ok(format!(in alloc; "{text}")?);
     };
-    let words = words_of(alloc, said)?;
+    let words = line_words(alloc, said)?;
     match of_line(alloc, line, &words) {
         Some(text) => Ok(format!(in alloc; "{text}")?),
         None => Ok(String::from_str(alloc, "it has no reading")?),
