@@ -71,6 +71,7 @@ fn mapped(
 fn disk_at(plan: &Plan, sector: u64) -> u64
     requires { sector < plan.now.size }
 {
+    let _copies = plan.copies();
     plan.place(sector, 0).disk
 }
 

@@ -1,5 +1,8 @@
 //! The lines of a script, done once more to the group as it was before, and why they were refused.
+ghost use Rattle.std.specs.Prelude.{IfOk, None};
+ghost use Rattle.ldm_rules.specs.Facts.{IsSoundOn};
 ghost use Rattle.ldm_words.specs.Limits.{IsCommand};
+ghost use Rattle.ldm_edits.specs.Changes.{AreasFit};
 ghost use Rattle.ldm_edits.specs.Steps.{IsGood};
 
 use crate::command::of_command;
@@ -17,82 +20,59 @@ use std::alloc::Global;
 // How many lines are explained.
 const MOST: u64 = 10;
 
-// The group and the batch between two lines.
-#[derive(Drop)]
-struct State {
+// A law: a group on disks with these labels is where lines may begin, with no batch open.
+fn no_batch_is_good(db: &Db, labels: &Labels)
+    requires sound { IsSoundOn db.now labels.now }
+    requires areas { AreasFit labels.now }
+    ensures good { IsGood labels.now (record { db = db.now; draft = None }) }
+{}
+
+// The group and the batch after a command, and why it was refused, where it was.
+fn done(
+    alloc: Global,
     db: Db,
     draft: Option<Draft>,
-    labels: Labels,
-    ghost good: { IsGood labels (record { db = db; draft = draft }) },
-}
-
-// The state before the first line.
-fn state_of(group: Group) -> State {
-    let Group { found } = group;
-    let Found { db, labels, .. } = found;
-    State {
-        db,
-        draft: None,
-        labels,
-    }
-}
-
-// The state after a command, and why it was refused, where it was.
-fn after(
-    alloc: Global,
-    state: State,
+    labels: &Labels,
     command: &Command,
-) -> Result<(State, Option<Refusal>), NoMemory>
-    requires { IsCommand command.now }
+) -> Result<(Db, Option<Draft>, Option<Refusal>), NoMemory>
+    requires good { IsGood labels.now (record { db = db; draft = draft }) }
+    requires limits { IsCommand command.now }
+    ensures good { IfOk result (λ turn. IsGood labels.now
+        (record { db = turn.0; draft = turn.1 })) }
 {
-    let State { db, draft, labels } = state;
-    let (held, answer) = take_turn(alloc, &db, draft, &labels, command);
+    let (held, answer) = take_turn(alloc, &db, draft, labels, command);
     match answer? {
-        Answer::Next(next) => Ok((
-            State {
-                db: next,
-                draft: None,
-                labels,
-            },
-            None,
-        )),
-        Answer::Held | Answer::Dropped => Ok((
-            State {
-                db,
-                draft: held,
-                labels,
-            },
-            None,
-        )),
-        Answer::Refused(refusal) => Ok((
-            State {
-                db,
-                draft: held,
-                labels,
-            },
-            Some(refusal),
-        )),
+        Answer::Next(next) => Ok((next, None, None)),
+        Answer::Held => Ok((db, held, None)),
+        Answer::Dropped => Ok((db, held, None)),
+        Answer::Refused(refusal) => Ok((db, held, Some(refusal))),
     }
 }
 
-// Why a command was refused in a state.
-fn refused_text(
+// Why this group refused a command.
+fn text_in(
     alloc: Global,
-    state: &State,
+    db: &Db,
+    labels: &Labels,
     command: &Command,
     refusal: Refusal,
 ) -> Result<String, NoMemory> {
-    let labels = &state.labels;
-    match &state.draft {
-        None => {
-            let text = of_command(alloc, &state.db, labels, command, refusal)?;
-            Ok(format!(in alloc; "{text}")?)
-        }
-        Some(draft) => {
-            let db = draft.db(alloc)?;
-            let text = of_command(alloc, &db, labels, command, refusal)?;
-            Ok(format!(in alloc; "{text}")?)
-        }
+    let text = of_command(alloc, db, labels, command, refusal)?;
+    Ok(format!(in alloc; "{text}")?)
+}
+
+// Why a command was refused, where this batch is open.
+fn refused_text(
+    alloc: Global,
+    db: &Db,
+    draft: &Option<Draft>,
+    labels: &Labels,
+    command: &Command,
+    refusal: Refusal,
+) -> Result<String, NoMemory> {
+    match draft {
+        None => text_in(alloc, db, labels, command, refusal),
+        Some(draft) => text_in(alloc, &draft.db(alloc)?, labels, command, refusal),
     }
 }
 
@@ -109,24 +89,48 @@ fn unread_text(alloc: Global, line: &[u8]) -> Result<String, NoMemory> {
     }
 }
 
-// The state after a line, and why it was refused, where it was.
-fn after_line(
+// The group and the batch after a command, and the text of its refusal, where it was refused.
+fn command_done(
     alloc: Global,
-    state: State,
-    line: &[u8],
-) -> Result<(State, Option<String>), NoMemory> {
-    let command = match read_line(alloc, line) {
-        Ok(command) => command,
-        Err(LineError::BadLine) => return Ok((state, Some(unread_text(alloc, line)?))),
-        Err(LineError::NoMemory) => return Err(NoMemory),
-    };
-    let (state, refused) = after(alloc, state, &command)?;
+    db: Db,
+    draft: Option<Draft>,
+    labels: &Labels,
+    command: &Command,
+) -> Result<(Db, Option<Draft>, Option<String>), NoMemory>
+    requires good { IsGood labels.now (record { db = db; draft = draft }) }
+    requires limits { IsCommand command.now }
+    ensures good { IfOk result (λ turn. IsGood labels.now
+        (record { db = turn.0; draft = turn.1 })) }
+{
+    let (db, draft, refused) = done(alloc, db, draft, labels, command)?;
     match refused {
+        None => Ok((db, draft, None)),
         Some(refusal) => {
-            let text = refused_text(alloc, &state, &command, refusal)?;
-            Ok((state, Some(text)))
+            let text = refused_text(alloc, &db, &draft, labels, command, refusal)?;
+            Ok((db, draft, Some(text)))
         }
-        None => Ok((state, None)),
+    }
+}
+
+// The group and the batch after a line, and why it was refused, where it was.
+fn line_done(
+    alloc: Global,
+    db: Db,
+    draft: Option<Draft>,
+    labels: &Labels,
+    line: &[u8],
+) -> Result<(Db, Option<Draft>, Option<String>), NoMemory>
+    requires good { IsGood labels.now (record { db = db; draft = draft }) }
+    ensures good { IfOk result (λ turn. IsGood labels.now
+        (record { db = turn.0; draft = turn.1 })) }
+{
+    match read_line(alloc, line) {
+        Ok(command) => command_done(alloc, db, draft, labels, &command),
+        Err(LineError::BadLine) => {
+            let text = unread_text(alloc, line)?;
+            Ok((db, draft, Some(text)))
+        }
+        Err(LineError::NoMemory) => Err(NoMemory),
     }
 }
 
@@ -158,24 +162,43 @@ fn end_lines(alloc: Global, told: Told) -> Result<String, NoMemory> {
     Ok(text)
 }
 
-/// Why lines of a script were refused, of which the group is as it was before the first.
-pub fn of_script(alloc: Global, group: Group, script: &[u8]) -> Result<String, NoMemory> {
+// Why lines of a script were refused, which begins with this group, whose images have these labels.
+fn told_of(
+    alloc: Global,
+    group: Db,
+    labels: &Labels,
+    script: &[u8],
+) -> Result<Told, NoMemory>
+    requires sound { IsSoundOn group labels.now }
+    requires areas { AreasFit labels.now }
+{
+    no_batch_is_good(&group, labels);
     let mut told = Told {
         text: String::new(alloc),
         refused: 0,
     };
-    let mut state = state_of(group);
+    let mut db = group;
+    let mut draft = None;
     let mut rest = script;
     let mut number: u64 = 1;
     'lines: while let Some((line, behind)) = front_line(rest) {
-        let (next, refused) = after_line(alloc, state, line)?;
+        let (next, held, refused) = line_done(alloc, db, draft, labels, line)?;
         if let Some(why) = refused {
             tell_line(alloc, &mut told, number, why.as_str())?;
         }
-        state = next;
+        db = next;
+        draft = held;
         rest = behind;
         number = number.saturating_add(1);
     }
+    Ok(told)
+}
+
+/// Why lines of a script were refused, of which the group is as it was before the first.
+pub fn of_script(alloc: Global, group: Group, script: &[u8]) -> Result<String, NoMemory> {
+    let Group { found } = group;
+    let Found { db, labels, .. } = found;
+    let told = told_of(alloc, db, &labels, script)?;
     end_lines(alloc, told)
 }
 
@@ -183,10 +206,12 @@ pub fn of_script(alloc: Global, group: Group, script: &[u8]) -> Result<String, N
 pub fn of_one(alloc: Global, group: Group, command: &Command) -> Result<String, NoMemory>
     requires { IsCommand command.now }
 {
-    let (state, refused) = after(alloc, state_of(group), command)?;
-    let Some(refusal) = refused else {
-        return Ok(String::new(alloc));
-    };
-    let why = refused_text(alloc, &state, command, refusal)?;
-    Ok(format!(in alloc; "ldm: {why}\n")?)
+    let Group { found } = group;
+    let Found { db, labels, .. } = found;
+    no_batch_is_good(&db, &labels);
+    let (_, _, refused) = command_done(alloc, db, None, &labels, command)?;
+    match refused {
+        Some(why) => Ok(format!(in alloc; "ldm: {why}\n")?),
+        None => Ok(String::new(alloc)),
+    }
 }

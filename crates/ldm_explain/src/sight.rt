@@ -136,8 +136,12 @@ fn table_fault<H: Host>(
     requires sound { IsSoundGroup found.now }
     requires lies { LieOn found.now.labels (H.seen host.now).sizes }
 {
-    let volume = found.db.volume_named(name)?;
-    let plan = sound_plan(alloc, &found.db, &found.labels, volume).ok()?;
+    let Some(volume) = found.db.volume_named(name) else {
+        return None;
+    };
+    let Ok(plan) = sound_plan(alloc, &found.db, &found.labels, volume) else {
+        return None;
+    };
     volumes_lie_on_images();
     match table_text(alloc, host, found, volume, &plan, words) {
         Ok(Err(fault)) => Some(fault),
@@ -147,6 +151,7 @@ fn table_fault<H: Host>(
 
 // A group that was found, in memory of its own, with what stands against a table where the job asks
 // for one.
+#[tactic(auto, using(crate::proofs::AreaLaws::areas_fit))]
 fn found_sight<H: Host>(alloc: Global, host: &H, found: Found, job: &Job) -> Option<Sight>
     requires sound { IsSoundGroup found }
     requires lies { LieOn found.labels (H.seen host.now).sizes }

@@ -1,5 +1,7 @@
 //! What is explained of jobs over images in memory.
 use crate::images::{Change, explained};
+use std::alloc::Global;
+use std::process::Abort;
 use std::test::Fail;
 
 const NONE: Change = Change::None;
@@ -8,7 +10,7 @@ const NONE: Change = Change::None;
 // explained.
 type Row = (&'static str, &'static str, Change, &'static str);
 
-const GROUPS: [Row; 9] = [
+const IMAGES: [Row; 5] = [
     (
         "show on a.img b.img a.img",
         "",
@@ -39,6 +41,22 @@ const GROUPS: [Row; 9] = [
         Change::Block(0),
         "ldm: block 4 of the database on a.img doesn't begin with VBLK\n",
     ),
+];
+
+fn check_rows(alloc: Global, rt: &impl Abort, rows: &[Row]) -> Result<(), Fail> {
+    for (words, script, change, text) in rows {
+        let said = explained(alloc, words, script, *change)?;
+        assert_eq!(rt; said.as_str(), *text);
+    }
+    Ok(())
+}
+
+#[test]
+fn explains_what_is_wrong_with_images(rt: HostRuntime) -> Result<(), Fail> {
+    check_rows(rt.alloc(), &rt, &IMAGES)
+}
+
+const GROUPS: [Row; 4] = [
     (
         "show on a.img b.img",
         "",
@@ -67,13 +85,10 @@ const GROUPS: [Row; 9] = [
 
 #[test]
 fn explains_why_there_is_no_group(rt: HostRuntime) -> Result<(), Fail> {
-    for (words, script, change, text) in GROUPS {
-        assert_eq!(rt; explained(rt.alloc(), words, script, change)?.as_str(), text);
-    }
-    Ok(())
+    check_rows(rt.alloc(), &rt, &GROUPS)
 }
 
-const VOLUMES: [Row; 8] = [
+const VOLUMES: [Row; 4] = [
     (
         "map Volum1 0 1 on a.img b.img c.img",
         "",
@@ -84,7 +99,7 @@ const VOLUMES: [Row; 8] = [
         "dump Data on a.img b.img c.img",
         "",
         NONE,
-        "ldm: no volume is called Data; the volumes of the group: Volume1, Spanned1, Stripe1, Mirror1\n",
+        "ldm: no volume is called Data; the volumes of the group: Volume1, Volume2, Stripe1, Mirror1\n",
     ),
     (
         "map Volume1 990 5000 on a.img b.img c.img",
@@ -98,6 +113,14 @@ const VOLUMES: [Row; 8] = [
         NONE,
         "ldm: Stripe1 has 1024 sectors, and 5 from sector 1020 on end behind them\n",
     ),
+];
+
+#[test]
+fn explains_what_a_volume_does_not_have(rt: HostRuntime) -> Result<(), Fail> {
+    check_rows(rt.alloc(), &rt, &VOLUMES)
+}
+
+const DISKS: [Row; 4] = [
     (
         "dump Stripe1 on b.img a.img",
         "",
@@ -126,10 +149,7 @@ const VOLUMES: [Row; 8] = [
 
 #[test]
 fn explains_why_a_volume_is_not_had(rt: HostRuntime) -> Result<(), Fail> {
-    for (words, script, change, text) in VOLUMES {
-        assert_eq!(rt; explained(rt.alloc(), words, script, change)?.as_str(), text);
-    }
-    Ok(())
+    check_rows(rt.alloc(), &rt, &DISKS)
 }
 
 const SCRIPT: &str = "\
@@ -151,12 +171,12 @@ cancel
 
 const REPLIES: &str = "\
 ldm: line 4: Fast is a stripe, and only a span or a mirror is extended
-ldm: line 6: Disk1 has no free run of 9000 sectors, the largest is 3881
-ldm: line 7: no volume is called Volume1; the volumes of the group: Spanned1, Stripe1, Mirror1, Data, Fast
+ldm: line 6: Disk1 has no free run of 9000 sectors, the largest is 1833
+ldm: line 7: no volume is called Volume1; the nearest is Volume2
 ldm: line 8: it is blank, and a script has no blank lines
 ldm: line 9: no disk is called disk1; the nearest is Disk1
 ldm: line 11: a batch is open: commit or cancel ends it
-ldm: line 13: no volume is called Data; the volumes of the group: Spanned1, Stripe1, Mirror1, Fast
+ldm: line 13: no volume is called Data; the volumes of the group: Volume2, Stripe1, Mirror1, Fast
 ";
 
 #[test]
@@ -176,12 +196,30 @@ fn explains_the_refused_lines(rt: HostRuntime) -> Result<(), Fail> {
     Ok(())
 }
 
+const COMMANDS: [Row; 3] = [
+    (
+        "extend Volume1 Disk4=1 on a.img b.img c.img",
+        "",
+        NONE,
+        "ldm: no disk is called Disk4; the nearest is Disk1\n",
+    ),
+    (
+        "create Big bbbbbbbb-bbbb-bbbb-bbbb-bbbbbbbbbbbb mirror 9000 Disk1 Disk2 on a.img b.img c.img",
+        "",
+        NONE,
+        "ldm: Disk1 has no free run of 9000 sectors, the largest is 3881\n",
+    ),
+    (
+        "create Big bbbbbbbb-bbbb-bbbb-bbbb-bbbbbbbbbbbb span Disk1=3000 Disk1=900 on a.img b.img c.img",
+        "",
+        NONE,
+        "ldm: Disk1 has no free run of 900 sectors, the largest is 881, after the words before\n",
+    ),
+];
+
 #[test]
 fn explains_a_command(rt: HostRuntime) -> Result<(), Fail> {
-    let words = "extend Volume1 Disk4=1 on a.img b.img c.img";
-    let text = explained(rt.alloc(), words, "", NONE)?;
-    assert_eq!(rt; text.as_str(), "ldm: no disk is called Disk4; the nearest is Disk1\n");
-    Ok(())
+    check_rows(rt.alloc(), &rt, &COMMANDS)
 }
 
 #[test]
