@@ -105,6 +105,43 @@ fn says_what_is_wrong(rt: HostRuntime) -> Result<(), Fail> {
     Ok(())
 }
 
+// Jobs that stand alone, and what is said of them.
+const ALONE: [(&str, &str); 6] = [
+    (
+        "show",
+        "\"on\" is missing between show and its images\nldm: show on IMAGE...: the disks, volumes, components and partitions of a group\nldm: ldm help show says more",
+    ),
+    (
+        "map",
+        "VOLUME is missing: the form is map VOLUME FIRST COUNT on IMAGE...\nldm: map VOLUME FIRST COUNT on IMAGE...: where sectors of a volume lie, 4096 at most\nldm: ldm help map says more",
+    ),
+    (
+        "sample",
+        "SEED is missing: the form is sample SEED\nldm: sample SEED: an edit of 200 lines that a number draws, of a group in memory\nldm: ldm help sample says more",
+    ),
+    (
+        "init",
+        "NAME is missing: the form is init NAME GUID DISKGUID DISKGUID... on IMAGE...\nldm: init NAME GUID DISKGUID... on IMAGE...: makes a new group of empty disks, 2 to 64: a DISKGUID for each image\nldm: ldm help init says more",
+    ),
+    (
+        "create",
+        "NAME is missing: the form is create NAME GUID span|stripe|mirror|raid5 .. on IMAGE...\nldm: create NAME GUID span|stripe|mirror|raid5 .. on IMAGE...: a new volume\nldm: ldm help create says more",
+    ),
+    (
+        "delete",
+        "NAME is missing: the form is delete NAME on IMAGE...\nldm: delete NAME on IMAGE...: the volume goes\nldm: ldm help delete says more",
+    ),
+];
+
+#[test]
+fn says_the_form_of_a_job_alone(rt: HostRuntime) -> Result<(), Fail> {
+    let alloc = rt.alloc();
+    for (word, text) in ALONE {
+        assert_eq!(rt; said_in(alloc, word)?.as_str(), lines_of(alloc, text)?.as_str());
+    }
+    Ok(())
+}
+
 #[test]
 fn counts_images(rt: HostRuntime) -> Result<(), Fail> {
     let alloc = rt.alloc();
