@@ -41,10 +41,7 @@ const JOBS: [(&str, &str); 19] = [
         "try",
         "It writes nothing. Each line has one reply: ok and the sequence of the group then, held, or refused and why.\n\nexample: ldm try on disk1.img disk2.img < script",
     ),
-    (
-        "sample",
-        "It reads no image and writes to none.",
-    ),
+    ("sample", "It reads no image and writes to none."),
     (
         "edit",
         "All images of the group are named. Each line has one reply, when it is done on all disks; one that is refused\nchanges nothing. Whatever a stop leaves is the group after the lines that were answered, or one more.\n\nexample: ldm try on disk1.img disk2.img < script && ldm edit on disk1.img disk2.img < script",
@@ -74,10 +71,7 @@ const JOBS: [(&str, &str); 19] = [
         "Whatever a stop leaves has all commands of the batch or none.",
     ),
     ("cancel", "The end of a script cancels a batch too."),
-    (
-        "help",
-        "ldm help alone says all jobs.",
-    ),
+    ("help", "ldm help alone says all jobs."),
 ];
 
 // The forms of a command before its images, where the help has more than one.

@@ -22,13 +22,20 @@ pub enum CommandText<'a> {
     #[error("the batch holds no command, and stays open: cancel ends it")]
     EmptyBatch,
     #[error("a volume is called {name} already")]
-    NameTaken { name: Name<'a> },
+    NameTaken {
+        name: Name<'a>,
+    },
     #[error(transparent)]
     Volume(#[from] VolumeText<'a>),
     #[error("{name} is {shape}, and only a span or a mirror is extended")]
-    NotSpan { name: Name<'a>, shape: &'a str },
+    NotSpan {
+        name: Name<'a>,
+        shape: &'a str,
+    },
     #[error("the record of {name} has a second size, and such a volume isn't extended")]
-    SecondSize { name: Name<'a> },
+    SecondSize {
+        name: Name<'a>,
+    },
     #[error("{name} has {copies} copies, and {pieces} pieces are named: name one for each, in the order of show")]
     Pieces {
         name: Name<'a>,
@@ -36,19 +43,36 @@ pub enum CommandText<'a> {
         pieces: usize,
     },
     #[error("no disk is called {name}; the nearest is {near}")]
-    NearDisk { name: Name<'a>, near: Name<'a> },
+    NearDisk {
+        name: Name<'a>,
+        near: Name<'a>,
+    },
     #[error("no disk is called {name}; the disks of the group: {disks}")]
-    NoDisk { name: Name<'a>, disks: Names<'a> },
+    NoDisk {
+        name: Name<'a>,
+        disks: Names<'a>,
+    },
     #[error("{disk} is named twice, and each has to lie on a disk of its own")]
-    Twice { disk: Name<'a> },
+    Twice {
+        disk: Name<'a>,
+    },
     #[error("a piece would lie on the disk of another copy of {name}: name them in the order of show")]
-    Across { name: Name<'a> },
+    Across {
+        name: Name<'a>,
+    },
     #[error("{what} is 0")]
-    Zero { what: &'a str },
+    Zero {
+        what: &'a str,
+    },
     #[error("{disk}=0 is no piece: it has no sectors")]
-    NoSectors { disk: Name<'a> },
+    NoSectors {
+        disk: Name<'a>,
+    },
     #[error("{sectors} sectors are no whole number of chunks of {chunk}")]
-    Chunks { sectors: u64, chunk: u64 },
+    Chunks {
+        sectors: u64,
+        chunk: u64,
+    },
     #[error("the pieces of a mirror have one length, and {disk} is to have {sectors} sectors, the first piece {first}")]
     Uneven {
         disk: Name<'a>,
@@ -67,9 +91,14 @@ pub enum CommandText<'a> {
     #[error("no ids are left for new records")]
     IdsSpent,
     #[error("the record of id {id} would take more than four blocks of the database")]
-    TooLong { id: u64 },
+    TooLong {
+        id: u64,
+    },
     #[error("the records would take {need} blocks of the database, and the smallest config area has {have}: delete a volume first")]
-    NoRoom { need: u64, have: u64 },
+    NoRoom {
+        need: u64,
+        have: u64,
+    },
     #[error("the sequence of the group is the last that there is")]
     SequenceSpent,
     #[error("the command isn't done")]

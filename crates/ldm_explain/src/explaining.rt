@@ -39,7 +39,9 @@ fn faulty(
     let text = of_fault(names, glimpses, fault);
     match text {
         GroupText::Image(_) if names.len() > 1 => {
-            Ok(format!(in alloc; "ldm: {text}\nldm: leave it out, where the others are enough to read\n")?)
+            Ok(format!(in alloc;
+                "ldm: {text}\nldm: leave it out, where the others are enough to read\n"
+            )?)
         }
         text => line_of(alloc, &text),
     }

@@ -15,7 +15,10 @@ pub enum GroupText<'a> {
     #[error(transparent)]
     Image(#[from] ImageText<'a>),
     #[error("{path} and {other} are images of one disk: name one of them")]
-    SameDisk { path: Shown<'a>, other: Shown<'a> },
+    SameDisk {
+        path: Shown<'a>,
+        other: Shown<'a>,
+    },
     #[error("no image holds an open copy of the database: name more disks of the group")]
     NoCopy,
     #[error("{path} and {other} say different groups at sequence {seq}: see both with ldm records, and leave one out")]
@@ -36,11 +39,19 @@ pub enum GroupText<'a> {
         newest: Name<'a>,
     },
     #[error("the database breaks rule {rule} of docs/FORMAT.md at the object of id {id}, and is left as it is")]
-    Rule { rule: u8, id: u64 },
+    Rule {
+        rule: u8,
+        id: u64,
+    },
     #[error("{name} ({guid}) is absent: name the images of all disks of the group")]
-    Absent { name: Name<'a>, guid: Guid },
+    Absent {
+        name: Name<'a>,
+        guid: Guid,
+    },
     #[error("{path} is the only disk of its group, and a group of one disk isn't edited")]
-    Alone { path: Shown<'a> },
+    Alone {
+        path: Shown<'a>,
+    },
     #[error("the config area of {path} has {blocks} blocks, and the database has {need}: the group is only read")]
     AreaSmall {
         path: Shown<'a>,
@@ -48,7 +59,9 @@ pub enum GroupText<'a> {
         need: u64,
     },
     #[error("the config area of {path} meets its tables of contents, a private header or its log area: the group is only read")]
-    AreaClash { path: Shown<'a> },
+    AreaClash {
+        path: Shown<'a>,
+    },
     #[error("the images hold no group")]
     Other,
 }

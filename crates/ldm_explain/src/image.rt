@@ -14,15 +14,27 @@ use thiserror::Error;
 #[derive(Clone, Copy, Error)]
 pub enum ImageText<'a> {
     #[error("{path} has {sectors} sectors, and a disk has more: is it the image of a disk?")]
-    Short { path: Shown<'a>, sectors: u64 },
+    Short {
+        path: Shown<'a>,
+        sectors: u64,
+    },
     #[error("sector 0 of {path} doesn't end with 55 AA, as an MBR does: is it the image of a whole disk?")]
-    NoMbr { path: Shown<'a> },
+    NoMbr {
+        path: Shown<'a>,
+    },
     #[error("{path} is a GPT disk; ldm reads MBR disks only")]
-    Gpt { path: Shown<'a> },
+    Gpt {
+        path: Shown<'a>,
+    },
     #[error("{path} is no dynamic disk: the first entry of its MBR has the type 0x{first:02x}, and none has 0x42")]
-    Basic { path: Shown<'a>, first: u8 },
+    Basic {
+        path: Shown<'a>,
+        first: u8,
+    },
     #[error("sector 6 of {path} is no private header (PRIVHEAD): was it overwritten?")]
-    NoPrivhead { path: Shown<'a> },
+    NoPrivhead {
+        path: Shown<'a>,
+    },
     #[error("the private header of {path} has the version {major}.{minor}, and ldm reads 2.11 and 2.12")]
     Version {
         path: Shown<'a>,
@@ -30,7 +42,10 @@ pub enum ImageText<'a> {
         minor: u16,
     },
     #[error("the private header of {path} says a database of {sectors} sectors, and ldm reads 2048")]
-    DatabaseSize { path: Shown<'a>, sectors: u64 },
+    DatabaseSize {
+        path: Shown<'a>,
+        sectors: u64,
+    },
     #[error("{path} has {sectors} sectors, its label needs {need}: is its end missing?")]
     Cut {
         path: Shown<'a>,
@@ -45,19 +60,35 @@ pub enum ImageText<'a> {
         database: u64,
     },
     #[error("the private header of {path} has no GUID of a disk")]
-    Guid { path: Shown<'a> },
+    Guid {
+        path: Shown<'a>,
+    },
     #[error("copies 1 and {copy} of the private header of {path} say different things")]
-    PrivheadsDiffer { path: Shown<'a>, copy: u8 },
+    PrivheadsDiffer {
+        path: Shown<'a>,
+        copy: u8,
+    },
     #[error("none of the four tables of contents of {path} reads")]
-    NoToc { path: Shown<'a> },
+    NoToc {
+        path: Shown<'a>,
+    },
     #[error("two tables of contents of {path} say different things")]
-    TocsDiffer { path: Shown<'a> },
+    TocsDiffer {
+        path: Shown<'a>,
+    },
     #[error("the table of contents of {path} says an area that is empty or ends behind the database")]
-    TocRange { path: Shown<'a> },
+    TocRange {
+        path: Shown<'a>,
+    },
     #[error("the header of the database on {path} {what}")]
-    Vmdb { path: Shown<'a>, what: &'a str },
+    Vmdb {
+        path: Shown<'a>,
+        what: &'a str,
+    },
     #[error("an update of the database on {path} was begun and not ended")]
-    Unsettled { path: Shown<'a> },
+    Unsettled {
+        path: Shown<'a>,
+    },
     #[error("block {block} of the database on {path} {what}")]
     Block {
         path: Shown<'a>,
@@ -71,7 +102,10 @@ pub enum ImageText<'a> {
         kind: u8,
     },
     #[error("two records of the database on {path} have the id {id}")]
-    SameId { path: Shown<'a>, id: u64 },
+    SameId {
+        path: Shown<'a>,
+        id: u64,
+    },
 }
 
 impl fmt::Debug for ImageText<'_> {

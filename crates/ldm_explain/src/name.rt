@@ -85,11 +85,7 @@ impl<'a> Names<'a> {
 }
 
 // A name of a list, behind so many others.
-fn write_listed<W: fmt::Write>(
-    said: usize,
-    name: &[u8],
-    f: &mut fmt::Formatter<W>,
-) -> fmt::Result {
+fn write_listed<W: fmt::Write>(said: usize, name: &[u8], f: &mut fmt::Formatter<W>) -> fmt::Result {
     match said {
         0 => write!(f, "{}", Name(name)),
         MOST => write!(f, " and more"),

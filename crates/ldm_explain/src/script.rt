@@ -163,12 +163,7 @@ fn end_lines(alloc: Global, told: Told) -> Result<String, NoMemory> {
 }
 
 // Why lines of a script were refused, which begins with this group, whose images have these labels.
-fn told_of(
-    alloc: Global,
-    group: Db,
-    labels: &Labels,
-    script: &[u8],
-) -> Result<Told, NoMemory>
+fn told_of(alloc: Global, group: Db, labels: &Labels, script: &[u8]) -> Result<Told, NoMemory>
     requires sound { IsSoundOn group labels.now }
     requires areas { AreasFit labels.now }
 {

@@ -157,9 +157,7 @@ fn found_sight<H: Host>(alloc: Global, host: &H, found: Found, job: &Job) -> Opt
     requires lies { LieOn found.labels (H.seen host.now).sizes }
 {
     let fault = match job {
-        Job::Table { name, images } => {
-            table_fault(alloc, host, &found, name.as_slice(), images)
-        }
+        Job::Table { name, images } => { table_fault(alloc, host, &found, name.as_slice(), images) }
         _ => None,
     };
     let group = Box::new(alloc, Group { found }).ok()?;

@@ -14,11 +14,19 @@ use thiserror::Error;
 #[derive(Clone, Copy, Error)]
 pub enum VolumeText<'a> {
     #[error("no volume is called {name}; the nearest is {near}")]
-    Near { name: Name<'a>, near: Name<'a> },
+    Near {
+        name: Name<'a>,
+        near: Name<'a>,
+    },
     #[error("no volume is called {name}; the volumes of the group: {volumes}")]
-    NoVolume { name: Name<'a>, volumes: Names<'a> },
+    NoVolume {
+        name: Name<'a>,
+        volumes: Names<'a>,
+    },
     #[error("COUNT is {count}, and map takes 1 to 4096")]
-    Count { count: u64 },
+    Count {
+        count: u64,
+    },
     #[error("{name} has {size} sectors, and {count} from sector {first} on end behind them")]
     Range {
         name: Name<'a>,
@@ -34,7 +42,9 @@ pub enum VolumeText<'a> {
         guid: Guid,
     },
     #[error("{name} has no copies and no parity: only a mirror or a RAID-5 is scrubbed")]
-    NothingToCompare { name: Name<'a> },
+    NothingToCompare {
+        name: Name<'a>,
+    },
     #[error("{disk} ({guid}), which has a part of {name}, is absent: name its image")]
     Missing {
         disk: Name<'a>,
@@ -42,11 +52,19 @@ pub enum VolumeText<'a> {
         name: Name<'a>,
     },
     #[error("{name} has no sectors")]
-    Empty { name: Name<'a> },
+    Empty {
+        name: Name<'a>,
+    },
     #[error("{name} has chunks of {chunk} sectors, and the kernel takes none of these: dump says its bytes")]
-    Chunk { name: Name<'a>, chunk: u64 },
+    Chunk {
+        name: Name<'a>,
+        chunk: u64,
+    },
     #[error("{name} has {columns} columns, and the kernel takes 253: dump says its bytes")]
-    Columns { name: Name<'a>, columns: usize },
+    Columns {
+        name: Name<'a>,
+        columns: usize,
+    },
     #[error("sector {sector} of {name}, in the last row, which isn't whole, lies on {disk} ({guid}), which is absent: name its image")]
     Rebuilt {
         sector: u64,
@@ -55,11 +73,17 @@ pub enum VolumeText<'a> {
         guid: Guid,
     },
     #[error("a table can't name {path}, as it has a colon, a backslash or a byte that isn't visible ASCII: name it by a link")]
-    Word { path: Shown<'a> },
+    Word {
+        path: Shown<'a>,
+    },
     #[error("the name of a device of {name} would have over 127 bytes: dump says its bytes")]
-    LongName { name: Name<'a> },
+    LongName {
+        name: Name<'a>,
+    },
     #[error("two partitions of {name} have one name, and so would two devices: dump says its bytes")]
-    SameName { name: Name<'a> },
+    SameName {
+        name: Name<'a>,
+    },
     #[error("the volume can't be had")]
     Other,
 }

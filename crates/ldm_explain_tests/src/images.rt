@@ -41,11 +41,7 @@ fn change_image(image: &mut Vec<u8>, at: usize, change: Change) {
 
 // Copies of the images that the words name by their first letters. The letter x stands for one of
 // another group, which is older.
-fn named_images(
-    alloc: Global,
-    names: &[String],
-    change: Change,
-) -> Result<Vec<Vec<u8>>, Fail> {
+fn named_images(alloc: Global, names: &[String], change: Change) -> Result<Vec<Vec<u8>>, Fail> {
     let mut group = usual_images(alloc)?;
     for (at, image) in group.iter_mut().enumerate() {
         change_image(image, at, change);

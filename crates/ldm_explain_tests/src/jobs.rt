@@ -75,12 +75,7 @@ const GROUPS: [Row; 4] = [
         NONE,
         "ldm: x.img is of group Xg0, the newest group is Dg0: leave one out\n",
     ),
-    (
-        "try on a.img b.img c.img",
-        "delete Volume1\n",
-        NONE,
-        "",
-    ),
+    ("try on a.img b.img c.img", "delete Volume1\n", NONE, ""),
 ];
 
 #[test]
@@ -181,10 +176,7 @@ ldm: line 13: no volume is called Data; the volumes of the group: Volume2, Strip
 
 #[test]
 fn explains_the_refused_lines(rt: HostRuntime) -> Result<(), Fail> {
-    for words in [
-        "try on a.img b.img c.img",
-        "edit on a.img b.img c.img",
-    ] {
+    for words in ["try on a.img b.img c.img", "edit on a.img b.img c.img"] {
         let text = explained(rt.alloc(), words, SCRIPT, NONE)?;
         assert_eq!(rt; text.as_str(), REPLIES);
     }
@@ -224,8 +216,12 @@ fn explains_a_command(rt: HostRuntime) -> Result<(), Fail> {
 
 #[test]
 fn explains_why_no_group_is_made(rt: HostRuntime) -> Result<(), Fail> {
-    let words = "init G bbbbbbbb-bbbb-bbbb-bbbb-bbbbbbbbbbbb 11111111-1111-1111-1111-111111111111 22222222-2222-2222-2222-222222222222 on a.img b.img";
+    let words =
+        "init G bbbbbbbb-bbbb-bbbb-bbbb-bbbbbbbbbbbb 11111111-1111-1111-1111-111111111111 22222222-2222-2222-2222-222222222222 on a.img b.img";
     let text = explained(rt.alloc(), words, "", NONE)?;
-    assert_eq!(rt; text.as_str(), "ldm: a.img is a disk of a dynamic disk group, and isn't empty\n");
+    assert_eq!(rt;
+        text.as_str(),
+        "ldm: a.img is a disk of a dynamic disk group, and isn't empty\n"
+    );
     Ok(())
 }

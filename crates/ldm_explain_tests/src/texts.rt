@@ -6,9 +6,13 @@ use std::fmt;
 use std::test::Fail;
 
 const PATH: Shown<'static> = Shown("disk 1.img");
+
 const OTHER: Shown<'static> = Shown("b\n.img");
+
 const NAME: Name<'static> = Name(b"My Volume");
+
 const DISK: Name<'static> = Name(b"Disk1");
+
 const GUID: Guid = Guid(0x11111111_1111_1111_1111_1111111111AB);
 
 // What is compared of a text.
@@ -249,12 +253,7 @@ fn says_why_a_job_of_a_volume_refused(rt: HostRuntime) -> Result<(), Fail> {
             VolumeText::Missing { disk, guid, name },
             "Disk1 (11111111-1111-1111-1111-1111111111ab), which has a part of My\\x20Volume, is absent: name its image",
         ),
-        (
-            VolumeText::Empty {
-                name: Name(b""),
-            },
-            "\\e has no sectors",
-        ),
+        (VolumeText::Empty { name: Name(b"") }, "\\e has no sectors"),
         (
             VolumeText::Chunk { name, chunk: 4 },
             "My\\x20Volume has chunks of 4 sectors, and the kernel takes none of these: dump says its bytes",
@@ -299,10 +298,7 @@ fn says_why_a_command_was_refused(rt: HostRuntime) -> Result<(), Fail> {
             CommandText::BatchOpen,
             "a batch is open: commit or cancel ends it",
         ),
-        (
-            CommandText::NoBatch,
-            "no batch is open: begin opens one",
-        ),
+        (CommandText::NoBatch, "no batch is open: begin opens one"),
         (
             CommandText::EmptyBatch,
             "the batch holds no command, and stays open: cancel ends it",
@@ -378,10 +374,7 @@ fn says_why_a_command_was_refused(rt: HostRuntime) -> Result<(), Fail> {
             },
             "Disk1 has no free run of 9000 sectors, the largest is 3881",
         ),
-        (
-            CommandText::IdsSpent,
-            "no ids are left for new records",
-        ),
+        (CommandText::IdsSpent, "no ids are left for new records"),
         (
             CommandText::TooLong { id: 12 },
             "the record of id 12 would take more than four blocks of the database",

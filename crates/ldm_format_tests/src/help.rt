@@ -137,7 +137,10 @@ const ALONE: [(&str, &str); 6] = [
 fn says_the_form_of_a_job_alone(rt: HostRuntime) -> Result<(), Fail> {
     let alloc = rt.alloc();
     for (word, text) in ALONE {
-        assert_eq!(rt; said_in(alloc, word)?.as_str(), lines_of(alloc, text)?.as_str());
+        assert_eq!(rt;
+            said_in(alloc, word)?.as_str(),
+            lines_of(alloc, text)?.as_str()
+        );
     }
     Ok(())
 }

@@ -154,16 +154,17 @@ fn run_over<H: Host>(
 ) -> (Status, Option<Sight>)
     requires { HasImages (job_of (texts words.now)) (H.seen host.old) }
 {
-    let before = match seen {
-        Seen::Before => Sight::of(alloc, host, job),
-        _ => None,
-    };
-    let status = run(alloc, words, host);
-    let sight = match seen {
-        Seen::After if status == Status::Refused => Sight::of(alloc, host, job),
-        _ => before,
-    };
-    (status, sight)
+    match seen {
+        Seen::Before => {
+            let sight = Sight::of(alloc, host, job);
+            (run(alloc, words, host), sight)
+        }
+        Seen::After => match run(alloc, words, host) {
+            Status::Refused => (Status::Refused, Sight::of(alloc, host, job)),
+            status => (status, None),
+        },
+        Seen::Never => (run(alloc, words, host), None),
+    }
 }
 
 // Explains a refusal by what was seen of the images, and heard of the script.
