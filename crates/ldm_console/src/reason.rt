@@ -1,45 +1,18 @@
-//! The grammar of command lines once more, read in its order up to the first word that is wrong.
+//! The grammar of command lines and of lines of a script once more, read in its order up to the
+//! first word that is wrong.
+use crate::job_help::alone;
+use crate::near::{unknown_command, unknown_job};
 use crate::usage::UsageError;
 use ldm_bytes::{NoMemory, read_guid};
-use ldm_edge::{
-    FormError, Shown, by_form, form_in, form_of, help_to, images, part, parts, split_on, word_of,
-};
+use ldm_edge::{FormError, Shown, by_form, form_of, images, part, parts, split_on};
 use ldm_words::{read_name, read_number};
-use std::alloc::{AllocError, Global};
-use strsim::levenshtein;
+use std::alloc::Global;
 
 // Words that are right, or why not. Of parts that are joined by `and` the first wrong one is said.
 type Read<'a> = Result<(), UsageError<'a>>;
 
 fn check(right: bool, wrong: UsageError<'_>) -> Read<'_> {
     if right { Ok(()) } else { Err(wrong) }
-}
-
-// What stands in the help for a command.
-const COMMAND: &str = "COMMAND";
-
-// The name of a job or a command, and how many changes it takes to be a word.
-type Near = (&'static str, usize);
-
-// The nearer of two names, the first where they are as near.
-fn nearer(alloc: Global, word: &str, best: Near, name: &'static str) -> Result<Near, AllocError> {
-    let changes = levenshtein(alloc, word, name)?;
-    if changes < best.1 && name != COMMAND {
-        Ok((name, changes))
-    } else {
-        Ok(best)
-    }
-}
-
-// The nearest of those that the help says, up to the words of a batch.
-fn nearest(alloc: Global, word: &str) -> Result<&'static str, AllocError> {
-    let mut best = ("", usize::MAX);
-    for line in help_to("  begin ").lines() {
-        if let Some(form) = form_in(line) {
-            best = nearer(alloc, word, best, word_of(form))?;
-        }
-    }
-    Ok(best.0)
 }
 
 // What is missing where the words end before the third part of a form, which begins with the name
@@ -72,11 +45,24 @@ fn new_group<'a>(alloc: Global, word: &'a str) -> Read<'a> {
     check(!name.as_slice().contains(&0), UsageError::Zero { word })
 }
 
+fn is_guid(word: &str) -> bool {
+    read_guid(word.as_bytes()).is_some()
+}
+
 fn guid(word: &str) -> Read<'_> {
-    check(
-        read_guid(word.as_bytes()).is_some(),
-        UsageError::Guid { word: Shown(word) },
-    )
+    check(is_guid(word), UsageError::Guid { word: Shown(word) })
+}
+
+// The GUID behind the name of a new volume. Where a GUID stands one word further the name was
+// written with a space.
+fn guid_behind<'a>(name: &'a str, word: &'a str, next: &'a str) -> Read<'a> {
+    if is_guid(next) && !is_guid(word) {
+        return Err(UsageError::SpacedName {
+            name: Shown(name),
+            word: Shown(word),
+        });
+    }
+    guid(word)
 }
 
 // Whether a word is DISK=SECTORS, split at the last `=`.
@@ -159,7 +145,7 @@ fn create<'a>(alloc: Global, words: &'a [String], on: Option<usize>) -> Read<'a>
         return Err(missing(form, words, "the kind of volume"));
     };
     new_volume(alloc, name.as_str())?;
-    guid(id.as_str())?;
+    guid_behind(name.as_str(), id.as_str(), kind.as_str())?;
     layout(alloc, kind.as_str(), rest)?;
     Ok(images(form, on)?)
 }
@@ -169,6 +155,10 @@ fn extend<'a>(alloc: Global, words: &'a [String], on: Option<usize>) -> Read<'a>
     let rest = parts(alloc, form, "extend NAME", words)?;
     pieces(alloc, "extend", rest)?;
     Ok(images(form, on)?)
+}
+
+fn delete<'a>(alloc: Global, words: &'a [String], on: Option<usize>) -> Read<'a> {
+    Ok(by_form(alloc, "delete NAME on IMAGE...", words, on)?)
 }
 
 fn init<'a>(alloc: Global, words: &'a [String], on: Option<usize>) -> Read<'a> {
@@ -185,17 +175,23 @@ fn init<'a>(alloc: Global, words: &'a [String], on: Option<usize>) -> Read<'a> {
     check(disks == images, UsageError::Unlike { disks, images })
 }
 
-// A job that the help says, or the one whose name is the nearest to this word.
+// A job that the help says, or why the word is none.
 fn by_help<'a>(alloc: Global, word: &'a str, rest: &'a [String], on: Option<usize>) -> Read<'a> {
     match form_of(word) {
         Some(form) => Ok(by_form(alloc, form, rest, on)?),
-        None => match nearest(alloc, word) {
-            Ok(nearest) => Err(UsageError::UnknownJob {
-                word: Shown(word),
-                nearest,
-            }),
-            Err(_) => Err(UsageError::Form(FormError::NoMemory)),
-        },
+        None => Err(unknown_job(alloc, word)),
+    }
+}
+
+// Help of a job that there isn't, or of more than one.
+fn help<'a>(alloc: Global, words: &'a [String]) -> Read<'a> {
+    match words {
+        [] => Ok(()),
+        [word] => Err(unknown_job(alloc, word.as_str())),
+        [_, word, ..] => {
+            let (form, word) = ("help JOB", Shown(word.as_str()));
+            Err(UsageError::Form(FormError::Extra { form, word }))
+        }
     }
 }
 
@@ -208,7 +204,8 @@ fn job<'a>(alloc: Global, words: &'a [String], on: Option<usize>) -> Read<'a> {
         "init" => init(alloc, rest, on),
         "create" => create(alloc, rest, on),
         "extend" => extend(alloc, rest, on),
-        "delete" => Ok(by_form(alloc, "delete NAME on IMAGE...", rest, on)?),
+        "delete" => delete(alloc, rest, on),
+        "help" => help(alloc, rest),
         word @ ("begin" | "commit" | "cancel") => Err(UsageError::OfBatch { word: Shown(word) }),
         word => by_help(alloc, word, rest, on),
     }
@@ -217,6 +214,52 @@ fn job<'a>(alloc: Global, words: &'a [String], on: Option<usize>) -> Read<'a> {
 /// Why words that have no reading have none: the first that is wrong in the order of the grammar.
 /// Of words that have one it says nothing of use.
 pub fn usage_error(alloc: Global, words: &[String]) -> Option<UsageError<'_>> {
-    let (words, on) = split_on(words);
-    job(alloc, words, on).err()
+    let (before, on) = split_on(words);
+    match job(alloc, before, on) {
+        Ok(()) => None,
+        Err(UsageError::Form(why)) if words.len() == 1 => Some(alone(why, words[0].as_str())),
+        Err(error) => Some(error),
+    }
+}
+
+// The words of a line of a script, which is a command without its images, or a word of a batch.
+fn line<'a>(alloc: Global, words: &'a [String]) -> Read<'a> {
+    let [word, rest @ ..] = words else {
+        return Err(UsageError::NoCommand);
+    };
+    match word.as_str() {
+        "create" => create(alloc, rest, Some(1)),
+        "extend" => extend(alloc, rest, Some(1)),
+        "delete" => delete(alloc, rest, Some(1)),
+        "begin" => Ok(by_form(alloc, "begin", rest, None)?),
+        "commit" => Ok(by_form(alloc, "commit", rest, None)?),
+        "cancel" => Ok(by_form(alloc, "cancel", rest, None)?),
+        word => Err(unknown_command(alloc, word)),
+    }
+}
+
+// A form without the images that a line of a script doesn't name.
+fn without_images(form: &str) -> &str {
+    form.strip_suffix(" on IMAGE...").unwrap_or(form)
+}
+
+/// Why the words of a line of a script have no reading, as `usage_error` says it of a command line.
+pub fn line_error(alloc: Global, words: &[String]) -> Option<UsageError<'_>> {
+    let error = match line(alloc, words) {
+        Ok(()) => return None,
+        Err(error) => error,
+    };
+    Some(match error {
+        UsageError::Form(FormError::Extra { form, word }) => UsageError::Form(FormError::Extra {
+            form: without_images(form),
+            word,
+        }),
+        UsageError::Form(FormError::Missing { form, what }) => {
+            UsageError::Form(FormError::Missing {
+                form: without_images(form),
+                what,
+            })
+        }
+        error => error,
+    })
 }

@@ -4,7 +4,7 @@ use ldm_edge::{FormError, Shown};
 use std::fmt;
 use thiserror::Error;
 
-/// Why the words of a command line have no reading.
+/// Why the words of a command line, or of a line of a script, have no reading.
 #[derive(Clone, Copy, Error)]
 pub enum UsageError<'a> {
     #[error("there is no job")]
@@ -14,9 +14,31 @@ pub enum UsageError<'a> {
         word: Shown<'a>,
         nearest: &'a str,
     },
+    #[error("\"{word}\" is no job; ldm --help lists them")]
+    NoSuchJob {
+        word: Shown<'a>,
+    },
     #[error("\"{word}\" is no job: it is a line of a script, for edit or try")]
     OfBatch {
         word: Shown<'a>,
+    },
+    #[error("there is no command")]
+    NoCommand,
+    #[error("\"{word}\" is no command; the nearest is \"{nearest}\"")]
+    UnknownCommand {
+        word: Shown<'a>,
+        nearest: &'a str,
+    },
+    #[error("\"{word}\" is no command: those of a script are create, extend, delete, begin, commit and cancel")]
+    NoSuchCommand {
+        word: Shown<'a>,
+    },
+    #[error("{why}\nldm: {form}: {told}\nldm: ldm help {job} says more")]
+    Alone {
+        why: FormError<'a>,
+        job: &'a str,
+        form: &'a str,
+        told: &'a str,
     },
     #[error(transparent)]
     Form(#[from] FormError<'a>),
@@ -43,6 +65,11 @@ pub enum UsageError<'a> {
     },
     #[error("\"{word}\" is no GUID, which is 8-4-4-4-12 hexadecimal digits as uuidgen makes them")]
     Guid {
+        word: Shown<'a>,
+    },
+    #[error("\"{word}\" is no GUID; if it is of the name \"{name} {word}\", write the space as \\x20")]
+    SpacedName {
+        name: Shown<'a>,
         word: Shown<'a>,
     },
     #[error("\"{word}\" is no kind of volume: span, stripe, mirror or raid5")]

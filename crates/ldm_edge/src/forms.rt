@@ -18,8 +18,14 @@ pub fn form_in(line: &'static str) -> Option<&'static str> {
     text.split("  ").next()
 }
 
+/// What a line of the help says behind a form, if it says something.
+pub fn told_in(line: &'static str) -> Option<&'static str> {
+    let (_, told) = line.strip_prefix("  ")?.split_once("  ")?;
+    Some(told.trim_start())
+}
+
 /// The first word of a form.
-pub fn word_of(form: &'static str) -> &'static str {
+pub fn word_of(form: &str) -> &str {
     match form.split_once(' ') {
         Some((word, _)) => word,
         None => form,
@@ -47,15 +53,23 @@ pub fn split_on(words: &[String]) -> (&[String], Option<usize>) {
     }
 }
 
+// Why a word is no name. A space is what most words have that a shell took as one.
+fn no_name<'a>(what: &'static str, word: &'a str) -> FormError<'a> {
+    let is_spaced = word.contains(' ');
+    let word = Shown(word);
+    if is_spaced {
+        FormError::Space { what, word }
+    } else {
+        FormError::Name { what, word }
+    }
+}
+
 /// A word that stands for a part of a form: a name, a number, or what is read by more than the
 /// part's name.
 pub fn part<'a>(alloc: Global, what: &'static str, word: &'a str) -> Result<(), FormError<'a>> {
     match what {
         "VOLUME" | "NAME" | "DISK" if read_name(alloc, word.as_bytes())?.is_none() => {
-            Err(FormError::Name {
-                what,
-                word: Shown(word),
-            })
+            Err(no_name(what, word))
         }
         "FIRST" | "COUNT" | "SEED" | "CHUNK" | "SECTORS"
             if read_number(word.as_bytes()).is_none() => {

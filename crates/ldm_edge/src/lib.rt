@@ -10,7 +10,9 @@ mod taking;
 mod text;
 
 pub use ends::{ending, exit_code};
-pub use forms::{by_form, form_in, form_of, help_to, images, part, parts, split_on, word_of};
+pub use forms::{
+    by_form, form_in, form_of, help_to, images, part, parts, split_on, told_in, word_of,
+};
 pub use shown::{FormError, Shown};
 pub use stop::{Fault, Stop, Written};
 pub use taking::{open_images, stop_unopened, words_of};

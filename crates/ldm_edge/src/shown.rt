@@ -38,6 +38,8 @@ pub enum FormError<'a> {
     Number { what: &'a str, word: Shown<'a> },
     #[error("{what} \"{word}\" is no name, of 255 bytes at most: a backslash, or a byte that isn't visible ASCII, is written \\xHH, and no byte \\e")]
     Name { what: &'a str, word: Shown<'a> },
+    #[error("{what} \"{word}\" is no name, as it has a space: write the space as \\x20")]
+    Space { what: &'a str, word: Shown<'a> },
     #[error("\"on\" is missing between {job} and its images")]
     NoOn { job: &'a str },
     #[error("no image is named behind \"on\"")]

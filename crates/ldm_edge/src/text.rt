@@ -25,9 +25,9 @@ These jobs read:
 
 These write, to all images of the group. No other program may write to them meanwhile:
 
-  edit on IMAGE...                       does the lines of a script on standard input
-  COMMAND on IMAGE...                    does one line, whose words these are
-  init NAME GUID DISKGUID... on IMAGE... makes a new group of empty disks, 2 to 64: a DISKGUID for each image
+  edit on IMAGE...                        does the lines of a script on standard input
+  COMMAND on IMAGE...                     does one line, whose words these are
+  init NAME GUID DISKGUID... on IMAGE...  makes a new group of empty disks, 2 to 64: a DISKGUID for each image
 
 A line of a script is a COMMAND, or a word of a batch:
 
@@ -44,8 +44,9 @@ A line of a script is a COMMAND, or a word of a batch:
 SECTORS and CHUNK are counted in sectors of 512 bytes. NAME and DISK are written as show says them. Each new
 volume, group and disk has a GUID of its own: uuidgen makes one.
 
-  ldm --help, ldm -h     this text
-  ldm --version          the version
+  ldm help, ldm --help, ldm -h   this text
+  ldm help JOB                   what a job or a COMMAND takes and does, as ldm JOB --help says too
+  ldm --version                  the version
 
 The exit status:
 

@@ -16,7 +16,13 @@ map|V|1|on|a => COUNT is missing: the form is map VOLUME FIRST COUNT on IMAGE...
 map|V|1|2|3|on|a => "3" is a word too many: the form is map VOLUME FIRST COUNT on IMAGE...
 map|V|-1|2|on|a => FIRST "-1" is no number, of 1 to 20 decimal digits and below 2^64
 map|V|1|18446744073709551616|on|a => COUNT "18446744073709551616" is no number, of 1 to 20 decimal digits and below 2^64
-map|a b|1|2|on|a => VOLUME "a b" is no name, of 255 bytes at most: a backslash, or a byte that isn't visible ASCII, is written \xHH, and no byte \e
+map|a b|1|2|on|a => VOLUME "a b" is no name, as it has a space: write the space as \x20
+map|aé|1|2|on|a => VOLUME "aé" is no name, of 255 bytes at most: a backslash, or a byte that isn't visible ASCII, is written \xHH, and no byte \e
+-v => "-v" is no job; ldm --help lists them
+|on|a => "" is no job; ldm --help lists them
+hepl => "hepl" is no job; the nearest is "help"
+help|recrods => "recrods" is no job; the nearest is "records"
+help|map|x => "x" is a word too many: the form is help JOB
 map|V|1|2 => "on" is missing between map and its images
 dump|on|a => VOLUME is missing: the form is dump VOLUME on IMAGE...
 dump|\x4|on|a => VOLUME "\x4" is no name, of 255 bytes at most: a backslash, or a byte that isn't visible ASCII, is written \xHH, and no byte \e
@@ -30,11 +36,12 @@ init|G|GUID|GUID|on|a => init takes 2 to 64 DISKGUIDs, and 1 are named
 init|G|GUID|GUID|1234|on|a|b => "1234" is no GUID, which is 8-4-4-4-12 hexadecimal digits as uuidgen makes them
 init|G|GUID|GUID|GUID|on|a|b|c => init takes a DISKGUID for each image: 2 are named, and 3 images
 init|G|GUID|GUID|GUID => "on" is missing between init and its images
-sample => SEED is missing: the form is sample SEED
 sample|1|on|a => sample takes no images
 sample|1|2 => "2" is a word too many: the form is sample SEED
 create|V|on|a => GUID is missing: the form is create NAME GUID span|stripe|mirror|raid5 .. on IMAGE...
 create|\e|G|span|on|a => the name of a new volume has 1 to 63 bytes, and "\e" has 0
+create|My|Volume|GUID|span|D=1|on|a => "Volume" is no GUID; if it is of the name "My Volume", write the space as \x20
+create|My Volume|GUID|span|D=1|on|a => NAME "My Volume" is no name, as it has a space: write the space as \x20
 create|V|1234|span|D=1|on|a => "1234" is no GUID, which is 8-4-4-4-12 hexadecimal digits as uuidgen makes them
 create|V|GUID|raid6|on|a => "raid6" is no kind of volume: span, stripe, mirror or raid5
 create|V|GUID|span|on|a => a span takes 1 to 64 pieces, and 0 are named
@@ -90,11 +97,51 @@ fn says_what_is_wrong(rt: HostRuntime) -> Result<(), Fail> {
             lines_of(alloc, text)?.as_str()
         );
     }
-    let text = "\"a\\x0ab\" is no job; the nearest is \"map\"";
+    let text = "\"a\\x0ab\" is no job; ldm --help lists them";
     assert_eq!(rt;
         said_in(alloc, "a\nb|on|a")?.as_str(),
         lines_of(alloc, text)?.as_str()
     );
+    Ok(())
+}
+
+// Jobs that stand alone, and what is said of them.
+const ALONE: [(&str, &str); 6] = [
+    (
+        "show",
+        "\"on\" is missing between show and its images\nldm: show on IMAGE...: the disks, volumes, components and partitions of a group\nldm: ldm help show says more",
+    ),
+    (
+        "map",
+        "VOLUME is missing: the form is map VOLUME FIRST COUNT on IMAGE...\nldm: map VOLUME FIRST COUNT on IMAGE...: where sectors of a volume lie, 4096 at most\nldm: ldm help map says more",
+    ),
+    (
+        "sample",
+        "SEED is missing: the form is sample SEED\nldm: sample SEED: an edit of 200 lines that a number draws, of a group in memory\nldm: ldm help sample says more",
+    ),
+    (
+        "init",
+        "NAME is missing: the form is init NAME GUID DISKGUID DISKGUID... on IMAGE...\nldm: init NAME GUID DISKGUID... on IMAGE...: makes a new group of empty disks, 2 to 64: a DISKGUID for each image\nldm: ldm help init says more",
+    ),
+    (
+        "create",
+        "NAME is missing: the form is create NAME GUID span|stripe|mirror|raid5 .. on IMAGE...\nldm: create NAME GUID span|stripe|mirror|raid5 .. on IMAGE...: a new volume\nldm: ldm help create says more",
+    ),
+    (
+        "delete",
+        "NAME is missing: the form is delete NAME on IMAGE...\nldm: delete NAME on IMAGE...: the volume goes\nldm: ldm help delete says more",
+    ),
+];
+
+#[test]
+fn says_the_form_of_a_job_alone(rt: HostRuntime) -> Result<(), Fail> {
+    let alloc = rt.alloc();
+    for (word, text) in ALONE {
+        assert_eq!(rt;
+            said_in(alloc, word)?.as_str(),
+            lines_of(alloc, text)?.as_str()
+        );
+    }
     Ok(())
 }
 

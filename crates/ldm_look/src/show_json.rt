@@ -305,11 +305,11 @@ fn space_on(label: Option<&Label>, used: u128) -> (Option<u64>, Option<u64>, Opt
 }
 
 // A disk, whose partitions have so many sectors.
-fn push_disk(
+fn push_disk<'a>(
     json: &mut Json,
-    paths: &Paths,
+    paths: &'a Paths,
     found: &Found,
-    d: &Disk,
+    d: &'a Disk,
     used: u128,
 ) -> Result<(), NoMemory>
     ensures { OnOk result (json.new ≡ json.old ++ json_tokens

@@ -5,24 +5,47 @@
 //! `FileHost` that it makes are the trusted edge.
 #![tactic(auto)]
 
+ghost use Rattle.ldm_look.specs.Runs.{HasImages};
+ghost use Rattle.ldm_words.specs.Jobs.{texts, job_of, KeepsLimits};
+
+mod kept;
+
+use kept::Kept;
 use ldm_bytes::NoMemory;
-use ldm_console::{Counted, Meter, Tally, UsageError, tell, usage_error};
+use ldm_console::{Counted, JobHelp, Meter, Tally, UsageError, tell, usage_error};
 use ldm_edge::{
     HELP, Stop, VERSION, Written, ending, exit_code, open_images, stop_unopened, words_of,
 };
+use ldm_explain::{Sight, explain};
 use ldm_files::{Access, Failure, FileHost, ImageFile, take_closed_streams};
+use ldm_host::Host;
 use ldm_locks::{System, hold};
 use ldm_run::run;
 use ldm_words::{Job, Status, WordsError, read_words};
+use std::alloc::Global;
 use std::io;
 use std::io::{IsTerminal, Read, Write};
 use std::process::ExitCode;
 
-// What the only word asks to be told, if it does.
-fn told(words: &[String]) -> Option<&'static str> {
+// What is told without a job.
+#[derive(Clone, Copy)]
+enum Told {
+    Text(&'static str),
+    Help(JobHelp),
+}
+
+// What the words ask to be told, if they do. No job has such words.
+fn told(words: &[String]) -> Option<Told> {
     match words {
-        [word] if word.as_str() == "--help" || word.as_str() == "-h" => Some(HELP),
-        [word] if word.as_str() == "--version" => Some(VERSION),
+        [word] => match word.as_str() {
+            "help" | "--help" | "-h" => Some(Told::Text(HELP)),
+            "--version" => Some(Told::Text(VERSION)),
+            _ => None,
+        },
+        [word, job] if word.as_str() == "help" => JobHelp::of(job.as_str()).map(Told::Help),
+        [job, word] if word.as_str() == "--help" || word.as_str() == "-h" => {
+            JobHelp::of(job.as_str()).map(Told::Help)
+        }
         _ => None,
     }
 }
@@ -117,6 +140,70 @@ fn hold_images<'a>(
     Ok(())
 }
 
+// When it is seen what the images hold, by which a refusal is explained.
+#[derive(Clone, Copy, PartialEq, Eq)]
+enum Seen {
+    Before,
+    After,
+    Never,
+}
+
+// Before an edit of more lines than one, since those that are done change the group. A refusal is
+// explained where one sits at a terminal.
+fn seen_when(job: &Job, terminals: Terminals) -> Seen {
+    match job {
+        _ if !terminals.error => Seen::Never,
+        Job::Sample(_) => Seen::Never,
+        Job::Edit => Seen::Before,
+        _ => Seen::After,
+    }
+}
+
+// Runs the words, which ask for this job, over a host. What the images hold is seen where a refusal
+// is to be explained by it.
+fn run_over<H: Host>(
+    alloc: Global,
+    words: &[String],
+    job: &Job,
+    seen: Seen,
+    host: &mut H,
+) -> (Status, Option<Sight>)
+    requires { HasImages (job_of (texts words.now)) (H.seen host.old) }
+{
+    match seen {
+        Seen::Before => {
+            let sight = Sight::of(alloc, host, job);
+            (run(alloc, words, host), sight)
+        }
+        Seen::After => match run(alloc, words, host) {
+            Status::Refused => (Status::Refused, Sight::of(alloc, host, job)),
+            status => (status, None),
+        },
+        Seen::Never => (run(alloc, words, host), None),
+    }
+}
+
+// Explains a refusal by what was seen of the images, and heard of the script.
+fn explain_end(
+    rt: &HostRuntime,
+    job: &Job,
+    names: &[String],
+    script: &[u8],
+    status: Status,
+    sight: Option<Sight>,
+)
+    requires { KeepsLimits job.now }
+{
+    if status != Status::Refused {
+        return;
+    }
+    if let Some(sight) = sight
+        && let Ok(text) = explain(rt.alloc(), sight, job, names, script)
+    {
+        let _ = eprint!(rt; "{text}");
+    }
+}
+
 // Opens the images, and runs the words over them and these streams. All images are open, and locked
 // where the job writes, before the first of its calls.
 fn run_words<'a, I, O>(
@@ -131,11 +218,12 @@ where
     O: Write + Drop,
 {
     let alloc = rt.alloc();
-    let (needs, count) = match read_words(alloc, words) {
+    let (job, count) = match read_words(alloc, words) {
         Err(WordsError::Usage) => return Err(Stop::Usage(usage_error(alloc, words))),
         Err(WordsError::NoMemory) => return Err(Stop::NoMemory(Written::Never)),
-        Ok((job, count)) => (needs_of(&job), count),
+        Ok(read) => read,
     };
+    let needs = needs_of(&job);
     let names = &words[words.len() - count..];
     let unwritten = written_by(needs, false, None);
     let images = open_images::<UsageError<'a>>(alloc, rt, names, needs.access)?;
@@ -152,20 +240,33 @@ where
         );
     }
     let tally = tally_of(rt, needs, terminals);
-    let mut host = match FileHost::new(alloc, images, input, output, tally) {
+    let mut input = Kept::new(alloc, input, terminals.error && needs.script);
+    let mut host = match FileHost::new(alloc, images, &mut input, output, tally) {
         Ok(host) => host,
         Err(NoMemory) => return Err(Stop::NoMemory(unwritten)),
     };
-    let status = run(alloc, words, &mut host);
+    let (status, sight) = run_over(alloc, words, &job, seen_when(&job, terminals), &mut host);
     host.watch().end();
     let written = written_by(needs, host.has_written(), host.watch().lines());
-    ending(status, names, host.failure(), written)
+    let ended = ending(status, names, host.failure(), written);
+    drop(host);
+    explain_end(rt, &job, names, input.kept(), status, sight);
+    ended
+}
+
+// Says the help of a job.
+fn tell_help<'a>(rt: &HostRuntime, help: JobHelp) -> Result<Status, Stop<'a, UsageError<'a>>> {
+    match format!(in rt.alloc(); "{help}") {
+        Ok(text) => tell(rt.stdout(), text.as_str()),
+        Err(_) => Err(Stop::NoMemory(Written::Never)),
+    }
 }
 
 // Does what the words of the command line ask.
 fn do_words<'a>(rt: &HostRuntime, words: &'a [String]) -> Result<Status, Stop<'a, UsageError<'a>>> {
     match told(words) {
-        Some(text) => tell(rt.stdout(), text),
+        Some(Told::Text(text)) => tell(rt.stdout(), text),
+        Some(Told::Help(help)) => tell_help(rt, help),
         None => {
             let input = rt.stdin();
             let terminals = Terminals {

@@ -3,7 +3,7 @@ ghost use Rattle.std.specs.Prelude.{◌<◌, ◌≤◌, ◌+◌, ◌*◌, length
 
 use super::*;
 use ldm_console::Progress;
-use ldm_edge::Fault;
+use ldm_edge::{Fault, form_in, help_to, word_of};
 use ldm_files::{DiskCall, ImageFile, Sectors, Unwatched};
 use ldm_host::{Failed, Host};
 use ldm_memory::MemoryHost;
@@ -522,15 +522,94 @@ fn says_why_there_is_no_answer(rt: HostRuntime) -> Result<(), Fail> {
     Ok(())
 }
 
+// What is told of words that a bar separates, if they ask to be told something.
+fn told_in(alloc: Global, bar: &str) -> Result<Option<String>, Fail> {
+    let mut words = Vec::new(alloc);
+    for word in bar.split('|') {
+        words.push(String::from_str(alloc, word)?)?;
+    }
+    Ok(match told(&words) {
+        Some(Told::Text(text)) => Some(String::from_str(alloc, text)?),
+        Some(Told::Help(help)) => Some(format!(in alloc; "{help}")?),
+        None => None,
+    })
+}
+
+const MAP_HELP: &str = "\
+usage: ldm map VOLUME FIRST COUNT on IMAGE...
+  where sectors of a volume lie, 4096 at most
+
+FIRST is a sector of the volume, from 0 on. Each line names the disk, the sector of its data area, and that of
+its image.
+
+example: ldm map 'Volume1' 0 1 on disk1.img disk2.img
+";
+
+const CREATE_HELP: &str = "\
+usage: ldm create NAME GUID span DISK=SECTORS... on IMAGE...
+  1 to 64 pieces, one after another
+usage: ldm create NAME GUID stripe CHUNK SECTORS DISK DISK... on IMAGE...
+  SECTORS on each of 2 to 64 disks
+usage: ldm create NAME GUID mirror SECTORS DISK DISK... on IMAGE...
+  SECTORS on each of 2 to 64 disks
+usage: ldm create NAME GUID raid5 CHUNK SECTORS DISK DISK DISK... on IMAGE...
+  SECTORS on each of 3 to 64 disks
+
+NAME has 1 to 63 bytes, and GUID is any that the group doesn't have. Each partition lies at the first free sectors
+of its disk that are enough. What the sectors held stays.
+";
+
+const COMMIT_HELP: &str = "\
+a line of a script: commit
+  they are done as one change, all or none
+
+Whatever a stop leaves has all commands of the batch or none.
+";
+
+const HELP_HELP: &str = "\
+usage: ldm help JOB
+
+ldm help alone says all jobs.
+";
+
 #[test]
 fn tells_the_help_and_the_version(rt: HostRuntime) -> Result<(), Fail> {
-    let alloc = rt.alloc();
-    for (word, text) in [("--help", HELP), ("-h", HELP), ("--version", VERSION)] {
-        let mut words = Vec::new(alloc);
-        words.push(String::from_str(alloc, word)?)?;
-        assert!(rt; told(&words) == Some(text), "{word}");
-        words.push(String::from_str(alloc, "x")?)?;
-        assert!(rt; told(&words).is_none(), "{word}");
+    let rows = [
+        ("--help", Some(HELP)),
+        ("-h", Some(HELP)),
+        ("help", Some(HELP)),
+        ("--version", Some(VERSION)),
+        ("help|map", Some(MAP_HELP)),
+        ("map|--help", Some(MAP_HELP)),
+        ("map|-h", Some(MAP_HELP)),
+        ("help|create", Some(CREATE_HELP)),
+        ("help|commit", Some(COMMIT_HELP)),
+        ("help|help", Some(HELP_HELP)),
+        ("--help|x", None),
+        ("--version|x", None),
+        ("help|x", None),
+        ("help|map|x", None),
+        ("map", None),
+        ("map|--help|on|a", None),
+        ("dump|--help|on|a", None),
+    ];
+    for (words, text) in rows {
+        assert_eq!(rt; told_in(rt.alloc(), words)?.as_deref(), text);
+    }
+    Ok(())
+}
+
+// The jobs, commands and words of a batch that the help says have help of their own.
+#[test]
+fn tells_the_help_of_each_job(rt: HostRuntime) -> Result<(), Fail> {
+    for line in help_to("\nSECTORS and CHUNK").lines() {
+        let Some(form) = form_in(line) else {
+            continue;
+        };
+        let word = word_of(form);
+        if word != "COMMAND" {
+            assert!(rt; JobHelp::of(word).is_some(), "{word}");
+        }
     }
     Ok(())
 }

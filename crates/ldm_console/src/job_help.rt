@@ -1,0 +1,173 @@
+//! The help of one job: its forms and what it does, by the help, and more of it.
+use crate::usage::UsageError;
+use ldm_edge::{FormError, HELP, form_in, told_in, word_of};
+use std::fmt;
+
+// What is said of a job or a command beside its lines of the help.
+const JOBS: [(&str, &str); 19] = [
+    (
+        "disk",
+        "The image may be that of a disk whose group is incomplete. What is wrong with a label is explained in\ndocs/FORMAT.md.",
+    ),
+    (
+        "records",
+        "Each line is a record: its type, id and name, and how long its own spelling is.",
+    ),
+    (
+        "show",
+        "Images of one group may come in any order, and some may be missing. The names that it says are what the other\njobs take.",
+    ),
+    (
+        "check",
+        "It says the sequence of each copy, and the first reason why the group may not be edited, if there is one.",
+    ),
+    (
+        "map",
+        "FIRST is a sector of the volume, from 0 on. Each line names the disk, the sector of its data area, and that of\nits image.\n\nexample: ldm map 'Volume1' 0 1 on disk1.img disk2.img",
+    ),
+    (
+        "dump",
+        "Standard output has the sectors of the volume and nothing else; they are the whole volume where the status is 0.\n\nexample: ldm dump 'Volume1' on disk1.img disk2.img > volume1",
+    ),
+    (
+        "scrub",
+        "It needs all disks of the volume, and writes nothing. The status is 1 where a place is bad.",
+    ),
+    (
+        "table",
+        "Each image is named in the table by its word here, so an image that is a file needs a loop device first.\n\nexample: dmsetup create --concise \"$(ldm table 'Volume1' on /dev/loop0 /dev/loop1)\"",
+    ),
+    (
+        "try",
+        "It writes nothing. Each line has one reply: ok and the sequence of the group then, held, or refused and why.\n\nexample: ldm try on disk1.img disk2.img < script",
+    ),
+    ("sample", "It reads no image and writes to none."),
+    (
+        "edit",
+        "All images of the group are named. Each line has one reply, when it is done on all disks; one that is refused\nchanges nothing. Whatever a stop leaves is the group after the lines that were answered, or one more.\n\nexample: ldm try on disk1.img disk2.img < script && ldm edit on disk1.img disk2.img < script",
+    ),
+    (
+        "init",
+        "It writes sector 0, sector 6 and the last 2048 sectors of each disk, whose first 63 and last 2048 sectors have to\nbe zero. NAME has 1 to 30 bytes.",
+    ),
+    (
+        "create",
+        "NAME has 1 to 63 bytes, and GUID is any that the group doesn't have. Each partition lies at the first free sectors\nof its disk that are enough. What the sectors held stays.",
+    ),
+    (
+        "extend",
+        "A mirror gets one piece for each of its copies, in the order of show and all of one length.",
+    ),
+    (
+        "delete",
+        "The volume, its components and their partitions go. Its sectors stay as they are.",
+    ),
+    (
+        "begin",
+        "A command in a batch sees what those before it make. One that is refused leaves the batch open, without it.",
+    ),
+    (
+        "commit",
+        "Whatever a stop leaves has all commands of the batch or none.",
+    ),
+    ("cancel", "The end of a script cancels a batch too."),
+    ("help", "ldm help alone says all jobs."),
+];
+
+// The forms of a command before its images, where the help has more than one.
+const CREATE: &str = "create NAME GUID span|stripe|mirror|raid5 .. on IMAGE...";
+
+/// The help of a job, a command or a word of a batch.
+#[derive(Clone, Copy)]
+pub struct JobHelp {
+    name: &'static str,
+    more: &'static str,
+}
+
+impl JobHelp {
+    /// The help of the job of this name, if there is one.
+    pub fn of(name: &str) -> Option<JobHelp> {
+        for (job, more) in JOBS {
+            if job == name {
+                return Some(JobHelp { name: job, more });
+            }
+        }
+        None
+    }
+}
+
+// What stands behind the form of a line of the help where it is the words of a job.
+fn images_behind(form: &str) -> &'static str {
+    match word_of(form) {
+        "create" | "extend" | "delete" => " on IMAGE...",
+        _ => "",
+    }
+}
+
+// A line of the help, of a form.
+fn write_form<W: fmt::Write>(
+    form: &str,
+    told: Option<&str>,
+    f: &mut fmt::Formatter<W>,
+) -> fmt::Result {
+    match form {
+        "begin" | "commit" | "cancel" => write!(f, "a line of a script: {form}\n")?,
+        _ => write!(f, "usage: ldm {form}{}\n", images_behind(form))?,
+    }
+    match told {
+        Some(told) => write!(f, "  {told}\n"),
+        None => Ok(()),
+    }
+}
+
+impl fmt::Display for JobHelp {
+    fn fmt<W: fmt::Write>(&self, f: &mut fmt::Formatter<W>) -> fmt::Result {
+        if self.name == "help" {
+            write!(f, "usage: ldm help JOB\n")?;
+        }
+        for line in HELP.lines() {
+            if let Some(form) = form_in(line) {
+                if word_of(form) == self.name {
+                    write_form(form, told_in(line), f)?;
+                }
+            }
+        }
+        write!(f, "\n{}\n", self.more)
+    }
+}
+
+// The form of a job, and what it does, by the first line of the help that says both.
+fn form_and_told(name: &str) -> Option<(&'static str, &'static str)> {
+    match name {
+        "create" => return Some((CREATE, "a new volume")),
+        "delete" => return Some(("delete NAME on IMAGE...", "the volume goes")),
+        "extend" => {
+            return Some((
+                "extend NAME DISK=SECTORS... on IMAGE...",
+                "more pieces at the end of a span or a mirror",
+            ));
+        }
+        _ => {}
+    }
+    for line in HELP.lines() {
+        if let Some(form) = form_in(line) {
+            if word_of(form) == name {
+                return Some((form, told_in(line)?));
+            }
+        }
+    }
+    None
+}
+
+/// Why a job that stands alone has no reading, with its form.
+pub fn alone<'a>(why: FormError<'a>, word: &'a str) -> UsageError<'a> {
+    match form_and_told(word) {
+        Some((form, told)) => UsageError::Alone {
+            why,
+            job: word,
+            form,
+            told,
+        },
+        None => UsageError::Form(why),
+    }
+}
