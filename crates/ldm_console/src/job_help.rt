@@ -4,10 +4,14 @@ use ldm_edge::{FormError, HELP, form_in, told_in, word_of};
 use std::fmt;
 
 // What is said of a job or a command beside its lines of the help.
-const JOBS: [(&str, &str); 19] = [
+const JOBS: [(&str, &str); 20] = [
     (
         "disk",
-        "The image may be that of a disk whose group is incomplete. What is wrong with a label is explained in\ndocs/FORMAT.md.",
+        "The image may be that of a disk whose group is incomplete. What is wrong with a label is explained in\ndocs/FORMAT.md. With --json behind disk it is one JSON value.",
+    ),
+    (
+        "scan",
+        "The images may be of any groups, or of none. Each has a line of its own, and none is refused for another. With\n--json behind scan it is one JSON value.",
     ),
     (
         "records",
@@ -15,11 +19,11 @@ const JOBS: [(&str, &str); 19] = [
     ),
     (
         "show",
-        "Images of one group may come in any order, and some may be missing. The names that it says are what the other\njobs take.",
+        "Images of one group may come in any order, and some may be missing. The names that it says are what the other\njobs take. With --json behind show it is one JSON value.",
     ),
     (
         "check",
-        "It says the sequence of each copy, and the first reason why the group may not be edited, if there is one.",
+        "It says the sequence of each copy, and the first reason why the group may not be edited, if there is one.\nWith --json behind check it is one JSON value.",
     ),
     (
         "map",
@@ -52,7 +56,7 @@ const JOBS: [(&str, &str); 19] = [
     ),
     (
         "create",
-        "NAME has 1 to 63 bytes, and GUID is any that the group doesn't have. Each partition lies at the first free sectors\nof its disk that are enough. What the sectors held stays.",
+        "NAME has 1 to 63 bytes, and GUID is the volume's own, as uuidgen makes one. Each partition lies at the first free\nsectors of its disk that are enough. What the sectors held stays.",
     ),
     (
         "extend",

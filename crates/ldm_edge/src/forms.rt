@@ -134,6 +134,27 @@ fn no_more<'a>(
     }
 }
 
+// The jobs that say JSON where --json stands behind their name.
+const WITH_JSON: [&str; 4] = ["disk", "scan", "show", "check"];
+
+// The words of a job behind its option, where it has one.
+fn behind_option<'a>(
+    job: &'static str,
+    words: &'a [String],
+) -> Result<&'a [String], FormError<'a>> {
+    match words {
+        [word, rest @ ..] if WITH_JSON.contains(&job) && word.as_str().starts_with("--") => {
+            if word.as_str() == "--json" {
+                Ok(rest)
+            } else {
+                let word = Shown(word.as_str());
+                Err(FormError::UnknownOption { job, word })
+            }
+        }
+        _ => Ok(words),
+    }
+}
+
 /// The words behind that of a job, and its images, by the form that the help says.
 pub fn by_form<'a>(
     alloc: Global,
@@ -145,6 +166,7 @@ pub fn by_form<'a>(
         Some((names, _)) => names,
         None => form,
     };
+    let words = behind_option(word_of(form), words)?;
     let rest = parts(alloc, form, names, words)?;
     no_more(form, rest, on).and(images(form, on))
 }

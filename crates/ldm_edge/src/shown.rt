@@ -40,6 +40,8 @@ pub enum FormError<'a> {
     Name { what: &'a str, word: Shown<'a> },
     #[error("{what} \"{word}\" is no name, as it has a space: write the space as \\x20")]
     Space { what: &'a str, word: Shown<'a> },
+    #[error("\"{word}\" is no option of {job}, which takes --json")]
+    UnknownOption { job: &'a str, word: Shown<'a> },
     #[error("\"on\" is missing between {job} and its images")]
     NoOn { job: &'a str },
     #[error("no image is named behind \"on\"")]

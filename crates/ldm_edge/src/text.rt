@@ -14,6 +14,7 @@ These jobs read:
 
   disk on IMAGE                          the private header and the table of contents of a disk
   records on IMAGE                       the records of the copy of the database on a disk
+  scan on IMAGE...                       the group and the disk that each image is of, each image alone
   show on IMAGE...                       the disks, volumes, components and partitions of a group
   check on IMAGE...                      what each image holds, and whether the group may be edited
   map VOLUME FIRST COUNT on IMAGE...     where sectors of a volume lie, 4096 at most
@@ -22,6 +23,8 @@ These jobs read:
   table VOLUME on IMAGE...               what dmsetup create --concise takes, to mount a volume where it lies, read-only
   try on IMAGE...                        what the lines of a script on standard input would make of a group
   sample SEED                            an edit of 200 lines that a number draws, of a group in memory
+
+With --json behind its name, disk, scan, show or check says one JSON value: ldm show --json on IMAGE...
 
 These write, to all images of the group. No other program may write to them meanwhile:
 

@@ -257,7 +257,7 @@ impl Sight {
             return None;
         }
         match job {
-            Job::Disk | Job::Records => disk_sight(alloc, host),
+            Job::Disk(_) | Job::Records => disk_sight(alloc, host),
             Job::Init { disks, .. } => init_sight(alloc, host, disks),
             _ => group_sight(alloc, host, job),
         }

@@ -1,7 +1,7 @@
 //! Command lines and their words: which have a reading, and which job that is.
 use crate::made::check;
 use ldm_bytes::{Bytes, NoMemory};
-use ldm_words::{Job, WordsError, read_name, read_number, read_words};
+use ldm_words::{Format, Job, WordsError, read_name, read_number, read_words};
 use std::alloc::Global;
 use std::process::Abort;
 
@@ -18,12 +18,21 @@ fn words_of(rt: &impl Abort, alloc: Global, line: &str) -> Vec<String> {
 // What a job is, and what its words are.
 type Parts<'a> = (&'a str, &'a [u8], u64, u64);
 
+// A job that says lines, or JSON, which knows the words of its images: the first of them.
+fn in_format<'a>(lines: &'a str, json: &'a str, format: &'a Format) -> Parts<'a> {
+    match format {
+        Format::Lines => (lines, b"", 0, 0),
+        Format::Json(paths) => (json, paths.get(0).map_or(b"", |word| word.as_bytes()), 0, 0),
+    }
+}
+
 fn parts_of(job: &Job) -> Parts<'_> {
     match job {
-        Job::Disk => ("disk", b"", 0, 0),
+        Job::Disk(format) => in_format("disk", "disk --json", format),
         Job::Records => ("records", b"", 0, 0),
-        Job::Show => ("show", b"", 0, 0),
-        Job::Check => ("check", b"", 0, 0),
+        Job::Scan(format) => in_format("scan", "scan --json", format),
+        Job::Show(format) => in_format("show", "show --json", format),
+        Job::Check(format) => in_format("check", "check --json", format),
         Job::Map { name, first, count } => ("map", name.as_slice(), *first, *count),
         Job::Dump { name } => ("dump", name.as_slice(), 0, 0),
         Job::Scrub { name } => ("scrub", name.as_slice(), 0, 0),
@@ -49,7 +58,7 @@ fn is_refused(rt: &impl Abort, alloc: Global, line: &str) -> bool {
     )
 }
 
-const JOBS: [(&str, Parts<'static>, usize); 10] = [
+const JOBS: [(&str, Parts<'static>, usize); 20] = [
     ("disk on A", ("disk", b"", 0, 0), 1),
     ("disk on on", ("disk", b"", 0, 0), 1),
     ("records on A", ("records", b"", 0, 0), 1),
@@ -60,6 +69,16 @@ const JOBS: [(&str, Parts<'static>, usize); 10] = [
     ("dump Data on A B", ("dump", b"Data", 0, 0), 2),
     ("table Data on A B", ("table", b"Data", 2, 0), 2),
     ("scrub \\x41 on A", ("scrub", b"A", 0, 0), 1),
+    ("disk --json on on", ("disk --json", b"on", 0, 0), 1),
+    ("scan on A B", ("scan", b"", 0, 0), 2),
+    ("scan --json on B A", ("scan --json", b"B", 0, 0), 2),
+    ("show --json on A B", ("show --json", b"A", 0, 0), 2),
+    ("show on --json", ("show", b"", 0, 0), 1),
+    ("show --json on --json", ("show --json", b"--json", 0, 0), 1),
+    ("check --json on A", ("check --json", b"A", 0, 0), 1),
+    ("dump --json on A", ("dump", b"--json", 0, 0), 1),
+    ("scrub --json on A", ("scrub", b"--json", 0, 0), 1),
+    ("map --json 0 1 on A", ("map", b"--json", 0, 1), 1),
 ];
 
 fn check_jobs(rt: &impl Abort, alloc: Global, rows: &[(&str, Parts<'static>, usize)]) {
@@ -101,6 +120,14 @@ fn reads_the_words_of_a_new_group(rt: HostRuntime) {
 
 const NO_JOBS: &str = "
 on A
+show --json --json on A
+show --jsn on A
+--json show on A
+show --json
+show x --json on A
+disk --json on A B
+records --json on A
+try --json on A
 frob on A
 disk A
 disk on

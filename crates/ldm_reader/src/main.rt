@@ -1,5 +1,5 @@
 //! Looks at the disks of a Windows dynamic disk group, and has no job that writes to them:
-//! `ldm disk|records|show|check|map ... on IMAGE...`.
+//! `ldm disk|records|scan|show|check|map ... on IMAGE...`.
 //!
 //! The jobs are those of `look`, whose contract is the theorem of the program; `main` and the
 //! `FileHost` that it makes are the trusted edge. `ldm_tool` has all jobs, and this one is proved
@@ -24,7 +24,7 @@ use thiserror::Error;
 enum UsageError<'a> {
     #[error("there is no job")]
     NoJob,
-    #[error("\"{word}\" is no job of this program, which has disk, records, show, check and map")]
+    #[error("\"{word}\" is no job of this program, which has disk, records, scan, show, check and map")]
     OtherJob { word: Shown<'a> },
     #[error(transparent)]
     Form(FormError<'a>),
@@ -43,7 +43,7 @@ fn usage_error(alloc: Global, words: &[String]) -> Option<UsageError<'_>> {
         return Some(UsageError::NoJob);
     };
     let form = match word.as_str() {
-        word @ ("disk" | "records" | "show" | "check" | "map") => form_of(word),
+        word @ ("disk" | "records" | "scan" | "show" | "check" | "map") => form_of(word),
         _ => None,
     };
     match form {

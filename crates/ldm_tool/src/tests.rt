@@ -555,8 +555,8 @@ usage: ldm create NAME GUID mirror SECTORS DISK DISK... on IMAGE...
 usage: ldm create NAME GUID raid5 CHUNK SECTORS DISK DISK DISK... on IMAGE...
   SECTORS on each of 3 to 64 disks
 
-NAME has 1 to 63 bytes, and GUID is any that the group doesn't have. Each partition lies at the first free sectors
-of its disk that are enough. What the sectors held stays.
+NAME has 1 to 63 bytes, and GUID is the volume's own, as uuidgen makes one. Each partition lies at the first free
+sectors of its disk that are enough. What the sectors held stays.
 ";
 
 const COMMIT_HELP: &str = "\
