@@ -53,19 +53,19 @@ guid_json guid = string (own_guid guid)
 abbrev pub Member : Type 0
 Member = List ℕ × Json
 
-abbrev pub members_of : List Member → Members
-members_of [] = no_members
-members_of (m ∷ ms) = member m.0 m.1 (members_of ms)
+abbrev pub json_members : List Member → Members
+json_members [] = no_members
+json_members (m ∷ ms) = member m.0 m.1 (json_members ms)
 
-abbrev pub items_of : List Json → Items
-items_of [] = no_items
-items_of (j ∷ js) = item j (items_of js)
+abbrev pub json_items : List Json → Items
+json_items [] = no_items
+json_items (j ∷ js) = item j (json_items js)
 
-abbrev pub object_of : List Member → Json
-object_of ms = object (members_of ms)
+abbrev pub json_object : List Member → Json
+json_object ms = object (json_members ms)
 
-abbrev pub array_of : List Json → Json
-array_of js = array (items_of js)
+abbrev pub json_array : List Json → Json
+json_array js = array (json_items js)
 
 -- what is said: the text of the value, on a line
 abbrev pub line_of_json : Json → List ℕ
@@ -89,10 +89,10 @@ json_of scalars.Null = null
 abbrev pub Field : Type 0
 Field = Bor (List ℕ) × Scalar
 
-abbrev pub member_of : Field → Member
-member_of field = (field.0.now, json_of field.1)
+abbrev pub json_member : Field → Member
+json_member field = (field.0.now, json_of field.1)
 
--- their tokens
+-- the tokens of a key and a value without parts
 abbrev pub field_tokens : Field → List Token
 field_tokens field = token.key field.0.now ∷ json_tokens (json_of field.1)
 

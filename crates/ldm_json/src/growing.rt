@@ -3,7 +3,7 @@ ghost use Rattle.std.specs.Prelude.{◌≡◌, ◌++◌, [], ◌∷◌, OnOk, If
 ghost use Rattle.json.specs.Token.{begin_array, end_array};
 ghost use Rattle.json.specs.Tree.{json_tokens};
 ghost use Rattle.json.specs.Print.{print};
-ghost use Rattle.ldm_json.specs.Values.{json_of, member_of, object_of, field_tokens};
+ghost use Rattle.ldm_json.specs.Values.{json_of, json_member, json_object, field_tokens};
 ghost use Rattle.ldm_json.specs.Values.{opening, closing, then_array};
 ghost use Rattle.ldm_json.specs.declared.scalar.Scalar.TheVariants as Scalar;
 
@@ -107,7 +107,7 @@ impl Json {
     /// An object of these members.
     pub fn object(&mut self, fields: &[(&str, Scalar)]) -> Result<(), NoMemory>
         ensures { OnOk result (self.new
-            ≡ self.old ++ json_tokens (object_of (map member_of fields.now))) }
+            ≡ self.old ++ json_tokens (json_object (map json_member fields.now))) }
     {
         self.writer.begin_object()?;
         self.fields(fields)?;
@@ -117,8 +117,8 @@ impl Json {
 
     /// An object with one member, which is an object of these members.
     pub fn object_in(&mut self, key: &str, fields: &[(&str, Scalar)]) -> Result<(), NoMemory>
-        ensures { OnOk result (self.new ≡ self.old ++ json_tokens (object_of
-            ((key.now, object_of (map member_of fields.now)) ∷ []))) }
+        ensures { OnOk result (self.new ≡ self.old ++ json_tokens (json_object
+            ((key.now, json_object (map json_member fields.now)) ∷ []))) }
     {
         self.writer.begin_object()?;
         self.writer.key(key)?;

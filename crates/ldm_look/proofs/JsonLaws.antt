@@ -7,7 +7,7 @@ use Rattle.json.specs.Token.{Token}
 use Rattle.json.specs.Tree.{json_tokens, members_tokens}
 use Rattle.json.specs.Json.{string, boolean, null}
 use Rattle.json.specs.Token as token
-use Rattle.ldm_json.specs.Values.{Member, members_of, object_of, array_of, then_array, closing, number_json, maybe_json, maybe_text_json, name_json, maybe_name_json, guid_json}
+use Rattle.ldm_json.specs.Values.{Member, json_members, json_object, json_array, then_array, closing, number_json, maybe_json, maybe_text_json, name_json, maybe_name_json, guid_json}
 use Rattle.ldm_json.proofs.TokenLaws.{items_are, array_is}
 use Rattle.ldm_label.specs.Present.{image_with, label_with}
 use Rattle.ldm_records.specs.declared.types.Disk.{Disk}
@@ -17,7 +17,7 @@ use Rattle.ldm_copy.specs.declared.found.Found.{Found}
 use Rattle.ldm_vmdb.specs.declared.header.Header.{Header}
 use Rattle.ldm_group.specs.Room.{need_of, room_of}
 use Rattle.ldm_copy.specs.declared.notes.Note.{Note}
-use Rattle.ldm_look.specs.declared.scanned.Member.{Member as InGroup}
+use Rattle.ldm_look.specs.declared.scanned.Membership.{Membership}
 use Rattle.ldm_look.specs.declared.scanned.Scanned.TheVariants.{Open}
 use Rattle.ldm_look.specs.Scan.{scanned_json}
 use Rattle.ldm_look.specs.Paths.{path_of}
@@ -36,7 +36,7 @@ use Rattle.ldm_layout.specs.Volumes.{shape_of}
 use Rattle.ldm_places.specs.declared.shape.Shape.{Shape}
 use Rattle.ldm_look.specs.declared.mapped.MappedDisk.{MappedDisk}
 use Rattle.ldm_look.specs.Map.{mapped_at}
-use Rattle.ldm_look.specs.ShowJson.{image_sector, in_64_bits, partition_json, component_json, volume_json, shaped_volume, group_json, layout_word, partition_jsons, disk_json, partitions_of, components_of, component_jsons, volume_jsons, all_volume_jsons, disk_jsons}
+use Rattle.ldm_look.specs.ShowJson.{image_sector, in_64_bits, partition_json, component_json, volume_json, shaped_volume, group_json, layout_word, partition_jsons, disk_json, own_partitions, own_components, component_jsons, volume_jsons, all_volume_jsons, disk_jsons}
 
 pub same_disk_jsons : (paths : List (List ℕ)) (used : ℕ → ℕ) (labels : List Label) (zs records : List Record) → ((disk : ℕ) → used disk ≡ used_on zs disk) → zs ≡ records
     → disk_jsons paths used labels records ≡ disk_jsons paths (used_on records) labels records
@@ -49,19 +49,19 @@ same_shapes : (lists : Lists) (records : List Record) → IsListsOf lists record
 same_shapes lists records h = λ i. λ volume. shape_of (h.plexes_are volume i)
 
 pub same_volume_jsons : (lists : Lists) (disks : ℕ → Option MappedDisk) (partitions : ℕ → List Partition) (components : ℕ → List Component) (labels : List Label) (records : List Record)
-    → IsListsOf lists records → ((id : ℕ) → disks id ≡ mapped_at labels records id) → ((id : ℕ) → partitions id ≡ partitions_of records id)
-    → ((id : ℕ) → components id ≡ components_of records id)
+    → IsListsOf lists records → ((id : ℕ) → disks id ≡ mapped_at labels records id) → ((id : ℕ) → partitions id ≡ own_partitions records id)
+    → ((id : ℕ) → components id ≡ own_components records id)
     → volume_jsons (λ volume. shape_of (plexes_at volume lists.plexes)) (λ volume. component_jsons disks partitions (components volume)) records
     ≡ all_volume_jsons labels records
 unfolding all_volume_jsons
 same_volume_jsons lists disks partitions components labels records h ds ps cs =
     let by_disks : disks ≡ mapped_at labels records = λ i id. ds id i in
-    let by_partitions : partitions ≡ partitions_of records = λ i id. ps id i in
-    let by_components : components ≡ components_of records = λ i id. cs id i in
+    let by_partitions : partitions ≡ own_partitions records = λ i id. ps id i in
+    let by_components : components ≡ own_components records = λ i id. cs id i in
     ap (λ (f : ℕ → Option Shape). volume_jsons f (λ volume. component_jsons disks partitions (components volume)) records) (same_shapes lists records h)
     ∙ ap (λ (f : ℕ → Option MappedDisk). volume_jsons (λ volume. shape_of (plexes_of volume records)) (λ volume. component_jsons f partitions (components volume)) records) by_disks
     ∙ ap (λ (f : ℕ → List Partition). volume_jsons (λ volume. shape_of (plexes_of volume records)) (λ volume. component_jsons (mapped_at labels records) f (components volume)) records) by_partitions
-    ∙ ap (λ (f : ℕ → List Component). volume_jsons (λ volume. shape_of (plexes_of volume records)) (λ volume. component_jsons (mapped_at labels records) (partitions_of records) (f volume)) records) by_components
+    ∙ ap (λ (f : ℕ → List Component). volume_jsons (λ volume. shape_of (plexes_of volume records)) (λ volume. component_jsons (mapped_at labels records) (own_partitions records) (f volume)) records) by_components
 
 -- ---- objects that end with arrays
 
@@ -72,20 +72,20 @@ member_tokens m = token.key m.0 ∷ json_tokens m.1
 abbrev pub beginning : List Member → List ℕ → List Token
 beginning ms key = token.begin_object ∷ (flat_map member_tokens ms ++ (token.key key ∷ token.begin_array ∷ []))
 
-members_are : (ms ns : List Member) → members_tokens (members_of (ms ++ ns)) ≡ flat_map member_tokens ms ++ members_tokens (members_of ns)
+members_are : (ms ns : List Member) → members_tokens (json_members (ms ++ ns)) ≡ flat_map member_tokens ms ++ members_tokens (json_members ns)
 members_are [] ns = refl
 members_are (m ∷ ms) ns =
-    ap (λ (ts : List Token). member_tokens m ++ ts) (members_are ms ns) ∙ sym (append_assoc (member_tokens m) (flat_map member_tokens ms) (members_tokens (members_of ns)))
+    ap (λ (ts : List Token). member_tokens m ++ ts) (members_are ms ns) ∙ sym (append_assoc (member_tokens m) (flat_map member_tokens ms) (members_tokens (json_members ns)))
 
 pub closed_from : (start one two op : List Token) (ms : List Member) (key : List ℕ) (js : List Json) → one ≡ start ++ op → op ≡ beginning ms key → two ≡ one ++ flat_map json_tokens js
-    → two ++ closing ≡ start ++ json_tokens (object_of (ms ++ (key, array_of js) ∷ []))
-closed_from start one two op ms key js first is second = grind (arith, append_assoc, members_are ms ((key, array_of js) ∷ []), items_are js)
+    → two ++ closing ≡ start ++ json_tokens (json_object (ms ++ (key, json_array js) ∷ []))
+closed_from start one two op ms key js first is second = grind (arith, append_assoc, members_are ms ((key, json_array js) ∷ []), items_are js)
 
 pub both_from : (start one two three four op : List Token) (ms : List Member) (first second : List ℕ) (js ks : List Json) → one ≡ start ++ op → op ≡ beginning ms first
     → two ≡ one ++ flat_map json_tokens js → three ≡ two ++ then_array second → four ≡ three ++ flat_map json_tokens ks
-    → four ++ closing ≡ start ++ json_tokens (object_of (ms ++ (first, array_of js) ∷ (second, array_of ks) ∷ []))
+    → four ++ closing ≡ start ++ json_tokens (json_object (ms ++ (first, json_array js) ∷ (second, json_array ks) ∷ []))
 both_from start one two three four op ms first second js ks a is b c d =
-    grind (arith, append_assoc, members_are ms ((first, array_of js) ∷ (second, array_of ks) ∷ []), items_are js, items_are ks)
+    grind (arith, append_assoc, members_are ms ((first, json_array js) ∷ (second, json_array ks) ∷ []), items_are js, items_are ks)
 
 -- ---- one item more
 
@@ -104,7 +104,7 @@ more_item {X} {Y} g f xs i x start old new lt is before after =
 
 pub partition_is : (disk : Option MappedDisk) (p : Partition) (name : List ℕ) (disk_name : Option (List ℕ)) (at : Option ℕ)
     → name ≡ p.head.name → disk_name ≡ option_map (λ d. d.name) disk → at ≡ image_sector disk p.start
-    → object_of (
+    → json_object (
     (codes "id", number_json p.head.id) ∷ (codes "name", name_json name) ∷ (codes "disk", maybe_name_json disk_name) ∷ (codes "disk_id", number_json p.disk)
     ∷ (codes "start", number_json p.start) ∷ (codes "image_start", maybe_json at) ∷ (codes "size", number_json p.size) ∷ (codes "offset", number_json p.offset)
     ∷ (codes "index", maybe_json p.index) ∷ []) ≡ partition_json disk p
@@ -112,22 +112,22 @@ partition_is disk p name disk_name at a b c = rw (a, b, c) refl
 
 pub component_is : (disks : ℕ → Option MappedDisk) (partitions : List Partition) (c : Component) (name layout : List ℕ) (chunk columns : Option ℕ)
     → name ≡ c.head.name → layout ≡ layout_word c.layout → chunk ≡ option_map (λ s. s.chunk) c.striping → columns ≡ option_map (λ s. s.columns) c.striping
-    → object_of (
+    → json_object (
     (codes "id", number_json c.head.id) ∷ (codes "name", name_json name) ∷ (codes "layout", string layout) ∷ (codes "chunk", maybe_json chunk) ∷ (codes "columns", maybe_json columns)
-    ∷ (codes "partitions", array_of (partition_jsons disks partitions)) ∷ []) ≡ component_json disks partitions c
+    ∷ (codes "partitions", json_array (partition_jsons disks partitions)) ∷ []) ≡ component_json disks partitions c
 component_is disks partitions c name layout chunk columns n l k m = rw (n, l, k, m) refl
 
 pub volume_is : (components : List Json) (v : Volume) (shape : Shape) (name word : List ℕ) (guid : ℕ) (bytes : Option ℕ) (hint : Option (List ℕ))
     → name ≡ v.head.name → guid ≡ guid_of_volume v → word ≡ text_of_shape shape → bytes ≡ in_64_bits (v.size * 512) → hint ≡ v.hint
-    → object_of (
+    → json_object (
     (codes "id", number_json v.head.id) ∷ (codes "name", name_json name) ∷ (codes "guid", guid_json guid) ∷ (codes "type", string word) ∷ (codes "size", number_json v.size)
-    ∷ (codes "bytes", maybe_json bytes) ∷ (codes "hint", maybe_name_json hint) ∷ (codes "components", array_of components) ∷ []) ≡ volume_json components v shape
+    ∷ (codes "bytes", maybe_json bytes) ∷ (codes "hint", maybe_name_json hint) ∷ (codes "components", json_array components) ∷ []) ≡ volume_json components v shape
 volume_is components v shape name word guid bytes hint n g w b h = rw (n, g, w, b, h) refl
 
 pub disk_is : (paths : List (List ℕ)) (used : ℕ) (labels : List Label) (d : Disk) (name : List ℕ) (at image : Option ℕ) (path : Option (List ℕ)) (start size free : Option ℕ) (label : Option Label)
     → name ≡ d.head.name → at ≡ image → path ≡ path_of paths image → image ≡ image_with d.guid labels → label ≡ label_with d.guid labels → start ≡ option_map (λ l. l.data_start) label
     → size ≡ option_map (λ l. l.data_size) label → free ≡ option_map (λ l. l.data_size - used) label
-    → object_of (
+    → json_object (
     (codes "id", number_json d.head.id) ∷ (codes "name", name_json name) ∷ (codes "guid", guid_json d.guid) ∷ (codes "image", maybe_json at) ∷ (codes "path", maybe_text_json path)
     ∷ (codes "data_start", maybe_json start) ∷ (codes "data_size", maybe_json size) ∷ (codes "free", maybe_json free) ∷ []) ≡ disk_json paths used labels d
 disk_is paths used labels d name at image path start size free label n t p i l a b c = rw (n, t, p, i, a, b, c, l) refl
@@ -135,26 +135,26 @@ disk_is paths used labels d name at image path start size free label n t p i l a
 -- ---- values that stand alone
 
 pub array_from : (one two three four : List Token) (js : List Json) → one ≡ [] → two ≡ one ++ token.begin_array ∷ [] → three ≡ two ++ flat_map json_tokens js → four ≡ three ++ token.end_array ∷ []
-    → four ≡ json_tokens (array_of js)
+    → four ≡ json_tokens (json_array js)
 array_from one two three four js a b c d = grind (arith, append_assoc, array_is js)
 
 pub alone : (one two op : List Token) (j : Json) → one ≡ [] → two ≡ one ++ op → op ≡ json_tokens j → two ≡ json_tokens j
 alone one two op j a b is = b ∙ ap (λ (ts : List Token). ts ++ op) a ∙ is
 
 pub closed_alone : (one two three four op : List Token) (ms : List Member) (key : List ℕ) (js : List Json) → one ≡ [] → two ≡ one ++ op → op ≡ beginning ms key → three ≡ two ++ flat_map json_tokens js
-    → four ≡ three ++ closing → four ≡ json_tokens (object_of (ms ++ (key, array_of js) ∷ []))
+    → four ≡ three ++ closing → four ≡ json_tokens (json_object (ms ++ (key, json_array js) ∷ []))
 closed_alone one two three four op ms key js a b is c d =
-    d ∙ closed_from one two three op ms key js b is c ∙ ap (λ (ts : List Token). ts ++ json_tokens (object_of (ms ++ (key, array_of js) ∷ []))) a
+    d ∙ closed_from one two three op ms key js b is c ∙ ap (λ (ts : List Token). ts ++ json_tokens (json_object (ms ++ (key, json_array js) ∷ []))) a
 
-pub open_is : (paths : List (List ℕ)) (image : ℕ) (path : Option (List ℕ)) (m : InGroup) (group : List ℕ) (disk : Option (List ℕ)) → path ≡ slice_get paths image → group ≡ m.group → disk ≡ m.disk
-    → object_of (
+pub open_is : (paths : List (List ℕ)) (image : ℕ) (path : Option (List ℕ)) (m : Membership) (group : List ℕ) (disk : Option (List ℕ)) → path ≡ slice_get paths image → group ≡ m.group → disk ≡ m.disk
+    → json_object (
     (codes "image", number_json image) ∷ (codes "path", maybe_text_json path) ∷ (codes "state", string (codes "open")) ∷ (codes "group", name_json group)
     ∷ (codes "group_guid", guid_json m.group_guid) ∷ (codes "disk", maybe_name_json disk) ∷ (codes "disk_guid", guid_json m.disk_guid)
     ∷ (codes "sequence", number_json m.seq) ∷ (codes "reason", null) ∷ []) ≡ scanned_json paths (image, Open m)
 open_is paths image path m group disk p a b = rw (p, a, b) refl
 
 pub label_is : (label : Label) (minor : ℕ) → minor ≡ label.minor
-    → object_of (
+    → json_object (
     (codes "sector_size", number_json 512) ∷ (codes "guid", guid_json label.disk_guid) ∷ (codes "version_minor", number_json minor) ∷ (codes "data_start", number_json label.data_start)
     ∷ (codes "data_size", number_json label.data_size) ∷ (codes "database_start", number_json label.config_start) ∷ (codes "database_size", number_json 2048)
     ∷ (codes "area_start", number_json label.area_start) ∷ (codes "area_size", number_json label.area_sectors) ∷ (codes "log_start", number_json label.log_start)
@@ -163,20 +163,20 @@ label_is label minor a = rw a refl
 
 pub check_is : (paths : List (List ℕ)) (found : Found) (editable : Bool) (kind reason : Json) (notes : List Note) → editable ≡ is_none found.blocked → kind ≡ kind_json found.blocked
     → reason ≡ reason_json found.blocked → notes ≡ found.notes
-    → object_of ((codes "editable", boolean editable) ∷ (codes "kind", kind) ∷ (codes "reason", reason) ∷ (codes "images", array_of (note_jsons paths notes)) ∷ []) ≡ check_json paths found
+    → json_object ((codes "editable", boolean editable) ∷ (codes "kind", kind) ∷ (codes "reason", reason) ∷ (codes "images", json_array (note_jsons paths notes)) ∷ []) ≡ check_json paths found
 check_is paths found editable kind reason notes a b c d = rw (a, b, c, d) refl
 
 pub group_is : (disks volumes : List Json) (found : Found) (header : Header) (name : List ℕ) (need room : ℕ) → header ≡ found.db.header → name ≡ header.name
     → need ≡ need_of found.db.records → room ≡ room_of found.db.header.last
-    → object_of (
+    → json_object (
     (codes "sector_size", number_json 512) ∷ (codes "name", name_json name) ∷ (codes "guid", guid_json header.guid) ∷ (codes "sequence", number_json header.seq)
-    ∷ (codes "blocks", number_json need) ∷ (codes "blocks_room", number_json room) ∷ (codes "disks", array_of disks) ∷ (codes "volumes", array_of volumes) ∷ [])
+    ∷ (codes "blocks", number_json need) ∷ (codes "blocks_room", number_json room) ∷ (codes "disks", json_array disks) ∷ (codes "volumes", json_array volumes) ∷ [])
     ≡ group_json disks volumes found
 group_is disks volumes found header name need room h n a b = rw (n, a, b, h) refl
 
 -- what is said of the volume of a shape
 pub volume_from : (start one two op : List Token) (ms : List Member) (js : List Json) (v : Volume) (shape : Shape) (some : Option Shape) → one ≡ start ++ op → op ≡ beginning ms (codes "components")
-    → two ≡ one ++ flat_map json_tokens js → object_of (ms ++ (codes "components", array_of js) ∷ []) ≡ volume_json js v shape → some ≡ Some shape
+    → two ≡ one ++ flat_map json_tokens js → json_object (ms ++ (codes "components", json_array js) ∷ []) ≡ volume_json js v shape → some ≡ Some shape
     → two ++ closing ≡ start ++ flat_map json_tokens (shaped_volume js v some)
 volume_from start one two op ms js v shape some first at second is there =
     closed_from start one two op ms (codes "components") js first at second

@@ -2,7 +2,7 @@
 use Rattle.std.specs.Prelude.{ℕ, List, [], ◌∷◌, map, codes, is_none, slice_get, Option, Some, None}
 use Rattle.std.specs.List.{enumerate_from}
 use Rattle.json.specs.Json.{Json, null, boolean, string}
-use Rattle.ldm_json.specs.Values.{number_json, maybe_json, maybe_text_json, said_json, object_of, array_of}
+use Rattle.ldm_json.specs.Values.{number_json, maybe_json, maybe_text_json, said_json, json_object, json_array}
 use Rattle.ldm_copy.specs.declared.fault.OpenFault.{OpenFault}
 use Rattle.ldm_copy.specs.declared.notes.Note.{Note}
 use Rattle.ldm_copy.specs.declared.notes.Note.TheVariants.{Closed, Sequence}
@@ -11,17 +11,17 @@ use Rattle.ldm_look.specs.Opening.{text_of_open_fault}
 use Rattle.ldm_look.specs.FaultJson.{kind_of_fault}
 
 -- the sequence of an open copy
-abbrev pub sequence_of : Note → Option ℕ
-sequence_of Closed = None
-sequence_of (Sequence seq) = Some seq
+abbrev pub note_sequence : Note → Option ℕ
+note_sequence Closed = None
+note_sequence (Sequence seq) = Some seq
 
 -- image I, and the sequence of its copy, or null where it is closed
 abbrev pub note_json : List (List ℕ) → ℕ × Note → Json
 note_json paths (image, note) =
-    object_of (
+    json_object (
     (codes "image", number_json image)
     ∷ (codes "path", maybe_text_json (slice_get paths image))
-    ∷ (codes "sequence", maybe_json (sequence_of note))
+    ∷ (codes "sequence", maybe_json (note_sequence note))
     ∷ [])
 
 abbrev pub note_jsons : List (List ℕ) → List Note → List Json
@@ -37,9 +37,9 @@ reason_json (Some fault) = said_json (text_of_open_fault fault)
 
 abbrev pub check_json : List (List ℕ) → Found → Json
 check_json paths found =
-    object_of (
+    json_object (
     (codes "editable", boolean (is_none found.blocked))
     ∷ (codes "kind", kind_json found.blocked)
     ∷ (codes "reason", reason_json found.blocked)
-    ∷ (codes "images", array_of (note_jsons paths found.notes))
+    ∷ (codes "images", json_array (note_jsons paths found.notes))
     ∷ [])

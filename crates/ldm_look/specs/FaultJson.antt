@@ -1,7 +1,7 @@
 -- The JSON that refuses: what kind of fault there is, the images, the rule and the id that it names, and its text.
 use Rattle.std.specs.Prelude.{ℕ, List, [], ◌∷◌, codes, Option, Some, None}
 use Rattle.json.specs.Json.{Json, string}
-use Rattle.ldm_json.specs.Values.{maybe_json, maybe_text_json, said_json, object_of}
+use Rattle.ldm_json.specs.Values.{maybe_json, maybe_text_json, said_json, json_object}
 use Rattle.ldm_copy.specs.declared.fault.OpenFault.{OpenFault}
 use Rattle.ldm_copy.specs.declared.fault.OpenFault.TheVariants.{Label, SameDisk, Copy, NoCopy, Split, Stranger, Rule, Absent, FewDisks, AreaSmall, AreaClash}
 use Rattle.ldm_look.specs.Opening.{text_of_open_fault}
@@ -25,23 +25,23 @@ abbrev pub naming : Option ℕ → Option ℕ → Option ℕ → Option ℕ → 
 naming image other rule id = record { image = image; other = other; rule = rule; id = id }
 
 -- the image that a fault names, the other one, the rule, and the id of the disk or the object
-abbrev pub named_in : OpenFault → Named
-named_in (Label i fault) = naming (Some i) None None None
-named_in (SameDisk i j) = naming (Some i) (Some j) None None
-named_in (Copy i fault) = naming (Some i) None None None
-named_in NoCopy = naming None None None None
-named_in (Split i j) = naming (Some i) (Some j) None None
-named_in (Stranger i) = naming (Some i) None None None
-named_in (Rule fault) = naming None None (Some fault.rule) (Some fault.id)
-named_in (Absent id) = naming None None None (Some id)
-named_in FewDisks = naming None None None None
-named_in (AreaSmall i) = naming (Some i) None None None
-named_in (AreaClash i) = naming (Some i) None None None
+abbrev pub fault_names : OpenFault → Named
+fault_names (Label i fault) = naming (Some i) None None None
+fault_names (SameDisk i j) = naming (Some i) (Some j) None None
+fault_names (Copy i fault) = naming (Some i) None None None
+fault_names NoCopy = naming None None None None
+fault_names (Split i j) = naming (Some i) (Some j) None None
+fault_names (Stranger i) = naming (Some i) None None None
+fault_names (Rule fault) = naming None None (Some fault.rule) (Some fault.id)
+fault_names (Absent id) = naming None None None (Some id)
+fault_names FewDisks = naming None None None None
+fault_names (AreaSmall i) = naming (Some i) None None None
+fault_names (AreaClash i) = naming (Some i) None None None
 
 -- a fault of this kind, which names these and has this text
 abbrev pub named_json : List (List ℕ) → List ℕ → Named → List ℕ → Json
 named_json paths kind named text =
-    object_of (
+    json_object (
     (codes "kind", string kind)
     ∷ (codes "image", maybe_json named.image)
     ∷ (codes "path", maybe_text_json (path_of paths named.image))
@@ -54,8 +54,8 @@ named_json paths kind named text =
 
 -- the fault of images that have these words
 abbrev pub fault_json : List (List ℕ) → OpenFault → Json
-fault_json paths fault = named_json paths (kind_of_fault fault) (named_in fault) (text_of_open_fault fault)
+fault_json paths fault = named_json paths (kind_of_fault fault) (fault_names fault) (text_of_open_fault fault)
 
 -- what refuses for it
 abbrev pub refusal_json : Json → Json
-refusal_json fault = object_of ((codes "refused", fault) ∷ [])
+refusal_json fault = json_object ((codes "refused", fault) ∷ [])

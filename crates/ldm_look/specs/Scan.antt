@@ -4,7 +4,7 @@ use Rattle.std.specs.List.{enumerate_from}
 use Rattle.std.specs.Option.{option_map}
 use Rattle.json.specs.Json.{Json, null, string}
 use Rattle.ldm_bytes.specs.Guid.{own_guid}
-use Rattle.ldm_json.specs.Values.{number_json, maybe_text_json, name_json, maybe_name_json, guid_json, said_json, object_of, array_of}
+use Rattle.ldm_json.specs.Values.{number_json, maybe_text_json, name_json, maybe_name_json, guid_json, said_json, json_object, json_array}
 use Rattle.ldm_label.specs.declared.Label.{Label}
 use Rattle.ldm_label.specs.declared.LabelFault.{LabelFault}
 use Rattle.ldm_label.specs.LabelOf.{label_of}
@@ -17,15 +17,15 @@ use Rattle.ldm_copy.specs.Copy.{IsCopyOf, config_area}
 use Rattle.ldm_text.specs.Texts.{text_of_label_fault}
 use Rattle.ldm_text.specs.Records.{text_of_copy_fault}
 use Rattle.ldm_words.specs.Names.{esc}
-use Rattle.ldm_look.specs.declared.scanned.Member.{Member}
+use Rattle.ldm_look.specs.declared.scanned.Membership.{Membership}
 use Rattle.ldm_look.specs.declared.scanned.Scanned.{Scanned}
 use Rattle.ldm_look.specs.declared.scanned.Scanned.TheVariants.{BadLabel, BadCopy, Closed, Open}
 
 -- ---- what an image is
 
 -- the group of an open copy, and the disk of it that has the label's GUID
-abbrev pub member_of_group : Label → Database → Member
-member_of_group label db =
+abbrev pub membership_of : Label → Database → Membership
+membership_of label db =
     record {
       group = db.header.name;
       group_guid = db.header.guid;
@@ -36,7 +36,7 @@ member_of_group label db =
 
 abbrev pub scanned_copy : Label → Result CopyState CopyFault → Scanned
 scanned_copy label (Ok copies.Closed) = Closed label.disk_guid
-scanned_copy label (Ok (copies.Valid db)) = Open (member_of_group label db)
+scanned_copy label (Ok (copies.Valid db)) = Open (membership_of label db)
 scanned_copy label (Err fault) = BadCopy fault
 
 -- what an image with this label is, by the copy in the config area that the label says
@@ -57,14 +57,14 @@ AreScanned images scanned = ⊥
 -- ---- lines
 
 -- disk NAME GUID, or no disk GUID where the group has no such disk
-abbrev pub text_of_member_disk : Option (List ℕ) → List ℕ
-text_of_member_disk None = codes " no disk "
-text_of_member_disk (Some name) = codes " disk " ++ (esc name ++ codes " ")
+abbrev pub text_of_its_disk : Option (List ℕ) → List ℕ
+text_of_its_disk None = codes " no disk "
+text_of_its_disk (Some name) = codes " disk " ++ (esc name ++ codes " ")
 
-unfoldable pub text_of_member : Member → List ℕ
-text_of_member m =
+unfoldable pub text_of_membership : Membership → List ℕ
+text_of_membership m =
     ((codes " group " ++ esc m.group) ++ (codes " " ++ own_guid m.group_guid))
-    ++ (text_of_member_disk m.disk ++ own_guid m.disk_guid)
+    ++ (text_of_its_disk m.disk ++ own_guid m.disk_guid)
     ++ (codes " sequence " ++ decimal m.seq)
     ++ codes "\n"
 
@@ -73,7 +73,7 @@ abbrev pub text_of_scanned : Scanned → List ℕ
 text_of_scanned (BadLabel fault) = codes " refused: " ++ (text_of_label_fault fault ++ codes "\n")
 text_of_scanned (BadCopy fault) = codes " refused: " ++ (text_of_copy_fault fault ++ codes "\n")
 text_of_scanned (Closed disk) = codes " closed disk " ++ (own_guid disk ++ codes "\n")
-text_of_scanned (Open m) = text_of_member m
+text_of_scanned (Open m) = text_of_membership m
 
 abbrev pub line_of_scanned : ℕ × Scanned → List ℕ
 line_of_scanned (image, scanned) = (codes "image " ++ decimal image) ++ text_of_scanned scanned
@@ -87,7 +87,7 @@ text_of_scan scanned = flat_map line_of_scanned (enumerate_from 0 scanned)
 -- an image in this state, its word, and what is known of it
 abbrev pub state_json : List (List ℕ) → ℕ → List ℕ → Json → Json → Json → Json → Json → Json → Json
 state_json paths image state group group_guid disk disk_guid seq reason =
-    object_of (
+    json_object (
     (codes "image", number_json image)
     ∷ (codes "path", maybe_text_json (slice_get paths image))
     ∷ (codes "state", string state)
@@ -114,4 +114,4 @@ abbrev pub scan_jsons : List (List ℕ) → List Scanned → List Json
 scan_jsons paths scanned = map (scanned_json paths) (enumerate_from 0 scanned)
 
 abbrev pub scan_json : List (List ℕ) → List Scanned → Json
-scan_json paths scanned = array_of (scan_jsons paths scanned)
+scan_json paths scanned = json_array (scan_jsons paths scanned)

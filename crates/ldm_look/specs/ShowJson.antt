@@ -3,7 +3,7 @@
 use Rattle.std.specs.Prelude.{ℕ, ◌+◌, ◌-◌, ◌*◌, ◌^◌, ◌==◌, nat_lt, List, [], ◌∷◌, flat_map, map, codes, Option, Some, None, if◌then◌else◌}
 use Rattle.std.specs.Option.{option_map, option_and_then}
 use Rattle.json.specs.Json.{Json, string}
-use Rattle.ldm_json.specs.Values.{number_json, maybe_json, maybe_text_json, name_json, maybe_name_json, guid_json, object_of, array_of}
+use Rattle.ldm_json.specs.Values.{number_json, maybe_json, maybe_text_json, name_json, maybe_name_json, guid_json, json_object, json_array}
 use Rattle.ldm_records.specs.declared.types.Record.{Record}
 use Rattle.ldm_records.specs.declared.types.Record.TheVariants as kinds
 use Rattle.ldm_records.specs.declared.types.Volume.{Volume}
@@ -37,7 +37,7 @@ image_sector disk sector = option_and_then (λ start. in_64_bits (start + sector
 -- a partition that lies on this disk
 abbrev pub partition_json : Option MappedDisk → Partition → Json
 partition_json disk p =
-    object_of (
+    json_object (
     (codes "id", number_json p.head.id)
     ∷ (codes "name", name_json p.head.name)
     ∷ (codes "disk", maybe_name_json (option_map (λ d. d.name) disk))
@@ -50,13 +50,13 @@ partition_json disk p =
     ∷ [])
 
 -- the record, where it is a partition of the component
-abbrev pub partition_in : ℕ → Record → List Partition
-partition_in component (kinds.Partition p) = if p.parent == component then p ∷ [] else []
-partition_in component _ = []
+abbrev pub own_partition : ℕ → Record → List Partition
+own_partition component (kinds.Partition p) = if p.parent == component then p ∷ [] else []
+own_partition component _ = []
 
 -- the partitions of a component, in rising id
-abbrev pub partitions_of : List Record → ℕ → List Partition
-partitions_of records component = flat_map (partition_in component) records
+abbrev pub own_partitions : List Record → ℕ → List Partition
+own_partitions records component = flat_map (own_partition component) records
 
 -- those partitions, where `disks` tells the disk of each id
 abbrev pub partition_jsons : (ℕ → Option MappedDisk) → List Partition → List Json
@@ -70,22 +70,22 @@ layout_word layout = if layout == 1 then codes "stripe" else if layout == 3 then
 -- a component with these partitions
 abbrev pub component_json : (ℕ → Option MappedDisk) → List Partition → Component → Json
 component_json disks partitions c =
-    object_of (
+    json_object (
     (codes "id", number_json c.head.id)
     ∷ (codes "name", name_json c.head.name)
     ∷ (codes "layout", string (layout_word c.layout))
     ∷ (codes "chunk", maybe_json (option_map (λ s. s.chunk) c.striping))
     ∷ (codes "columns", maybe_json (option_map (λ s. s.columns) c.striping))
-    ∷ (codes "partitions", array_of (partition_jsons disks partitions))
+    ∷ (codes "partitions", json_array (partition_jsons disks partitions))
     ∷ [])
 
-abbrev pub component_in : ℕ → Record → List Component
-component_in volume (kinds.Component c) = if c.parent == volume then c ∷ [] else []
-component_in volume _ = []
+abbrev pub own_component : ℕ → Record → List Component
+own_component volume (kinds.Component c) = if c.parent == volume then c ∷ [] else []
+own_component volume _ = []
 
 -- the components of a volume, in rising id
-abbrev pub components_of : List Record → ℕ → List Component
-components_of records volume = flat_map (component_in volume) records
+abbrev pub own_components : List Record → ℕ → List Component
+own_components records volume = flat_map (own_component volume) records
 
 -- those components, where `partitions` tells the partitions of each
 abbrev pub component_jsons : (ℕ → Option MappedDisk) → (ℕ → List Partition) → List Component → List Json
@@ -96,7 +96,7 @@ component_jsons disks partitions components = map (λ c. component_json disks (p
 -- a volume of this shape, with its components
 abbrev pub volume_json : List Json → Volume → Shape → Json
 volume_json components v shape =
-    object_of (
+    json_object (
     (codes "id", number_json v.head.id)
     ∷ (codes "name", name_json v.head.name)
     ∷ (codes "guid", guid_json (guid_of_volume v))
@@ -104,7 +104,7 @@ volume_json components v shape =
     ∷ (codes "size", number_json v.size)
     ∷ (codes "bytes", maybe_json (in_64_bits (v.size * 512)))
     ∷ (codes "hint", maybe_name_json v.hint)
-    ∷ (codes "components", array_of components)
+    ∷ (codes "components", json_array components)
     ∷ [])
 
 -- nothing where the components make no shape: a group that is found has no such volume
@@ -113,19 +113,19 @@ shaped_volume components v None = []
 shaped_volume components v (Some shape) = volume_json components v shape ∷ []
 
 -- the record, where it is a volume, by the shape and the components of each volume
-abbrev pub volume_in : (ℕ → Option Shape) → (ℕ → List Json) → Record → List Json
-volume_in shapes components (kinds.Volume v) = shaped_volume (components v.head.id) v (shapes v.head.id)
-volume_in shapes components _ = []
+abbrev pub volume_jsons_at : (ℕ → Option Shape) → (ℕ → List Json) → Record → List Json
+volume_jsons_at shapes components (kinds.Volume v) = shaped_volume (components v.head.id) v (shapes v.head.id)
+volume_jsons_at shapes components _ = []
 
 abbrev pub volume_jsons : (ℕ → Option Shape) → (ℕ → List Json) → List Record → List Json
-volume_jsons shapes components records = flat_map (volume_in shapes components) records
+volume_jsons shapes components records = flat_map (volume_jsons_at shapes components) records
 
 -- ---- disks
 
 -- a disk, of which this many sectors are used
 abbrev pub disk_json : List (List ℕ) → ℕ → List Label → Disk → Json
 disk_json paths used labels d =
-    object_of (
+    json_object (
     (codes "id", number_json d.head.id)
     ∷ (codes "name", name_json d.head.name)
     ∷ (codes "guid", guid_json d.guid)
@@ -136,34 +136,34 @@ disk_json paths used labels d =
     ∷ (codes "free", maybe_json (option_map (λ label. label.data_size - used) (label_with d.guid labels)))
     ∷ [])
 
-abbrev pub disk_at : List (List ℕ) → (ℕ → ℕ) → List Label → Record → List Json
-disk_at paths used labels (kinds.Disk d) = disk_json paths (used d.head.id) labels d ∷ []
-disk_at paths used labels _ = []
+abbrev pub disk_jsons_at : List (List ℕ) → (ℕ → ℕ) → List Label → Record → List Json
+disk_jsons_at paths used labels (kinds.Disk d) = disk_json paths (used d.head.id) labels d ∷ []
+disk_jsons_at paths used labels _ = []
 
 -- each disk record, where `used` tells how many sectors the partitions of each have
 abbrev pub disk_jsons : List (List ℕ) → (ℕ → ℕ) → List Label → List Record → List Json
-disk_jsons paths used labels records = flat_map (disk_at paths used labels) records
+disk_jsons paths used labels records = flat_map (disk_jsons_at paths used labels) records
 
 -- ---- the group
 
 abbrev pub group_json : List Json → List Json → Found → Json
 group_json disks volumes found =
-    object_of (
+    json_object (
     (codes "sector_size", number_json 512)
     ∷ (codes "name", name_json found.db.header.name)
     ∷ (codes "guid", guid_json found.db.header.guid)
     ∷ (codes "sequence", number_json found.db.header.seq)
     ∷ (codes "blocks", number_json (need_of found.db.records))
     ∷ (codes "blocks_room", number_json (room_of found.db.header.last))
-    ∷ (codes "disks", array_of disks)
-    ∷ (codes "volumes", array_of volumes)
+    ∷ (codes "disks", json_array disks)
+    ∷ (codes "volumes", json_array volumes)
     ∷ [])
 
 -- the group with all its disks, and its volumes in rising id
 unfoldable pub all_volume_jsons : List Label → List Record → List Json
 all_volume_jsons labels records =
     volume_jsons (λ volume. shape_of (plexes_of volume records))
-    (λ volume. component_jsons (mapped_at labels records) (partitions_of records) (components_of records volume)) records
+    (λ volume. component_jsons (mapped_at labels records) (own_partitions records) (own_components records volume)) records
 
 -- the group, whose images have these words
 abbrev pub show_json : List (List ℕ) → Found → Json

@@ -3,7 +3,7 @@ ghost use Rattle.std.specs.Prelude.{◌≡◌, ◌++◌, OnOk, IfOk, flat_map, i
 ghost use Rattle.std.specs.List.{enumerate_from};
 ghost use Rattle.json.specs.Tree.{json_tokens};
 ghost use Rattle.ldm_json.specs.Values.{json_of, line_of_json};
-ghost use Rattle.ldm_look.specs.CheckJson.{sequence_of, note_json, note_jsons, kind_json};
+ghost use Rattle.ldm_look.specs.CheckJson.{note_sequence, note_json, note_jsons, kind_json};
 ghost use Rattle.ldm_look.specs.CheckJson.{reason_json, check_json};
 
 use crate::fault_json::kind_word;
@@ -14,8 +14,8 @@ use ldm_json::{Json, Scalar};
 use ldm_words::Paths;
 use std::alloc::Global;
 
-fn sequence_of(note: &Note) -> Option<u64>
-    ensures { result ≡ sequence_of note.now }
+fn note_sequence(note: &Note) -> Option<u64>
+    ensures { result ≡ note_sequence note.now }
 {
     match note {
         Note::Closed => None,
@@ -31,7 +31,7 @@ fn push_note(json: &mut Json, paths: &Paths, image: usize, note: &Note) -> Resul
     let fields = [
         ("image", Scalar::Number(image as u64)),
         ("path", Scalar::MaybeWord(paths.get(image))),
-        ("sequence", Scalar::Maybe(sequence_of(note))),
+        ("sequence", Scalar::Maybe(note_sequence(note))),
     ];
     json.object(&fields)
 }

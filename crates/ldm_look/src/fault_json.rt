@@ -2,7 +2,7 @@
 ghost use Rattle.std.specs.Prelude.{◌≡◌, ◌++◌, OnOk, IfOk, None};
 ghost use Rattle.json.specs.Tree.{json_tokens};
 ghost use Rattle.ldm_json.specs.Values.{line_of_json};
-ghost use Rattle.ldm_look.specs.FaultJson.{kind_of_fault, naming, named_in, named_json, fault_json};
+ghost use Rattle.ldm_look.specs.FaultJson.{kind_of_fault, naming, fault_names, named_json, fault_json};
 ghost use Rattle.ldm_look.specs.FaultJson.{refusal_json};
 
 use crate::opening::fault_text;
@@ -65,8 +65,8 @@ fn of_object(rule: Option<u64>, id: Option<u64>) -> Named
     }
 }
 
-fn named_in(fault: &OpenFault) -> Named
-    ensures { result ≡ named_in fault.now }
+fn fault_names(fault: &OpenFault) -> Named
+    ensures { result ≡ fault_names fault.now }
 {
     match *fault {
         OpenFault::Label(image, _)
@@ -119,6 +119,6 @@ pub(crate) fn refusal_line(
     let text = fault_text(alloc, fault)?;
     let mut json = Json::new(alloc);
     let kind = kind_word(fault);
-    push_refusal(&mut json, paths, kind, named_in(fault), text.as_slice())?;
+    push_refusal(&mut json, paths, kind, fault_names(fault), text.as_slice())?;
     json.into_line()
 }

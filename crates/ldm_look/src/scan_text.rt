@@ -5,11 +5,11 @@ ghost use Rattle.json.specs.Tree.{json_tokens};
 ghost use Rattle.std.specs.Option.{option_map};
 ghost use Rattle.ldm_look.specs.declared.scanned.Scanned.TheVariants as Scanned;
 ghost use Rattle.ldm_json.specs.Values.{line_of_json};
-ghost use Rattle.ldm_look.specs.Scan.{text_of_member_disk, text_of_member, text_of_scanned};
+ghost use Rattle.ldm_look.specs.Scan.{text_of_its_disk, text_of_membership, text_of_scanned};
 ghost use Rattle.ldm_look.specs.Scan.{line_of_scanned, text_of_scan, refused_json, scanned_json};
 ghost use Rattle.ldm_look.specs.Scan.{scan_jsons, scan_json};
 
-use crate::scanned::{Member, Scanned};
+use crate::scanned::{Membership, Scanned};
 use ldm_bytes::{Bytes, NoMemory};
 use ldm_json::{Json, Scalar};
 use ldm_text::{
@@ -19,8 +19,8 @@ use ldm_words::Paths;
 use std::alloc::Global;
 
 // The disk of a group.
-fn push_member_disk(text: &mut Text, disk: &Option<Bytes>) -> Result<(), NoMemory>
-    ensures { OnOk result (text.new ≡ text.old ++ text_of_member_disk disk.now) }
+fn push_its_disk(text: &mut Text, disk: &Option<Bytes>) -> Result<(), NoMemory>
+    ensures { OnOk result (text.new ≡ text.old ++ text_of_its_disk disk.now) }
 {
     match disk {
         None => text.push(b" no disk "),
@@ -36,12 +36,12 @@ fn push_member_disk(text: &mut Text, disk: &Option<Bytes>) -> Result<(), NoMemor
 }
 
 // The group of an image, and its disk.
-#[tactic(auto, unfolding(crate::specs::Scan::text_of_member))]
-fn push_member(text: &mut Text, m: &Member) -> Result<(), NoMemory>
-    ensures { OnOk result (text.new ≡ text.old ++ text_of_member m.now) }
+#[tactic(auto, unfolding(crate::specs::Scan::text_of_membership))]
+fn push_membership(text: &mut Text, m: &Membership) -> Result<(), NoMemory>
+    ensures { OnOk result (text.new ≡ text.old ++ text_of_membership m.now) }
 {
     push_named(text, b" group ", m.group.as_slice(), m.group_guid)?;
-    push_member_disk(text, &m.disk)?;
+    push_its_disk(text, &m.disk)?;
     text.push_guid(m.disk_guid)?;
     push_number(text, b" sequence ", m.seq)?;
     text.push(b"\n")
@@ -80,7 +80,7 @@ fn push_scanned(alloc: Global, text: &mut Text, scanned: &Scanned) -> Result<(),
             ];
             push_parts(text, &parts)
         }
-        Scanned::Open(m) => push_member(text, m),
+        Scanned::Open(m) => push_membership(text, m),
     }
 }
 
@@ -171,7 +171,7 @@ fn push_open_json<'a>(
     json: &mut Json,
     paths: &'a Paths,
     image: usize,
-    m: &'a Member,
+    m: &'a Membership,
 ) -> Result<(), NoMemory>
     ensures { OnOk result (json.new
         ≡ json.old ++ json_tokens (scanned_json paths.now (image, Scanned.Open m.now))) }

@@ -14,7 +14,7 @@ use Rattle.ldm_words.specs.declared.job.Job.TheVariants.{Disk, Records, Table, O
 use Rattle.ldm_bytes.specs.Guid.{guid_of}
 use Rattle.ldm_words.specs.Commands.{many, command_of}
 use Rattle.ldm_words.specs.NewGroup.{new_group_name, AreInitWords}
-use Rattle.ldm_words.specs.Jobs.{texts, is_on, image_words, images_of, images_behind, Form, forms, form_in, is_group, takes, fits, job_of, or_else, optioned, with_options, job_form, with_images, HasCount}
+use Rattle.ldm_words.specs.Jobs.{texts, is_on, image_words, images_of, images_behind, Form, forms, form_in, is_group, takes, fits, job_of, first_reading, optioned, with_options, job_form, with_images, HasCount}
 use Rattle.ldm_words.proofs.LimitLaws.{within}
 use Rattle.ldm_words.proofs.NewGroupLaws.{IsGroupName, is_new_group_name, AreGuids, are_guids}
 
@@ -58,15 +58,15 @@ module _ (behind : List (List ℕ)) (read : List (List ℕ) → Option Job) wher
   read_plain zero words found job is some = sym some ∙ is
   read_plain (suc most) [] found job is some = sym some ∙ is
   read_plain (suc most) (word ∷ words) found job is some =
-      ap (λ (o : Option Job). or_else o (optioned behind word (with_options behind most read words))) (sym some ∙ is)
+      ap (λ (o : Option Job). first_reading o (optioned behind word (with_options behind most read words))) (sym some ∙ is)
 
-  -- and of words whose first is an option
+  -- the reading of words whose first is an option
   pub read_option : (most : ℕ) (word : List ℕ) (words all : List (List ℕ)) (found inner : Option Job) → 0 < most → all ≡ word ∷ words → found ≡ read all → found ≡ None
       → inner ≡ with_options behind (most - 1) read words → optioned behind word inner ≡ with_options behind most read all
   read_option zero word words all found inner some cut is none rest = absurd (omega arith)
   read_option (suc most) word words all found inner some cut is none rest =
       ap (optioned behind word) (rest ∙ ap (λ (n : ℕ). with_options behind n read words) (less most))
-      ∙ ap (λ (o : Option Job). or_else o (optioned behind word (with_options behind most read words))) (sym none ∙ is ∙ ap read cut)
+      ∙ ap (λ (o : Option Job). first_reading o (optioned behind word (with_options behind most read words))) (sym none ∙ is ∙ ap read cut)
       ∙ ap (with_options behind (suc most) read) (sym cut)
     where
       less : (n : ℕ) → suc n - 1 ≡ n

@@ -123,15 +123,15 @@ abbrev pub optioned : List (List ℕ) → List ℕ → Option Job → Option Job
 optioned behind word None = None
 optioned behind word (Some job) = optioned_in (options behind) word job
 
-abbrev pub or_else : Option Job → Option Job → Option Job
-or_else (Some job) other = Some job
-or_else None other = other
+abbrev pub first_reading : Option Job → Option Job → Option Job
+first_reading (Some job) other = Some job
+first_reading None other = other
 
 -- the reading of words with up to so many options before them; words that have a reading as they stand are read so
 abbrev pub with_options : List (List ℕ) → ℕ → (List (List ℕ) → Option Job) → List (List ℕ) → Option Job
 with_options behind zero read words = read words
 with_options behind (suc most) read [] = read []
-with_options behind (suc most) read (word ∷ words) = or_else (read (word ∷ words)) (optioned behind word (with_options behind most read words))
+with_options behind (suc most) read (word ∷ words) = first_reading (read (word ∷ words)) (optioned behind word (with_options behind most read words))
 
 -- the job that stands before `on`, with these words behind it; each option may stand once, in any order
 abbrev pub job_form : List (List ℕ) → List (List ℕ) → Option Job
