@@ -66,13 +66,14 @@ fn step(
     rt: &impl Abort,
     host: &mut MemoryHost,
     session: Session,
-    (line, want): (&str, Seen),
+    row: (&str, Seen),
 ) -> Result<Session, Fail>
     requires rests { RestsOn session.group (memory_seen host.old) }
     requires holds { HoldsSession session (memory_seen host.old).content }
     ensures rests { IfOk result (λ session. RestsOn session.group (memory_seen host.new)) }
     ensures holds { IfOk result (λ session. HoldsSession session (memory_seen host.new).content) }
 {
+    let (line, want) = row;
     let session = after(alloc, host, session, line)?;
     assert_eq!(rt; seen(alloc, &session)?, want, "{line}");
     Ok(session)
