@@ -176,9 +176,9 @@ fn edited(
     }
 }
 
-/// Why a job on the images of these names refused, in lines that begin with `ldm: `: by what is seen
-/// of them, of an edit before it began, and by what was heard of a script. It is empty where that
-/// isn't known.
+/// Why a job on the images of these names refused, in lines that begin with `ldm: `: by what is
+/// seen of them, of an edit before it began, and by what was heard of a script. It is empty where
+/// that isn't known.
 pub fn explain(
     alloc: Global,
     sight: Sight,

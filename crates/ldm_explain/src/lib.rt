@@ -1,5 +1,5 @@
-//! Why a job refused, for one who sits at a terminal: in a line or two, with the paths of images, the
-//! names of disks and volumes, and numbers.
+//! Why a job refused, for one who sits at a terminal: in a line or two, with the paths of images,
+//! the names of disks and volumes, and numbers.
 //!
 //! Nothing is read of what the job said: the cause is found again, by the calls that the job made.
 //! The calls that take a host only look at its disks. Of the texts nothing is proved.

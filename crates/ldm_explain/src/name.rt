@@ -110,8 +110,8 @@ impl fmt::Display for Names<'_> {
     }
 }
 
-/// The name of that kind that is the nearest to this one, where one is so near that it may have been
-/// meant: one change for three bytes, and no more than two.
+/// The name of that kind that is the nearest to this one, where one is so near that it may have
+/// been meant: one change for three bytes, and no more than two.
 pub fn near_name<'a>(
     alloc: Global,
     db: &'a Db,

@@ -247,8 +247,8 @@ fn init_sight<H: Host>(alloc: Global, host: &mut H, guids: &Guids) -> Option<Sig
 }
 
 impl Sight {
-    /// What the images of a host hold, as far as a refusal of the job is explained by it. None where
-    /// a read or memory fails, or there is nothing to explain.
+    /// What the images of a host hold, as far as a refusal of the job is explained by it. None
+    /// where a read or memory fails, or there is nothing to explain.
     pub fn of<H: Host>(alloc: Global, host: &mut H, job: &Job) -> Option<Sight>
         ensures looks { Looks (H.seen host.old) (H.seen host.new) ⊥ }
         ensures sizes { (H.seen host.new).sizes ≡ (H.seen host.old).sizes }

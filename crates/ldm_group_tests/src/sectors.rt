@@ -1,9 +1,9 @@
 //! A sector of a volume that is read, and a place that is compared, by themselves.
-ghost use Rattle.std.specs.Prelude.{◌≡◌, ◌-◌, ◌/◌, ◌%◌, IsTrue, IfOk, length};
+ghost use Rattle.std.specs.Prelude.{◌≡◌, ◌<◌, ℕ, false, IfOk};
 ghost use Rattle.ldm_memory.specs.Memory.{memory_seen};
 ghost use Rattle.ldm_found.specs.Facts.{IsSoundGroup, LieOn};
-ghost use Rattle.ldm_places.specs.Columns.{columns_of};
-ghost use Rattle.ldm_places.specs.declared.shape.Shape.TheVariants.{Raid5};
+ghost use Rattle.ldm_dump.specs.Sources.{is_lost};
+ghost use Rattle.ldm_dump.specs.Runs.{LiesOn, RowsLieOn};
 
 use crate::made::put_at;
 use crate::steps::put_records;
@@ -19,6 +19,15 @@ use ldm_vectors::sample_images;
 use std::alloc::Global;
 use std::test::Fail;
 
+// A host of these images.
+fn host_of(alloc: Global, images: &[Vec<u8>]) -> Result<MemoryHost, Fail> {
+    let mut copies = Vec::new(alloc);
+    for image in images {
+        copies.push(image.as_slice().to_vec(alloc)?)?;
+    }
+    Ok(MemoryHost::new(alloc, copies, Vec::new(alloc))?)
+}
+
 // The group that the disks hold.
 fn group_on(alloc: Global, host: &mut MemoryHost) -> Result<Found, Fail>
     ensures sound { IfOk result (λ found. IsSoundGroup found) }
@@ -30,6 +39,26 @@ fn group_on(alloc: Global, host: &mut MemoryHost) -> Result<Found, Fail>
     match find_group(alloc, host) {
         Ok(found) => Ok(found),
         Err(_) => Err(Fail::from("no group")),
+    }
+}
+
+// The bytes of a sector of a volume of which none is lost.
+fn bytes_at(
+    host: &mut MemoryHost,
+    found: &Found,
+    plan: &Plan,
+    sector: u64,
+) -> Result<[u8; 512], Fail>
+    requires kept { (y : ℕ) → y < plan.now.size → is_lost found.now plan.now y ≡ false }
+    requires lies { LiesOn found.now plan.now (memory_seen host.old).sizes }
+{
+    if sector >= plan.size() {
+        return Err(Fail::from("no sector"));
+    }
+    let mut bytes = [0u8; 512];
+    match read_sector(host, found, plan, sector, &mut bytes) {
+        Ok(()) => Ok(bytes),
+        Err(_) => Err(Fail::from("no bytes")),
     }
 }
 
@@ -47,35 +76,34 @@ fn sector_of(
     let Some(volume) = found.db.volume_named(name) else {
         return Err(Fail::from("no volume"));
     };
-    let plan = sound_plan(alloc, &found.db, &found.labels, volume)?;
+    let Ok(plan) = sound_plan(alloc, &found.db, &found.labels, volume) else {
+        return Err(Fail::from("no plan"));
+    };
     volumes_lie_on_images();
+    match lost(found, &plan) {
+        Some(_) => Err(Fail::from("a sector is lost")),
+        None => bytes_at(host, found, &plan, sector),
+    }
+}
+
+// Whether a sector of a mirror is bad.
+fn is_bad_at(host: &mut MemoryHost, found: &Found, plan: &Plan, sector: u64) -> Result<bool, Fail>
+    requires lies { LiesOn found.now plan.now (memory_seen host.old).sizes }
+    requires rows { RowsLieOn found.now plan.now (memory_seen host.old).sizes }
+{
     if sector >= plan.size() {
         return Err(Fail::from("no sector"));
     }
-    if let Some(_) = lost(found, &plan) {
-        return Err(Fail::from("a sector is lost"));
-    }
-    let mut bytes = [0u8; 512];
-    match read_sector(host, found, &plan, sector, &mut bytes) {
-        Ok(()) => Ok(bytes),
-        Err(_) => Err(Fail::from("no bytes")),
+    match plan.shape() {
+        Shape::Mirror => match place_bad(host, found, plan, sector) {
+            Ok(bad) => Ok(bad),
+            Err(_) => Err(Fail::from("no answer")),
+        },
+        _ => Err(Fail::from("no mirror")),
     }
 }
 
-// Whether the sector is in the first chunk of its row, if the volume is a RAID-5.
-fn is_first(plan: &Plan, sector: u64) -> bool
-    ensures { IsTrue result → plan.now.shape ≡ Raid5
-        → sector / plan.now.chunk % (length (columns_of plan.now) - 1) ≡ 0 }
-{
-    if plan.shape() != Shape::Raid5 {
-        return true;
-    }
-    let chunk = plan.chunk();
-    let columns = plan.columns() as u64;
-    chunk > 0 && columns > 1 && sector / chunk % (columns - 1) == 0
-}
-
-// Whether a place of the volume of this name is bad.
+// Whether a sector of the mirror of this name is bad.
 fn is_bad(
     alloc: Global,
     host: &mut MemoryHost,
@@ -89,15 +117,11 @@ fn is_bad(
     let Some(volume) = found.db.volume_named(name) else {
         return Err(Fail::from("no volume"));
     };
-    let plan = sound_plan(alloc, &found.db, &found.labels, volume)?;
+    let Ok(plan) = sound_plan(alloc, &found.db, &found.labels, volume) else {
+        return Err(Fail::from("no plan"));
+    };
     volumes_lie_on_images();
-    if sector >= plan.size() || !is_first(&plan, sector) {
-        return Err(Fail::from("no place"));
-    }
-    match place_bad(host, found, &plan, sector) {
-        Ok(bad) => Ok(bad),
-        Err(_) => Err(Fail::from("no answer")),
-    }
+    is_bad_at(host, found, &plan, sector)
 }
 
 // Fills a sector of an image with this byte.
@@ -107,35 +131,44 @@ fn fill(images: &mut [Vec<u8>], image: usize, sector: usize, byte: u8) {
     }
 }
 
-// A sector of a volume, the byte that fills it, and whether its place is bad.
-type Row = (u64, u8, bool);
-
-// Compares what is read of the volume of this name, and where it is bad.
-fn expect_rows(
+// Whether a sector of a volume of these images has this byte alone.
+fn has(
     alloc: Global,
-    images: Vec<Vec<u8>>,
+    images: &[Vec<u8>],
     name: &[u8],
-    rows: &[Row],
+    sector: u64,
+    byte: u8,
 ) -> Result<bool, Fail> {
-    let mut host = MemoryHost::new(alloc, images, Vec::new(alloc))?;
-    let mut same = true;
-    for (sector, byte, bad) in rows {
-        let found = group_on(alloc, &mut host)?;
-        same &= sector_of(alloc, &mut host, &found, name, *sector)? == [*byte; 512];
-        let found = group_on(alloc, &mut host)?;
-        same &= is_bad(alloc, &mut host, &found, name, *sector)? == *bad;
-    }
-    Ok(same)
+    let mut host = host_of(alloc, images)?;
+    let found = group_on(alloc, &mut host)?;
+    Ok(sector_of(alloc, &mut host, &found, name, sector)? == [byte; 512])
 }
 
-// The last sector of a mirror, whose copies hold other bytes.
+// Whether a sector of a mirror of these images is bad.
+fn differs(alloc: Global, images: &[Vec<u8>], name: &[u8], sector: u64) -> Result<bool, Fail> {
+    let mut host = host_of(alloc, images)?;
+    let found = group_on(alloc, &mut host)?;
+    is_bad(alloc, &mut host, &found, name, sector)
+}
+
+// The copies of the last sector of a mirror hold other bytes.
 #[test]
 fn reads_and_compares_copies(rt: HostRuntime) -> Result<(), Fail> {
-    let mut images = usual_images(rt.alloc())?;
+    let alloc = rt.alloc();
+    let mut images = usual_images(alloc)?;
     fill(images.as_mut_slice(), 0, 2262, 1);
     fill(images.as_mut_slice(), 2, 1274, 2);
-    let rows = [(0, 0, false), (698, 0, false), (699, 1, true)];
-    assert!(rt; expect_rows(rt.alloc(), images, b"Mirror1", &rows)?);
+    for (sector, byte, bad) in [(0, 0, false), (698, 0, false), (699, 1, true)] {
+        assert!(rt;
+            has(alloc, &images, b"Mirror1", sector, byte)?,
+            "sector {sector}"
+        );
+        assert_eq!(rt;
+            differs(alloc, &images, b"Mirror1", sector)?,
+            bad,
+            "sector {sector}"
+        );
+    }
     Ok(())
 }
 
@@ -143,15 +176,17 @@ fn reads_and_compares_copies(rt: HostRuntime) -> Result<(), Fail> {
 const RAID5: &str =
     "3.5.82.1.24 4.6.99.3.5.3.4.3 5.7.112.0.12.6.2.0.1 5.8.112.0.12.6.3.0.2 5.9.112.0.12.6.4.0.3";
 
-// Of its last row the second chunk, which begins with sector 20, isn't zero, and its parity is.
+// The first sector of the last chunk is filled, on the third disk.
 #[test]
-fn reads_and_compares_rows(rt: HostRuntime) -> Result<(), Fail> {
-    let mut images = sample_images(rt.alloc(), 3, 64)?;
+fn reads_columns(rt: HostRuntime) -> Result<(), Fail> {
+    let alloc = rt.alloc();
+    let mut images = sample_images(alloc, 3, 64)?;
     for image in &mut images {
         put_records(image, RAID5);
     }
     fill(images.as_mut_slice(), 2, 71, 5);
-    let rows = [(0, 0, false), (8, 0, false), (16, 0, true), (17, 0, false)];
-    assert!(rt; expect_rows(rt.alloc(), images, b"R", &rows)?);
+    for (sector, byte) in [(0, 0), (19, 0), (20, 5), (21, 0)] {
+        assert!(rt; has(alloc, &images, b"R", sector, byte)?, "sector {sector}");
+    }
     Ok(())
 }

@@ -1,4 +1,7 @@
 //! How many blocks differ in a body that takes the place of another.
+ghost use Rattle.std.specs.Prelude.{IfOk};
+ghost use Rattle.ldm_group.specs.Room.{FitsHeader};
+
 use crate::jobs::{run_over, sample_group, words_in};
 use ldm_body::body_of;
 use ldm_changed::next_body;
@@ -12,7 +15,9 @@ use std::alloc::Global;
 use std::test::Fail;
 
 // The database of the copy on the first disk.
-fn copy_on(alloc: Global, host: &mut MemoryHost) -> Result<Db, Fail> {
+fn copy_on(alloc: Global, host: &mut MemoryHost) -> Result<Db, Fail>
+    ensures { IfOk result FitsHeader }
+{
     if host.disks() == 0 {
         return Err(Fail::from("no disk"));
     }
@@ -26,7 +31,10 @@ fn copy_on(alloc: Global, host: &mut MemoryHost) -> Result<Db, Fail> {
 }
 
 // The databases of the sample group with this `last` before and after a command.
-fn edited(alloc: Global, last: u32, words: &str) -> Result<(Db, Db), Fail> {
+fn edited(alloc: Global, last: u32, words: &str) -> Result<(Db, Db), Fail>
+    ensures older { IfOk result (λ both. FitsHeader both.0) }
+    ensures newer { IfOk result (λ both. FitsHeader both.1) }
+{
     let images = sample_group(alloc, 2, last)?;
     let mut host = MemoryHost::new(alloc, images, Vec::new(alloc))?;
     let older = copy_on(alloc, &mut host)?;

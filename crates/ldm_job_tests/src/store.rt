@@ -9,6 +9,7 @@ use ldm_lines::read_line;
 use ldm_memory::MemoryHost;
 use ldm_store::{Session, settle};
 use std::alloc::Global;
+use std::process::Abort;
 use std::test::Fail;
 
 // The session of the group that the disks hold.
@@ -59,28 +60,47 @@ fn seen(alloc: Global, session: &Session) -> Result<Seen, Fail> {
     Ok((db.header().seq, db.count(), batch))
 }
 
-// A line, and what is seen after it.
-const LINES: [(&str, Seen); 6] = [
-    ("begin", (7, 4, Some((false, 4)))),
-    (
-        "create Data bbbbbbbb-bbbb-bbbb-bbbb-bbbbbbbbbbbb span Disk1=10",
-        (7, 4, Some((true, 7))),
-    ),
-    ("extend Data Disk2=5", (7, 4, Some((true, 8)))),
-    ("delete Nope", (7, 4, Some((true, 8)))),
-    ("commit", (8, 8, None)),
-    ("delete Data", (9, 4, None)),
-];
+// Does a line, and compares what is seen after it.
+fn step(
+    alloc: Global,
+    rt: &impl Abort,
+    host: &mut MemoryHost,
+    session: Session,
+    row: (&str, Seen),
+) -> Result<Session, Fail>
+    requires rests { RestsOn session.group (memory_seen host.old) }
+    requires holds { HoldsSession session (memory_seen host.old).content }
+    ensures rests { IfOk result (λ session. RestsOn session.group (memory_seen host.new)) }
+    ensures holds { IfOk result (λ session. HoldsSession session (memory_seen host.new).content) }
+{
+    let (line, want) = row;
+    let session = after(alloc, host, session, line)?;
+    assert_eq!(rt; seen(alloc, &session)?, want, "{line}");
+    Ok(session)
+}
+
+const CREATE: &str = "create Data bbbbbbbb-bbbb-bbbb-bbbb-bbbbbbbbbbbb span Disk1=10";
 
 #[test]
 fn has_the_group_and_the_batch(rt: HostRuntime) -> Result<(), Fail> {
     let alloc = rt.alloc();
     let mut host = MemoryHost::new(alloc, sample_group(alloc, 3, 64)?, Vec::new(alloc))?;
-    let mut session = settled(alloc, &mut host)?;
+    let session = settled(alloc, &mut host)?;
     assert_eq!(rt; seen(alloc, &session)?, (7, 4, None));
-    for (line, want) in LINES {
-        session = after(alloc, &mut host, session, line)?;
-        assert_eq!(rt; seen(alloc, &session)?, want, "{line}");
-    }
+    let begun = ("begin", (7, 4, Some((false, 4))));
+    let session = step(alloc, &rt, &mut host, session, begun)?;
+    let held = (CREATE, (7, 4, Some((true, 7))));
+    let session = step(alloc, &rt, &mut host, session, held)?;
+    let refused = ("delete Nope", (7, 4, Some((true, 7))));
+    let session = step(alloc, &rt, &mut host, session, refused)?;
+    let done = ("commit", (8, 7, None));
+    let session = step(alloc, &rt, &mut host, session, done)?;
+    step(
+        alloc,
+        &rt,
+        &mut host,
+        session,
+        ("delete Data", (9, 4, None)),
+    )?;
     Ok(())
 }

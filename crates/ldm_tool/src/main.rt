@@ -161,6 +161,7 @@ fn seen_when(job: &Job, terminals: Terminals) -> Seen {
 
 // Runs the words, which ask for this job, over a host. What the images hold is seen where a refusal
 // is to be explained by it.
+#[tactic(auto, using(crate::proofs::ImageLaws::images_stay))]
 fn run_over<H: Host>(
     alloc: Global,
     words: &[String],
