@@ -18,6 +18,8 @@ mod hostile;
 #[cfg(test)]
 mod jobs;
 #[cfg(test)]
+mod json;
+#[cfg(test)]
 mod labels;
 #[cfg(test)]
 mod looking;
