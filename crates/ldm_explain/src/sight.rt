@@ -1,5 +1,5 @@
 //! What the images hold, as far as a refusal is explained by it.
-ghost use Rattle.std.specs.Prelude.{◌≡◌, ◌<◌, length, IfOk, IfSome};
+ghost use Rattle.std.specs.Prelude.{◌≡◌, ◌<◌, length, IfSome};
 ghost use Rattle.ldm_host.specs.Moves.{Looks};
 ghost use Rattle.ldm_found.specs.Facts.{IsSoundGroup, LieOn};
 ghost use Rattle.ldm_explain.specs.Sights.{IsSight};
