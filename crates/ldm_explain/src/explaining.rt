@@ -1,12 +1,13 @@
 //! Why a job refused, by what its images hold.
 ghost use Rattle.std.specs.Prelude.{◌<◌};
 ghost use Rattle.ldm_words.specs.Jobs.{KeepsLimits};
+ghost use Rattle.ldm_explain.specs.Sights.{IsFound, IsSight};
 
 use crate::group::{GroupText, of_block, of_fault};
 use crate::made::of_init;
 use crate::name::Name;
 use crate::script::{of_one, of_script};
-use crate::sight::{Glimpse, Group, Sight};
+use crate::sight::{Glimpse, Sight};
 use crate::volume::{
     VolumeText, bad_range, is_compared, lost_on, missing_part, no_volume, of_table, rebuilt_on,
 };
@@ -78,8 +79,9 @@ fn disk_at(plan: &Plan, sector: u64) -> u64
 }
 
 // Why dump refused.
-fn dumped(alloc: Global, group: &Group, name: &[u8]) -> Result<String, NoMemory> {
-    let found = &group.found;
+fn dumped(alloc: Global, found: &Found, name: &[u8]) -> Result<String, NoMemory>
+    requires { IsFound found.now }
+{
     let Some(volume) = found.db.volume_named(name) else {
         return line_of(alloc, &no_volume(alloc, &found.db, name)?);
     };
@@ -113,11 +115,12 @@ fn scrubbed(alloc: Global, found: &Found, name: &[u8]) -> Result<String, NoMemor
 fn untabled(
     alloc: Global,
     names: &[String],
-    group: &Group,
+    found: &Found,
     name: &[u8],
     fault: TableFault,
-) -> Result<String, NoMemory> {
-    let found = &group.found;
+) -> Result<String, NoMemory>
+    requires { IsFound found.now }
+{
     let Some(volume) = found.db.volume_named(name) else {
         return Ok(String::new(alloc));
     };
@@ -139,17 +142,18 @@ fn untabled(
 // Why a job of this group refused.
 fn of_group(
     alloc: Global,
-    group: Box<Group>,
+    group: Box<Found>,
     job: &Job,
     names: &[String],
     script: &[u8],
 ) -> Result<String, NoMemory>
-    requires { KeepsLimits job.now }
+    requires found { IsFound group }
+    requires limits { KeepsLimits job.now }
 {
-    let found = &group.found;
+    let found = &*group;
     match job {
         Job::Map { name, first, count } => mapped(alloc, found, name.as_slice(), *first, *count),
-        Job::Dump { name } => dumped(alloc, &group, name.as_slice()),
+        Job::Dump { name } => dumped(alloc, found, name.as_slice()),
         Job::Scrub { name } => scrubbed(alloc, found, name.as_slice()),
         Job::Table { name, .. } => line_of(alloc, &no_volume(alloc, &found.db, name.as_slice())?),
         Job::Try | Job::Edit | Job::One(_) => edited(alloc, group, job, names, script),
@@ -160,14 +164,15 @@ fn of_group(
 // Why a job that edits, or tries to, was refused.
 fn edited(
     alloc: Global,
-    group: Box<Group>,
+    group: Box<Found>,
     job: &Job,
     names: &[String],
     script: &[u8],
 ) -> Result<String, NoMemory>
-    requires { KeepsLimits job.now }
+    requires found { IsFound group }
+    requires limits { KeepsLimits job.now }
 {
-    if let Some(text) = blocked(alloc, names, &group.found)? {
+    if let Some(text) = blocked(alloc, names, &group)? {
         return Ok(text);
     }
     match job {
@@ -186,7 +191,8 @@ pub fn explain(
     names: &[String],
     script: &[u8],
 ) -> Result<String, NoMemory>
-    requires { KeepsLimits job.now }
+    requires sound { IsSight sight }
+    requires limits { KeepsLimits job.now }
 {
     if script.len() > SCRIPT_LIMIT {
         let line = "ldm: the script has more than 1048576 bytes: make two of it\n";

@@ -23,5 +23,5 @@ pub use image::ImageText;
 pub use line::{LineText, line_words, of_line};
 pub use made::InitText;
 pub use name::{Guid, Name, Names};
-pub use sight::{Glimpse, Group, Sight};
+pub use sight::{Copied, Glimpse, Sight};
 pub use volume::VolumeText;

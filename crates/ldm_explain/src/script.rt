@@ -4,10 +4,10 @@ ghost use Rattle.ldm_rules.specs.Facts.{IsSoundOn};
 ghost use Rattle.ldm_words.specs.Limits.{IsCommand};
 ghost use Rattle.ldm_edits.specs.Changes.{AreasFit};
 ghost use Rattle.ldm_edits.specs.Steps.{IsGood};
+ghost use Rattle.ldm_explain.specs.Sights.{IsFound};
 
 use crate::command::of_command;
 use crate::line::{LineText, line_words, of_line};
-use crate::sight::Group;
 use ldm_bytes::NoMemory;
 use ldm_edits::{Answer, Draft, Refusal, take_turn};
 use ldm_found::Found;
@@ -190,18 +190,19 @@ fn told_of(alloc: Global, group: Db, labels: &Labels, script: &[u8]) -> Result<T
 }
 
 /// Why lines of a script were refused, of which the group is as it was before the first.
-pub fn of_script(alloc: Global, group: Group, script: &[u8]) -> Result<String, NoMemory> {
-    let Group { found } = group;
+pub fn of_script(alloc: Global, found: Found, script: &[u8]) -> Result<String, NoMemory>
+    requires { IsFound found }
+{
     let Found { db, labels, .. } = found;
     let told = told_of(alloc, db, &labels, script)?;
     end_lines(alloc, told)
 }
 
 /// Why a command was refused that is no line of a script.
-pub fn of_one(alloc: Global, group: Group, command: &Command) -> Result<String, NoMemory>
-    requires { IsCommand command.now }
+pub fn of_one(alloc: Global, found: Found, command: &Command) -> Result<String, NoMemory>
+    requires found { IsFound found }
+    requires limits { IsCommand command.now }
 {
-    let Group { found } = group;
     let Found { db, labels, .. } = found;
     no_batch_is_good(&db, &labels);
     let (_, _, refused) = command_done(alloc, db, None, &labels, command)?;

@@ -1,13 +1,14 @@
 //! What the images hold, as far as a refusal is explained by it.
-ghost use Rattle.std.specs.Prelude.{◌≡◌, ◌<◌, length, IfOk, IfSome};
+ghost use Rattle.std.specs.Prelude.{◌≡◌, ◌<◌, length, IfSome};
 ghost use Rattle.ldm_host.specs.Moves.{Looks};
 ghost use Rattle.ldm_found.specs.Facts.{IsSoundGroup, LieOn};
-ghost use Rattle.ldm_edits.specs.Changes.{AreasFit};
+ghost use Rattle.ldm_explain.specs.Sights.{IsSight};
 
 use ldm_bytes::{Bytes, NoMemory};
 use ldm_copy::{CopyError, CopyState, read_copy};
 use ldm_dump::volumes_lie_on_images;
 use ldm_found::{Found, OpenError, OpenFault, find_group};
+use ldm_group::Db;
 use ldm_host::Host;
 use ldm_init::{InitError, InitFault, check_disks};
 use ldm_label::{Label, LabelError, read_label, read_sector};
@@ -15,14 +16,6 @@ use ldm_rules::sound_plan;
 use ldm_table::{TableFault, table_text};
 use ldm_words::{Guids, Job, Names};
 use std::alloc::Global;
-
-/// A group that was found.
-#[derive(Drop)]
-pub struct Group {
-    pub found: Found,
-    ghost sound: { IsSoundGroup found },
-    ghost areas: { AreasFit found.labels },
-}
 
 /// What is read of an image to say what is wrong with it.
 #[derive(Drop)]
@@ -47,9 +40,9 @@ pub struct Copied {
 #[derive(Drop)]
 pub enum Sight {
     /// The images hold a group.
-    Group(Box<Group>),
+    Group(Box<Found>),
     /// They hold a group, of which a volume has no table.
-    Table(Box<Group>, TableFault),
+    Table(Box<Found>, TableFault),
     /// They have this fault.
     Fault(OpenFault, Vec<Glimpse>),
     /// They are made no group, for this reason.
@@ -70,8 +63,8 @@ fn sector_at<H: Host>(host: &mut H, disk: usize, at: u64) -> [u8; 512]
     }
 }
 
-// What the copy on a disk says, whose label this is.
-fn copied_by<H: Host>(alloc: Global, host: &mut H, disk: usize) -> Option<Copied>
+// The database of the copy on a disk, where it is open and has no fault.
+fn database_on<H: Host>(alloc: Global, host: &mut H, disk: usize) -> Option<Db>
     requires { disk < length (H.seen host.old).sizes }
     ensures { Looks (H.seen host.old) (H.seen host.new) ⊥ }
 {
@@ -79,12 +72,20 @@ fn copied_by<H: Host>(alloc: Global, host: &mut H, disk: usize) -> Option<Copied
         return None;
     };
     match read_copy(alloc, host, disk, &label) {
-        Ok(CopyState::Valid(db)) => Some(Copied {
-            name: db.header().name.clone_in(alloc).ok()?,
-            seq: db.header().seq,
-        }),
+        Ok(CopyState::Valid(db)) => Some(db),
         _ => None,
     }
+}
+
+// What a copy with this database says.
+fn copied_of(alloc: Global, db: Option<Db>) -> Option<Copied> {
+    let db = db?;
+    let header = db.header();
+    let name = header.name.clone_in(alloc).ok()?;
+    Some(Copied {
+        name,
+        seq: header.seq,
+    })
 }
 
 // What is read of a disk.
@@ -95,7 +96,8 @@ fn glimpse_at<H: Host>(alloc: Global, host: &mut H, disk: usize) -> Glimpse
     let sectors = host.sectors(disk);
     let mbr = sector_at(host, disk, 0);
     let head = sector_at(host, disk, 6);
-    let copy = copied_by(alloc, host, disk);
+    let db = database_on(alloc, host, disk);
+    let copy = copied_of(alloc, db);
     Glimpse {
         sectors,
         mbr,
@@ -117,7 +119,8 @@ fn glimpses<H: Host>(alloc: Global, host: &mut H) -> Result<Vec<Glimpse>, NoMemo
 
 // A fault of the images, with what is read of them.
 fn faulty<H: Host>(alloc: Global, host: &mut H, fault: OpenFault) -> Option<Sight>
-    ensures { Looks (H.seen host.old) (H.seen host.new) ⊥ }
+    ensures looks { Looks (H.seen host.old) (H.seen host.new) ⊥ }
+    ensures sound { IfSome result IsSight }
 {
     match glimpses(alloc, host) {
         Ok(glimpses) => Some(Sight::Fault(fault, glimpses)),
@@ -155,22 +158,24 @@ fn table_fault<H: Host>(
 fn found_sight<H: Host>(alloc: Global, host: &H, found: Found, job: &Job) -> Option<Sight>
     requires sound { IsSoundGroup found }
     requires lies { LieOn found.labels (H.seen host.now).sizes }
+    ensures sound { IfSome result IsSight }
 {
     let fault = match job {
         Job::Table { name, images } => { table_fault(alloc, host, &found, name.as_slice(), images) }
         _ => None,
     };
-    let group = Box::new(alloc, Group { found }).ok()?;
+    let found = Box::new(alloc, found).ok()?;
     Some(match fault {
-        Some(fault) => Sight::Table(group, fault),
-        None => Sight::Group(group),
+        Some(fault) => Sight::Table(found, fault),
+        None => Sight::Group(found),
     })
 }
 
 // The group that the images hold.
 fn group_sight<H: Host>(alloc: Global, host: &mut H, job: &Job) -> Option<Sight>
     requires { 0 < length (H.seen host.old).sizes }
-    ensures { Looks (H.seen host.old) (H.seen host.new) ⊥ }
+    ensures looks { Looks (H.seen host.old) (H.seen host.new) ⊥ }
+    ensures sound { IfSome result IsSight }
 {
     match find_group(alloc, host) {
         Ok(found) => found_sight(alloc, host, found, job),
@@ -198,7 +203,8 @@ fn disk_fault<H: Host>(alloc: Global, host: &mut H) -> Option<OpenFault>
 // The disk that image 0 is of.
 fn disk_sight<H: Host>(alloc: Global, host: &mut H) -> Option<Sight>
     requires { 0 < length (H.seen host.old).sizes }
-    ensures { Looks (H.seen host.old) (H.seen host.new) ⊥ }
+    ensures looks { Looks (H.seen host.old) (H.seen host.new) ⊥ }
+    ensures sound { IfSome result IsSight }
 {
     let fault = disk_fault(alloc, host)?;
     faulty(alloc, host, fault)
@@ -237,7 +243,8 @@ fn init_fault<H: Host>(alloc: Global, host: &mut H, guids: &Guids) -> Option<Ini
 
 // Disks that are made no group.
 fn init_sight<H: Host>(alloc: Global, host: &mut H, guids: &Guids) -> Option<Sight>
-    ensures { Looks (H.seen host.old) (H.seen host.new) ⊥ }
+    ensures looks { Looks (H.seen host.old) (H.seen host.new) ⊥ }
+    ensures sound { IfSome result IsSight }
 {
     let fault = init_fault(alloc, host, guids)?;
     match glimpses(alloc, host) {
@@ -252,6 +259,7 @@ impl Sight {
     pub fn of<H: Host>(alloc: Global, host: &mut H, job: &Job) -> Option<Sight>
         ensures looks { Looks (H.seen host.old) (H.seen host.new) ⊥ }
         ensures sizes { (H.seen host.new).sizes ≡ (H.seen host.old).sizes }
+        ensures sound { IfSome result IsSight }
     {
         if host.disks() == 0 {
             return None;

@@ -1,5 +1,4 @@
 //! An input whose bytes are kept, up to one more than a script may have.
-ghost use Rattle.std.specs.Prelude.{◌≤◌, length, IfOk};
 
 use std::alloc::Global;
 use std::io::{self, Read};

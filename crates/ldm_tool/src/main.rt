@@ -5,7 +5,9 @@
 //! `FileHost` that it makes are the trusted edge.
 #![tactic(auto)]
 
+ghost use Rattle.std.specs.Prelude.{IfSome};
 ghost use Rattle.ldm_look.specs.Runs.{HasImages};
+ghost use Rattle.ldm_explain.specs.Sights.{IsSight};
 ghost use Rattle.ldm_words.specs.Jobs.{texts, job_of, KeepsLimits};
 
 mod kept;
@@ -170,6 +172,7 @@ fn run_over<H: Host>(
     host: &mut H,
 ) -> (Status, Option<Sight>)
     requires { HasImages (job_of (texts words.now)) (H.seen host.old) }
+    ensures { IfSome result.1 IsSight }
 {
     match seen {
         Seen::Before => {
@@ -193,7 +196,8 @@ fn explain_end(
     status: Status,
     sight: Option<Sight>,
 )
-    requires { KeepsLimits job.now }
+    requires limits { KeepsLimits job.now }
+    requires sound { IfSome sight IsSight }
 {
     if status != Status::Refused {
         return;
