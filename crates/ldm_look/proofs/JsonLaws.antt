@@ -7,7 +7,7 @@ use Rattle.json.specs.Token.{Token}
 use Rattle.json.specs.Tree.{json_tokens, members_tokens}
 use Rattle.json.specs.Json.{string, boolean, null}
 use Rattle.json.specs.Token as token
-use Rattle.ldm_json.specs.Values.{Member, json_members, json_object, json_array, then_array, closing, number_json, maybe_json, maybe_text_json, name_json, maybe_name_json, guid_json}
+use Rattle.ldm_json.specs.Values.{Member, json_members, json_object, json_array, then_array, closing, number_json, maybe_json, maybe_text_json, name_json, maybe_name_json, guid_json, said_json}
 use Rattle.ldm_json.proofs.TokenLaws.{items_are, array_is}
 use Rattle.ldm_label.specs.Present.{image_with, label_with}
 use Rattle.ldm_records.specs.declared.types.Disk.{Disk}
@@ -22,7 +22,9 @@ use Rattle.ldm_look.specs.declared.scanned.Scanned.TheVariants.{Open}
 use Rattle.ldm_look.specs.Scan.{scanned_json}
 use Rattle.ldm_look.specs.Paths.{path_of}
 use Rattle.ldm_look.specs.LabelJson.{label_json}
-use Rattle.ldm_look.specs.CheckJson.{kind_json, reason_json, note_jsons, check_json}
+use Rattle.ldm_look.specs.declared.fault_json.Named.{Named}
+use Rattle.ldm_look.specs.FaultJson.{named_json, refusal_json}
+use Rattle.ldm_look.specs.CheckJson.{note_sequence, note_json, kind_json, reason_json, note_jsons, check_json}
 use Rattle.ldm_look.specs.Volumes.{text_of_shape}
 use Rattle.json.specs.Json.{Json}
 use Rattle.ldm_records.specs.declared.types.Record.{Record}
@@ -165,6 +167,20 @@ pub check_is : (paths : List (List ℕ)) (found : Found) (editable : Bool) (kind
     → reason ≡ reason_json found.blocked → notes ≡ found.notes
     → json_object ((codes "editable", boolean editable) ∷ (codes "kind", kind) ∷ (codes "reason", reason) ∷ (codes "images", json_array (note_jsons paths notes)) ∷ []) ≡ check_json paths found
 check_is paths found editable kind reason notes a b c d = rw (a, b, c, d) refl
+
+pub note_is : (paths : List (List ℕ)) (image : ℕ) (note : Note) (path : Option (List ℕ)) (seq : Option ℕ) → path ≡ slice_get paths image → seq ≡ note_sequence note
+    → json_object ((codes "image", number_json image) ∷ (codes "path", maybe_text_json path) ∷ (codes "sequence", maybe_json seq) ∷ []) ≡ note_json paths (image, note)
+note_is paths image note path seq p s = rw (p, s) refl
+
+pub refusal_is : (paths : List (List ℕ)) (kind text : List ℕ) (named : Named) (image other : Option ℕ) (path other_path : Option (List ℕ))
+    → image ≡ named.image → path ≡ path_of paths named.image → other ≡ named.other → other_path ≡ path_of paths named.other
+    → json_object ((
+      codes "refused",
+      json_object (
+        (codes "kind", string kind) ∷ (codes "image", maybe_json image) ∷ (codes "path", maybe_text_json path) ∷ (codes "other_image", maybe_json other)
+        ∷ (codes "other_path", maybe_text_json other_path) ∷ (codes "rule", maybe_json named.rule) ∷ (codes "id", maybe_json named.id) ∷ (codes "reason", said_json text) ∷ []),
+    ) ∷ []) ≡ refusal_json (named_json paths kind named text)
+refusal_is paths kind text named image other path other_path i p o q = rw (i, p, o, q) refl
 
 pub group_is : (disks volumes : List Json) (found : Found) (header : Header) (name : List ℕ) (need room : ℕ) → header ≡ found.db.header → name ≡ header.name
     → need ≡ need_of found.db.records → room ≡ room_of found.db.header.last
