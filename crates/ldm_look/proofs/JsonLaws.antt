@@ -177,8 +177,8 @@ pub refusal_is : (paths : List (List ℕ)) (kind text : List ℕ) (named : Named
     → json_object ((
       codes "refused",
       json_object (
-        (codes "kind", string kind) ∷ (codes "image", maybe_json image) ∷ (codes "path", maybe_text_json path) ∷ (codes "other_image", maybe_json other)
-        ∷ (codes "other_path", maybe_text_json other_path) ∷ (codes "rule", maybe_json named.rule) ∷ (codes "id", maybe_json named.id) ∷ (codes "reason", said_json text) ∷ []),
+          (codes "kind", string kind) ∷ (codes "image", maybe_json image) ∷ (codes "path", maybe_text_json path) ∷ (codes "other_image", maybe_json other)
+          ∷ (codes "other_path", maybe_text_json other_path) ∷ (codes "rule", maybe_json named.rule) ∷ (codes "id", maybe_json named.id) ∷ (codes "reason", said_json text) ∷ []),
     ) ∷ []) ≡ refusal_json (named_json paths kind named text)
 refusal_is paths kind text named image other path other_path i p o q = rw (i, p, o, q) refl
 

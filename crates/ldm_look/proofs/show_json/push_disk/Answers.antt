@@ -1,4 +1,4 @@
-use Rattle.std.proofs.Common.{rules, ◌≡◌, ◌++◌, ◌∙◌, OnOk, subst}
+use Rattle.std.proofs.Common.{rules, ◌≡◌, ◌++◌, OnOk, subst}
 use Rattle.std.specs.Option.{option_copied, option_map}
 use Rattle.json.specs.Json.{Json}
 use Rattle.json.specs.Tree.{json_tokens}
