@@ -51,10 +51,9 @@ fn path_in(rt: &HostRuntime, folder: &PathBuf, name: &str) -> Result<String, Fai
 fn tell(rt: &HostRuntime, folder: &PathBuf, told: Told) -> Result<(), Fail> {
     let (name, text) = told;
     let path = path_in(rt, folder, name)?;
-    let parent = path
-        .as_str()
-        .rsplit_once('/')
-        .map_or("", |(parent, _)| parent);
+    let Some((parent, _)) = path.as_str().rsplit_once('/') else {
+        return Err(Fail::from("no folder"));
+    };
     fs::create_dir_all(rt, parent)?;
     if name.ends_with('/') {
         return Ok(());
