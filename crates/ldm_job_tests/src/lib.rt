@@ -18,8 +18,6 @@ mod hostile;
 #[cfg(test)]
 mod jobs;
 #[cfg(test)]
-mod json;
-#[cfg(test)]
 mod labels;
 #[cfg(test)]
 mod looking;
@@ -35,5 +33,7 @@ mod stop;
 mod store;
 #[cfg(test)]
 mod table;
+#[cfg(test)]
+mod values;
 #[cfg(test)]
 mod volumes;
