@@ -26,7 +26,7 @@ enum Told {
 }
 
 // What the words ask to be told, if they do. No job has such words.
-fn told(words: &[String]) -> Option<Told> {
+fn asked_for(words: &[String]) -> Option<Told> {
     match words {
         [word] => match word.as_str() {
             "help" | "--help" | "-h" => Some(Told::Text(HELP)),
@@ -186,7 +186,7 @@ fn tell_help<'a>(rt: &HostRuntime, help: JobHelp) -> Result<Status, Stop<'a, Usa
 
 // Does what the words of the command line ask.
 fn do_words<'a>(rt: &HostRuntime, words: &'a [String]) -> Result<Status, Stop<'a, UsageError<'a>>> {
-    match told(words) {
+    match asked_for(words) {
         Some(Told::Text(text)) => tell(rt.stdout(), text),
         Some(Told::Help(help)) => tell_help(rt, help),
         None => {

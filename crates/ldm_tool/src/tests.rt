@@ -528,7 +528,7 @@ fn told_in(alloc: Global, bar: &str) -> Result<Option<String>, Fail> {
     for word in bar.split('|') {
         words.push(String::from_str(alloc, word)?)?;
     }
-    Ok(match told(&words) {
+    Ok(match asked_for(&words) {
         Some(Told::Text(text)) => Some(String::from_str(alloc, text)?),
         Some(Told::Help(help)) => Some(format!(in alloc; "{help}")?),
         None => None,
