@@ -8,6 +8,7 @@ use ldm_files::{DiskCall, ImageFile, Sectors, Unwatched};
 use ldm_host::{Failed, Host};
 use ldm_memory::MemoryHost;
 use ldm_vectors::sample_images;
+use std::alloc::Global;
 use std::fs::File;
 use std::path::PathBuf;
 use std::test::Fail;
