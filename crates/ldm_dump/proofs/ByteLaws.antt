@@ -1,5 +1,5 @@
 -- The bytes of the sectors of a volume, and what is said of them so far.
-use Rattle.std.proofs.Common.{◌≡◌, ℕ, zero, suc, ◌+◌, ◌*◌, ◌<◌, ◌≤◌, List, [], ◌∷◌, ◌++◌, map, flat_map, fold, bit_xor, length, get_or, take, drop, slice_index, refl, ap, sym, ◌∙◌, arith, Option, Some, unwrap_or, ◌-◌, subst, append_assoc, zero-add}
+use Rattle.std.proofs.Common.{◌≡◌, ℕ, zero, suc, ◌+◌, ◌*◌, ◌<◌, ◌≤◌, List, [], ◌∷◌, ◌++◌, map, flat_map, fold, bit_xor, length, get_or, take, drop, slice_index, refl, ap, sym, ◌∙◌, arith, Option, Some, unwrap_or, ◌-◌, subst, append_assoc}
 use Rattle.std.specs.List.{range_with_len}
 use Rattle.std.specs.Option.{option_map}
 use Rattle.std.proofs.lemmas.List.{nil_from_length, ext_get_or, take-append-drop, get_or-take, get_or-drop, length-take-le, length-drop, map-append, append-nil, take-append-le}
@@ -99,30 +99,26 @@ joined_more images spots more j =
 begins_front : (before text : List ℕ) (n : ℕ) → Begins (before ++ take n text) (before ++ text)
 begins_front before text n = (drop n text, ap (λ (l : List ℕ). before ++ l) (sym (take-append-drop n text)) ∙ sym (append_assoc before (take n text) (drop n text)))
 
--- the sectors so far, and those of a run
-pub text_next : (images : List (List ℕ)) (found : Found) (l : Layout) (x n : ℕ) → bytes_of_sectors images found l 0 (x + n) ≡ bytes_of_sectors images found l 0 x ++ bytes_of_sectors images found l x n
-text_next images found l x n = text_append images found l 0 x n ∙ ap (λ (y : ℕ). bytes_of_sectors images found l 0 x ++ bytes_of_sectors images found l y n) (zero-add x)
-
--- any text of places, so many from one on, that is said piece by piece
-module _ (T : List (List ℕ) → ℕ → ℕ → List ℕ) (more : (images : List (List ℕ)) (x n : ℕ) → T images 0 (x + n) ≡ T images 0 x ++ T images x n) where
+-- any text that is said piece by piece: what is said of the first places, and of so many places from one on
+module _ (front : List (List ℕ) → ℕ → List ℕ) (piece : List (List ℕ) → ℕ → ℕ → List ℕ) (more : (images : List (List ℕ)) (x n : ℕ) → front images (x + n) ≡ front images x ++ piece images x n) where
   -- what is said so far, and then a piece, which is made of the same images
-  pub said_on : (images now : List (List ℕ)) (old mid new : List ℕ) (x n : ℕ) → now ≡ images → mid ≡ old ++ T images 0 x → new ≡ mid ++ T now x n → new ≡ old ++ T images 0 (x + n)
+  pub said_on : (images now : List (List ℕ)) (old mid new : List ℕ) (x n : ℕ) → now ≡ images → mid ≡ old ++ front images x → new ≡ mid ++ piece now x n → new ≡ old ++ front images (x + n)
   said_on images now old mid new x n same so is =
-      is ∙ (ap (λ (i : List (List ℕ)). mid ++ T i x n) same
-      ∙ (ap (λ (m : List ℕ). m ++ T images x n) so
-      ∙ (append_assoc old (T images 0 x) (T images x n)
+      is ∙ (ap (λ (i : List (List ℕ)). mid ++ piece i x n) same
+      ∙ (ap (λ (m : List ℕ). m ++ piece images x n) so
+      ∙ (append_assoc old (front images x) (piece images x n)
       ∙ ap (λ (t : List ℕ). old ++ t) (sym (more images x n)))))
 
   -- what was said in part of a piece more begins the whole
-  pub part_said : (images now : List (List ℕ)) (old mid new : List ℕ) (x n all : ℕ) → now ≡ images → mid ≡ old ++ T images 0 x → x + n ≤ all → Begins new (mid ++ T now x n)
-      → Begins new (old ++ T images 0 all)
+  pub part_said : (images now : List (List ℕ)) (old mid new : List ℕ) (x n all : ℕ) → now ≡ images → mid ≡ old ++ front images x → x + n ≤ all → Begins new (mid ++ piece now x n)
+      → Begins new (old ++ front images all)
   part_said images now old mid new x n all same so le part =
-      let whole = said_on images now old mid (mid ++ T now x n) x n same so refl in
-      let rest = T images (x + n) (all - (x + n)) in
+      let whole = said_on images now old mid (mid ++ piece now x n) x n same so refl in
+      let rest = piece images (x + n) (all - (x + n)) in
       let e : all ≡ x + n + (all - (x + n)) = omega (arith, le) in (
         part.0 ++ rest,
-        ap (λ (k : ℕ). old ++ T images 0 k) e ∙ ap (λ (t : List ℕ). old ++ t) (more images (x + n) (all - (x + n)))
-            ∙ (sym (append_assoc old (T images 0 (x + n)) rest)
+        ap (λ (k : ℕ). old ++ front images k) e ∙ ap (λ (t : List ℕ). old ++ t) (more images (x + n) (all - (x + n)))
+            ∙ (sym (append_assoc old (front images (x + n)) rest)
             ∙ (ap (λ (m : List ℕ). m ++ rest) (sym whole ∙ part.1)
             ∙ append_assoc new part.0 rest)),
       )

@@ -1,5 +1,5 @@
 -- Runs of sectors: where they can be read moves along with them, and which sector is lost first.
-use Rattle.std.proofs.Common.{◌≡◌, ℕ, ◌+◌, ◌<◌, ◌≤◌, ◌==◌, inl, inr, min, not, Bool, true, false, List, map, length, refl, ap, sym, subst, ◌∙◌, arith, add_assoc, Option, Some, None, if◌then◌else◌, is_none, find, ◌-◌, ◌*◌, ◌/◌, ◌%◌, cond, mul_comm, slice_get}
+use Rattle.std.proofs.Common.{◌≡◌, ℕ, ◌+◌, ◌<◌, ◌≤◌, ◌==◌, inl, inr, min, not, Bool, true, false, List, map, length, refl, ap, sym, subst, ◌∙◌, arith, add_assoc, Option, Some, None, if◌then◌else◌, is_none, find, ◌-◌, ◌*◌, ◌/◌, ◌%◌, cond, slice_get}
 use borrow.Author.Count.{below_more}
 use Rattle.std.specs.Prelude.{◌&&◌, ◌||◌}
 use Rattle.std.specs.List.{range_with_len, list_all}
@@ -12,12 +12,12 @@ use Rattle.ldm_places.specs.declared.shape.Shape.{Shape}
 use Rattle.ldm_places.specs.declared.shape.Shape.TheVariants.{Span, Stripe, Mirror, Raid5}
 use Rattle.ldm_copy.specs.declared.found.Found.{Found}
 use Rattle.ldm_copy.specs.Images.{image_of}
-use Rattle.ldm_dump.specs.Sources.{is_here, data_start, spot_at, first_copy, copy_spot, other_spot, other_spots, is_beside, is_raid5, can_rebuild, sources_by, sources_of, is_lost, IsLeastLost}
+use Rattle.ldm_dump.specs.Sources.{is_here, data_start, spot_at, first_copy, copy_spot, other_spot, other_spots, is_beside, is_raid5, can_rebuild, sources_by, sources_of, is_lost, IsLeastLost, IsLeastLostIn, chunk_start}
 use Rattle.ldm_dump.specs.Runs.{behind, IsRun}
 use Rattle.ldm_dump.specs.declared.spots.Spot.{Spot}
 use Rattle.ldm_dump.proofs.RangeLaws.{find_first, find_nothing, all_in, all_but, all_at, made_moved, not_all, all_same_in}
-use Rattle.std.proofs.Math.Nat.{mod-eq_of_lt, div-eq_of_lt, add-mod_right, mul-div-le}
-use Rattle.std.proofs.lemmas.Nat.{div-mul-add, mod_below, mul-le}
+use Rattle.std.proofs.Math.Nat.{add-mod_right, add-mul-mod_self_left, div-add-mod, div-eq_of_lt-le, div-mul-le_self, mod-le, mul-div-le}
+use Rattle.std.proofs.lemmas.Nat.{le-div, mod_below, mul-le}
 use Rattle.ldm_places.proofs.SpotLaws.{place_by}
 use Rattle.ldm_places.specs.Places.{stripe_column, stripe_offset, raid5_offset}
 use Rattle.ldm_places.specs.declared.extent.Extent.{Extent}
@@ -250,6 +250,15 @@ pub least_found : (found : Found) (l : Layout) (r : Option ℕ) → IsLeastLost 
 least_found found l (Some x) least = find_first (is_lost found l) 0 l.size x (omega arith) (let lt = least.0 in omega (arith, lt)) (λ d low lt. least.2 d lt) least.1
 least_found found l None least = find_nothing (is_lost found l) 0 l.size (λ d low lt. least d (omega (arith, lt)))
 
+pub least_found_in : (found : Found) (l : Layout) (first count : ℕ) (r : Option ℕ) → IsLeastLostIn found l first (first + count) r → find (is_lost found l) (range_with_len first count) ≡ r
+least_found_in found l first count (Some x) least = find_first (is_lost found l) first count x least.0 least.1 least.3 least.2
+least_found_in found l first count None least = find_nothing (is_lost found l) first count least
+
+-- the least of all sectors
+pub least_of : (found : Found) (l : Layout) (n : ℕ) (r : Option ℕ) → n ≡ l.size → IsLeastLostIn found l 0 (0 + n) r → IsLeastLost found l r
+least_of found l n (Some x) is least = (let lt = least.1 in omega (arith, lt, is), least.2, λ y less. least.3 y (omega arith) less)
+least_of found l n None is least = λ y lt. least y (omega arith) (omega (arith, lt, is))
+
 -- ---- The least sector that is lost.
 
 -- ---- runs
@@ -262,10 +271,10 @@ none_moved i (Some spots) = refl
 pub lost_along : (found : Found) (l : Layout) (x : ℕ) (run : Run) (i : ℕ) → IsRun found l x run → i < run.sectors → is_lost found l (x + i) ≡ is_lost found l x
 lost_along found l x run i is lt = ap (λ (o : Option (List Spot)). is_none o) (is.sources i lt) ∙ none_moved i (sources_of found l x)
 
-pub kept_more : (found : Found) (l : Layout) (x : ℕ) (run : Run) → IsRun found l x run → ((y : ℕ) → y < x → is_lost found l y ≡ false) → is_lost found l x ≡ false
-    → (y : ℕ) → y < x + run.sectors → is_lost found l y ≡ false
-kept_more found l x run is before here y lt = elim (cases_lt y x) [
-  | inl less ↦ before y less
+pub kept_more : (found : Found) (l : Layout) (first x : ℕ) (run : Run) → IsRun found l x run → ((y : ℕ) → first ≤ y → y < x → is_lost found l y ≡ false) → is_lost found l x ≡ false
+    → (y : ℕ) → first ≤ y → y < x + run.sectors → is_lost found l y ≡ false
+kept_more found l first x run is before here y low lt = elim (cases_lt y x) [
+  | inl less ↦ before y low less
   | inr ge ↦ (let e : x + (y - x) ≡ y = omega (arith, ge) in
       subst (λ (z : ℕ). is_lost found l z ≡ false) e (lost_along found l x run (y - x) is (omega (arith, lt, ge)) ∙ here))
 ]
@@ -292,16 +301,12 @@ lost_alone found l x one =
     go false true = refl
     go false false = refl
 
--- the first chunk of a column is lost, and it doesn't begin behind the sector
-pub record IsEarly (found : Found) (l : Layout) (y : ℕ) : Type 0 where
-  pub column : ℕ
-  pub there : column < length (columns_of l)
-  pub low : l.chunk * column ≤ y
-  pub lost : is_lost found l (l.chunk * column) ≡ true
-
--- the first sector of a chunk
-chunk_of_first : (u c : ℕ) → 0 < u → u * c / u ≡ c
-chunk_of_first u c h = (let e : u * c ≡ c * u + 0 = omega (arith, mul_comm u c) in ap (λ n. n / u) e ∙ div-mul-add c u 0 h)
+-- a sector is lost where one of the first chunks behind another begins, and that isn't behind this one
+pub record IsEarly (found : Found) (l : Layout) (first y : ℕ) : Type 0 where
+  pub chunks : ℕ
+  pub there : chunks < length (columns_of l)
+  pub low : chunk_start l first chunks ≤ y
+  pub lost : is_lost found l (chunk_start l first chunks) ≡ true
 
 -- a chunk begins at its first sector or behind it
 first_low : (u y c : ℕ) → 0 < u → c ≤ y / u → u * c ≤ y
@@ -310,12 +315,45 @@ first_low u y c h le =
     let whole : u * (y / u) ≤ y = mul-div-le y u in
     omega (arith, whole, less)
 
--- the place of a chunk tells its number
-chunk_below : (u c n y : ℕ) → u * c ≤ y → y < u * n → c < n
-chunk_below u c n y low lt = elim (cases_lt c n) [
-  | inl less ↦ less
-  | inr ge ↦ absurd (let more : u * n ≤ u * c = mul-le u n u c (omega arith) ge in omega (arith, more, low, lt))
-]
+-- the number of the chunk
+start_in : (l : Layout) (x n : ℕ) → 0 < l.chunk → chunk_start l x n / l.chunk ≡ x / l.chunk + n
+start_in l x n h =
+    let u = l.chunk in
+    let whole : u * (x / u) + x % u ≡ x = div-add-mod x u in
+    let rest : x % u < u = mod_below x u h in
+    let low : (x / u + n) * u ≤ chunk_start l x n = omega (arith, whole, rest) in
+    let high : chunk_start l x n < (x / u + n + 1) * u = omega (arith, whole, rest) in
+    div-eq_of_lt-le u low high
+
+start_rises : (l : Layout) (x m n : ℕ) → m ≤ n → chunk_start l x m ≤ chunk_start l x n
+start_rises l x m n le =
+    let more : l.chunk * (x / l.chunk + m) ≤ l.chunk * (x / l.chunk + n) = mul-le l.chunk (x / l.chunk + m) l.chunk (x / l.chunk + n) (omega arith) (omega (arith, le)) in
+    omega (arith, more)
+
+-- going round k columns from one number comes to the column of each later number
+turn : (p q k : ℕ) → p ≤ q → (p + (q - p) % k) % k ≡ q % k
+turn p q k le =
+    let whole : k * ((q - p) / k) + (q - p) % k ≡ q - p = div-add-mod (q - p) k in
+    let e : q ≡ p + (q - p) % k + k * ((q - p) / k) = omega (arith, whole, le) in
+    sym (ap (λ n. n % k) e ∙ add-mul-mod_self_left (p + (q - p) % k) k ((q - p) / k))
+
+-- a sector is lost where each of its column is
+early_by : (found : Found) (l : Layout) (first y : ℕ) → IsColumned l
+    → ((x : ℕ) → x / l.chunk % length (columns_of l) ≡ y / l.chunk % length (columns_of l) → is_lost found l x ≡ true) → first ≤ y → IsEarly found l first y
+early_by found l first y columned same low =
+    let u = l.chunk in
+    let k = length (columns_of l) in
+    let n = (y / u - first / u) % k in
+    let front : first / u * u ≤ first = div-mul-le_self first u in
+    let le : first / u ≤ y / u = le-div (first / u) y u columned.chunked (omega (arith, front, low)) in
+    let few : n ≤ y / u - first / u = mod-le (y / u - first / u) k in
+    let begin : u * (first / u + n) ≤ y = first_low u y (first / u + n) columned.chunked (omega (arith, le, few)) in
+    record {
+      chunks = n;
+      there = mod_below (y / u - first / u) k (omega (arith, columned.many));
+      low = omega (arith, begin, low);
+      lost = same (chunk_start l first n) (ap (λ c. c % k) (start_in l first n columned.chunked) ∙ turn (first / u) (y / u) k le);
+    }
 
 both_not : (a b : Bool) → (not a && not b) ≡ true → (a ≡ false) × (b ≡ false)
 both_not true b h = absurd cc
@@ -349,22 +387,28 @@ module _ (found : Found) (l : Layout) (shape_is : l.shape ≡ Stripe) (columned 
       go true = refl
       go false = refl
 
-  pub early_stripe : (y : ℕ) → is_lost found l y ≡ true → IsEarly found l y
-  early_stripe y is =
-      let u = l.chunk in
-      let k = length es in
-      let c = stripe_column k u y in
-      let lt : c < k = mod_below (y / u) k (omega (arith, columned.many)) in
-      let same : stripe_column k u (u * c) ≡ c = ap (λ q. q % k) (chunk_of_first u c columned.chunked) ∙ mod-eq_of_lt lt in
-      let few : c ≤ y / u = omega arith in
-      record {
-        column = c;
-        there = lt;
-        low = first_low u y c columned.chunked few;
-        lost = stripe_lost (u * c) ∙ (ap (λ d. not (is_column_here found es d)) same ∙ (sym (stripe_lost y) ∙ is));
-      }
+  pub early_stripe : (first y : ℕ) → is_lost found l y ≡ true → first ≤ y → IsEarly found l first y
+  early_stripe first y is low =
+      early_by found l first y columned (λ x same. stripe_lost x ∙ (ap (λ c. not (is_column_here found es c)) same ∙ (sym (stripe_lost y) ∙ is))) low
 
 -- ---- a RAID-5
+
+round_sum : (m a b d t : ℕ) → b ≤ m → t ≡ m * a → m - b + 1 + d + (m + 1) * (t + b) ≡ m * (t + a + b) + d + (m + 1)
+round_sum m a b d t le is = omega (arith, le, is)
+
+-- the chunks of a row begin behind its parity, so that they go round the columns, row after row
+round_by : (m q : ℕ) → (m - q / m % (m + 1) + 1 + q % m) % (m + 1) ≡ q % (m + 1)
+round_by m q =
+    let r = q / m in
+    let a = r / (m + 1) in
+    let b = r % (m + 1) in
+    let row : m * r + q % m ≡ q = div-add-mod q m in
+    let turns : (m + 1) * a + b ≡ r = div-add-mod r (m + 1) in
+    let less : b < m + 1 = mod_below r (m + 1) (omega arith) in
+    let is : m * a + a + b ≡ r = omega (arith, turns) in
+    let all : m - b + 1 + q % m + (m + 1) * (m * a + b) ≡ q + (m + 1) =
+    round_sum m a b (q % m) (m * a) (omega (arith, less)) refl ∙ (ap (λ n. m * n + q % m + (m + 1)) is ∙ ap (λ n. n + (m + 1)) row) in
+    sym (add-mul-mod_self_left (m - b + 1 + q % m) (m + 1) (m * a + b)) ∙ (ap (λ n. n % (m + 1)) all ∙ add-mod_right q (m + 1))
 
 module _ (found : Found) (l : Layout) (shape_is : l.shape ≡ Raid5) (columned : IsColumned l) where
   abbrev cs : List Extent
@@ -414,89 +458,43 @@ module _ (found : Found) (l : Layout) (shape_is : l.shape ≡ Raid5) (columned :
       ∙ ap not (raid5_made x ∙ all_but (is_beside found l x) 0 (length cs) other (omega arith) (omega (arith, absent.other_there))
       (ap (λ (b : Bool). b || is_here found (column_in l x other)) (ap (λ o. other == o) is ∙ absent.apart) ∙ (raid5_beside x other ∙ absent.other_absent))))
 
-  turned : (a b : ℕ) → (b == a) ≡ false → (a == b) ≡ false
-  turned a b h = ne_eqb a b (λ e. true≢false (sym (eq-eqb b a (sym e)) ∙ h))
+  own_is : (x : ℕ) → own_column l x ≡ x / l.chunk % length cs
+  own_is x =
+      let q = x / l.chunk in
+      let e : length cs - 1 + 1 ≡ length cs = omega (arith, columned.many) in
+      subst (λ (k : ℕ). (length cs - 1 - q / (length cs - 1) % k + 1 + q % (length cs - 1)) % k ≡ q % k) e (round_by (length cs - 1) q)
 
-  -- the first row has its parity in the last column, so its chunks lie in the columns in their order
-  own_first : (c : ℕ) → c + 1 < length cs → own_column l (l.chunk * c) ≡ c
-  own_first c lt =
-      let u = l.chunk in
-      let k = length cs in
-      let q : u * c / u ≡ c = chunk_of_first u c columned.chunked in
-      let small : c < k - 1 = omega (arith, lt) in
-      let row : c / (k - 1) ≡ 0 = div-eq_of_lt small in
-      let rest : c % (k - 1) ≡ c = mod-eq_of_lt small in
-      let none : 0 % k ≡ 0 = mod-eq_of_lt (omega (arith, columned.many)) in
-      let last : k - 1 - 0 + 1 + c ≡ c + k = omega (arith, columned.many) in
-      ap (λ p. (k - 1 - p / (k - 1) % k + 1 + p % (k - 1)) % k) q
-      ∙ (ap (λ r. (k - 1 - r % k + 1 + c % (k - 1)) % k) row
-      ∙ (ap (λ z. (k - 1 - z + 1 + c % (k - 1)) % k) none
-      ∙ (ap (λ d. (k - 1 - 0 + 1 + d) % k) rest
-      ∙ (ap (λ n. n % k) last ∙ (add-mod_right c k ∙ mod-eq_of_lt (omega (arith, lt)))))))
-
-  early_at : (y c other : ℕ) → AreAbsent c other → c + 1 < length cs → c ≤ y / l.chunk → IsEarly found l y
-  early_at y c other absent lt le = record {
-    column = c;
-    there = omega (arith, lt);
-    low = first_low l.chunk y c columned.chunked le;
-    lost = lost_by (l.chunk * c) c other (own_first c lt) absent;
-  }
-
-  -- a sector in the first row lies in the column of its chunk
-  own_of : (y : ℕ) → y / l.chunk < length cs - 1 → own_column l y ≡ y / l.chunk
-  own_of y lt =
-      ap (λ q. (length cs - 1 - q / (length cs - 1) % length cs + 1 + q % (length cs - 1)) % length cs) (sym (chunk_of_first l.chunk (y / l.chunk) columned.chunked))
-      ∙ own_first (y / l.chunk) (omega (arith, lt))
-
-  pub early_raid5 : (y : ℕ) → is_lost found l y ≡ true → IsEarly found l y
-  early_raid5 y is =
+  pub early_raid5 : (first y : ℕ) → is_lost found l y ≡ true → first ≤ y → IsEarly found l first y
+  early_raid5 first y is low =
       let absent = absent_of y is in
-      let own = own_column l y in
-      elim (cases_lt (own + 1) (length cs)) [
-        | inl lt ↦ early_at y own absent.0 absent.1 lt (elim (cases_lt (y / l.chunk) (length cs - 1)) [
-          | inl first ↦ (let e = own_of y first in omega (arith, e))
-          | inr later ↦ omega (arith, lt, later)
-        ])
-        | inr ge ↦ (
-            let other = absent.0 in
-            let at = absent.1 in
-            let apart : other ≡ own → ⊥ = λ e. (let t : (other == own) ≡ true = eq-eqb other own e in let f = at.apart in absurd cc) in
-            let less : other + 1 < length cs = omega (arith, at.other_there, at.own_there, ge, apart) in
-            let late : length cs - 1 ≤ y / l.chunk = elim (cases_lt (y / l.chunk) (length cs - 1)) [
-              | inl first ↦ absurd (let e = own_of y first in omega (arith, e, ge, first))
-              | inr later ↦ later
-            ] in
-            early_at y other own (record {
-              own_there = at.other_there;
-              own_absent = at.other_absent;
-              other_there = at.own_there;
-              other_absent = at.own_absent;
-              apart = turned own other at.apart;
-            }) less (omega (arith, less, late)))
-      ]
+      early_by found l first y columned (λ x same. lost_by x (own_column l y) absent.0 (own_is x ∙ (same ∙ sym (own_is y))) absent.1) low
 
 -- ---- both
 
-pub early : (found : Found) (l : Layout) (y : ℕ) → is_tiled l.shape ≡ false → IsColumned l → is_lost found l y ≡ true → IsEarly found l y
-early found l y tiled columned is = go l.shape refl tiled
+pub early : (found : Found) (l : Layout) (first y : ℕ) → is_tiled l.shape ≡ false → IsColumned l → is_lost found l y ≡ true → first ≤ y → IsEarly found l first y
+early found l first y tiled columned is low = go l.shape refl tiled
   where
-    go : (s : Shape) → l.shape ≡ s → is_tiled s ≡ false → IsEarly found l y
+    go : (s : Shape) → l.shape ≡ s → is_tiled s ≡ false → IsEarly found l first y
     go Span e h = absurd cc
     go Mirror e h = absurd cc
-    go Stripe e h = early_stripe found l e columned y is
-    go Raid5 e h = early_raid5 found l e columned y is
+    go Stripe e h = early_stripe found l e columned first y is low
+    go Raid5 e h = early_raid5 found l e columned first y is low
 
--- none is lost before the first chunk of a column, where those of the columns before it aren't
-pub none_before : (found : Found) (l : Layout) (n y : ℕ) → is_tiled l.shape ≡ false → IsColumned l → ((c : ℕ) → c < n → is_lost found l (l.chunk * c) ≡ false) → y < l.chunk * n → is_lost found l y ≡ false
-none_before found l n y tiled columned kept lt =
+-- none is lost before a chunk, where the first sectors of those in front of it, from the first on, aren't
+pub none_before : (found : Found) (l : Layout) (first n y : ℕ) → is_tiled l.shape ≡ false → IsColumned l → ((c : ℕ) → c < n → is_lost found l (chunk_start l first c) ≡ false) → first ≤ y → y < chunk_start l first n
+    → is_lost found l y ≡ false
+none_before found l first n y tiled columned kept low lt =
     false_from_ne_true (is_lost found l y) (λ is.
-    let e = early found l y tiled columned is in
-    true≢false (sym e.lost ∙ kept e.column (chunk_below l.chunk e.column n y e.low lt)))
+    let e = early found l first y tiled columned is low in
+    elim (cases_lt e.chunks n) [
+      | inl less ↦ true≢false (sym e.lost ∙ kept e.chunks less)
+      | inr ge ↦ (let rises = start_rises l first n e.chunks ge in omega (arith, rises, e.low, lt))
+    ])
 
--- no sector is lost where the first sectors of all columns aren't
-pub none_there : (found : Found) (l : Layout) (y : ℕ) → is_tiled l.shape ≡ false → IsColumned l → ((c : ℕ) → c < length (columns_of l) → is_lost found l (l.chunk * c) ≡ false) → is_lost found l y ≡ false
-none_there found l y tiled columned kept =
-    false_from_ne_true (is_lost found l y) (λ is. let e = early found l y tiled columned is in true≢false (sym e.lost ∙ kept e.column e.there))
+-- no sector is lost, from the first on, where those that begin one chunk of each column behind it aren't
+pub none_there : (found : Found) (l : Layout) (first y : ℕ) → is_tiled l.shape ≡ false → IsColumned l → ((c : ℕ) → c < length (columns_of l) → is_lost found l (chunk_start l first c) ≡ false) → first ≤ y → is_lost found l y ≡ false
+none_there found l first y tiled columned kept low =
+    false_from_ne_true (is_lost found l y) (λ is. let e = early found l first y tiled columned is low in true≢false (sym e.lost ∙ kept e.chunks e.there))
 
 pub chunk_is : (l : Layout) → is_tiled l.shape ≡ false → chunk_of l ≡ l.chunk
 chunk_is l tiled = ap (λ (b : Bool). if b then 0 else l.chunk) tiled

@@ -115,6 +115,22 @@ impl Json {
         Ok(())
     }
 
+    /// An object of these members, and then of those.
+    pub fn object_of_both(
+        &mut self,
+        first: &[(&str, Scalar)],
+        second: &[(&str, Scalar)],
+    ) -> Result<(), NoMemory>
+        ensures { OnOk result (self.new ≡ self.old ++ json_tokens (json_object
+            (map json_member first.now ++ map json_member second.now))) }
+    {
+        self.writer.begin_object()?;
+        self.fields(first)?;
+        self.fields(second)?;
+        self.writer.end_object()?;
+        Ok(())
+    }
+
     /// An object with one member, which is an object of these members.
     pub fn object_in(&mut self, key: &str, fields: &[(&str, Scalar)]) -> Result<(), NoMemory>
         ensures { OnOk result (self.new ≡ self.old ++ json_tokens (json_object
@@ -171,6 +187,13 @@ impl Json {
         self.writer.key(key)?;
         self.writer.begin_array()?;
         Ok(())
+    }
+
+    /// The text.
+    pub fn into_text(self) -> Bytes
+        ensures { result ≡ print self }
+    {
+        Bytes::from_vec(self.writer.into_inner())
     }
 
     /// The text, and the end of its line.

@@ -4,4 +4,5 @@ pub mod Tables
 pub mod Runs
 pub mod Spelling
 pub mod Faults
+pub mod Groups
 pub mod Laws

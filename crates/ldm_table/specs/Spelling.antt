@@ -59,11 +59,14 @@ text_of_part_if words (Some m) = text_of_part_device words m
 unfoldable pub text_of_line_head : List ℕ → Volume → List ℕ
 text_of_line_head name v = escaped name ++ (codes ",LDM-" ++ own_guid (guid_of_volume v)) ++ codes ",,ro"
 
--- The line that makes the device of a volume of the group, of images that these words name: the devices of the array that it has
--- come first.
-unfoldable pub text_of_table : List (List ℕ) → Found → Volume → Layout → List ℕ
-text_of_table words found v l =
+-- What makes the device of a volume of the group, of images that these words name: the devices of the array that it has come
+-- first.
+unfoldable pub text_of_devices : List (List ℕ) → Found → Volume → Layout → List ℕ
+text_of_devices words found v l =
     flat_map (text_of_part_if words) (array_of found l)
     ++ text_of_line_head (volume_name found.db.header.name v) v
     ++ flat_map (text_of_line words) (table_of found l)
-    ++ codes "\n"
+
+-- as a line
+abbrev pub text_of_table : List (List ℕ) → Found → Volume → Layout → List ℕ
+text_of_table words found v l = text_of_devices words found v l ++ codes "\n"

@@ -9,8 +9,9 @@ use Rattle.std.proofs.lemmas.Bool.Decides.{nat_tests}
 use Rattle.std.proofs.lemmas.Slice.Eq.{bytes_eq-Decides}
 use Rattle.std.specs.List.{position_or_len, before_first}
 use Rattle.std.specs.declared.alloc.Global.{Global}
+use Rattle.ldm_words.specs.declared.job.Format.TheVariants.{Lines}
 use Rattle.ldm_words.specs.declared.job.Job.{Job}
-use Rattle.ldm_words.specs.declared.job.Job.TheVariants.{Disk, Records, Table, One, Init, Sample}
+use Rattle.ldm_words.specs.declared.job.Job.TheVariants.{Disk, Records, Table, Tables, One, Init, Sample}
 use Rattle.ldm_bytes.specs.Guid.{guid_of}
 use Rattle.ldm_words.specs.Commands.{many, command_of}
 use Rattle.ldm_words.specs.NewGroup.{new_group_name, AreInitWords}
@@ -39,12 +40,12 @@ abbrev pub HasNone : List Form → List ℕ → Type 0
 HasNone [] word = Unit {0}
 HasNone (form ∷ forms) word = (word ≡ form.0 → ⊥) × HasNone forms word
 
-no_form : (forms : List Form) (word : List ℕ) (rest : List (List ℕ)) → HasNone forms word → option_map One (command_of (word ∷ rest)) ≡ form_in forms word rest
+no_form : (forms : List Form) (word : List ℕ) (rest : List (List ℕ)) → HasNone forms word → option_map (λ command. One command Lines) (command_of (word ∷ rest)) ≡ form_in forms word rest
 no_form [] word rest none = refl
 no_form (form ∷ forms) word rest none = rw (other_word word form.0 none.0) (no_form forms word rest none.1)
 
 -- where the first word is none of the jobs' own, the words are a command
-pub no_other : (word : List ℕ) (rest behind : List (List ℕ)) → HasNone (forms behind) word → option_map One (command_of (word ∷ rest)) ≡ form_in (forms behind) word rest
+pub no_other : (word : List ℕ) (rest behind : List (List ℕ)) → HasNone (forms behind) word → option_map (λ command. One command Lines) (command_of (word ∷ rest)) ≡ form_in (forms behind) word rest
 no_other word rest behind none = no_form (forms behind) word rest none
 
 -- words that have a reading without options keep it
@@ -94,8 +95,9 @@ as_many images count is =
 
 takes_count : (job : Job) (images : ℕ) → takes job images ≡ true → HasCount job images
 takes_count (Disk format) images is = grind (arith, nat_tests, is)
-takes_count Records images is = grind (arith, nat_tests, is)
+takes_count (Records format) images is = grind (arith, nat_tests, is)
 takes_count (Table name words) images is = as_many images (length words) is
+takes_count (Tables words) images is = as_many images (length words) is
 takes_count (Init name guid disks) images is = as_many images (length disks) is
 takes_count (Sample seed) images is = absurd cc
 takes_count job images is = of_group images is

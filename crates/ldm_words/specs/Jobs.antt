@@ -7,11 +7,12 @@ use Rattle.std.specs.declared.alloc.Global.{Global}
 use Rattle.ldm_bytes.specs.Guid.{guid_of}
 use Rattle.ldm_words.specs.declared.job.Format.{Format}
 use Rattle.ldm_words.specs.declared.job.Format.TheVariants.{Lines, Json}
+use Rattle.ldm_words.specs.declared.job.Section.{Section}
 use Rattle.ldm_words.specs.declared.job.Job.{Job}
-use Rattle.ldm_words.specs.declared.job.Job.TheVariants.{Disk, Records, Scan, Show, Check, Map, Dump, Scrub, Table, Try, Edit, One, Init, Sample}
+use Rattle.ldm_words.specs.declared.job.Job.TheVariants.{Disk, Records, Scan, Show, Check, Map, Dump, Scrub, Table, Tables, Try, Edit, One, Init, Sample}
 use Rattle.ldm_words.specs.Numbers.{number_of}
 use Rattle.ldm_words.specs.Names.{name_of}
-use Rattle.ldm_words.specs.Commands.{all_three, many, command_of}
+use Rattle.ldm_words.specs.Commands.{both, all_three, many, command_of}
 use Rattle.ldm_words.specs.NewGroup.{new_group_name, AreInitWords}
 use Rattle.ldm_words.specs.Limits.{IsCommand}
 
@@ -51,13 +52,29 @@ named make rest = option_map make (named_in rest)
 
 -- the volume, its first sector and how many sectors, where all three can be read
 abbrev pub map_with : Option (List ℕ) → Option ℕ → Option ℕ → Option Job
-map_with (Some name) (Some first) (Some count) = Some (Map name first count)
+map_with (Some name) (Some first) (Some count) = Some (Map name first count Lines)
 map_with name first count = None
 
 -- NAME FIRST COUNT
 abbrev pub map_form : List (List ℕ) → Option Job
 map_form (name ∷ first ∷ count ∷ []) = map_with (name_of name) (number_of first) (number_of count)
 map_form rest = None
+
+-- FIRST COUNT
+abbrev pub section_of : List ℕ → List ℕ → Option Section
+section_of first count = both (λ f c. record { first = f; count = c }) (number_of first) (number_of count)
+
+-- NAME, or NAME FIRST COUNT
+abbrev pub dump_form : List (List ℕ) → Option Job
+dump_form (name ∷ []) = option_map (λ n. Dump n None) (name_of name)
+dump_form (name ∷ first ∷ count ∷ []) = both (λ n section. Dump n (Some section)) (name_of name) (section_of first count)
+dump_form rest = None
+
+-- NAME, or no word for all volumes, with these words behind `on`
+abbrev pub table_form : List (List ℕ) → List (List ℕ) → Option Job
+table_form behind [] = Some (Tables behind)
+table_form behind (name ∷ []) = option_map (λ n. Table n behind) (name_of name)
+table_form behind rest = None
 
 -- NAME, the GUID of the group and those of 2 to 64 disks
 abbrev pub init_form : List (List ℕ) → Option Job
@@ -77,23 +94,23 @@ Form = List ℕ × (List (List ℕ) → Option Job)
 abbrev pub forms : List (List ℕ) → List Form
 forms behind =
     (codes "disk", plain_job (Disk Lines))
-    ∷ (codes "records", plain_job Records)
+    ∷ (codes "records", plain_job (Records Lines))
     ∷ (codes "scan", plain_job (Scan Lines))
     ∷ (codes "show", plain_job (Show Lines))
     ∷ (codes "check", plain_job (Check Lines))
     ∷ (codes "map", map_form)
-    ∷ (codes "dump", named Dump)
-    ∷ (codes "scrub", named Scrub)
-    ∷ (codes "table", named (λ name. Table name behind))
-    ∷ (codes "try", plain_job Try)
-    ∷ (codes "edit", plain_job Edit)
+    ∷ (codes "dump", dump_form)
+    ∷ (codes "scrub", named (λ name. Scrub name Lines))
+    ∷ (codes "table", table_form behind)
+    ∷ (codes "try", plain_job (Try Lines))
+    ∷ (codes "edit", plain_job (Edit Lines))
     ∷ (codes "init", init_form)
     ∷ (codes "sample", sample_form)
     ∷ []
 
 -- by the first form of this word; where it has none, the words are a command, each word of which is one token
 abbrev pub form_in : List Form → List ℕ → List (List ℕ) → Option Job
-form_in [] word rest = option_map One (command_of (word ∷ rest))
+form_in [] word rest = option_map (λ command. One command Lines) (command_of (word ∷ rest))
 form_in (form ∷ forms) word rest = if bytes_eq word form.0 then form.1 rest else form_in forms word rest
 
 -- ---- options
@@ -101,9 +118,15 @@ form_in (form ∷ forms) word rest = if bytes_eq word form.0 then form.1 rest el
 -- the job whose answer is JSON, over the images of these words; none, where it has no such answer or has it already
 abbrev pub as_json : List (List ℕ) → Job → Option Job
 as_json paths (Disk Lines) = Some (Disk (Json paths))
+as_json paths (Records Lines) = Some (Records (Json paths))
 as_json paths (Scan Lines) = Some (Scan (Json paths))
 as_json paths (Show Lines) = Some (Show (Json paths))
 as_json paths (Check Lines) = Some (Check (Json paths))
+as_json paths (Map name first count Lines) = Some (Map name first count (Json paths))
+as_json paths (Scrub name Lines) = Some (Scrub name (Json paths))
+as_json paths (Try Lines) = Some (Try (Json paths))
+as_json paths (Edit Lines) = Some (Edit (Json paths))
+as_json paths (One command Lines) = Some (One command (Json paths))
 as_json paths _ = None
 
 -- a word, and what it makes of a job that takes it
@@ -147,8 +170,9 @@ is_group images = nat_le 1 images && nat_le images 64
 -- how many a job takes behind `on`: those of a group, where nothing else is said
 abbrev pub takes : Job → ℕ → Bool
 takes (Disk format) images = images == 1
-takes Records images = images == 1
+takes (Records format) images = images == 1
 takes (Table name words) images = is_group images && images == length words
+takes (Tables words) images = is_group images && images == length words
 takes (Init name guid disks) images = is_group images && images == length disks
 takes (Sample seed) images = false
 takes job images = is_group images
@@ -176,15 +200,16 @@ job_of words = with_images (images_of words) (images_behind words) (job_form (be
 -- how many images a job has
 abbrev pub HasCount : Job → ℕ → Type 0
 HasCount (Disk format) images = images ≡ 1
-HasCount Records images = images ≡ 1
+HasCount (Records format) images = images ≡ 1
 HasCount (Table name words) images = (1 ≤ images) × (images ≤ 64) × (images ≡ length words)
+HasCount (Tables words) images = (1 ≤ images) × (images ≤ 64) × (images ≡ length words)
 HasCount (Init name guid disks) images = (1 ≤ images) × (images ≤ 64) × (images ≡ length disks)
 HasCount (Sample seed) images = images ≡ 0
 HasCount job images = (1 ≤ images) × (images ≤ 64)
 
 -- a command of a job, and the words of a new group, keep the grammar's limits
 abbrev pub KeepsLimits : Job → Type 0
-KeepsLimits (One command) = IsCommand command
+KeepsLimits (One command format) = IsCommand command
 KeepsLimits (Init name guid disks) = AreInitWords name disks
 KeepsLimits job = Unit {0}
 
@@ -207,11 +232,11 @@ pub data Kind : Type 0 where
 
 -- the kind of a job: it only reads, where nothing else is said
 abbrev pub job_kind : Job → Kind
-job_kind (Dump name) = Streams
-job_kind (Scrub name) = Streams
-job_kind Try = Hears
-job_kind Edit = Edits
-job_kind (One command) = Does
+job_kind (Dump name section) = Streams
+job_kind (Scrub name format) = Streams
+job_kind (Try format) = Hears
+job_kind (Edit format) = Edits
+job_kind (One command format) = Does
 job_kind (Init name guid disks) = Makes
 job_kind job = Reads
 

@@ -5,9 +5,11 @@ ghost use Rattle.std.specs.List.{position_or_len};
 ghost use Rattle.ldm_words.specs.declared.job.Job.TheVariants as jobs;
 ghost use Rattle.ldm_words.specs.declared.job.Format.TheVariants.{Lines};
 ghost use Rattle.ldm_words.specs.Jobs.{texts, is_on, image_words, images_of, images_behind};
-ghost use Rattle.ldm_words.specs.Jobs.{plain_job, named_in, named, map_form};
+ghost use Rattle.ldm_words.specs.Jobs.{plain_job, named_in, named, map_form, dump_form, table_form};
 ghost use Rattle.ldm_words.specs.Jobs.{init_form, sample_form, forms, form_in, as_json, options};
-ghost use Rattle.ldm_words.specs.Jobs.{optioned_in, with_options, job_form, is_group, takes, fits};
+ghost use Rattle.ldm_words.specs.Jobs.{section_of, optioned_in, with_options, job_form};
+ghost use Rattle.ldm_words.specs.Jobs.{is_group, takes, fits};
+ghost use Rattle.ldm_words.specs.Names.{name_of};
 ghost use Rattle.ldm_words.specs.Jobs.{job_of};
 ghost use Rattle.ldm_words.specs.Jobs.{HasCount, KeepsLimits, job_kind, writes};
 ghost use Rattle.ldm_words.specs.Commands.{token_bytes, command_of};
@@ -30,13 +32,20 @@ pub enum Format {
     Json(Paths),
 }
 
+/// Sectors of a volume: `count` of them from the sector `first` on.
+#[derive(Clone, Copy, Drop)]
+pub struct Section {
+    pub first: u64,
+    pub count: u64,
+}
+
 /// What a command line asks for.
 #[derive(Drop)]
 pub enum Job {
     /// The private header of one disk.
     Disk(Format),
     /// The copy of the database on one disk.
-    Records,
+    Records(Format),
     /// The group and the disk that each image is of, or why it is of none.
     Scan(Format),
     /// The group that the disks hold.
@@ -48,26 +57,37 @@ pub enum Job {
         name: Bytes,
         first: u64,
         count: u64,
+        format: Format,
     },
-    /// The bytes of a volume.
+    /// The bytes of a volume, or of a section of it.
     Dump {
         name: Bytes,
+        section: Option<Section>,
     },
     /// Where the copies of a mirror, or the parity of a RAID-5, disagree.
     Scrub {
         name: Bytes,
+        format: Format,
     },
     /// The device-mapper tables that make a device of a volume, and the words that name the images.
     Table {
         name: Bytes,
         images: Names,
     },
+    /// The device-mapper tables that make the devices of all volumes, and the words that name the
+    /// images.
+    Tables {
+        images: Names,
+    },
     /// What the lines of a script would make of a group.
-    Try,
+    Try(Format),
     /// The lines of a script, done to a group.
-    Edit,
+    Edit(Format),
     /// One command, done to a group.
-    One(Command),
+    One {
+        command: Command,
+        format: Format,
+    },
     /// A new group on empty disks: its name, its GUID and those of its disks.
     Init {
         name: Bytes,
@@ -83,7 +103,7 @@ impl Job {
     pub fn edits(&self) -> bool
         ensures { result ≡ writes (job_kind self.now) }
     {
-        matches!(self, Job::Edit | Job::One(_) | Job::Init { .. })
+        matches!(self, Job::Edit(_) | Job::One { .. } | Job::Init { .. })
     }
 
     // Whether the job takes so many images behind `on`.
@@ -91,8 +111,8 @@ impl Job {
         ensures { result ≡ takes self.now images }
     {
         match self {
-            Job::Disk(_) | Job::Records => images == 1,
-            Job::Table { images: words, .. } => {
+            Job::Disk(_) | Job::Records(_) => images == 1,
+            Job::Table { images: words, .. } | Job::Tables { images: words } => {
                 is_group(images) && images == words.as_slice().len()
             }
             Job::Init { disks, .. } => is_group(images) && images == disks.as_slice().len(),
@@ -217,30 +237,64 @@ fn read_map(alloc: Global, rest: &[String]) -> Result<Option<Job>, NoMemory>
         && let Some(count) = read_number(count.as_bytes())
         && let Some(name) = read_name(alloc, name.as_bytes())?
     {
-        Ok(Some(Job::Map { name, first, count }))
+        Ok(Some(Job::Map {
+            name,
+            first,
+            count,
+            format: Format::Lines,
+        }))
     } else {
         Ok(None)
     }
 }
 
-// dump NAME
-fn read_dump(alloc: Global, rest: &[String]) -> Result<Option<Job>, NoMemory>
-    ensures is { IfOk result (λ found. found ≡ named jobs.Dump (texts rest.now)) }
+// FIRST COUNT
+fn read_section(first: &String, count: &String) -> Option<Section>
+    ensures { result ≡ section_of (string_bytes first.now) (string_bytes count.now) }
+{
+    let first = read_number(first.as_bytes())?;
+    let count = read_number(count.as_bytes())?;
+    Some(Section { first, count })
+}
+
+// The bytes of the volume of this name, all or those of the section.
+fn dumped(alloc: Global, name: &String, section: Option<Section>) -> Result<Option<Job>, NoMemory>
+    ensures is { IfOk result (λ found. found
+        ≡ option_map (λ name. jobs.Dump name section) (name_of (string_bytes name.now))) }
     ensures limits { IfOk result (λ found. IfSome found KeepsLimits) }
 {
-    match read_named(alloc, rest)? {
-        Some(name) => Ok(Some(Job::Dump { name })),
+    match read_name(alloc, name.as_bytes())? {
+        Some(name) => Ok(Some(Job::Dump { name, section })),
         None => Ok(None),
+    }
+}
+
+// dump NAME, or dump NAME FIRST COUNT
+fn read_dump(alloc: Global, rest: &[String]) -> Result<Option<Job>, NoMemory>
+    ensures is { IfOk result (λ found. found ≡ dump_form (texts rest.now)) }
+    ensures limits { IfOk result (λ found. IfSome found KeepsLimits) }
+{
+    match rest {
+        [name] => dumped(alloc, name, None),
+        [name, first, count] => match read_section(first, count) {
+            Some(section) => dumped(alloc, name, Some(section)),
+            None => Ok(None),
+        },
+        _ => Ok(None),
     }
 }
 
 // scrub NAME
 fn read_scrub(alloc: Global, rest: &[String]) -> Result<Option<Job>, NoMemory>
-    ensures is { IfOk result (λ found. found ≡ named jobs.Scrub (texts rest.now)) }
+    ensures is { IfOk result (λ found. found ≡ named (λ name. jobs.Scrub name Lines)
+        (texts rest.now)) }
     ensures limits { IfOk result (λ found. IfSome found KeepsLimits) }
 {
     match read_named(alloc, rest)? {
-        Some(name) => Ok(Some(Job::Scrub { name })),
+        Some(name) => Ok(Some(Job::Scrub {
+            name,
+            format: Format::Lines,
+        })),
         None => Ok(None),
     }
 }
@@ -256,12 +310,15 @@ fn copy_words(alloc: Global, words: &[String]) -> Result<Names, NoMemory>
     Ok(Names::from_vec(names))
 }
 
-// table NAME, with the words of the images
+// table NAME, or table alone, with the words of the images
 fn read_table(alloc: Global, rest: &[String], behind: &[String]) -> Result<Option<Job>, NoMemory>
-    ensures is { IfOk result (λ found. found ≡ named (λ name. jobs.Table name (texts behind.now))
-        (texts rest.now)) }
+    ensures is { IfOk result (λ found. found ≡ table_form (texts behind.now) (texts rest.now)) }
     ensures limits { IfOk result (λ found. IfSome found KeepsLimits) }
 {
+    if rest.is_empty() {
+        let images = copy_words(alloc, behind)?;
+        return Ok(Some(Job::Tables { images }));
+    }
     match read_named(alloc, rest)? {
         Some(name) => Ok(Some(Job::Table {
             name,
@@ -312,13 +369,17 @@ fn tokens_of(alloc: Global, words: &[String]) -> Result<Vec<&[u8]>, NoMemory>
 // A command, whose tokens are the word and the rest.
 fn read_one(alloc: Global, word: &String, rest: &[String]) -> Result<Option<Job>, NoMemory>
     ensures is { IfOk result (λ found. found
-        ≡ option_map jobs.One (command_of (string_bytes word.now ∷ texts rest.now))) }
+        ≡ option_map (λ command. jobs.One command Lines)
+        (command_of (string_bytes word.now ∷ texts rest.now))) }
     ensures limits { IfOk result (λ found. IfSome found KeepsLimits) }
 {
     let mut tokens = tokens_of(alloc, rest)?;
     tokens.insert(0, word.as_bytes())?;
     match read_command(alloc, &tokens)? {
-        Some(command) => Ok(Some(Job::One(command))),
+        Some(command) => Ok(Some(Job::One {
+            command,
+            format: Format::Lines,
+        })),
         None => Ok(None),
     }
 }
@@ -336,7 +397,7 @@ fn read_form(
 {
     match word.as_str() {
         "disk" => Ok(plain(Job::Disk(Format::Lines), rest)),
-        "records" => Ok(plain(Job::Records, rest)),
+        "records" => Ok(plain(Job::Records(Format::Lines), rest)),
         "scan" => Ok(plain(Job::Scan(Format::Lines), rest)),
         "show" => Ok(plain(Job::Show(Format::Lines), rest)),
         "check" => Ok(plain(Job::Check(Format::Lines), rest)),
@@ -344,8 +405,8 @@ fn read_form(
         "dump" => read_dump(alloc, rest),
         "scrub" => read_scrub(alloc, rest),
         "table" => read_table(alloc, rest, behind),
-        "try" => Ok(plain(Job::Try, rest)),
-        "edit" => Ok(plain(Job::Edit, rest)),
+        "try" => Ok(plain(Job::Try(Format::Lines), rest)),
+        "edit" => Ok(plain(Job::Edit(Format::Lines), rest)),
         "init" => read_init(alloc, rest),
         "sample" => Ok(read_sample(rest)),
         _ => read_one(alloc, word, rest),
@@ -360,9 +421,37 @@ fn as_json(job: Job, paths: Paths) -> Option<Job>
 {
     match job {
         Job::Disk(Format::Lines) => Some(Job::Disk(Format::Json(paths))),
+        Job::Records(Format::Lines) => Some(Job::Records(Format::Json(paths))),
         Job::Scan(Format::Lines) => Some(Job::Scan(Format::Json(paths))),
         Job::Show(Format::Lines) => Some(Job::Show(Format::Json(paths))),
         Job::Check(Format::Lines) => Some(Job::Check(Format::Json(paths))),
+        Job::Map {
+            name,
+            first,
+            count,
+            format: Format::Lines,
+        } => Some(Job::Map {
+            name,
+            first,
+            count,
+            format: Format::Json(paths),
+        }),
+        Job::Scrub {
+            name,
+            format: Format::Lines,
+        } => Some(Job::Scrub {
+            name,
+            format: Format::Json(paths),
+        }),
+        Job::Try(Format::Lines) => Some(Job::Try(Format::Json(paths))),
+        Job::Edit(Format::Lines) => Some(Job::Edit(Format::Json(paths))),
+        Job::One {
+            command,
+            format: Format::Lines,
+        } => Some(Job::One {
+            command,
+            format: Format::Json(paths),
+        }),
         _ => None,
     }
 }

@@ -8,8 +8,7 @@ runs-init g c =
     let host = g.H.Host.seen c.args.host.now in
     record {
       looks = looks_as (looks_itself host (g.met.H.Host.counts_now c.args.host.now) (g.met.H.Host.only_now c.args.host.now)) (λ is. absurd is);
-      within = omega arith;
-      room = omega arith;
+      few = omega arith;
       bytes = λ tells. sym (no_text host.content c.args.found.now c.args.plan.now c.args.sector);
     }
 
@@ -20,8 +19,7 @@ runs-preserved g c =
     let here : 512 * c.runs.count ≤ length c.runs.out = omega arith in
     record {
       looks = looks_then c.runs.invariant.looks next.looks (λ is. absurd is);
-      within = omega (arith, next.fits);
-      room = omega (arith, next.room);
+      few = omega (arith, next.room);
       bytes = λ tells. text_step old.content (g.H.Host.seen c.runs.host).content c.args.found.now c.args.plan.now c.args.sector c.runs.count c.in_ok-count.field-0 c.runs.out c.read_some.new.out _
           c.runs.invariant.looks.still.content here (omega (arith, next.room)) (c.runs.invariant.bytes tells) (next.bytes tells);
     }

@@ -1,4 +1,4 @@
-use Rattle.std.proofs.Common.{arith, ◌≡◌, ◌∙◌, ℕ, sym, ap, Bool, ◌-◌, Option, Some}
+use Rattle.std.proofs.Common.{arith, ◌≡◌, ◌∙◌, ℕ, sym, ap, Bool, Option, Some}
 use Rattle.ldm_places.specs.declared.shape.Shape.{Shape}
 use Rattle.ldm_table.specs.declared.faults.TableFault.{TableFault}
 use Rattle.ldm_table.specs.declared.faults.TableFault.TheVariants.{Chunk, Columns}

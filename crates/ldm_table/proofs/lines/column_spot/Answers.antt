@@ -1,4 +1,4 @@
-use Rattle.std.proofs.Common.{◌*◌, ap, ◌∙◌, Option, false, arith}
+use Rattle.std.proofs.Common.{◌*◌, ap, ◌∙◌, Option, arith}
 use Rattle.ldm_places.specs.declared.shape.Place.{Place}
 use Rattle.ldm_dump.specs.Sources.{spot_at}
 use Rattle.ldm_table.proofs.VolumeLaws.{stripe_begins, stripe_first, one_copy}

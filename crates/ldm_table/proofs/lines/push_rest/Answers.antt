@@ -1,4 +1,4 @@
-use Rattle.std.proofs.Common.{◌-◌, arith}
+use Rattle.std.proofs.Common.{arith}
 use Rattle.std.proofs.lemmas.List.{append-nil}
 use Rattle.ldm_table.proofs.LineLaws.{no_stretches}
 use Rattle.ldm_table.proofs.lines.push_rest.Goals as goal

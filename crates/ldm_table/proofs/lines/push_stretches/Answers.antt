@@ -1,4 +1,4 @@
-use Rattle.std.proofs.Common.{◌-◌, sym, ◌∙◌, arith}
+use Rattle.std.proofs.Common.{sym, ◌∙◌, arith}
 use Rattle.std.proofs.lemmas.Grind.{common_steps}
 use Rattle.ldm_dump.proofs.ReadLaws.{on_ok}
 use Rattle.ldm_table.proofs.LineLaws.{text_joined, text_apart, text_begun, text_ended, no_stretches}

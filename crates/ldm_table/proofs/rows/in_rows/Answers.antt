@@ -1,4 +1,4 @@
-use Rattle.std.proofs.Common.{arith, ◌-◌, sym, ◌∙◌}
+use Rattle.std.proofs.Common.{arith, sym, ◌∙◌}
 use Rattle.ldm_table.proofs.VolumeLaws.{no_rows, whole_of}
 use Rattle.ldm_table.proofs.rows.in_rows.Goals as goal
 
