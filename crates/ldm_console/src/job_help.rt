@@ -15,7 +15,7 @@ const JOBS: [(&str, &str); 20] = [
     ),
     (
         "records",
-        "Each line is a record: its type, id and name, and how long its own spelling is.",
+        "Each line is a record: its type, id and name, and how long its own spelling is. With --json behind records it is\none JSON value, which has the fields of each record.",
     ),
     (
         "show",
@@ -27,28 +27,28 @@ const JOBS: [(&str, &str); 20] = [
     ),
     (
         "map",
-        "FIRST is a sector of the volume, from 0 on. Each line names the disk, the sector of its data area, and that of\nits image.\n\nexample: ldm map 'Volume1' 0 1 on disk1.img disk2.img",
+        "FIRST is a sector of the volume, from 0 on. Each line names the disk, the sector of its data area, and that of\nits image. With --json behind map it is one JSON value.\n\nexample: ldm map 'Volume1' 0 1 on disk1.img disk2.img",
     ),
     (
         "dump",
-        "Standard output has the sectors of the volume and nothing else; they are the whole volume where the status is 0.\n\nexample: ldm dump 'Volume1' on disk1.img disk2.img > volume1",
+        "Standard output has the sectors of the volume and nothing else; they are all that were asked for where the status is\n0. FIRST is a sector of the volume, from 0 on. Where a dump ended early, the sectors from FIRST on are still to come,\nwhich is the length of what it said by 512.\n\nexample: ldm dump 'Volume1' on disk1.img disk2.img > volume1",
     ),
     (
         "scrub",
-        "It needs all disks of the volume, and writes nothing. The status is 1 where a place is bad.",
+        "It needs all disks of the volume, and writes nothing. The status is 1 where a place is bad. With --json behind scrub\neach line is a JSON value.",
     ),
     (
         "table",
-        "Each image is named in the table by its word here, so an image that is a file needs a loop device first.\n\nexample: dmsetup create --concise \"$(ldm table 'Volume1' on /dev/loop0 /dev/loop1)\"",
+        "Each image is named in the table by its word here, so an image that is a file needs a loop device first.\nWithout VOLUME all volumes are made by one text; it is refused where one of them has no table.\n\nexample: dmsetup create --concise \"$(ldm table 'Volume1' on /dev/loop0 /dev/loop1)\"",
     ),
     (
         "try",
-        "It writes nothing. Each line has one reply: ok and the sequence of the group then, held, or refused and why.\n\nexample: ldm try on disk1.img disk2.img < script",
+        "It writes nothing. Each line has one reply: ok and the sequence of the group then, held, or refused and why.\nWith --json behind try each reply is a JSON value.\n\nexample: ldm try on disk1.img disk2.img < script",
     ),
     ("sample", "It reads no image and writes to none."),
     (
         "edit",
-        "All images of the group are named. Each line has one reply, when it is done on all disks; one that is refused\nchanges nothing. Whatever a stop leaves is the group after the lines that were answered, or one more.\n\nexample: ldm try on disk1.img disk2.img < script && ldm edit on disk1.img disk2.img < script",
+        "All images of the group are named. Each line has one reply, when it is done on all disks; one that is refused\nchanges nothing. Whatever a stop leaves is the group after the lines that were answered, or one more.\nWith --json behind edit each reply is a JSON value.\n\nexample: ldm try on disk1.img disk2.img < script && ldm edit on disk1.img disk2.img < script",
     ),
     (
         "init",

@@ -177,7 +177,7 @@ fn init<'a>(alloc: Global, words: &'a [String], on: Option<usize>) -> Read<'a> {
 
 // A job that the help says, or why the word is none.
 fn by_help<'a>(alloc: Global, word: &'a str, rest: &'a [String], on: Option<usize>) -> Read<'a> {
-    match form_of(word) {
+    match form_of(word, rest.len()) {
         Some(form) => Ok(by_form(alloc, form, rest, on)?),
         None => Err(unknown_job(alloc, word)),
     }
@@ -195,6 +195,14 @@ fn help<'a>(alloc: Global, words: &'a [String]) -> Read<'a> {
     }
 }
 
+// The words of a command behind its option, where it has one.
+fn behind_json(words: &[String]) -> &[String] {
+    match words {
+        [word, rest @ ..] if word.as_str() == "--json" => rest,
+        _ => words,
+    }
+}
+
 // The words before `on`, and how many images stand behind it.
 fn job<'a>(alloc: Global, words: &'a [String], on: Option<usize>) -> Read<'a> {
     let [word, rest @ ..] = words else {
@@ -202,9 +210,9 @@ fn job<'a>(alloc: Global, words: &'a [String], on: Option<usize>) -> Read<'a> {
     };
     match word.as_str() {
         "init" => init(alloc, rest, on),
-        "create" => create(alloc, rest, on),
-        "extend" => extend(alloc, rest, on),
-        "delete" => delete(alloc, rest, on),
+        "create" => create(alloc, behind_json(rest), on),
+        "extend" => extend(alloc, behind_json(rest), on),
+        "delete" => delete(alloc, behind_json(rest), on),
         "help" => help(alloc, rest),
         word @ ("begin" | "commit" | "cancel") => Err(UsageError::OfBatch { word: Shown(word) }),
         word => by_help(alloc, word, rest, on),

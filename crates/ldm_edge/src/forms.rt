@@ -32,17 +32,41 @@ pub fn word_of(form: &str) -> &str {
     }
 }
 
-/// The form of the job of this name, of those jobs that the help says before the commands. Their
-/// words are read by the form alone.
-pub fn form_of(name: &str) -> Option<&'static str> {
+// How many words a form has behind the job's, without its images.
+fn part_count(form: &str) -> usize {
+    match form.split_once(" on ") {
+        Some((names, _)) => names.matches(' ').count(),
+        None => form.matches(' ').count(),
+    }
+}
+
+// Whether so many words fit one form better than another: it has a part for each, and fewer to
+// spare; or both lack parts, and it has more.
+fn fits_better(words: usize, form: &str, other: &str) -> bool {
+    let (own, others) = (part_count(form), part_count(other));
+    if own < words {
+        others < own
+    } else {
+        others < words || own < others
+    }
+}
+
+/// The form of the job of this name that so many words behind it fit best, of those jobs that the
+/// help says before the commands. Their words are read by the form alone.
+pub fn form_of(name: &str, words: usize) -> Option<&'static str> {
+    let mut best = None;
     for line in help_to("  COMMAND ").lines() {
         if let Some(form) = form_in(line) {
-            if word_of(form) == name {
-                return Some(form);
+            let is_better = match best {
+                Some(other) => fits_better(words, form, other),
+                None => true,
+            };
+            if word_of(form) == name && is_better {
+                best = Some(form);
             }
         }
     }
-    None
+    best
 }
 
 /// The words before `on`, and how many images stand behind it, where there is an `on`.
@@ -135,7 +159,9 @@ fn no_more<'a>(
 }
 
 // The jobs that say JSON where --json stands behind their name.
-const WITH_JSON: [&str; 4] = ["disk", "scan", "show", "check"];
+const WITH_JSON: [&str; 9] = [
+    "disk", "records", "scan", "show", "check", "map", "scrub", "try", "edit",
+];
 
 // The words of a job behind its option, where it has one.
 fn behind_option<'a>(

@@ -19,12 +19,15 @@ These jobs read:
   check on IMAGE...                      what each image holds, and whether the group may be edited
   map VOLUME FIRST COUNT on IMAGE...     where sectors of a volume lie, 4096 at most
   dump VOLUME on IMAGE...                the bytes of a volume, also where a disk is absent that isn't needed
+  dump VOLUME FIRST COUNT on IMAGE...    those of COUNT sectors of it, from FIRST on
   scrub VOLUME on IMAGE...               where the copies of a mirror, or the parity of a RAID-5, disagree
   table VOLUME on IMAGE...               what dmsetup create --concise takes, to mount a volume where it lies, read-only
+  table on IMAGE...                      the same of all volumes of the group
   try on IMAGE...                        what the lines of a script on standard input would make of a group
   sample SEED                            an edit of 200 lines that a number draws, of a group in memory
 
-With --json behind its name, disk, scan, show or check says one JSON value: ldm show --json on IMAGE...
+With --json behind its name, disk, records, scan, show, check or map says one JSON value: ldm show --json on IMAGE...
+With it scrub, try, edit or a COMMAND says a JSON value for each line: ldm edit --json on IMAGE...
 
 These write, to all images of the group. No other program may write to them meanwhile:
 

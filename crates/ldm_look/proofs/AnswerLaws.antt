@@ -10,7 +10,7 @@ use Rattle.ldm_copy.specs.Copy.{config_area}
 use Rattle.ldm_copy.proofs.OneCopy.{one_copy}
 use Rattle.ldm_words.specs.declared.job.Job.{Job}
 use Rattle.ldm_words.specs.declared.job.Job.TheVariants.{Disk, Records, Scan, Show, Check, Map}
-use Rattle.ldm_words.specs.declared.job.Format.TheVariants.{Lines, Json}
+use Rattle.ldm_words.specs.declared.job.Format.{Format}
 use Rattle.ldm_words.specs.declared.status.Status.{Status}
 use Rattle.ldm_words.specs.declared.status.Status.TheVariants.{Usage, NoMemory}
 use Rattle.ldm_words.specs.Jobs.{job_of}
@@ -18,11 +18,8 @@ use Rattle.ldm_copy.specs.declared.found.Found.{Found}
 use Rattle.ldm_found.proofs.GroupLaws.{one_group}
 use Rattle.ldm_look.specs.Said.{Answer, IsUnread}
 use Rattle.ldm_look.specs.Mapping.{is_bad_range, map_answer}
-use Rattle.ldm_look.specs.Looks.{copy_answer, group_answer, show_answer, check_answer, group_json_answer, scan_answer, look_of, IsRecordsAnswer, IsGroupAnswer, IsGroupJson, IsScanAnswer, IsLookAnswer, IsAnswerOf, IsLookAt}
+use Rattle.ldm_look.specs.Looks.{copy_answer, group_answer, formatted_answer, show_answer, check_answer, scan_answer, look_of, IsRecordsAnswer, IsGroupAnswer, IsFormattedAnswer, IsScanAnswer, IsLookAnswer, IsAnswerOf, IsLookAt}
 use Rattle.ldm_look.specs.Runs.{Completes, NoFault, OfLook, OnlyReads}
-use Rattle.json.specs.Json as json
-use Rattle.ldm_look.specs.ShowJson.{show_json}
-use Rattle.ldm_look.specs.CheckJson.{check_json}
 use Rattle.ldm_look.specs.declared.scanned.Scanned.{Scanned}
 use Rattle.ldm_look.proofs.ScanLaws.{one_scanned}
 use Rattle.ldm_look.proofs.EndLaws.{complete, unread_is}
@@ -30,8 +27,9 @@ use Rattle.ldm_look.proofs.EndLaws.{complete, unread_is}
 -- ---- What `map` is asked.
 
 -- the answer of a name is that of the same name
-pub same_name : (name other : List ℕ) (first count : ℕ) (found : Found) (answer : Answer) → name ≡ other → answer ≡ map_answer name first count found → answer ≡ map_answer other first count found
-same_name name other first count found answer same is = subst (λ (n : List ℕ). answer ≡ map_answer n first count found) same is
+pub same_name : (format : Format) (name other : List ℕ) (first count : ℕ) (found : Found) (answer : Answer) → name ≡ other → answer ≡ map_answer format name first count found
+    → answer ≡ map_answer format other first count found
+same_name format name other first count found answer same is = subst (λ (n : List ℕ). answer ≡ map_answer format n first count found) same is
 
 -- a range that is not bad lies in the volume
 pub range_fits : (size first count : ℕ) → is_bad_range size first count ≡ false → first + count ≤ size
@@ -43,29 +41,26 @@ range_fits size first count h = go (count == 0) (nat_lt 4096 count) (nat_lt size
 
 -- ---- There is one answer to the words.
 
-one_records : (label : Result Label LabelFault) (bytes : List ℕ) (a b : Answer) → IsRecordsAnswer label bytes a → IsRecordsAnswer label bytes b → a ≡ b
-one_records (Ok label) bytes a b x y = x.2 ∙ ap copy_answer (one_copy (config_area label bytes) label.area_sectors x.0 y.0 x.1 y.1) ∙ sym y.2
-one_records (Err fault) bytes a b x y = x ∙ sym y
+one_records : (format : Format) (label : Result Label LabelFault) (bytes : List ℕ) (a b : Answer) → IsRecordsAnswer format label bytes a → IsRecordsAnswer format label bytes b → a ≡ b
+one_records format (Ok label) bytes a b x y = x.2 ∙ ap (copy_answer format) (one_copy (config_area label bytes) label.area_sectors x.0 y.0 x.1 y.1) ∙ sym y.2
+one_records format (Err fault) bytes a b x y = x ∙ sym y
 
 pub one_of_group : (answer_of : Found → Answer) (images : List (List ℕ)) (a b : Answer) → IsGroupAnswer answer_of images a → IsGroupAnswer answer_of images b → a ≡ b
 one_of_group answer_of images a b x y = x.2 ∙ ap (group_answer answer_of) (one_group images x.0 y.0 x.1 y.1) ∙ sym y.2
 
-one_of_json : (paths : List (List ℕ)) (json_of : Found → json.Json) (images : List (List ℕ)) (a b : Answer) → IsGroupJson paths json_of images a → IsGroupJson paths json_of images b → a ≡ b
-one_of_json paths json_of images a b x y = x.2 ∙ ap (group_json_answer paths json_of) (one_group images x.0 y.0 x.1 y.1) ∙ sym y.2
+pub one_formatted : (format : Format) (answer_of : Found → Answer) (images : List (List ℕ)) (a b : Answer) → IsFormattedAnswer format answer_of images a → IsFormattedAnswer format answer_of images b → a ≡ b
+one_formatted format answer_of images a b x y = x.2 ∙ ap (formatted_answer format answer_of) (one_group images x.0 y.0 x.1 y.1) ∙ sym y.2
 
 one_scan : (answer_of : List Scanned → Answer) (images : List (List ℕ)) (a b : Answer) → IsScanAnswer answer_of images a → IsScanAnswer answer_of images b → a ≡ b
 one_scan answer_of images a b x y = x.2 ∙ ap answer_of (one_scanned images x.0 y.0 x.1 y.1) ∙ sym y.2
 
 pub one_of_look : (job : Job) (images : List (List ℕ)) (a b : Answer) → IsLookAnswer job images a → IsLookAnswer job images b → a ≡ b
-one_of_look (Disk Lines) images a b x y = x ∙ sym y
-one_of_look (Disk (Json paths)) images a b x y = x ∙ sym y
+one_of_look (Disk format) images a b x y = x ∙ sym y
+one_of_look (Records format) images a b x y = one_records format (label_of (image images 0)) (image images 0) a b x y
 one_of_look (Scan format) images a b x y = one_scan (scan_answer format) images a b x y
-one_of_look Records images a b x y = one_records (label_of (image images 0)) (image images 0) a b x y
-one_of_look (Show Lines) images a b x y = one_of_group show_answer images a b x y
-one_of_look (Show (Json paths)) images a b x y = one_of_json paths (show_json paths) images a b x y
-one_of_look (Check Lines) images a b x y = one_of_group check_answer images a b x y
-one_of_look (Check (Json paths)) images a b x y = one_of_json paths (check_json paths) images a b x y
-one_of_look (Map name first count) images a b x y = one_of_group (map_answer name first count) images a b x y
+one_of_look (Show format) images a b x y = one_formatted format (show_answer format) images a b x y
+one_of_look (Check format) images a b x y = one_formatted format (check_answer format) images a b x y
+one_of_look (Map name first count format) images a b x y = one_formatted format (map_answer format name first count) images a b x y
 one_of_look other images a b x y = absurd x
 
 one_of : (job : Option Job) (images : List (List ℕ)) (a b : Answer) → IsAnswerOf job images a → IsAnswerOf job images b → a ≡ b

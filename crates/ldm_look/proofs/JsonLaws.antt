@@ -24,13 +24,15 @@ use Rattle.ldm_look.specs.Paths.{path_of}
 use Rattle.ldm_look.specs.LabelJson.{label_json}
 use Rattle.ldm_look.specs.declared.fault_json.Named.{Named}
 use Rattle.ldm_look.specs.FaultJson.{named_json, refusal_json}
-use Rattle.ldm_look.specs.CheckJson.{note_sequence, note_json, kind_json, reason_json, note_jsons, check_json}
+use Rattle.ldm_look.specs.CheckJson.{note_sequence, note_json, kind_json, reason_json, note_jsons, absent_jsons, check_json}
 use Rattle.ldm_look.specs.Volumes.{text_of_shape}
 use Rattle.json.specs.Json.{Json}
 use Rattle.ldm_records.specs.declared.types.Record.{Record}
 use Rattle.ldm_records.specs.declared.types.Partition.{Partition}
 use Rattle.ldm_records.specs.declared.types.Component.{Component}
 use Rattle.ldm_label.specs.declared.Label.{Label}
+use Rattle.ldm_space.specs.Free.{Taken}
+use Rattle.ldm_space.specs.Gaps.{largest_free}
 use Rattle.ldm_group.specs.Partitions.{used_on}
 use Rattle.ldm_layout.specs.Parts.{plexes_at, plexes_of}
 use Rattle.ldm_layout.specs.Grouped.{Lists, IsListsOf}
@@ -40,11 +42,11 @@ use Rattle.ldm_look.specs.declared.mapped.MappedDisk.{MappedDisk}
 use Rattle.ldm_look.specs.Map.{mapped_at}
 use Rattle.ldm_look.specs.ShowJson.{image_sector, in_64_bits, partition_json, component_json, volume_json, shaped_volume, group_json, layout_word, partition_jsons, disk_json, own_partitions, own_components, component_jsons, volume_jsons, all_volume_jsons, disk_jsons}
 
-pub same_disk_jsons : (paths : List (List ℕ)) (used : ℕ → ℕ) (labels : List Label) (zs records : List Record) → ((disk : ℕ) → used disk ≡ used_on zs disk) → zs ≡ records
-    → disk_jsons paths used labels records ≡ disk_jsons paths (used_on records) labels records
-same_disk_jsons paths used labels zs records is from =
+pub same_disk_jsons : (paths : List (List ℕ)) (used : ℕ → ℕ) (taken : List Taken) (labels : List Label) (zs records : List Record) → ((disk : ℕ) → used disk ≡ used_on zs disk) → zs ≡ records
+    → disk_jsons paths used taken labels records ≡ disk_jsons paths (used_on records) taken labels records
+same_disk_jsons paths used taken labels zs records is from =
     let alike : used ≡ used_on zs = λ i disk. is disk i in
-    ap (λ (f : ℕ → ℕ). disk_jsons paths f labels records) (alike ∙ ap used_on from)
+    ap (λ (f : ℕ → ℕ). disk_jsons paths f taken labels records) (alike ∙ ap used_on from)
 
 same_shapes : (lists : Lists) (records : List Record) → IsListsOf lists records
     → ◌≡◌ {A = ℕ → Option Shape} (λ volume. shape_of (plexes_at volume lists.plexes)) (λ volume. shape_of (plexes_of volume records))
@@ -126,13 +128,15 @@ pub volume_is : (components : List Json) (v : Volume) (shape : Shape) (name word
     ∷ (codes "bytes", maybe_json bytes) ∷ (codes "hint", maybe_name_json hint) ∷ (codes "components", json_array components) ∷ []) ≡ volume_json components v shape
 volume_is components v shape name word guid bytes hint n g w b h = rw (n, g, w, b, h) refl
 
-pub disk_is : (paths : List (List ℕ)) (used : ℕ) (labels : List Label) (d : Disk) (name : List ℕ) (at image : Option ℕ) (path : Option (List ℕ)) (start size free : Option ℕ) (label : Option Label)
+pub disk_is : (paths : List (List ℕ)) (used : ℕ) (taken : List Taken) (labels : List Label) (d : Disk) (name : List ℕ) (at image : Option ℕ) (path : Option (List ℕ)) (start size free largest : Option ℕ) (label : Option Label)
     → name ≡ d.head.name → at ≡ image → path ≡ path_of paths image → image ≡ image_with d.guid labels → label ≡ label_with d.guid labels → start ≡ option_map (λ l. l.data_start) label
     → size ≡ option_map (λ l. l.data_size) label → free ≡ option_map (λ l. l.data_size - used) label
+    → largest ≡ option_map (λ l. largest_free taken d.head.id l.data_size) label
     → json_object (
     (codes "id", number_json d.head.id) ∷ (codes "name", name_json name) ∷ (codes "guid", guid_json d.guid) ∷ (codes "image", maybe_json at) ∷ (codes "path", maybe_text_json path)
-    ∷ (codes "data_start", maybe_json start) ∷ (codes "data_size", maybe_json size) ∷ (codes "free", maybe_json free) ∷ []) ≡ disk_json paths used labels d
-disk_is paths used labels d name at image path start size free label n t p i l a b c = rw (n, t, p, i, a, b, c, l) refl
+    ∷ (codes "data_start", maybe_json start) ∷ (codes "data_size", maybe_json size) ∷ (codes "free", maybe_json free) ∷ (codes "largest_free", maybe_json largest) ∷ [])
+    ≡ disk_json paths used taken labels d
+disk_is paths used taken labels d name at image path start size free largest label n t p i l a b c e = rw (n, t, p, i, a, b, c, e, l) refl
 
 -- ---- values that stand alone
 
@@ -148,11 +152,18 @@ pub closed_alone : (one two three four op : List Token) (ms : List Member) (key 
 closed_alone one two three four op ms key js a b is c d =
     d ∙ closed_from one two three op ms key js b is c ∙ ap (λ (ts : List Token). ts ++ json_tokens (json_object (ms ++ (key, json_array js) ∷ []))) a
 
+pub both_alone : (one two three four five op : List Token) (ms : List Member) (first second : List ℕ) (js ks : List Json) → one ≡ [] → two ≡ one ++ op → op ≡ beginning ms first
+    → three ≡ two ++ flat_map json_tokens js → four ≡ three ++ then_array second → five ≡ four ++ flat_map json_tokens ks
+    → five ++ closing ≡ json_tokens (json_object (ms ++ (first, json_array js) ∷ (second, json_array ks) ∷ []))
+both_alone one two three four five op ms first second js ks a b is c d e =
+    both_from one two three four five op ms first second js ks b is c d e
+    ∙ ap (λ (ts : List Token). ts ++ json_tokens (json_object (ms ++ (first, json_array js) ∷ (second, json_array ks) ∷ []))) a
+
 pub open_is : (paths : List (List ℕ)) (image : ℕ) (path : Option (List ℕ)) (m : Membership) (group : List ℕ) (disk : Option (List ℕ)) → path ≡ slice_get paths image → group ≡ m.group → disk ≡ m.disk
     → json_object (
     (codes "image", number_json image) ∷ (codes "path", maybe_text_json path) ∷ (codes "state", string (codes "open")) ∷ (codes "group", name_json group)
     ∷ (codes "group_guid", guid_json m.group_guid) ∷ (codes "disk", maybe_name_json disk) ∷ (codes "disk_guid", guid_json m.disk_guid)
-    ∷ (codes "sequence", number_json m.seq) ∷ (codes "reason", null) ∷ []) ≡ scanned_json paths (image, Open m)
+    ∷ (codes "sequence", number_json m.seq) ∷ (codes "reason", null) ∷ (codes "format", null) ∷ []) ≡ scanned_json paths (image, Open m)
 open_is paths image path m group disk p a b = rw (p, a, b) refl
 
 pub label_is : (label : Label) (minor : ℕ) → minor ≡ label.minor
@@ -165,7 +176,8 @@ label_is label minor a = rw a refl
 
 pub check_is : (paths : List (List ℕ)) (found : Found) (editable : Bool) (kind reason : Json) (notes : List Note) → editable ≡ is_none found.blocked → kind ≡ kind_json found.blocked
     → reason ≡ reason_json found.blocked → notes ≡ found.notes
-    → json_object ((codes "editable", boolean editable) ∷ (codes "kind", kind) ∷ (codes "reason", reason) ∷ (codes "images", json_array (note_jsons paths notes)) ∷ []) ≡ check_json paths found
+    → json_object ((codes "editable", boolean editable) ∷ (codes "kind", kind) ∷ (codes "reason", reason) ∷ (codes "images", json_array (note_jsons paths notes))
+    ∷ (codes "absent", json_array (absent_jsons found.labels found.db.records)) ∷ []) ≡ check_json paths found
 check_is paths found editable kind reason notes a b c d = rw (a, b, c, d) refl
 
 pub note_is : (paths : List (List ℕ)) (image : ℕ) (note : Note) (path : Option (List ℕ)) (seq : Option ℕ) → path ≡ slice_get paths image → seq ≡ note_sequence note

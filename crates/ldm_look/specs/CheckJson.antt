@@ -1,8 +1,13 @@
 -- The JSON of `check`: whether the group may be edited, or why not, and what each image holds.
-use Rattle.std.specs.Prelude.{ℕ, List, [], ◌∷◌, map, codes, is_none, slice_get, Option, Some, None}
+use Rattle.std.specs.Prelude.{ℕ, List, [], ◌∷◌, map, codes, is_none, slice_get, Option, Some, None, if◌then◌else◌, flat_map}
 use Rattle.std.specs.List.{enumerate_from}
 use Rattle.json.specs.Json.{Json, null, boolean, string}
-use Rattle.ldm_json.specs.Values.{number_json, maybe_json, maybe_text_json, said_json, json_object, json_array}
+use Rattle.ldm_records.specs.declared.types.Record.{Record}
+use Rattle.ldm_records.specs.declared.types.Record.TheVariants as kinds
+use Rattle.ldm_records.specs.declared.types.Disk.{Disk}
+use Rattle.ldm_label.specs.declared.Label.{Label}
+use Rattle.ldm_label.specs.Present.{image_with}
+use Rattle.ldm_json.specs.Values.{number_json, name_json, guid_json, maybe_json, maybe_text_json, said_json, json_object, json_array}
 use Rattle.ldm_copy.specs.declared.fault.OpenFault.{OpenFault}
 use Rattle.ldm_copy.specs.declared.notes.Note.{Note}
 use Rattle.ldm_copy.specs.declared.notes.Note.TheVariants.{Closed, Sequence}
@@ -35,6 +40,23 @@ abbrev pub reason_json : Option OpenFault → Json
 reason_json None = null
 reason_json (Some fault) = said_json (text_of_open_fault fault)
 
+-- a disk that has no image
+abbrev pub absent_json : Disk → Json
+absent_json d =
+    json_object (
+    (codes "id", number_json d.head.id)
+    ∷ (codes "name", name_json d.head.name)
+    ∷ (codes "guid", guid_json d.guid)
+    ∷ [])
+
+abbrev pub absent_jsons_at : List Label → Record → List Json
+absent_jsons_at labels (kinds.Disk d) = if is_none (image_with d.guid labels) then absent_json d ∷ [] else []
+absent_jsons_at labels _ = []
+
+-- each disk of the group that has no image, in rising id
+abbrev pub absent_jsons : List Label → List Record → List Json
+absent_jsons labels records = flat_map (absent_jsons_at labels) records
+
 abbrev pub check_json : List (List ℕ) → Found → Json
 check_json paths found =
     json_object (
@@ -42,4 +64,5 @@ check_json paths found =
     ∷ (codes "kind", kind_json found.blocked)
     ∷ (codes "reason", reason_json found.blocked)
     ∷ (codes "images", json_array (note_jsons paths found.notes))
+    ∷ (codes "absent", json_array (absent_jsons found.labels found.db.records))
     ∷ [])

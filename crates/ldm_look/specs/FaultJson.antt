@@ -56,6 +56,10 @@ named_json paths kind named text =
 abbrev pub fault_json : List (List ℕ) → OpenFault → Json
 fault_json paths fault = named_json paths (kind_of_fault fault) (fault_names fault) (text_of_open_fault fault)
 
+-- a reason of this kind, which names nothing
+abbrev pub unnamed_json : List ℕ → List ℕ → Json
+unnamed_json kind text = named_json [] kind (naming None None None None) text
+
 -- what refuses for it
 abbrev pub refusal_json : Json → Json
 refusal_json fault = json_object ((codes "refused", fault) ∷ [])

@@ -4,12 +4,16 @@ pub mod Check
 pub mod Show
 pub mod ShowJson
 pub mod FaultJson
+pub mod Foreign
 pub mod LabelJson
 pub mod CheckJson
+pub mod RecordsJson
 pub mod Scan
 pub mod Map
+pub mod MapJson
 pub mod Volumes
 pub mod Said
 pub mod Mapping
 pub mod Looks
+pub mod Refusals
 pub mod Runs

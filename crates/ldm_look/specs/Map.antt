@@ -8,16 +8,16 @@ use Rattle.ldm_group.specs.Looks.{by_id, disk_in}
 use Rattle.ldm_label.specs.declared.Label.{Label}
 use Rattle.ldm_places.specs.Layouts.{Layout, copies_of, place_in, parity_in}
 use Rattle.ldm_places.specs.declared.shape.Place.{Place}
-use Rattle.ldm_label.specs.Present.{data_start_with}
+use Rattle.ldm_label.specs.Present.{image_with, data_start_with}
 use Rattle.ldm_copy.specs.declared.found.Found.{Found}
 use Rattle.ldm_look.specs.declared.mapped.MappedDisk.{MappedDisk}
 use Rattle.ldm_words.specs.Names.{esc}
 
 -- ---- disks
 
--- the name of a disk, and where its data begin on its first image, if an image of it is there
+-- the name of a disk, its first image, if an image of it is there, and where its data begin on that
 abbrev pub mapped_disk : List Label → Disk → MappedDisk
-mapped_disk labels d = record { name = d.head.name; data_start = data_start_with d.guid labels }
+mapped_disk labels d = record { name = d.head.name; image = image_with d.guid labels; data_start = data_start_with d.guid labels }
 
 -- the disk of this id
 abbrev pub mapped_at : List Label → List Record → ℕ → Option MappedDisk

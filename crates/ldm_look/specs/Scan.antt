@@ -17,6 +17,8 @@ use Rattle.ldm_copy.specs.Copy.{IsCopyOf, config_area}
 use Rattle.ldm_text.specs.Texts.{text_of_label_fault}
 use Rattle.ldm_text.specs.Records.{text_of_copy_fault}
 use Rattle.ldm_words.specs.Names.{esc}
+use Rattle.ldm_look.specs.declared.foreign.Foreign.{Foreign}
+use Rattle.ldm_look.specs.Foreign.{foreign_in, format_word, text_of_foreign}
 use Rattle.ldm_look.specs.declared.scanned.Membership.{Membership}
 use Rattle.ldm_look.specs.declared.scanned.Scanned.{Scanned}
 use Rattle.ldm_look.specs.declared.scanned.Scanned.TheVariants.{BadLabel, BadCopy, Closed, Open}
@@ -41,7 +43,7 @@ scanned_copy label (Err fault) = BadCopy fault
 
 -- what an image with this label is, by the copy in the config area that the label says
 abbrev pub IsScannedAs : Result Label LabelFault → List ℕ → Scanned → Type 0
-IsScannedAs (Err fault) image scanned = scanned ≡ BadLabel fault
+IsScannedAs (Err fault) image scanned = scanned ≡ BadLabel fault (foreign_in fault image)
 IsScannedAs (Ok label) image scanned =
     (copy : Result CopyState CopyFault) × IsCopyOf (config_area label image) label.area_sectors copy × (scanned ≡ scanned_copy label copy)
 
@@ -70,7 +72,7 @@ text_of_membership m =
 
 -- what follows image I
 abbrev pub text_of_scanned : Scanned → List ℕ
-text_of_scanned (BadLabel fault) = codes " refused: " ++ (text_of_label_fault fault ++ codes "\n")
+text_of_scanned (BadLabel fault foreign) = codes " refused: " ++ (text_of_label_fault fault ++ (text_of_foreign foreign ++ codes "\n"))
 text_of_scanned (BadCopy fault) = codes " refused: " ++ (text_of_copy_fault fault ++ codes "\n")
 text_of_scanned (Closed disk) = codes " closed disk " ++ (own_guid disk ++ codes "\n")
 text_of_scanned (Open m) = text_of_membership m
@@ -85,8 +87,8 @@ text_of_scan scanned = flat_map line_of_scanned (enumerate_from 0 scanned)
 -- ---- JSON
 
 -- an image in this state, its word, and what is known of it
-abbrev pub state_json : List (List ℕ) → ℕ → List ℕ → Json → Json → Json → Json → Json → Json → Json
-state_json paths image state group group_guid disk disk_guid seq reason =
+abbrev pub state_json : List (List ℕ) → ℕ → List ℕ → Json → Json → Json → Json → Json → Json → Json → Json
+state_json paths image state group group_guid disk disk_guid seq reason format =
     json_object (
     (codes "image", number_json image)
     ∷ (codes "path", maybe_text_json (slice_get paths image))
@@ -97,17 +99,18 @@ state_json paths image state group group_guid disk disk_guid seq reason =
     ∷ (codes "disk_guid", disk_guid)
     ∷ (codes "sequence", seq)
     ∷ (codes "reason", reason)
+    ∷ (codes "format", format)
     ∷ [])
 
-abbrev pub refused_json : List (List ℕ) → ℕ → List ℕ → Json
-refused_json paths image fault = state_json paths image (codes "refused") null null null null null (said_json fault)
+abbrev pub refused_json : List (List ℕ) → ℕ → List ℕ → Option Foreign → Json
+refused_json paths image fault foreign = state_json paths image (codes "refused") null null null null null (said_json fault) (maybe_text_json (option_map format_word foreign))
 
 abbrev pub scanned_json : List (List ℕ) → ℕ × Scanned → Json
-scanned_json paths (image, BadLabel fault) = refused_json paths image (text_of_label_fault fault)
-scanned_json paths (image, BadCopy fault) = refused_json paths image (text_of_copy_fault fault)
-scanned_json paths (image, Closed disk) = state_json paths image (codes "closed") null null null (guid_json disk) null null
+scanned_json paths (image, BadLabel fault foreign) = refused_json paths image (text_of_label_fault fault) foreign
+scanned_json paths (image, BadCopy fault) = refused_json paths image (text_of_copy_fault fault) None
+scanned_json paths (image, Closed disk) = state_json paths image (codes "closed") null null null (guid_json disk) null null null
 scanned_json paths (image, Open m) =
-    state_json paths image (codes "open") (name_json m.group) (guid_json m.group_guid) (maybe_name_json m.disk) (guid_json m.disk_guid) (number_json m.seq) null
+    state_json paths image (codes "open") (name_json m.group) (guid_json m.group_guid) (maybe_name_json m.disk) (guid_json m.disk_guid) (number_json m.seq) null null
 
 -- an object for each image
 abbrev pub scan_jsons : List (List ℕ) → List Scanned → List Json

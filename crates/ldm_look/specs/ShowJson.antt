@@ -12,6 +12,8 @@ use Rattle.ldm_records.specs.declared.types.Partition.{Partition}
 use Rattle.ldm_records.specs.declared.types.Disk.{Disk}
 use Rattle.ldm_group.specs.Partitions.{used_on}
 use Rattle.ldm_group.specs.Room.{need_of, room_of}
+use Rattle.ldm_space.specs.Free.{Taken, taken_in}
+use Rattle.ldm_space.specs.Gaps.{largest_free}
 use Rattle.ldm_label.specs.declared.Label.{Label}
 use Rattle.ldm_label.specs.Present.{image_with, label_with}
 use Rattle.ldm_layout.specs.Parts.{plexes_of}
@@ -122,9 +124,9 @@ volume_jsons shapes components records = flat_map (volume_jsons_at shapes compon
 
 -- ---- disks
 
--- a disk, of which this many sectors are used
-abbrev pub disk_json : List (List ℕ) → ℕ → List Label → Disk → Json
-disk_json paths used labels d =
+-- a disk, of which this many sectors are used, where these are taken of all disks
+abbrev pub disk_json : List (List ℕ) → ℕ → List Taken → List Label → Disk → Json
+disk_json paths used taken labels d =
     json_object (
     (codes "id", number_json d.head.id)
     ∷ (codes "name", name_json d.head.name)
@@ -134,15 +136,16 @@ disk_json paths used labels d =
     ∷ (codes "data_start", maybe_json (option_map (λ label. label.data_start) (label_with d.guid labels)))
     ∷ (codes "data_size", maybe_json (option_map (λ label. label.data_size) (label_with d.guid labels)))
     ∷ (codes "free", maybe_json (option_map (λ label. label.data_size - used) (label_with d.guid labels)))
+    ∷ (codes "largest_free", maybe_json (option_map (λ label. largest_free taken d.head.id label.data_size) (label_with d.guid labels)))
     ∷ [])
 
-abbrev pub disk_jsons_at : List (List ℕ) → (ℕ → ℕ) → List Label → Record → List Json
-disk_jsons_at paths used labels (kinds.Disk d) = disk_json paths (used d.head.id) labels d ∷ []
-disk_jsons_at paths used labels _ = []
+abbrev pub disk_jsons_at : List (List ℕ) → (ℕ → ℕ) → List Taken → List Label → Record → List Json
+disk_jsons_at paths used taken labels (kinds.Disk d) = disk_json paths (used d.head.id) taken labels d ∷ []
+disk_jsons_at paths used taken labels _ = []
 
 -- each disk record, where `used` tells how many sectors the partitions of each have
-abbrev pub disk_jsons : List (List ℕ) → (ℕ → ℕ) → List Label → List Record → List Json
-disk_jsons paths used labels records = flat_map (disk_jsons_at paths used labels) records
+abbrev pub disk_jsons : List (List ℕ) → (ℕ → ℕ) → List Taken → List Label → List Record → List Json
+disk_jsons paths used taken labels records = flat_map (disk_jsons_at paths used taken labels) records
 
 -- ---- the group
 
@@ -167,4 +170,4 @@ all_volume_jsons labels records =
 
 -- the group, whose images have these words
 abbrev pub show_json : List (List ℕ) → Found → Json
-show_json paths found = group_json (disk_jsons paths (used_on found.db.records) found.labels found.db.records) (all_volume_jsons found.labels found.db.records) found
+show_json paths found = group_json (disk_jsons paths (used_on found.db.records) (taken_in found.db.records) found.labels found.db.records) (all_volume_jsons found.labels found.db.records) found

@@ -4,13 +4,15 @@ ghost use Rattle.std.specs.List.{enumerate_from};
 ghost use Rattle.json.specs.Tree.{json_tokens};
 ghost use Rattle.ldm_json.specs.Values.{json_of, line_of_json};
 ghost use Rattle.ldm_look.specs.CheckJson.{note_sequence, note_json, note_jsons, kind_json};
-ghost use Rattle.ldm_look.specs.CheckJson.{reason_json, check_json};
+ghost use Rattle.ldm_look.specs.CheckJson.{reason_json, absent_jsons_at, absent_jsons, check_json};
+ghost use Rattle.ldm_records.specs.declared.types.Record.TheVariants as kinds;
 
 use crate::fault_json::kind_word;
 use crate::opening::fault_text;
 use ldm_bytes::{Bytes, NoMemory};
 use ldm_copy::{Found, Note};
 use ldm_json::{Json, Scalar};
+use ldm_records::{Disk, Record};
 use ldm_words::Paths;
 use std::alloc::Global;
 
@@ -47,6 +49,35 @@ fn push_notes(json: &mut Json, paths: &Paths, notes: &[Note]) -> Result<(), NoMe
     Ok(())
 }
 
+// The disk, where it has no image.
+fn push_absent(json: &mut Json, found: &Found, d: &Disk) -> Result<(), NoMemory>
+    ensures { OnOk result (json.new ≡ json.old ++ flat_map json_tokens
+        (absent_jsons_at found.now.labels (kinds.Disk d.now))) }
+{
+    if found.image_with(d.guid).is_some() {
+        return Ok(());
+    }
+    let fields = [
+        ("id", Scalar::Number(d.head.id)),
+        ("name", Scalar::Name(d.head.name.as_slice())),
+        ("guid", Scalar::Guid(d.guid)),
+    ];
+    json.object(&fields)
+}
+
+// All disks that have no image.
+fn push_all_absent(json: &mut Json, found: &Found) -> Result<(), NoMemory>
+    ensures { OnOk result (json.new ≡ json.old ++ flat_map json_tokens
+        (absent_jsons found.now.labels found.now.db.records)) }
+{
+    for r in found.db.as_slice() {
+        if let Record::Disk(d) = r {
+            push_absent(json, found, d)?;
+        }
+    }
+    Ok(())
+}
+
 fn is_editable(found: &Found) -> bool
     ensures { result ≡ is_none found.now.blocked }
 {
@@ -76,6 +107,8 @@ fn check_with<'a>(
     let mut json = Json::new(alloc);
     json.open(&fields, "images")?;
     push_notes(&mut json, paths, found.notes.as_slice())?;
+    json.next("absent")?;
+    push_all_absent(&mut json, found)?;
     json.close()?;
     json.into_line()
 }

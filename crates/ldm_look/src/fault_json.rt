@@ -3,7 +3,7 @@ ghost use Rattle.std.specs.Prelude.{◌≡◌, ◌++◌, OnOk, IfOk, None};
 ghost use Rattle.json.specs.Tree.{json_tokens};
 ghost use Rattle.ldm_json.specs.Values.{line_of_json};
 ghost use Rattle.ldm_look.specs.FaultJson.{kind_of_fault, naming, fault_names, named_json, fault_json};
-ghost use Rattle.ldm_look.specs.FaultJson.{refusal_json};
+ghost use Rattle.ldm_look.specs.FaultJson.{unnamed_json, refusal_json};
 
 use crate::opening::fault_text;
 use crate::paths::{image_number, path_of};
@@ -120,5 +120,32 @@ pub(crate) fn refusal_line(
     let mut json = Json::new(alloc);
     let kind = kind_word(fault);
     push_refusal(&mut json, paths, kind, fault_names(fault), text.as_slice())?;
+    json.into_line()
+}
+
+/// The JSON that refuses for a reason which names nothing, and which is its kind too, on a line.
+pub(crate) fn reason_line(alloc: Global, paths: &Paths, reason: &str) -> Result<Bytes, NoMemory>
+    ensures { IfOk result (λ text. text
+        ≡ line_of_json (refusal_json (unnamed_json reason.now reason.now))) }
+{
+    let mut json = Json::new(alloc);
+    let named = of_images(None, None);
+    push_refusal(&mut json, paths, reason, named, reason.as_bytes())?;
+    json.into_line()
+}
+
+/// The JSON that refuses for a reason of this kind, which names an object at most, on a line.
+pub(crate) fn named_line(
+    alloc: Global,
+    paths: &Paths,
+    kind: &str,
+    id: Option<u64>,
+    reason: &[u8],
+) -> Result<Bytes, NoMemory>
+    ensures { IfOk result (λ text. text ≡ line_of_json (refusal_json
+        (named_json paths.now kind.now (naming None None None id) reason.now))) }
+{
+    let mut json = Json::new(alloc);
+    push_refusal(&mut json, paths, kind, of_object(None, id), reason)?;
     json.into_line()
 }

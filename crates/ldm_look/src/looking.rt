@@ -6,63 +6,25 @@ ghost use Rattle.ldm_label.specs.LabelOf.{label_of, Fits};
 ghost use Rattle.ldm_host.specs.Moves.{Looks};
 ghost use Rattle.ldm_words.specs.Jobs.{texts, job_of, HasCount};
 ghost use Rattle.ldm_words.specs.declared.job.Job.TheVariants as jobs;
-ghost use Rattle.ldm_words.specs.declared.job.Format.TheVariants as formats;
 ghost use Rattle.ldm_copy.specs.declared.found.Found.{Found};
 ghost use Rattle.ldm_found.specs.Opening.{IsGroupIn};
 ghost use Rattle.ldm_found.specs.Facts.{IsSoundGroup, LieOn};
 ghost use Rattle.ldm_look.specs.Said.{Answer, IsUnread};
 ghost use Rattle.ldm_look.specs.Looks.{IsCopyAnswer, IsGroupAnswer, IsLookAnswer, IsLookAt};
-ghost use Rattle.ldm_look.specs.Looks.{IsGroupJson, look_in, look_of};
-ghost use Rattle.json.specs.Json.{Json};
+ghost use Rattle.ldm_look.specs.Looks.{IsFormattedAnswer, look_in, look_of};
 ghost use Rattle.ldm_look.specs.Runs.{Completes, HasImages, NoFault, OfLook, OnlyReads};
 
-use crate::check_json::check_line;
-use crate::check_text::check_text;
-use crate::fault_json::refusal_line;
-use crate::label_json::label_line;
+use crate::formats::{said_check, said_copy, said_group, said_label, said_scan};
 use crate::mapping::mapped;
-use crate::saying::{refuse_copy, refuse_label, refuse_opening, say_made};
-use crate::scan_text::{scan_line, scan_text};
+use crate::saying::{refuse, refuse_opening, say_made};
 use crate::scanning::{ScanError, scan_images};
-use crate::show_json::show_json;
-use crate::show_text::show_text;
 use ldm_bytes::{Bytes, NoMemory};
 use ldm_copy::{CopyError, read_copy};
 use ldm_found::{Found, OpenError, OpenFault, find_group};
 use ldm_host::Host;
 use ldm_label::{Label, LabelError, read_label};
-use ldm_text::{label_text, records_text};
-use ldm_words::{Format, Job, Paths, Status, WordsError, read_words};
+use ldm_words::{Format, Job, Status, WordsError, read_words};
 use std::alloc::Global;
-
-// disk on IMAGE
-fn disk_lines<H: Host>(alloc: Global, host: &mut H) -> Status
-    requires { length (H.seen host.old).sizes ≡ 1 }
-    ensures { OnlyReads H.tells_disks (H.seen host.old) (H.seen host.new)
-        (IsLookAnswer (jobs.Disk formats.Lines) (H.seen host.old).content) result }
-{
-    match read_label(host, 0) {
-        Err(LabelError::Disk) => Status::DiskFault,
-        Err(LabelError::Fault(fault)) => refuse_label(alloc, host, fault),
-        Ok(label) => say_made(host, label_text(alloc, &label), Status::Done),
-    }
-}
-
-// disk --json on IMAGE
-fn disk_as_json<H: Host>(alloc: Global, host: &mut H, paths: &Paths) -> Status
-    requires { length (H.seen host.old).sizes ≡ 1 }
-    ensures { OnlyReads H.tells_disks (H.seen host.old) (H.seen host.new)
-        (IsLookAnswer (jobs.Disk (formats.Json paths.now)) (H.seen host.old).content) result }
-{
-    match read_label(host, 0) {
-        Err(LabelError::Disk) => Status::DiskFault,
-        Err(LabelError::Fault(fault)) => {
-            let line = refusal_line(alloc, paths, &OpenFault::Label(0, fault));
-            say_made(host, line, Status::Refused)
-        }
-        Ok(label) => say_made(host, label_line(alloc, &label), Status::Done),
-    }
-}
 
 /// disk on IMAGE
 pub fn disk<H: Host>(alloc: Global, host: &mut H, format: &Format) -> Status
@@ -70,38 +32,43 @@ pub fn disk<H: Host>(alloc: Global, host: &mut H, format: &Format) -> Status
     ensures { OnlyReads H.tells_disks (H.seen host.old) (H.seen host.new)
         (IsLookAnswer (jobs.Disk format.now) (H.seen host.old).content) result }
 {
-    match format {
-        Format::Lines => disk_lines(alloc, host),
-        Format::Json(paths) => disk_as_json(alloc, host, paths),
+    match read_label(host, 0) {
+        Err(LabelError::Disk) => Status::DiskFault,
+        Err(LabelError::Fault(fault)) => {
+            refuse(alloc, host, format, &OpenFault::Label(0, fault))
+        }
+        Ok(label) => say_made(host, said_label(alloc, format, &label), Status::Done),
     }
 }
 
 // The copy in the config area of image 0, whose label this is.
-fn copy_of_label<H: Host>(alloc: Global, host: &mut H, label: &Label) -> Status
+fn copy_of_label<H: Host>(alloc: Global, host: &mut H, format: &Format, label: &Label) -> Status
     requires one { length (H.seen host.old).sizes ≡ 1 }
     requires fits { Fits label.now (slice_index (H.seen host.old).sizes 0) }
     requires label { H.tells_disks → label_of (image (H.seen host.old).content 0) ≡ Ok label.now }
     ensures { OnlyReads H.tells_disks (H.seen host.old) (H.seen host.new)
-        (IsCopyAnswer label.now (image (H.seen host.old).content 0)) result }
+        (IsCopyAnswer format.now label.now (image (H.seen host.old).content 0)) result }
 {
     match read_copy(alloc, host, 0, label) {
         Err(CopyError::Disk) => Status::DiskFault,
         Err(CopyError::NoMemory) => Status::NoMemory,
-        Err(CopyError::Fault(fault)) => refuse_copy(alloc, host, fault),
-        Ok(state) => say_made(host, records_text(alloc, &state), Status::Done),
+        Err(CopyError::Fault(fault)) => refuse(alloc, host, format, &OpenFault::Copy(0, fault)),
+        Ok(state) => say_made(host, said_copy(alloc, format, &state), Status::Done),
     }
 }
 
 /// records on IMAGE
-pub fn records<H: Host>(alloc: Global, host: &mut H) -> Status
+pub fn records<H: Host>(alloc: Global, host: &mut H, format: &Format) -> Status
     requires { length (H.seen host.old).sizes ≡ 1 }
     ensures { OnlyReads H.tells_disks (H.seen host.old) (H.seen host.new)
-        (IsLookAnswer jobs.Records (H.seen host.old).content) result }
+        (IsLookAnswer (jobs.Records format.now) (H.seen host.old).content) result }
 {
     match read_label(host, 0) {
         Err(LabelError::Disk) => Status::DiskFault,
-        Err(LabelError::Fault(fault)) => refuse_label(alloc, host, fault),
-        Ok(label) => copy_of_label(alloc, host, &label),
+        Err(LabelError::Fault(fault)) => {
+            refuse(alloc, host, format, &OpenFault::Label(0, fault))
+        }
+        Ok(label) => copy_of_label(alloc, host, format, &label),
     }
 }
 
@@ -125,54 +92,24 @@ pub fn open_group<H: Host>(alloc: Global, host: &mut H) -> Result<Found, Status>
     }
 }
 
-// The group that the images hold, and nothing was said; or how the run ends where there is none, when
-// the fault is said as JSON.
-fn open_for_json<H: Host>(alloc: Global, host: &mut H, paths: &Paths) -> Result<Found, Status>
+/// The group that the images hold, and nothing was said; or how the run ends where there is none,
+/// when the refusal is said in this format.
+pub fn open_for<H: Host>(alloc: Global, host: &mut H, format: &Format) -> Result<Found, Status>
     requires { 0 < length (H.seen host.old).sizes }
     ensures found { H.tells_disks → IfOk result (λ found. IsGroupIn
         (H.seen host.old).content (Ok found)) }
     ensures sound { IfOk result (λ found. IsSoundGroup found) }
+    ensures lies { IfOk result (λ found. LieOn found.labels (H.seen host.new).sizes) }
     ensures looks { OnOk result (Looks (H.seen host.old) (H.seen host.new) ⊥) }
-    ensures fault { IfErr result (λ status. (json_of : Found → Json)
+    ensures fault { IfErr result (λ status. (answer_of : Found → Answer)
         → OnlyReads H.tells_disks (H.seen host.old) (H.seen host.new)
-        (IsGroupJson paths.now json_of (H.seen host.old).content) status) }
+        (IsFormattedAnswer format.now answer_of (H.seen host.old).content) status) }
 {
     match find_group(alloc, host) {
         Ok(found) => Ok(found),
         Err(OpenError::Disk) => Err(Status::DiskFault),
         Err(OpenError::NoMemory) => Err(Status::NoMemory),
-        Err(OpenError::Fault(fault)) => {
-            let line = refusal_line(alloc, paths, &fault);
-            Err(say_made(host, line, Status::Refused))
-        }
-    }
-}
-
-// scan on IMAGE...
-fn scan_lines<H: Host>(alloc: Global, host: &mut H) -> Status
-    ensures { OnlyReads H.tells_disks (H.seen host.old) (H.seen host.new)
-        (IsLookAnswer (jobs.Scan formats.Lines) (H.seen host.old).content) result }
-{
-    match scan_images(alloc, host) {
-        Err(ScanError::Disk) => Status::DiskFault,
-        Err(ScanError::NoMemory) => Status::NoMemory,
-        Ok(scanned) => say_made(host, scan_text(alloc, scanned.as_slice()), Status::Done),
-    }
-}
-
-// scan --json on IMAGE...
-fn scan_as_json<H: Host>(alloc: Global, host: &mut H, paths: &Paths) -> Status
-    ensures { OnlyReads H.tells_disks (H.seen host.old) (H.seen host.new)
-        (IsLookAnswer (jobs.Scan (formats.Json paths.now)) (H.seen host.old).content) result }
-{
-    match scan_images(alloc, host) {
-        Err(ScanError::Disk) => Status::DiskFault,
-        Err(ScanError::NoMemory) => Status::NoMemory,
-        Ok(scanned) => say_made(
-            host,
-            scan_line(alloc, paths, scanned.as_slice()),
-            Status::Done,
-        ),
+        Err(OpenError::Fault(fault)) => Err(refuse(alloc, host, format, &fault)),
     }
 }
 
@@ -181,33 +118,13 @@ pub fn scan<H: Host>(alloc: Global, host: &mut H, format: &Format) -> Status
     ensures { OnlyReads H.tells_disks (H.seen host.old) (H.seen host.new)
         (IsLookAnswer (jobs.Scan format.now) (H.seen host.old).content) result }
 {
-    match format {
-        Format::Lines => scan_lines(alloc, host),
-        Format::Json(paths) => scan_as_json(alloc, host, paths),
-    }
-}
-
-// show on IMAGE...
-fn show_lines<H: Host>(alloc: Global, host: &mut H) -> Status
-    requires { 0 < length (H.seen host.old).sizes }
-    ensures { OnlyReads H.tells_disks (H.seen host.old) (H.seen host.new)
-        (IsLookAnswer (jobs.Show formats.Lines) (H.seen host.old).content) result }
-{
-    match open_group(alloc, host) {
-        Err(status) => status,
-        Ok(found) => say_made(host, show_text(alloc, &found), Status::Done),
-    }
-}
-
-// show --json on IMAGE...
-fn show_as_json<H: Host>(alloc: Global, host: &mut H, paths: &Paths) -> Status
-    requires { 0 < length (H.seen host.old).sizes }
-    ensures { OnlyReads H.tells_disks (H.seen host.old) (H.seen host.new)
-        (IsLookAnswer (jobs.Show (formats.Json paths.now)) (H.seen host.old).content) result }
-{
-    match open_for_json(alloc, host, paths) {
-        Err(status) => status,
-        Ok(found) => say_made(host, show_json(alloc, paths, &found), Status::Done),
+    match scan_images(alloc, host) {
+        Err(ScanError::Disk) => Status::DiskFault,
+        Err(ScanError::NoMemory) => Status::NoMemory,
+        Ok(scanned) => {
+            let text = said_scan(alloc, format, scanned.as_slice());
+            say_made(host, text, Status::Done)
+        }
     }
 }
 
@@ -217,33 +134,9 @@ pub fn show<H: Host>(alloc: Global, host: &mut H, format: &Format) -> Status
     ensures { OnlyReads H.tells_disks (H.seen host.old) (H.seen host.new)
         (IsLookAnswer (jobs.Show format.now) (H.seen host.old).content) result }
 {
-    match format {
-        Format::Lines => show_lines(alloc, host),
-        Format::Json(paths) => show_as_json(alloc, host, paths),
-    }
-}
-
-// check on IMAGE...
-fn check_lines<H: Host>(alloc: Global, host: &mut H) -> Status
-    requires { 0 < length (H.seen host.old).sizes }
-    ensures { OnlyReads H.tells_disks (H.seen host.old) (H.seen host.new)
-        (IsLookAnswer (jobs.Check formats.Lines) (H.seen host.old).content) result }
-{
-    match open_group(alloc, host) {
+    match open_for(alloc, host, format) {
         Err(status) => status,
-        Ok(found) => say_made(host, check_text(alloc, &found), Status::Done),
-    }
-}
-
-// check --json on IMAGE...
-fn check_as_json<H: Host>(alloc: Global, host: &mut H, paths: &Paths) -> Status
-    requires { 0 < length (H.seen host.old).sizes }
-    ensures { OnlyReads H.tells_disks (H.seen host.old) (H.seen host.new)
-        (IsLookAnswer (jobs.Check (formats.Json paths.now)) (H.seen host.old).content) result }
-{
-    match open_for_json(alloc, host, paths) {
-        Err(status) => status,
-        Ok(found) => say_made(host, check_line(alloc, paths, &found), Status::Done),
+        Ok(found) => say_made(host, said_group(alloc, format, &found), Status::Done),
     }
 }
 
@@ -253,23 +146,31 @@ pub fn check<H: Host>(alloc: Global, host: &mut H, format: &Format) -> Status
     ensures { OnlyReads H.tells_disks (H.seen host.old) (H.seen host.new)
         (IsLookAnswer (jobs.Check format.now) (H.seen host.old).content) result }
 {
-    match format {
-        Format::Lines => check_lines(alloc, host),
-        Format::Json(paths) => check_as_json(alloc, host, paths),
+    match open_for(alloc, host, format) {
+        Err(status) => status,
+        Ok(found) => say_made(host, said_check(alloc, format, &found), Status::Done),
     }
 }
 
 /// map NAME FIRST COUNT on IMAGE...
-pub fn map<H: Host>(alloc: Global, host: &mut H, name: &Bytes, first: u64, count: u64) -> Status
+pub fn map<H: Host>(
+    alloc: Global,
+    host: &mut H,
+    name: &Bytes,
+    first: u64,
+    count: u64,
+    format: &Format,
+) -> Status
     requires { 0 < length (H.seen host.old).sizes }
     ensures { OnlyReads H.tells_disks (H.seen host.old) (H.seen host.new)
-        (IsLookAnswer (jobs.Map name.now first count) (H.seen host.old).content) result }
+        (IsLookAnswer (jobs.Map name.now first count format.now) (H.seen host.old).content)
+        result }
 {
-    let found = match open_group(alloc, host) {
+    let found = match open_for(alloc, host, format) {
         Err(status) => return status,
         Ok(found) => found,
     };
-    match mapped(alloc, &found, name.as_slice(), first, count) {
+    match mapped(alloc, format, &found, name.as_slice(), first, count) {
         Err(NoMemory) => Status::NoMemory,
         Ok((text, status)) => say_made(host, Ok(text), status),
     }
@@ -281,7 +182,12 @@ pub fn is_look(job: &Job) -> bool
 {
     matches!(
         job,
-        Job::Disk(_) | Job::Records | Job::Scan(_) | Job::Show(_) | Job::Check(_) | Job::Map { .. }
+        Job::Disk(_)
+            | Job::Records(_)
+            | Job::Scan(_)
+            | Job::Show(_)
+            | Job::Check(_)
+            | Job::Map { .. }
     )
 }
 
@@ -294,11 +200,16 @@ fn look_job<H: Host>(alloc: Global, job: Job, host: &mut H) -> Status
 {
     match job {
         Job::Disk(format) => disk(alloc, host, &format),
-        Job::Records => records(alloc, host),
+        Job::Records(format) => records(alloc, host, &format),
         Job::Scan(format) => scan(alloc, host, &format),
         Job::Show(format) => show(alloc, host, &format),
         Job::Check(format) => check(alloc, host, &format),
-        Job::Map { name, first, count } => map(alloc, host, &name, first, count),
+        Job::Map {
+            name,
+            first,
+            count,
+            format,
+        } => map(alloc, host, &name, first, count, &format),
         _ => Status::Usage,
     }
 }

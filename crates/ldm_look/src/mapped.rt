@@ -1,20 +1,22 @@
-//! The disks that a map names, each with the start of its data area.
+//! The disks that a map names, each with its image and the start of its data area.
 ghost use Rattle.std.specs.Prelude.{◌≡◌, ◌==◌, ℕ, nat_eq, OnOk, IfOk, Some, None, if◌then◌else◌};
 ghost use Rattle.std.specs.HashMap as hash;
-ghost use Rattle.std.specs.Option.{option_or};
+ghost use Rattle.std.specs.Option.{option_copied, option_or};
 ghost use Rattle.ldm_label.specs.Present.{data_start_with};
 ghost use Rattle.ldm_look.specs.Map.{mapped_disk, mapped_at};
+ghost use Rattle.ldm_look.specs.ShowJson.{image_sector};
 
 use ldm_bytes::{Bytes, NoMemory};
-use ldm_label::{Label, label_with};
+use ldm_label::{Label, image_with, label_with};
 use ldm_records::{Disk, Record};
 use std::alloc::Global;
 use std::collections::HashMap;
 
-/// A disk of the group: its name, and where its data begin on its image, if there is one.
+/// A disk of the group: its name, its first image, if there is one, and where its data begin there.
 #[derive(Drop)]
 pub(crate) struct MappedDisk {
     pub(crate) name: Bytes,
+    pub(crate) image: Option<usize>,
     pub(crate) data_start: Option<u64>,
 }
 
@@ -31,6 +33,7 @@ fn mapped_disk(alloc: Global, labels: &[Label], d: &Disk) -> Result<MappedDisk, 
     let name = d.head.name.clone_in(alloc)?;
     Ok(MappedDisk {
         name,
+        image: image_with(labels, d.guid),
         data_start: data_start(labels, d.guid),
     })
 }
@@ -64,4 +67,17 @@ pub(crate) fn mapped_disks(
         }
     }
     Ok(disks)
+}
+
+/// The sector of the image that is this sector of the disk's data.
+pub(crate) fn image_sector(disk: Option<&MappedDisk>, sector: u64) -> Option<u64>
+    ensures { result ≡ image_sector (option_copied disk.entry) sector }
+{
+    match disk {
+        Some(disk) => match disk.data_start {
+            Some(start) => start.checked_add(sector),
+            None => None,
+        },
+        None => None,
+    }
 }

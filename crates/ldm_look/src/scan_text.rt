@@ -1,14 +1,17 @@
 //! What is said of images that were scanned.
 ghost use Rattle.std.specs.Prelude.{◌≡◌, ◌++◌, OnOk, IfOk, flat_map, map, codes};
 ghost use Rattle.std.specs.List.{enumerate_from};
-ghost use Rattle.json.specs.Tree.{json_tokens};
 ghost use Rattle.std.specs.Option.{option_map};
+ghost use Rattle.json.specs.Tree.{json_tokens};
 ghost use Rattle.ldm_look.specs.declared.scanned.Scanned.TheVariants as Scanned;
 ghost use Rattle.ldm_json.specs.Values.{line_of_json};
 ghost use Rattle.ldm_look.specs.Scan.{text_of_its_disk, text_of_membership, text_of_scanned};
 ghost use Rattle.ldm_look.specs.Scan.{line_of_scanned, text_of_scan, refused_json, scanned_json};
 ghost use Rattle.ldm_look.specs.Scan.{scan_jsons, scan_json};
+ghost use Rattle.ldm_look.specs.Foreign.{format_word, text_of_foreign};
 
+use crate::foreign::{Foreign, foreign_text, format_word};
+use crate::optional::name_in;
 use crate::scanned::{Membership, Scanned};
 use ldm_bytes::{Bytes, NoMemory};
 use ldm_json::{Json, Scalar};
@@ -47,13 +50,15 @@ fn push_membership(text: &mut Text, m: &Membership) -> Result<(), NoMemory>
     text.push(b"\n")
 }
 
-// refused: REASON, and the end of the line
-fn push_refused(text: &mut Text, fault: &[u8]) -> Result<(), NoMemory>
-    ensures { OnOk result (text.new ≡ text.old ++ (codes " refused: " ++ (fault.now ++ codes "\n"))) }
+// refused: REASON, what the image is, and the end of the line
+fn push_refused(text: &mut Text, fault: &[u8], foreign: Option<Foreign>) -> Result<(), NoMemory>
+    ensures { OnOk result (text.new ≡ text.old
+        ++ (codes " refused: " ++ (fault.now ++ (text_of_foreign foreign ++ codes "\n")))) }
 {
     let parts = [
         Part::Word(b" refused: "),
         Part::Word(fault),
+        Part::Word(foreign_text(foreign)),
         Part::Word(b"\n"),
     ];
     push_parts(text, &parts)
@@ -64,13 +69,13 @@ fn push_scanned(alloc: Global, text: &mut Text, scanned: &Scanned) -> Result<(),
     ensures { OnOk result (text.new ≡ text.old ++ text_of_scanned scanned.now) }
 {
     match scanned {
-        Scanned::BadLabel(fault) => {
+        Scanned::BadLabel(fault, foreign) => {
             let fault = label_fault_text(alloc, *fault)?;
-            push_refused(text, fault.as_slice())
+            push_refused(text, fault.as_slice(), *foreign)
         }
         Scanned::BadCopy(fault) => {
             let fault = copy_fault_text(alloc, *fault)?;
-            push_refused(text, fault.as_slice())
+            push_refused(text, fault.as_slice(), None)
         }
         Scanned::Closed(disk) => {
             let parts = [
@@ -108,15 +113,26 @@ pub(crate) fn scan_text(alloc: Global, scanned: &[Scanned]) -> Result<Bytes, NoM
     Ok(text.into_bytes())
 }
 
+// The name of a format.
+fn maybe_word(foreign: Option<Foreign>) -> Option<&'static str>
+    ensures { option_map (λ word. word.now) result ≡ option_map format_word foreign }
+{
+    match foreign {
+        Some(foreign) => Some(format_word(foreign)),
+        None => None,
+    }
+}
+
 // The object of an image that is refused.
 fn push_refused_json<'a>(
     json: &mut Json,
     paths: &'a Paths,
     image: usize,
     fault: &'a [u8],
+    foreign: Option<Foreign>,
 ) -> Result<(), NoMemory>
     ensures { OnOk result (json.new
-        ≡ json.old ++ json_tokens (refused_json paths.now image fault.now)) }
+        ≡ json.old ++ json_tokens (refused_json paths.now image fault.now foreign)) }
 {
     let fields = [
         ("image", Scalar::Number(image as u64)),
@@ -128,6 +144,7 @@ fn push_refused_json<'a>(
         ("disk_guid", Scalar::Null),
         ("sequence", Scalar::Null),
         ("reason", Scalar::Said(fault)),
+        ("format", Scalar::MaybeWord(maybe_word(foreign))),
     ];
     json.object(&fields)
 }
@@ -152,18 +169,9 @@ fn push_closed_json(
         ("disk_guid", Scalar::Guid(disk)),
         ("sequence", Scalar::Null),
         ("reason", Scalar::Null),
+        ("format", Scalar::Null),
     ];
     json.object(&fields)
-}
-
-// The name of a disk.
-fn name_in(disk: &Option<Bytes>) -> Option<&[u8]>
-    ensures { option_map (λ n. n.now) result ≡ disk.now }
-{
-    match disk {
-        Some(name) => Some(name.as_slice()),
-        None => None,
-    }
 }
 
 // The object of an image of a group.
@@ -186,6 +194,7 @@ fn push_open_json<'a>(
         ("disk_guid", Scalar::Guid(m.disk_guid)),
         ("sequence", Scalar::Number(m.seq)),
         ("reason", Scalar::Null),
+        ("format", Scalar::Null),
     ];
     json.object(&fields)
 }
@@ -202,13 +211,13 @@ fn push_scanned_json(
         ≡ json.old ++ json_tokens (scanned_json paths.now (image, scanned.now))) }
 {
     match scanned {
-        Scanned::BadLabel(fault) => {
+        Scanned::BadLabel(fault, foreign) => {
             let fault = label_fault_text(alloc, *fault)?;
-            push_refused_json(json, paths, image, fault.as_slice())
+            push_refused_json(json, paths, image, fault.as_slice(), *foreign)
         }
         Scanned::BadCopy(fault) => {
             let fault = copy_fault_text(alloc, *fault)?;
-            push_refused_json(json, paths, image, fault.as_slice())
+            push_refused_json(json, paths, image, fault.as_slice(), None)
         }
         Scanned::Closed(disk) => push_closed_json(json, paths, image, *disk),
         Scanned::Open(m) => push_open_json(json, paths, image, m),

@@ -5,11 +5,13 @@ ghost use Rattle.std.specs.Option.{option_map, option_copied};
 ghost use Rattle.std.specs.HashMap as hash;
 ghost use Rattle.indexmap.specs.IndexMap as index;
 ghost use Rattle.json.specs.Tree.{json_tokens};
-ghost use Rattle.ldm_group.specs.Partitions.{used_on};
+ghost use Rattle.ldm_group.specs.Partitions.{used_on, EndsInRange};
 ghost use Rattle.ldm_group.specs.Room.{IsFitting};
+ghost use Rattle.ldm_space.specs.Free.{taken_in};
+ghost use Rattle.ldm_space.specs.Gaps.{largest_free};
 ghost use Rattle.ldm_layout.specs.Parts.{plexes_at};
 ghost use Rattle.ldm_layout.specs.Volumes.{shape_of};
-ghost use Rattle.ldm_look.specs.ShowJson.{in_64_bits, image_sector, partition_json};
+ghost use Rattle.ldm_look.specs.ShowJson.{in_64_bits, partition_json};
 ghost use Rattle.ldm_look.specs.ShowJson.{layout_word, component_json, component_jsons};
 ghost use Rattle.ldm_look.specs.ShowJson.{partition_jsons, volume_json, shaped_volume};
 ghost use Rattle.ldm_look.specs.ShowJson.{volume_jsons, all_volume_jsons, disk_json, disk_jsons};
@@ -17,7 +19,8 @@ ghost use Rattle.ldm_look.specs.ShowJson.{show_json};
 ghost use Rattle.ldm_json.specs.Values.{line_of_json};
 
 use crate::families::{Components, Partitions, components_by_volume, partitions_by_component};
-use crate::mapped::{MappedDisk, mapped_disks};
+use crate::mapped::{MappedDisk, image_sector, mapped_disks};
+use crate::optional::{chunk_of, columns_of, name_in};
 use crate::paths::{image_number, path_of};
 use crate::volumes::shape_word;
 use indexmap::IndexMap;
@@ -27,7 +30,8 @@ use ldm_group::{used_of, used_sectors};
 use ldm_json::{Json, Scalar};
 use ldm_label::{Label, label_with};
 use ldm_layout::{Parts, Shape, shape_of};
-use ldm_records::{Component, Disk, Partition, Record, Striping, Volume};
+use ldm_records::{Component, Disk, Partition, Record, Volume};
+use ldm_space::FreeMap;
 use ldm_text::guid_of;
 use ldm_words::Paths;
 use std::alloc::Global;
@@ -39,19 +43,6 @@ fn disk_name(disk: Option<&MappedDisk>) -> Option<&[u8]>
 {
     match disk {
         Some(disk) => Some(disk.name.as_slice()),
-        None => None,
-    }
-}
-
-// The sector of the image that is this sector of the disk's data.
-fn image_sector(disk: Option<&MappedDisk>, sector: u64) -> Option<u64>
-    ensures { result ≡ image_sector (option_copied disk.entry) sector }
-{
-    match disk {
-        Some(disk) => match disk.data_start {
-            Some(start) => start.checked_add(sector),
-            None => None,
-        },
         None => None,
     }
 }
@@ -104,24 +95,6 @@ fn layout_word(layout: u8) -> &'static str
     }
 }
 
-fn chunk_of(striping: Option<Striping>) -> Option<u64>
-    ensures { result ≡ option_map (λ s. s.chunk) striping }
-{
-    match striping {
-        Some(striping) => Some(striping.chunk),
-        None => None,
-    }
-}
-
-fn columns_of(striping: Option<Striping>) -> Option<u64>
-    ensures { result ≡ option_map (λ s. s.columns) striping }
-{
-    match striping {
-        Some(striping) => Some(striping.columns),
-        None => None,
-    }
-}
-
 // The partitions of a component, on these disks.
 fn push_partitions_of(
     json: &mut Json,
@@ -134,16 +107,6 @@ fn push_partitions_of(
     match family {
         Some(family) => push_partitions(json, disks, family),
         None => Ok(()),
-    }
-}
-
-// The hint of a volume, on usual disks its drive letter.
-fn hint_of(v: &Volume) -> Option<&[u8]>
-    ensures { option_map (λ n. n.now) result ≡ v.now.hint }
-{
-    match &v.hint {
-        Some(hint) => Some(hint.as_slice()),
-        None => None,
     }
 }
 
@@ -236,7 +199,7 @@ fn push_volume(
         ("type", Scalar::Word(shape_word(shape))),
         ("size", Scalar::Number(v.size)),
         ("bytes", Scalar::Maybe(bytes_in(v.size))),
-        ("hint", Scalar::MaybeName(hint_of(v))),
+        ("hint", Scalar::MaybeName(name_in(&v.hint))),
     ];
     json.open(&fields, "components")?;
     push_components_of(json, disks, partitions, family)?;
@@ -304,20 +267,44 @@ fn space_on(label: Option<&Label>, used: u128) -> (Option<u64>, Option<u64>, Opt
     }
 }
 
+// The most sectors in a row that no partition of this disk has.
+fn largest_on(
+    alloc: Global,
+    found: &Found,
+    disk: u64,
+    label: Option<&Label>,
+) -> Result<Option<u64>, NoMemory>
+    requires ends { All EndsInRange found.now.db.records }
+    ensures { IfOk result (λ n. n ≡ option_map
+        (λ l. largest_free (taken_in found.now.db.records) disk l.data_size)
+        (option_copied label.entry)) }
+{
+    match label {
+        Some(label) => {
+            let map = FreeMap::of(alloc, &found.db, disk, label.data_size)?;
+            Ok(Some(map.largest()))
+        }
+        None => Ok(None),
+    }
+}
+
 // A disk, whose partitions have so many sectors.
 fn push_disk<'a>(
+    alloc: Global,
     json: &mut Json,
     paths: &'a Paths,
     found: &Found,
     d: &'a Disk,
     used: u128,
 ) -> Result<(), NoMemory>
-    ensures { OnOk result (json.new ≡ json.old ++ json_tokens
-        (disk_json paths.now used found.now.labels d.now)) }
+    requires ends { All EndsInRange found.now.db.records }
+    ensures { OnOk result (json.new ≡ json.old ++ json_tokens (disk_json paths.now used
+        (taken_in found.now.db.records) found.now.labels d.now)) }
 {
     let image = found.image_with(d.guid);
     let label = label_with(found.labels.as_slice(), d.guid);
     let (start, size, free) = space_on(label, used);
+    let largest = largest_on(alloc, found, d.head.id, label)?;
     let fields = [
         ("id", Scalar::Number(d.head.id)),
         ("name", Scalar::Name(d.head.name.as_slice())),
@@ -327,24 +314,27 @@ fn push_disk<'a>(
         ("data_start", Scalar::Maybe(start)),
         ("data_size", Scalar::Maybe(size)),
         ("free", Scalar::Maybe(free)),
+        ("largest_free", Scalar::Maybe(largest)),
     ];
     json.object(&fields)
 }
 
 // All disks, by the sectors that the map has for each.
 fn push_disks(
+    alloc: Global,
     json: &mut Json,
     paths: &Paths,
     found: &Found,
     used: &IndexMap<u64, u128>,
 ) -> Result<(), NoMemory>
+    requires ends { All EndsInRange found.now.db.records }
     ensures { OnOk result (json.new ≡ json.old ++ flat_map json_tokens
         (disk_jsons paths.now (λ disk. unwrap_or (index.get nat_eq used.now disk) 0)
-        found.now.labels found.now.db.records)) }
+        (taken_in found.now.db.records) found.now.labels found.now.db.records)) }
 {
     for r in found.db.as_slice() {
         if let Record::Disk(d) = r {
-            push_disk(json, paths, found, d, used_of(used, d.head.id))?;
+            push_disk(alloc, json, paths, found, d, used_of(used, d.head.id))?;
         }
     }
     Ok(())
@@ -357,16 +347,19 @@ fn push_all_disks(
     paths: &Paths,
     found: &Found,
 ) -> Result<(), NoMemory>
+    requires ends { All EndsInRange found.now.db.records }
     ensures { OnOk result (json.new ≡ json.old ++ flat_map json_tokens (disk_jsons paths.now
-        (used_on found.now.db.records) found.now.labels found.now.db.records)) }
+        (used_on found.now.db.records) (taken_in found.now.db.records) found.now.labels
+        found.now.db.records)) }
 {
     let used = used_sectors(alloc, found.db.as_slice())?;
-    push_disks(json, paths, found, &used)
+    push_disks(alloc, json, paths, found, &used)
 }
 
 // The group.
 fn push_group(alloc: Global, json: &mut Json, paths: &Paths, found: &Found) -> Result<(), NoMemory>
-    requires { All IsFitting found.now.db.records }
+    requires fitting { All IsFitting found.now.db.records }
+    requires ends { All EndsInRange found.now.db.records }
     ensures { OnOk result (json.new ≡ json.old ++ json_tokens (show_json paths.now found.now)) }
 {
     let header = found.db.header();
@@ -387,7 +380,8 @@ fn push_group(alloc: Global, json: &mut Json, paths: &Paths, found: &Found) -> R
 
 /// The JSON that shows a group, whose images have these words, on a line.
 pub(crate) fn show_json(alloc: Global, paths: &Paths, found: &Found) -> Result<Bytes, NoMemory>
-    requires { All IsFitting found.now.db.records }
+    requires fitting { All IsFitting found.now.db.records }
+    requires ends { All EndsInRange found.now.db.records }
     ensures { IfOk result (λ text. text ≡ line_of_json (show_json paths.now found.now)) }
 {
     let mut json = Json::new(alloc);

@@ -43,7 +43,9 @@ fn usage_error(alloc: Global, words: &[String]) -> Option<UsageError<'_>> {
         return Some(UsageError::NoJob);
     };
     let form = match word.as_str() {
-        word @ ("disk" | "records" | "scan" | "show" | "check" | "map") => form_of(word),
+        word @ ("disk" | "records" | "scan" | "show" | "check" | "map") => {
+            form_of(word, rest.len())
+        }
         _ => None,
     };
     match form {

@@ -1,12 +1,17 @@
-//! The texts of the replies to the lines of a script, each exact.
+//! The texts of the replies to the lines of a script, and their JSON, each exact.
 #![tactic(auto)]
 
 ghost use Rattle.std.specs.Prelude.{◌≡◌, ◌++◌, OnOk, IfOk};
 ghost use Rattle.ldm_replies.specs.Reply.{text_of_reason, text_of_reply};
+ghost use Rattle.ldm_replies.specs.ReplyJson.{said_reply};
 
+mod reply_json;
+
+use crate::reply_json::reply_line;
 use ldm_bytes::{Bytes, NoMemory};
 use ldm_edits::{Refusal, Reply};
 use ldm_text::{Text, push_number};
+use ldm_words::Format;
 use std::alloc::Global;
 
 // record ID too long
@@ -58,6 +63,15 @@ fn push_reason(text: &mut Text, refusal: &Refusal) -> Result<(), NoMemory>
     }
 }
 
+/// The text of why a command is refused.
+pub(crate) fn reason_text(alloc: Global, refusal: &Refusal) -> Result<Bytes, NoMemory>
+    ensures { IfOk result (λ text. text ≡ text_of_reason refusal.now) }
+{
+    let mut text = Text::new(alloc);
+    push_reason(&mut text, refusal)?;
+    Ok(text.into_bytes())
+}
+
 // The number of a line and the reply to it, to the end of the line.
 fn push_reply(text: &mut Text, line: u64, reply: &Reply) -> Result<(), NoMemory>
     ensures { OnOk result (text.new ≡ text.old ++ text_of_reply (line, reply.now)) }
@@ -82,4 +96,19 @@ pub fn reply_text(alloc: Global, line: u64, reply: &Reply) -> Result<Bytes, NoMe
     let mut text = Text::new(alloc);
     push_reply(&mut text, line, reply)?;
     Ok(text.into_bytes())
+}
+
+/// What is said of the reply to the line of this number.
+pub fn said_reply(
+    alloc: Global,
+    format: &Format,
+    line: u64,
+    reply: &Reply,
+) -> Result<Bytes, NoMemory>
+    ensures { IfOk result (λ text. text ≡ said_reply format.now (line, reply.now)) }
+{
+    match format {
+        Format::Lines => reply_text(alloc, line, reply),
+        Format::Json(_) => reply_line(alloc, line, reply),
+    }
 }

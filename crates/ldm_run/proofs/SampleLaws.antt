@@ -37,13 +37,14 @@ use Rattle.ldm_copy.specs.declared.found.Found.{Found}
 use Rattle.ldm_found.specs.Opening.{IsGroupIn}
 use Rattle.ldm_found.proofs.GroupLaws.{one_group}
 use Rattle.ldm_store.proofs.SettleLaws.{same_found}
-use Rattle.ldm_replies.specs.Reply.{text_of_replies}
+use Rattle.ldm_words.specs.declared.job.Format.TheVariants.{Lines}
+use Rattle.ldm_replies.specs.ReplyJson.{said_replies}
 use Rattle.ldm_vectors.specs.Sample.{AreSampleImages, IsSampleGroup, IsSampleDatabase}
 use Rattle.ldm_vectors.specs.Script.{script_of}
 use Rattle.ldm_words.specs.declared.status.Status.{Status}
 use Rattle.ldm_words.specs.declared.status.Status.TheVariants.{Done}
 use Rattle.ldm_look.specs.Said.{Answer, HasAnswer}
-use Rattle.ldm_look.specs.Looks.{group_answer}
+use Rattle.ldm_look.specs.Looks.{formatted_answer}
 use Rattle.ldm_run.specs.Answer.{IsAnswerToScript}
 use Rattle.ldm_run.specs.Stops.{lines_unless, commands_of, answered, Reopens}
 use Rattle.ldm_run.specs.Written.{HoldsAfter}
@@ -251,11 +252,11 @@ pub holds_now : (m : MemoryHost) → (memory_seen m).left_since 0 (memory_seen m
 holds_now m = law_counts_now m 0 (memory_seen m).content (omega arith) (record { one_each = law_one_each m; each = λ disk lt. law_may_stay m disk })
 
 module _ {seed : ℕ} {start : MemoryHost} (host : MemoryHost) {status : Status} {found : Found} (starts : IsSampleStart seed found start) (short : length (script_of seed) ≤ 20000)
-    (does : DoesJob ⊤ ⊤ Edit (memory_seen start) (memory_seen host) status) (has : HasAnswer status) (dry : (host_counts host).dry ≡ 0) (first : (memory_seen start).left_since 0 (memory_seen start).content (memory_seen start).said) where
+    (does : DoesJob ⊤ ⊤ (Edit Lines) (memory_seen start) (memory_seen host) status) (has : HasAnswer status) (dry : (host_counts host).dry ≡ 0) (first : (memory_seen start).left_since 0 (memory_seen start).content (memory_seen start).said) where
   not_long : is_long_script (memory_seen start).input ≡ false
   not_long = le-ltb 1048576 (length (memory_seen start).input) (rw starts.input (omega (arith, short)))
 
-  lines_are : commands_of Edit (memory_seen start).input ≡ sample_lines seed
+  lines_are : commands_of (Edit Lines) (memory_seen start).input ≡ sample_lines seed
   lines_are = ap (λ (b : Bool). lines_unless b (memory_seen start).input) not_long ∙ ap commands_in starts.input
 
   heard_all : (memory_seen host).input ≡ []
@@ -267,18 +268,18 @@ module _ {seed : ℕ} {start : MemoryHost} (host : MemoryHost) {status : Status}
       let taken = (does.talk.input tt).taken in
       takes.heard ∙ ap (λ (l : List ℕ). l ++ taken) starts.heard ∙ sym (append-nil taken) ∙ ap (λ (l : List ℕ). taken ++ l) (sym heard_all) ∙ sym takes.input ∙ starts.input
 
-  text_is : (answer : Answer) → IsAnswerToScript (is_long_script (memory_seen start).input) (memory_seen start).input (memory_seen start).content answer
-      → answer.0 ≡ text_of_replies 1 (replies_to found.labels found.db (sample_lines seed))
+  text_is : (answer : Answer) → IsAnswerToScript Lines (is_long_script (memory_seen start).input) (memory_seen start).input (memory_seen start).content answer
+      → answer.0 ≡ said_replies Lines 1 (replies_to found.labels found.db (sample_lines seed))
   text_is answer is =
-      let of_group = subst (λ (b : Bool). IsAnswerToScript b (memory_seen start).input (memory_seen start).content answer) not_long is in
+      let of_group = subst (λ (b : Bool). IsAnswerToScript Lines b (memory_seen start).input (memory_seen start).content answer) not_long is in
       let same : of_group.0 ≡ Ok found = one_group (memory_seen start).content of_group.0 (Ok found) of_group.1 starts.holds in
       ap (λ (a : Answer). a.0) (
       of_group.2
-      ∙ ap (group_answer (try_answer (commands_in (memory_seen start).input))) same
-      ∙ ap (λ (script : List ℕ). try_answer (commands_in script) found) starts.input
-      ∙ ap (λ (blocked : Option OpenFault). unless_blocked blocked (replies_from 1 (replies_to found.labels found.db (sample_lines seed)))) starts.group.blocked_is)
+      ∙ ap (formatted_answer Lines (try_answer Lines (commands_in (memory_seen start).input))) same
+      ∙ ap (λ (script : List ℕ). try_answer Lines (commands_in script) found) starts.input
+      ∙ ap (λ (blocked : Option OpenFault). unless_blocked Lines blocked (replies_from Lines 1 (replies_to found.labels found.db (sample_lines seed)))) starts.group.blocked_is)
 
-  said_is : (memory_seen host).said ≡ text_of_replies 1 (replies_to found.labels found.db (sample_lines seed))
+  said_is : (memory_seen host).said ≡ said_replies Lines 1 (replies_to found.labels found.db (sample_lines seed))
   said_is =
       let whole = (does.ends.answers tt).whole has in
       whole.2.said ∙ ap (λ (l : List ℕ). l ++ whole.0.0) starts.said ∙ text_is whole.0 whole.1
@@ -340,7 +341,7 @@ done_or_undone (reply ∷ all) =
 module _ {seed : ℕ} {host : MemoryHost} {other : Found} (is : IsSampleHost seed host) (holds : IsGroupIn (memory_seen host).content (Ok other))
     (now : (memory_seen host).left_since 0 (memory_seen host).content (memory_seen host).said) (counts : SequenceCounts) where
   pub lines_said : line_count (memory_seen host).said ≡ length (replies_to is.found.labels is.found.db (sample_lines seed))
-  lines_said = ap line_count is.said ∙ reply_lines 1 (replies_to is.found.labels is.found.db (sample_lines seed))
+  lines_said = ap line_count is.said ∙ reply_lines Lines 1 (replies_to is.found.labels is.found.db (sample_lines seed))
 
   all_answered : answered (sample_lines seed) (memory_seen is.start) (memory_seen host).said ≡ length (sample_lines seed)
   all_answered =

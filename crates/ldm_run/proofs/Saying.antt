@@ -5,7 +5,8 @@ use Rattle.ldm_host.specs.Seen.{Seen}
 use Rattle.ldm_host.specs.Moves.{Begins, Later, Still, Quiet, SameInput}
 use Rattle.ldm_host.proofs.Relations.{begins_itself, rose_sooner, still_trans}
 use Rattle.ldm_edits.specs.declared.reply.Reply.{Reply}
-use Rattle.ldm_replies.specs.Reply.{text_of_reply, text_of_replies}
+use Rattle.ldm_words.specs.declared.job.Format.{Format}
+use Rattle.ldm_replies.specs.ReplyJson.{said_reply, said_replies}
 use Rattle.ldm_words.specs.declared.status.Status.{Status}
 use Rattle.ldm_words.specs.declared.status.Status.TheVariants.{Done, Refused, DiskFault, NoMemory, TalkFault}
 use Rattle.ldm_look.specs.Said.{Answer, HasAnswer, SaysNothing}
@@ -85,10 +86,10 @@ says_all {fault = fault} none has is said still input = record {
 }
 
 -- a part of the text of a reply was said, or all
-pub reply_part : {old new : Seen} (number : ℕ) (reply : Reply) {bytes : List ℕ} (n : ℕ) → bytes ≡ text_of_reply (number, reply) → new.said ≡ old.said ++ take n bytes → Still old new → SameInput old new
-    → SaysReply number reply old new
-reply_part {old} {new} number reply n is said still input = record {
-  front = part_begins old.said (text_of_reply (number, reply)) new.said n (said ∙ ap (λ (l : List ℕ). old.said ++ take n l) is);
+pub reply_part : {format : Format} {old new : Seen} (number : ℕ) (reply : Reply) {bytes : List ℕ} (n : ℕ) → bytes ≡ said_reply format (number, reply) → new.said ≡ old.said ++ take n bytes → Still old new → SameInput old new
+    → SaysReply format number reply old new
+reply_part {format} {old} {new} number reply n is said still input = record {
+  front = part_begins old.said (said_reply format (number, reply)) new.said n (said ∙ ap (λ (l : List ℕ). old.said ++ take n l) is);
   still = still;
   input = input;
 }
@@ -106,14 +107,14 @@ or_false true = refl
 or_false false = refl
 
 -- no line is left
-pub all_replied : {tells : Type 0} {old new : Seen} (all left : List Reply) (number : ℕ) (refused : Bool) → left ≡ [] → (refused || list_any is_refused left) ≡ list_any is_refused all
-    → (tells → new.said ++ text_of_replies number left ≡ old.said ++ text_of_replies 1 all) → Still old new → SameInput old new
-    → Replies tells old new (λ answer. answer ≡ replies_from 1 all) (if refused then Refused else Done)
-all_replied {tells} {old} {new} all left number refused none is so_far still input =
+pub all_replied : {tells : Type 0} {old new : Seen} (format : Format) (all left : List Reply) (number : ℕ) (refused : Bool) → left ≡ [] → (refused || list_any is_refused left) ≡ list_any is_refused all
+    → (tells → new.said ++ said_replies format number left ≡ old.said ++ said_replies format 1 all) → Still old new → SameInput old new
+    → Replies tells old new (λ answer. answer ≡ replies_from format 1 all) (if refused then Refused else Done)
+all_replied {tells} {old} {new} format all left number refused none is so_far still input =
     let any : list_any is_refused all ≡ refused = sym is ∙ ap (λ (rs : List Reply). refused || list_any is_refused rs) none ∙ or_false refused in
     let status : status_of all ≡ (if refused then Refused else Done) = ap (λ (b : Bool). if b then Refused else Done) any in
     says_all (λ no. no) (has_answer refused) (λ told. sym status)
-    (λ told. sym (append-nil new.said) ∙ ap (λ (rs : List Reply). new.said ++ text_of_replies number rs) (sym none) ∙ so_far told) still input
+    (λ told. sym (append-nil new.said) ∙ ap (λ (rs : List Reply). new.said ++ said_replies format number rs) (sym none) ∙ so_far told) still input
 
 -- memory or the talk failed
 pub stopped : {tells : Type 0} {old new : Seen} {answer : Answer} {status : Status} → TalkFails old new status → (tells → Begins new.said (old.said ++ answer.0)) → Still old new

@@ -10,7 +10,8 @@ use Rattle.ldm_edits.specs.Counting.{is_done}
 use Rattle.ldm_edits.specs.Steps.{group_after, replies_to}
 use Rattle.ldm_copy.specs.declared.found.Found.{Found}
 use Rattle.ldm_found.specs.Opening.{IsGroupIn}
-use Rattle.ldm_replies.specs.Reply.{text_of_replies}
+use Rattle.ldm_words.specs.declared.job.Format.TheVariants.{Lines}
+use Rattle.ldm_replies.specs.ReplyJson.{said_replies}
 use Rattle.ldm_vectors.specs.Sample.{AreSampleImages, IsSampleGroup}
 use Rattle.ldm_vectors.specs.Script.{script_of}
 use Rattle.ldm_words.specs.declared.status.Status.TheVariants.{Done}
@@ -73,7 +74,7 @@ pub record IsSampleHost (seed : ℕ) (host : MemoryHost) : Type 0 where
   pub sizes : (memory_seen host).sizes ≡ (memory_seen start).sizes
   pub heard : (memory_seen host).heard ≡ script_of seed
   pub input : (memory_seen host).input ≡ []
-  pub said : (memory_seen host).said ≡ text_of_replies 1 (replies_to found.labels found.db (sample_lines seed))
+  pub said : (memory_seen host).said ≡ said_replies Lines 1 (replies_to found.labels found.db (sample_lines seed))
   pub dry : (host_counts host).dry ≡ 0
   pub disks : HoldsAfter found (sample_lines seed) (memory_seen start).content (memory_seen host)
   pub first : (memory_seen host).left_since 0 (memory_seen start).content []

@@ -16,7 +16,7 @@ use ldm_host::Host;
 use ldm_look::say_made;
 use ldm_memory::MemoryHost;
 use ldm_vectors::{sample_images, sample_script};
-use ldm_words::Status;
+use ldm_words::{Format, Status};
 use std::alloc::Global;
 
 // A host of three sample images, with the sample script of a seed still to be heard.
@@ -34,7 +34,7 @@ pub fn sample_host(alloc: Global, seed: u64) -> Result<MemoryHost, NoMemory>
     ensures { IfOk result (λ host. IsSampleHost seed host) }
 {
     let mut host = start_host(alloc, seed)?;
-    match edit(alloc, &mut host) {
+    match edit(alloc, &mut host, &Format::Lines) {
         Status::Done | Status::Refused if host.dry() == 0 => Ok(host),
         _ => Err(NoMemory),
     }

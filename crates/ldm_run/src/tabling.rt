@@ -1,13 +1,14 @@
-//! `table`: the device-mapper tables that make a device of a volume.
+//! `table`: the device-mapper tables that make devices of volumes.
 ghost use Rattle.std.specs.Prelude.{◌≡◌, ◌<◌, length, IfOk};
 ghost use Rattle.ldm_found.specs.Facts.{IsSoundGroup, LieOn};
 ghost use Rattle.ldm_dump.specs.Runs.{LiesOn, RowsLieOn};
 ghost use Rattle.ldm_words.specs.declared.job.Job.TheVariants as jobs;
 ghost use Rattle.ldm_table.specs.Faults.{text_of_fault};
+ghost use Rattle.ldm_table.specs.Groups.{text_of_tables_fault};
 ghost use Rattle.ldm_text.specs.Texts.{text_of_refusal};
 ghost use Rattle.ldm_look.specs.Said.{HasAnswer};
 ghost use Rattle.ldm_run.specs.Runs.{DoesJob};
-ghost use Rattle.ldm_run.specs.Tabling.{table_answer, volume_table};
+ghost use Rattle.ldm_run.specs.Tabling.{table_answer, tables_answer, volume_table};
 
 use ldm_bytes::{Bytes, NoMemory};
 use ldm_dump::volumes_lie_on_images;
@@ -17,7 +18,7 @@ use ldm_layout::Plan;
 use ldm_look::{open_group, say_made};
 use ldm_records::Volume;
 use ldm_rules::sound_plan;
-use ldm_table::{TableFault, fault_text, table_text};
+use ldm_table::{TableFault, TablesFault, fault_text, table_text, tables_fault_text, tables_text};
 use ldm_text::refusal_text;
 use ldm_words::{Names, Status};
 use std::alloc::Global;
@@ -85,6 +86,50 @@ pub(crate) fn table<H: Host>(alloc: Global, host: &mut H, name: &Bytes, words: &
         Ok(found) => found,
     };
     match tabled(alloc, host, &found, name.as_slice(), words) {
+        Err(NoMemory) => Status::NoMemory,
+        Ok((text, status)) => say_made(host, Ok(text), status),
+    }
+}
+
+// The line that refuses for a fault of all tables.
+fn group_refusal(alloc: Global, fault: &TablesFault) -> Result<Bytes, NoMemory>
+    ensures { IfOk result (λ line. line ≡ text_of_refusal (text_of_tables_fault fault.now)) }
+{
+    let text = tables_fault_text(alloc, fault)?;
+    refusal_text(alloc, text.as_slice())
+}
+
+// What is answered on a group: the line that makes the devices of all volumes, or that of the
+// refusal.
+fn all_tabled<H: Host>(
+    alloc: Global,
+    host: &H,
+    found: &Found,
+    words: &Names,
+) -> Result<(Bytes, Status), NoMemory>
+    requires sound { IsSoundGroup found.now }
+    requires lies { LieOn found.now.labels (H.seen host.now).sizes }
+    ensures is { IfOk result (λ answer. (answer.0, answer.1)
+        ≡ tables_answer words.now found.now) }
+    ensures status { IfOk result (λ answer. HasAnswer answer.1) }
+{
+    match tables_text(alloc, host, found, words)? {
+        Ok(text) => Ok((text, Status::Done)),
+        Err(fault) => Ok((group_refusal(alloc, &fault)?, Status::Refused)),
+    }
+}
+
+/// table on IMAGE...
+pub(crate) fn tables<H: Host>(alloc: Global, host: &mut H, words: &Names) -> Status
+    requires { 0 < length (H.seen host.old).sizes }
+    ensures { DoesJob H.tells_disks H.tells_talk (jobs.Tables words.now) (H.seen host.old)
+        (H.seen host.new) result }
+{
+    let found = match open_group(alloc, host) {
+        Err(status) => return status,
+        Ok(found) => found,
+    };
+    match all_tabled(alloc, host, &found, words) {
         Err(NoMemory) => Status::NoMemory,
         Ok((text, status)) => say_made(host, Ok(text), status),
     }

@@ -33,7 +33,8 @@ use Rattle.std.proofs.Math.Nat.{suc-mul, mul_assoc, mul_comm}
 use Rattle.std.proofs.lemmas.List.Sums.{sum_by-append}
 use Rattle.std.proofs.lemmas.Grind.{common_steps, flat_map-append}
 use Rattle.ldm_host.specs.Moves.{Begins}
-use Rattle.ldm_scrub.specs.Lines.{text_of_differing, text_of_failing, bad_line, bad_lines, bad_of, text_of_end}
+use Rattle.ldm_words.specs.declared.job.Format.{Format}
+use Rattle.ldm_scrub.specs.Lines.{differing_line, failing_line, bad_line, bad_lines, bad_of, counts_line}
 use Rattle.ldm_places.proofs.SpotLaws.{spot_along, place_along}
 
 -- ---- Places of a RAID-5: what lies beside them in the columns.
@@ -444,17 +445,17 @@ pub line_one : (t : ℕ → Bool) (line : ℕ → List ℕ) (place i : ℕ) → 
     ≡ flat_map (λ p. if t p then line p else []) (range_with_len place i) ++ (if t (place + i) then line (place + i) else [])
 line_one t line place i = grind (arith, range_more, flat_map-append, append-nil)
 
-pub lines_more : (images : List (List ℕ)) (found : Found) (l : Layout) (p n : ℕ) → bad_lines images found l (range_with_len 0 (p + n)) ≡ bad_lines images found l (range_with_len 0 p) ++ bad_lines images found l (range_with_len p n)
+pub lines_more : (format : Format) (images : List (List ℕ)) (found : Found) (l : Layout) (p n : ℕ) → bad_lines format images found l (range_with_len 0 (p + n)) ≡ bad_lines format images found l (range_with_len 0 p) ++ bad_lines format images found l (range_with_len p n)
 unfolding bad_lines
-lines_more images found l p n = grind (arith, range_append, zero-add, flat_map-append)
+lines_more format images found l p n = grind (arith, range_append, zero-add, flat_map-append)
 
 pub bad_more : (images : List (List ℕ)) (found : Found) (l : Layout) (p n : ℕ) → bad_of images found l (range_with_len 0 (p + n)) ≡ bad_of images found l (range_with_len 0 p) + bad_of images found l (range_with_len p n)
 unfolding bad_of
 bad_more images found l p n = grind (arith, range_append, zero-add, count_append)
 
-pub no_lines : (images : List (List ℕ)) (found : Found) (l : Layout) → bad_lines images found l (range_with_len 0 0) ≡ []
+pub no_lines : (format : Format) (images : List (List ℕ)) (found : Found) (l : Layout) → bad_lines format images found l (range_with_len 0 0) ≡ []
 unfolding bad_lines
-no_lines images found l = refl
+no_lines format images found l = refl
 
 pub none_bad : (images : List (List ℕ)) (found : Found) (l : Layout) → bad_of images found l (range_with_len 0 0) ≡ 0
 unfolding bad_of
@@ -470,13 +471,13 @@ no_line t line (x ∷ xs) none = go (t x) (sym (count_append t (x ∷ []) xs) �
     go true none rest = absurd (omega (arith, none))
     go false none rest = rest (omega (arith, none))
 
-pub silent : (images : List (List ℕ)) (found : Found) (l : Layout) (places : List ℕ) → count_by (is_bad_at images found l) places ≡ 0 → bad_lines images found l places ≡ []
+pub silent : (format : Format) (images : List (List ℕ)) (found : Found) (l : Layout) (places : List ℕ) → count_by (is_bad_at images found l) places ≡ 0 → bad_lines format images found l places ≡ []
 unfolding bad_lines
-silent images found l places none = no_line (is_bad_at images found l) (bad_line l) places none
+silent format images found l places none = no_line (is_bad_at images found l) (bad_line format l) places none
 
-pub lines_are : (images : List (List ℕ)) (found : Found) (l : Layout) (places : List ℕ) → flat_map (λ p. if is_bad_at images found l p then bad_line l p else []) places ≡ bad_lines images found l places
+pub lines_are : (format : Format) (images : List (List ℕ)) (found : Found) (l : Layout) (places : List ℕ) → flat_map (λ p. if is_bad_at images found l p then bad_line format l p else []) places ≡ bad_lines format images found l places
 unfolding bad_lines
-lines_are images found l places = refl
+lines_are format images found l places = refl
 
 pub bad_are : (images : List (List ℕ)) (found : Found) (l : Layout) (places : List ℕ) → count_by (is_bad_at images found l) places ≡ bad_of images found l places
 unfolding bad_of
@@ -491,21 +492,21 @@ marks_taken : (images : List (List ℕ)) (found : Found) (l : Layout) (place n :
 marks_taken images found l place n marks few marked i lt = grind (arith, length-take-le, get_or-take)
 
 -- what begins the lines of places that were marked, before which nothing was said
-pub marked_front : (images : List (List ℕ)) (found : Found) (l : Layout) (place all n : ℕ) (marks old mid new : List ℕ) → n ≤ length marks → mid ≡ old → place + n ≤ all
+pub marked_front : (format : Format) (images : List (List ℕ)) (found : Found) (l : Layout) (place all n : ℕ) (marks old mid new : List ℕ) → n ≤ length marks → mid ≡ old → place + n ≤ all
     → ((i : ℕ) → i < n → slice_index marks i ≡ mark (is_bad_at images found l (place + i)))
     → (((i : ℕ) → i < length (take n marks) → slice_index (take n marks) i ≡ mark (is_bad_at images found l (place + i)))
-    → Begins new (mid ++ bad_lines images found l (range_with_len place (length (take n marks)))))
-    → (m : ℕ) × (place + m ≤ all) × Begins new (old ++ bad_lines images found l (range_with_len place m))
-marked_front images found l place all n marks old mid new few same fits marked front =
+    → Begins new (mid ++ bad_lines format images found l (range_with_len place (length (take n marks)))))
+    → (m : ℕ) × (place + m ≤ all) × Begins new (old ++ bad_lines format images found l (range_with_len place m))
+marked_front format images found l place all n marks old mid new few same fits marked front =
     grind (arith, marks_taken, length-take-le)
 
 -- the lines of places that were marked, before which nothing was said
-pub marked_said : (images : List (List ℕ)) (found : Found) (l : Layout) (place n : ℕ) (marks old mid new : List ℕ) → n ≤ length marks → mid ≡ old
+pub marked_said : (format : Format) (images : List (List ℕ)) (found : Found) (l : Layout) (place n : ℕ) (marks old mid new : List ℕ) → n ≤ length marks → mid ≡ old
     → ((i : ℕ) → i < n → slice_index marks i ≡ mark (is_bad_at images found l (place + i)))
     → (((i : ℕ) → i < length (take n marks) → slice_index (take n marks) i ≡ mark (is_bad_at images found l (place + i)))
-    → new ≡ mid ++ bad_lines images found l (range_with_len place (length (take n marks))))
-    → new ≡ old ++ bad_lines images found l (range_with_len place n)
-marked_said images found l place n marks old mid new few same marked said =
+    → new ≡ mid ++ bad_lines format images found l (range_with_len place (length (take n marks))))
+    → new ≡ old ++ bad_lines format images found l (range_with_len place n)
+marked_said format images found l place n marks old mid new few same marked said =
     grind (arith, marks_taken, length-take-le)
 
 -- how many of the places that were marked are bad
@@ -522,18 +523,18 @@ begins_more new whole more b = (b.0 ++ more, ap (λ (t : List ℕ). t ++ more) b
 
 -- ---- a line
 
-pub line_row : (l : Layout) (p : ℕ) → l.shape ≡ Raid5 → bad_line l p ≡ text_of_failing (p / l.chunk) (p % l.chunk)
+pub line_row : (format : Format) (l : Layout) (p : ℕ) → l.shape ≡ Raid5 → bad_line format l p ≡ failing_line format (p / l.chunk) (p % l.chunk)
 unfolding bad_line
-line_row l p raid5 = ap (λ (s : Shape). if is_raid5 s then text_of_failing (p / l.chunk) (p % l.chunk) else text_of_differing p) raid5
+line_row format l p raid5 = ap (λ (s : Shape). if is_raid5 s then failing_line format (p / l.chunk) (p % l.chunk) else differing_line format p) raid5
 
-pub line_other : (l : Layout) (p : ℕ) → is_raid5 l.shape ≡ false → bad_line l p ≡ text_of_differing p
+pub line_other : (format : Format) (l : Layout) (p : ℕ) → is_raid5 l.shape ≡ false → bad_line format l p ≡ differing_line format p
 unfolding bad_line
-line_other l p other = ap (λ (b : Bool). if b then text_of_failing (p / l.chunk) (p % l.chunk) else text_of_differing p) other
+line_other format l p other = ap (λ (b : Bool). if b then failing_line format (p / l.chunk) (p % l.chunk) else differing_line format p) other
 
 pub other_shape : (s : Shape) → (s ≡ Raid5 → ⊥) → is_raid5 s ≡ false
 other_shape s apart = false_from_ne_true (is_raid5 s) (λ is. apart (raid5_is s is))
 
 -- the last line has both counts
-pub end_text : (images : List (List ℕ)) (found : Found) (l : Layout) (front : List ℕ) (all bad : ℕ) → IsCount l all → bad ≡ bad_of images found l (places_of l)
-    → text_of_end front all bad ≡ text_of_end front (length (places_of l)) (bad_of images found l (places_of l))
-end_text images found l front all bad counted is = grind (arith, length-range_with_len)
+pub end_text : (format : Format) (images : List (List ℕ)) (found : Found) (l : Layout) (front : List ℕ) (all bad : ℕ) → IsCount l all → bad ≡ bad_of images found l (places_of l)
+    → counts_line format front all bad ≡ counts_line format front (length (places_of l)) (bad_of images found l (places_of l))
+end_text format images found l front all bad counted is = grind (arith, length-range_with_len)

@@ -8,7 +8,8 @@ use Rattle.std.proofs.lemmas.List.{get_or_default, take_more, take_all}
 use Rattle.std.proofs.lemmas.List.Elements.{All-contains, All-nil, All-cons, All-push, All-tail, All-head, All-weaker, Contains-append_left, Contains-push, Contains-push_cases, Contains-get_or}
 use Rattle.std.proofs.lemmas.List.Folds.{list_any_at, Any-from_list_any, list_any-append, list_any_none, find_at}
 use Rattle.ldm_space.specs.Free.{Taken, takes_one, is_taken, first_free_start, taken_of, taken_by, taken_in}
-use Rattle.ldm_space.specs.Gaps.{Gap, IsIn, AreGaps, has_length, taken_on, with_gap, TakesFirst, first_gap, shorter, rest_of, without_first}
+use Rattle.std.specs.Prelude.{is_some}
+use Rattle.ldm_space.specs.Gaps.{greatest_to, largest_free, Gap, IsIn, AreGaps, has_length, taken_on, with_gap, TakesFirst, first_gap, shorter, rest_of, without_first}
 use Rattle.ldm_space.specs.declared.placed.FreeMaps.{FreeMaps}
 use Rattle.ldm_space.specs.Placed.{AreMapsOf}
 use Rattle.ldm_space.proofs.FreeLaws.{is_first, is_none, first_is, none_is, taken_both, put_last, taken_moved, any_by_each}
@@ -150,6 +151,65 @@ pub no_gap : (gaps : List Gap) (taken : List Taken) (disk size len : ℕ) → Ar
 no_gap gaps taken disk size len are some short = is_none taken disk size len (λ q ends. true_from_ne_false _ (λ free.
     let h = long_run gaps taken disk size len q are some ends free in
     false≢true (sym (All-contains (λ (g : Gap). has_length len g ≡ false) gaps h.0 short h.1) ∙ le-leb len h.0.len h.3)))
+
+-- ---- The longest gap has as many sectors as are free in a row.
+
+abbrev pub longest_of : List Gap → ℕ
+longest_of [] = 0
+longest_of (g ∷ gaps) = max g.len (longest_of gaps)
+
+longest_bounds : (gaps : List Gap) (k : ℕ) (d : Gap) → k < length gaps → (get_or gaps k d).len ≤ longest_of gaps
+longest_bounds [] k d lt = absurd (omega arith)
+longest_bounds (g ∷ gaps) zero d lt = omega arith
+longest_bounds (g ∷ gaps) (suc k) d lt = (let below = longest_bounds gaps k d (omega arith) in omega arith)
+
+-- where it has some, it is a gap's
+longest_met : (gaps : List Gap) → 0 < longest_of gaps → (g : Gap) × Contains gaps g × (g.len ≡ longest_of gaps)
+longest_met [] some = absurd (omega arith)
+longest_met (g ∷ gaps) some = elim (cases_lt g.len (longest_of gaps)) [
+  | inl less ↦ (let (h, (k, lt, is), same) = longest_met gaps (omega arith) in (h, (suc k, omega arith, is), omega arith))
+  | inr most ↦ (g, (0, omega arith, refl), omega arith)
+]
+
+greatest_is : (n m : ℕ) (test : ℕ → Bool) → m ≤ n → (0 < m → test m ≡ true) → ((k : ℕ) → m < k → test k ≡ false) → m ≡ greatest_to n test
+greatest_is zero m test le met above = omega arith
+greatest_is (suc n) m test le met above = go (test (suc n)) refl (λ low. greatest_is n m test low met above)
+  where
+    go : (b : Bool) → test (suc n) ≡ b → (m ≤ n → m ≡ greatest_to n test) → m ≡ cond b (suc n) (greatest_to n test)
+    go true is rest = elim (cases_lt m (suc n)) [
+      | inl less ↦ absurd (false≢true (sym (above (suc n) less) ∙ is))
+      | inr same ↦ omega arith
+    ]
+    go false is rest = elim (cases_lt m (suc n)) [
+      | inl less ↦ rest (omega arith)
+      | inr same ↦ absurd (false≢true (sym is ∙ (ap test (let one : suc n ≡ m = omega arith in one) ∙ met (omega arith))))
+    ]
+
+pub largest_is : (gaps : List Gap) (taken : List Taken) (disk size : ℕ) → AreGaps gaps taken disk size → longest_of gaps ≡ largest_free taken disk size
+unfolding largest_free
+largest_is gaps taken disk size are = greatest_is size (longest_of gaps) (λ len. is_some (first_free_start taken disk size len)) within met above
+  where
+    within : longest_of gaps ≤ size
+    within = elim (cases_lt 0 (longest_of gaps)) [
+      | inl some ↦ (let (g, there, same) = longest_met gaps some in
+          let ends : g.start + g.len ≤ size = All-contains (λ (x : Gap). x.start + x.len ≤ size) gaps g are.within there in omega arith)
+      | inr none ↦ omega arith
+    ]
+
+    met : 0 < longest_of gaps → is_some (first_free_start taken disk size (longest_of gaps)) ≡ true
+    met some = go (first_free_start taken disk size (longest_of gaps)) refl
+      where
+        go : (o : Option ℕ) → first_free_start taken disk size (longest_of gaps) ≡ o → is_some o ≡ true
+        go (Some p) is = refl
+        go None is =
+            let (g, there, same) = longest_met gaps some in
+            let ends : g.start + g.len ≤ size = All-contains (λ (x : Gap). x.start + x.len ≤ size) gaps g are.within there in
+            absurd (false≢true (sym (free_run taken disk (longest_of gaps) g.start (λ s from below. are.free g s there (record { from = from; below = omega arith })))
+            ∙ none_is taken disk size (longest_of gaps) is g.start (omega arith)))
+
+    above : (k : ℕ) → longest_of gaps < k → is_some (first_free_start taken disk size k) ≡ false
+    above k more = ap is_some (no_gap gaps taken disk size k are (omega arith)
+        (λ i d lt. false_from_ne_true _ (λ long. (let a = longest_bounds gaps i d lt in let b = leb-true k (get_or gaps i d).len long in omega arith))))
 
 -- ---- A walk over what is taken of a disk, in rising start, meets all gaps.
 

@@ -1,5 +1,5 @@
 -- The gaps of a disk: the longest runs of free sectors of its data area.
-use Rattle.std.specs.Prelude.{◌≡◌, ℕ, ◌+◌, ◌-◌, ◌<◌, ◌≤◌, ◌==◌, ◌&&◌, Bool, false, List, [], ◌∷◌, ◌++◌, All, AllPairs, Contains, Option, Some, None, find, nat_le, nat_lt, if◌then◌else◌}
+use Rattle.std.specs.Prelude.{◌≡◌, ℕ, zero, suc, is_some, ◌+◌, ◌-◌, ◌<◌, ◌≤◌, ◌==◌, ◌&&◌, Bool, false, List, [], ◌∷◌, ◌++◌, All, AllPairs, Contains, Option, Some, None, find, nat_le, nat_lt, if◌then◌else◌}
 use Rattle.std.specs.Option.{option_map}
 use Rattle.ldm_records.specs.declared.types.Record.{Record}
 use Rattle.ldm_records.specs.declared.types.Record.TheVariants as kinds
@@ -19,6 +19,17 @@ pub record AreGaps (gaps : List Gap) (taken : List Taken) (disk size : ℕ) : Ty
   pub within : All (λ g. g.start + g.len ≤ size) gaps
   pub free : (g : Gap) (s : ℕ) → Contains gaps g → IsIn g s → is_taken taken disk 1 s ≡ false
   pub all : (s : ℕ) → s < size → is_taken taken disk 1 s ≡ false → (g : Gap) × Contains gaps g × IsIn g s
+
+-- ---- the longest run of free sectors
+
+-- the greatest number from 1 to n that passes, or 0
+abbrev pub greatest_to : ℕ → (ℕ → Bool) → ℕ
+greatest_to zero test = 0
+greatest_to (suc n) test = if test (suc n) then suc n else greatest_to n test
+
+-- the most sectors of the disk in a row that are free below size
+unfoldable pub largest_free : List Taken → ℕ → ℕ → ℕ
+largest_free taken disk size = greatest_to size (λ len. is_some (first_free_start taken disk size len))
 
 -- ---- len sectors are taken from the first gap that has so many
 

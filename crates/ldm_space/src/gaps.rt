@@ -6,7 +6,7 @@ ghost use Rattle.std.specs.List.Sorted.{IsNonDecreasingBy};
 ghost use Rattle.ldm_group.specs.Partitions.{EndsInRange};
 ghost use Rattle.ldm_space.specs.Free.{Taken, taken_in};
 ghost use Rattle.ldm_space.specs.Gaps.{AreGaps, TakesFirst, has_length, first_gap, without_first};
-ghost use Rattle.ldm_space.specs.Gaps.{taken_on, with_gap};
+ghost use Rattle.ldm_space.specs.Gaps.{taken_on, with_gap, largest_free};
 
 use ldm_bytes::NoMemory;
 use ldm_group::Db;
@@ -143,6 +143,18 @@ impl FreeMap {
         ensures { result.now ≡ self.now }
     {
         self.gaps.as_slice()
+    }
+
+    /// How many sectors the longest gap has; 0 where there is no gap. It takes no memory.
+    pub fn largest(&self) -> u64
+        ensures { (taken : List Taken) (disk size : ℕ) → AreGaps self.now taken disk size
+            → result ≡ largest_free taken disk size }
+    {
+        let mut largest = 0;
+        for gap in self.gaps() {
+            largest = largest.max(gap.len);
+        }
+        largest
     }
 
     /// Takes `len` sectors where the first gap of so many or more begins, and says where that is;

@@ -11,7 +11,7 @@ sound_plan-requires-clause-again c =
     let again : by_id 3 volume.head.id c.args.found.now.db.records ≡ Some (kinds.Volume volume) = search rules in
     ap (λ (o : Option Record). volume_in o) again
 
-pub map_text-requires : goal.map_text-requires
-map_text-requires c =
+pub said_sectors-requires : goal.said_sectors-requires
+said_sectors-requires c =
     subst (λ (n : ℕ). c.args.first + c.args.count ≤ n) (sym c.in_ok-plan.ensures.size)
     (range_fits c.in-Some.volume.now.size c.args.first c.args.count (sym c.is_bad_range.ensures ∙ c.if-is_bad_range.false))

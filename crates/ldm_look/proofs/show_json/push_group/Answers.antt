@@ -4,6 +4,7 @@ use Rattle.json.specs.Json.{Json}
 use Rattle.ldm_json.specs.Values.{number_json, name_json, guid_json}
 use Rattle.json.specs.Token.{Token}
 use Rattle.json.specs.Tree.{json_tokens}
+use Rattle.ldm_space.specs.Free.{taken_in}
 use Rattle.ldm_group.specs.Partitions.{used_on}
 use Rattle.ldm_look.specs.ShowJson.{disk_jsons, all_volume_jsons}
 use Rattle.ldm_look.proofs.JsonLaws.{both_from, group_is}
@@ -12,7 +13,7 @@ use Rattle.ldm_look.proofs.show_json.push_group.Goals as goal
 pub returns : goal.returns
 returns c =
     let found = c.args.found.now in
-    let disks : List Json = disk_jsons c.args.paths.now (used_on found.db.records) found.labels found.db.records in
+    let disks : List Json = disk_jsons c.args.paths.now (used_on found.db.records) (taken_in found.db.records) found.labels found.db.records in
     let volumes : List Json = all_volume_jsons found.labels found.db.records in
     subst (λ (ts : List Token). OnOk c.close.result (c.close.new.self ≡ ts))
     (both_from c.args.json.now c.open.new.self c.push_all_disks.new.json c.next.new.self c.push_all_volumes.new.json _

@@ -1,6 +1,6 @@
 use Rattle.std.proofs.Common.{◌∙◌, refl}
 use Rattle.ldm_host.proofs.Relations.{still_itself}
-use Rattle.ldm_replies.specs.Reply.{text_of_reply}
+use Rattle.ldm_replies.specs.ReplyJson.{said_reply}
 use Rattle.ldm_run.proofs.Saying.{reply_part}
 use Rattle.ldm_run.proofs.replying.say_reply.Goals as goal
 
@@ -8,7 +8,7 @@ pub returns-in_default-clause-says : goal.returns-in_default-clause-says
 returns-in_default-clause-says g c =
     let host = c.args.host.now in
     record {
-      front = (text_of_reply (c.args.number, c.args.reply.now), refl);
+      front = (said_reply c.args.format.now (c.args.number, c.args.reply.now), refl);
       still = still_itself (g.H.Host.seen host) (g.met.H.Host.counts_now host) (g.met.H.Host.only_now host);
       input = record { input = refl; heard = refl };
     }

@@ -7,7 +7,7 @@ pub returns-in-Disk : goal.returns-in-Disk
 returns-in-Disk g c = of_job c.in-Disk.is (reads_job (Disk c.in-Disk.format) refl c.disk.ensures)
 
 pub returns-in-Records : goal.returns-in-Records
-returns-in-Records g c = of_job c.in-Records.is (reads_job Records refl c.records.ensures)
+returns-in-Records g c = of_job c.in-Records.is (reads_job (Records c.in-Records.format) refl c.records.ensures)
 
 pub returns-in-Scan : goal.returns-in-Scan
 returns-in-Scan g c = of_job c.in-Scan.is (reads_job (Scan c.in-Scan.format) refl c.scan.ensures)
@@ -19,4 +19,4 @@ pub returns-in-Check : goal.returns-in-Check
 returns-in-Check g c = of_job c.in-Check.is (reads_job (Check c.in-Check.format) refl c.check.ensures)
 
 pub returns-in-Map : goal.returns-in-Map
-returns-in-Map g c = of_job c.in-Map.is (reads_job (Map c.in-Map.name c.in-Map.first c.in-Map.count) refl c.map.ensures)
+returns-in-Map g c = of_job c.in-Map.is (reads_job (Map c.in-Map.name c.in-Map.first c.in-Map.count c.in-Map.format) refl c.map.ensures)

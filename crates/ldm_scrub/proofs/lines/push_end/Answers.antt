@@ -1,7 +1,7 @@
-use Rattle.std.proofs.Common.{arith, append_assoc}
-use Rattle.ldm_scrub.specs.Lines.{text_of_end}
 use Rattle.ldm_scrub.proofs.lines.push_end.Goals as goal
 
-pub returns-clause-is : goal.returns-clause-is
-unfolding text_of_end
-returns-clause-is c = grind (arith, append_assoc)
+pub returns-in-Lines-clause-is : goal.returns-in-Lines-clause-is
+returns-in-Lines-clause-is c = rw c.in-Lines.is c.push_end_text.ensures.is
+
+pub returns-in-Json-clause-is : goal.returns-in-Json-clause-is
+returns-in-Json-clause-is c = rw c.in-Json.is (c.push_end_json.ensures.is c.in-Json.field-0)

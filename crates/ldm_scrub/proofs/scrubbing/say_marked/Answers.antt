@@ -15,12 +15,12 @@ returns-then-bad-eq0-clause-said g c tells images found marked = grind (arith, a
 
 pub returns-in_err-say-clause-front : goal.returns-in_err-say-clause-front
 returns-in_err-say-clause-front g c images found marked =
-    begins_of _ _ _ _ (c.push_lines-end.ensures.is (is_bad_at images found c.args.plan.now) marked ∙ lines_are images found c.args.plan.now (range_with_len c.args.place (length c.args.marks.now))) c.in_err-say.ensures.front
+    begins_of _ _ _ _ (c.push_lines-end.ensures.is (is_bad_at images found c.args.plan.now) marked ∙ lines_are c.args.format.now images found c.args.plan.now (range_with_len c.args.place (length c.args.marks.now))) c.in_err-say.ensures.front
 
 pub returns-clause-said : goal.returns-clause-said
 returns-clause-said g c tells images found marked =
     let said = (g.H.Host.seen c.args.host.now).said in
-    let text = c.push_lines-end.ensures.is (is_bad_at images found c.args.plan.now) marked ∙ lines_are images found c.args.plan.now (range_with_len c.args.place (length c.args.marks.now)) in
+    let text = c.push_lines-end.ensures.is (is_bad_at images found c.args.plan.now) marked ∙ lines_are c.args.format.now images found c.args.plan.now (range_with_len c.args.place (length c.args.marks.now)) in
     c.in_ok-say.ensures.said tells ∙ ap (λ (t : List ℕ). said ++ t) text
 
 pub returns-clause-count : goal.returns-clause-count
@@ -28,7 +28,7 @@ returns-clause-count g c images found marked = grind (arith, bad_are)
 
 pub returns-clause-front : goal.returns-clause-front
 returns-clause-front g c images found marked =
-    begins_of _ _ _ _ (c.push_lines-end.ensures.is (is_bad_at images found c.args.plan.now) marked ∙ lines_are images found c.args.plan.now (range_with_len c.args.place (length c.args.marks.now))) c.in_ok-say.ensures.front
+    begins_of _ _ _ _ (c.push_lines-end.ensures.is (is_bad_at images found c.args.plan.now) marked ∙ lines_are c.args.format.now images found c.args.plan.now (range_with_len c.args.place (length c.args.marks.now))) c.in_ok-say.ensures.front
 
 pub returns-then-bad-eq0-clause-still : goal.returns-then-bad-eq0-clause-still
 returns-then-bad-eq0-clause-still g c = still_itself (g.H.Host.seen c.args.host.now) (g.met.H.Host.counts_now c.args.host.now) (g.met.H.Host.only_now c.args.host.now)

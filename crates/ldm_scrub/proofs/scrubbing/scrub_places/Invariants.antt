@@ -11,7 +11,7 @@ invariant-pieces g l = record {
   input : SameInput (g.H.Host.seen l.fn.host) (g.H.Host.seen l.host);
   within : l.place ≤ l.all;
   few : l.bad ≤ l.place;
-  said : g.H.Host.tells_disks → (g.H.Host.seen l.host).said ≡ (g.H.Host.seen l.fn.host).said ++ bad_lines (g.H.Host.seen l.fn.host).content l.found l.plan (range_with_len 0 l.place);
+  said : g.H.Host.tells_disks → (g.H.Host.seen l.host).said ≡ (g.H.Host.seen l.fn.host).said ++ bad_lines l.format (g.H.Host.seen l.fn.host).content l.found l.plan (range_with_len 0 l.place);
   count : g.H.Host.tells_disks → l.bad ≡ bad_of (g.H.Host.seen l.fn.host).content l.found l.plan (range_with_len 0 l.place);
 }
 

@@ -7,7 +7,7 @@ use Rattle.ldm_scrub.proofs.scrubbing.scrub_some.Goals as goal
 
 pub returns-in_default-clause-front : goal.returns-in_default-clause-front
 returns-in_default-clause-front g c tells =
-    let none = bad_lines (g.H.Host.seen c.args.host.now).content c.args.found.now c.args.plan.now (range_with_len c.args.place 0) in
+    let none = bad_lines c.args.format.now (g.H.Host.seen c.args.host.now).content c.args.found.now c.args.plan.now (range_with_len c.args.place 0) in
     (0, omega arith, (none, ap (λ (s : List ℕ). s ++ none) (sym c.mark_some.ensures.looks.quiet.said)))
 
 pub returns-in_default-clause-input : goal.returns-in_default-clause-input
@@ -36,7 +36,7 @@ returns-in-Err-clause-talk g c is = rose_sooner _ _ _ c.in-Ok.ensures.looks.stil
 
 pub returns-in-Ok-say_marked-clause-said : goal.returns-in-Ok-say_marked-clause-said
 returns-in-Ok-say_marked-clause-said g c tells =
-    marked_said (g.H.Host.seen c.args.host.now).content c.args.found.now c.args.plan.now c.args.place c.in-Ok.count c.mark_some.new.marks _ _ _ (omega (arith, c.in-Ok.ensures.few))
+    marked_said c.args.format.now (g.H.Host.seen c.args.host.now).content c.args.found.now c.args.plan.now c.args.place c.in-Ok.count c.mark_some.new.marks _ _ _ (omega (arith, c.in-Ok.ensures.few))
     c.in-Ok.ensures.looks.quiet.said (c.in-Ok.ensures.marks tells) (c.in-Ok-say_marked.ensures.said (g.met.H.Host.tells_both tells) (g.H.Host.seen c.args.host.now).content c.args.found.now)
 
 pub returns-in-Ok-say_marked-clause-count : goal.returns-in-Ok-say_marked-clause-count
@@ -46,10 +46,10 @@ returns-in-Ok-say_marked-clause-count g c tells =
 
 pub returns-in-Ok-say_marked-clause-front : goal.returns-in-Ok-say_marked-clause-front
 returns-in-Ok-say_marked-clause-front g c tells =
-    marked_front (g.H.Host.seen c.args.host.now).content c.args.found.now c.args.plan.now c.args.place c.args.all c.in-Ok.count c.mark_some.new.marks _ _ _ (omega (arith, c.in-Ok.ensures.few))
+    marked_front c.args.format.now (g.H.Host.seen c.args.host.now).content c.args.found.now c.args.plan.now c.args.place c.args.all c.in-Ok.count c.mark_some.new.marks _ _ _ (omega (arith, c.in-Ok.ensures.few))
     c.in-Ok.ensures.looks.quiet.said c.in-Ok.ensures.fits (c.in-Ok.ensures.marks tells) (c.in-Ok-say_marked.ensures.front (g.H.Host.seen c.args.host.now).content c.args.found.now)
 
 pub returns-in-Err-clause-front : goal.returns-in-Err-clause-front
 returns-in-Err-clause-front g c tells =
-    marked_front (g.H.Host.seen c.args.host.now).content c.args.found.now c.args.plan.now c.args.place c.args.all c.in-Ok.count c.mark_some.new.marks _ _ _ (omega (arith, c.in-Ok.ensures.few))
+    marked_front c.args.format.now (g.H.Host.seen c.args.host.now).content c.args.found.now c.args.plan.now c.args.place c.args.all c.in-Ok.count c.mark_some.new.marks _ _ _ (omega (arith, c.in-Ok.ensures.few))
     c.in-Ok.ensures.looks.quiet.said c.in-Ok.ensures.fits (c.in-Ok.ensures.marks tells) (c.in-Err.ensures.front (g.H.Host.seen c.args.host.now).content c.args.found.now)
