@@ -2,7 +2,7 @@
 use crate::made::check;
 use ldm_bytes::{Bytes, write_guid};
 use ldm_lines::{LineError, read_line};
-use ldm_words::{Command, Job, NewLayout, Piece, WordsError, read_number, read_words};
+use ldm_words::{Command, Format, Job, NewLayout, Piece, WordsError, read_number, read_words};
 use std::alloc::Global;
 use std::process::Abort;
 use std::test::Fail;
@@ -99,11 +99,23 @@ fn push_command(alloc: Global, text: &mut Vec<u8>, command: &Command) -> Result<
     }
 }
 
+// A word, and how the answer is said.
+fn push_format(text: &mut Vec<u8>, word: &[u8], format: &Format) -> Result<(), Fail> {
+    push_bytes(text, word)?;
+    match format {
+        Format::Lines => push_bytes(text, b"lines"),
+        Format::Json(_) => push_bytes(text, b"json"),
+    }
+}
+
 fn push_job(alloc: Global, text: &mut Vec<u8>, job: &Job) -> Result<(), Fail> {
     match job {
-        Job::Try => push_bytes(text, b"try"),
-        Job::Edit => push_bytes(text, b"edit"),
-        Job::One(command) => push_command(alloc, text, command),
+        Job::Try(format) => push_format(text, b"try", format),
+        Job::Edit(format) => push_format(text, b"edit", format),
+        Job::One { command, format } => {
+            push_command(alloc, text, command)?;
+            push_format(text, b"in", format)
+        }
         Job::Sample(seed) => {
             push_bytes(text, b"sample")?;
             push_number(alloc, text, *seed)
@@ -127,21 +139,26 @@ fn reading(alloc: Global, line: &str) -> Result<Option<Vec<u8>>, Fail> {
 
 // LINE;READING
 const READINGS: &str = "\
-try on A;1 try
-edit on A B C;3 edit
+try on A;1 try lines
+try --json on A;1 try json
+edit on A B C;3 edit lines
+edit --json on A B C;3 edit json
 sample 0;0 sample 0
 sample 18446744073709551615;0 sample 18446744073709551615
 create \\x44ata BBBBBBBB-bbbb-bbbb-bbbb-bbbbbbbbbbbb span Disk1=2048 a=b=010 on A B;\
-2 create Data bbbbbbbb-bbbb-bbbb-bbbb-bbbbbbbbbbbb span Disk1 2048 a=b 10
+2 create Data bbbbbbbb-bbbb-bbbb-bbbb-bbbbbbbbbbbb span Disk1 2048 a=b 10 in lines
 create S G stripe 4 12 Disk1 Disk2 on A B;\
-2 create S bbbbbbbb-bbbb-bbbb-bbbb-bbbbbbbbbbbb stripe 4 12 Disk1 Disk2
+2 create S bbbbbbbb-bbbb-bbbb-bbbb-bbbbbbbbbbbb stripe 4 12 Disk1 Disk2 in lines
 create M G mirror 5 Disk2 Disk1 on A B;\
-2 create M bbbbbbbb-bbbb-bbbb-bbbb-bbbbbbbbbbbb mirror 5 Disk2 Disk1
+2 create M bbbbbbbb-bbbb-bbbb-bbbb-bbbbbbbbbbbb mirror 5 Disk2 Disk1 in lines
 create R G raid5 4 12 Disk1 Disk2 Disk3 on A B C;\
-3 create R bbbbbbbb-bbbb-bbbb-bbbb-bbbbbbbbbbbb raid5 4 12 Disk1 Disk2 Disk3
-extend Data \\e=7 Disk2=0 on A;1 extend Data  7 Disk2 0
-delete \\e on A;1 delete 
-delete \\x6fn on A;1 delete on";
+3 create R bbbbbbbb-bbbb-bbbb-bbbb-bbbbbbbbbbbb raid5 4 12 Disk1 Disk2 Disk3 in lines
+extend Data \\e=7 Disk2=0 on A;1 extend Data  7 Disk2 0 in lines
+extend --json Data Disk2=0 on A;1 extend Data Disk2 0 in json
+delete \\e on A;1 delete  in lines
+delete --json on A;1 delete --json in lines
+delete --json --json on A;1 delete --json in json
+delete \\x6fn on A;1 delete on in lines";
 
 #[test]
 fn reads_the_commands(rt: HostRuntime) -> Result<(), Fail> {

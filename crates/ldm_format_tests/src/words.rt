@@ -29,16 +29,42 @@ fn in_format<'a>(lines: &'a str, json: &'a str, format: &'a Format) -> Parts<'a>
 fn parts_of(job: &Job) -> Parts<'_> {
     match job {
         Job::Disk(format) => in_format("disk", "disk --json", format),
-        Job::Records => ("records", b"", 0, 0),
+        Job::Records(format) => in_format("records", "records --json", format),
         Job::Scan(format) => in_format("scan", "scan --json", format),
         Job::Show(format) => in_format("show", "show --json", format),
         Job::Check(format) => in_format("check", "check --json", format),
-        Job::Map { name, first, count } => ("map", name.as_slice(), *first, *count),
-        Job::Dump { name } => ("dump", name.as_slice(), 0, 0),
-        Job::Scrub { name } => ("scrub", name.as_slice(), 0, 0),
+        Job::Map {
+            name,
+            first,
+            count,
+            format: Format::Lines,
+        } => ("map", name.as_slice(), *first, *count),
+        Job::Map {
+            name,
+            first,
+            count,
+            format: Format::Json(_),
+        } => ("map --json", name.as_slice(), *first, *count),
+        Job::Dump {
+            name,
+            section: None,
+        } => ("dump", name.as_slice(), 0, 0),
+        Job::Dump {
+            name,
+            section: Some(section),
+        } => ("dump", name.as_slice(), section.first, section.count),
+        Job::Scrub {
+            name,
+            format: Format::Lines,
+        } => ("scrub", name.as_slice(), 0, 0),
+        Job::Scrub {
+            name,
+            format: Format::Json(_),
+        } => ("scrub --json", name.as_slice(), 0, 0),
         Job::Table { name, images } => {
             ("table", name.as_slice(), images.as_slice().len() as u64, 0)
         }
+        Job::Tables { images } => ("tables", b"", images.as_slice().len() as u64, 0),
         _ => ("another", b"", 0, 0),
     }
 }
@@ -58,7 +84,7 @@ fn is_refused(rt: &impl Abort, alloc: Global, line: &str) -> bool {
     )
 }
 
-const JOBS: [(&str, Parts<'static>, usize); 20] = [
+const JOBS: [(&str, Parts<'static>, usize); 28] = [
     ("disk on A", ("disk", b"", 0, 0), 1),
     ("disk on on", ("disk", b"", 0, 0), 1),
     ("records on A", ("records", b"", 0, 0), 1),
@@ -78,7 +104,23 @@ const JOBS: [(&str, Parts<'static>, usize); 20] = [
     ("check --json on A", ("check --json", b"A", 0, 0), 1),
     ("dump --json on A", ("dump", b"--json", 0, 0), 1),
     ("scrub --json on A", ("scrub", b"--json", 0, 0), 1),
+    ("scrub --json Data on A", ("scrub --json", b"Data", 0, 0), 1),
+    (
+        "scrub --json --json on A",
+        ("scrub --json", b"--json", 0, 0),
+        1,
+    ),
     ("map --json 0 1 on A", ("map", b"--json", 0, 1), 1),
+    ("records --json on A", ("records --json", b"A", 0, 0), 1),
+    ("map --json Data 0 1 on A", ("map --json", b"Data", 0, 1), 1),
+    (
+        "dump Data 8 18446744073709551615 on A B",
+        ("dump", b"Data", 8, u64::MAX),
+        2,
+    ),
+    ("dump --json 0 8 on A", ("dump", b"--json", 0, 8), 1),
+    ("table on A B", ("tables", b"", 2, 0), 2),
+    ("table on on", ("tables", b"", 1, 0), 1),
 ];
 
 fn check_jobs(rt: &impl Abort, alloc: Global, rows: &[(&str, Parts<'static>, usize)]) {
@@ -126,8 +168,9 @@ show --jsn on A
 show --json
 show x --json on A
 disk --json on A B
-records --json on A
-try --json on A
+records --json --json on A
+map --json Data 0 on A
+dump --json Data 0 8 on A
 frob on A
 disk A
 disk on
@@ -149,8 +192,11 @@ map a\\X41 0 1 on A
 Map Data 0 1 on A
 dump on A
 dump Data 0 on A
+dump Data 0 x on A
+dump Data 0 8 9 on A
 scrub Data on
-table on A
+table on
+table Data Data on A
 table Data 0 on A
 table Data
 init G on A B

@@ -161,11 +161,13 @@ fn says_each_fault_of_a_copy(rt: HostRuntime) -> Result<(), Fail> {
 
 // The group and the disk in the records that Vista writes: 44 bytes behind the group's name, and 16
 // of a GUID and 29 behind the disk's. What else the blocks hold is carried.
+const BY_VISTA: &[(usize, &[u8])] = &[
+    (AREA + 128 * 4 + 0x13, b"\x45\x00\x00\x00\x32"),
+    (AREA + 128 * 5 + 0x13, b"\x44\x00\x00\x00\x35"),
+];
+
 const VISTA: [Case; 1] = [(
-    &[
-        (AREA + 128 * 4 + 0x13, b"\x45\x00\x00\x00\x32"),
-        (AREA + 128 * 5 + 0x13, b"\x44\x00\x00\x00\x35"),
-    ],
+    BY_VISTA,
     "vmdb Dg0 aaaaaaaa-aaaa-aaaa-aaaa-aaaaaaaaaaaa sequence 7 last 64\ndgr4 1 Dg0 58\ndsk4 2 Disk1 61\n",
     Status::Done,
 )];
@@ -173,4 +175,15 @@ const VISTA: [Case; 1] = [(
 #[test]
 fn says_the_records_of_vista(rt: HostRuntime) -> Result<(), Fail> {
     expect_cases(rt.alloc(), &rt, "records on A", 1, &VISTA)
+}
+
+const VISTA_AS_JSON: [Case; 1] = [(
+    BY_VISTA,
+    "{\"state\":\"open\",\"name\":\"Dg0\",\"guid\":\"aaaaaaaa-aaaa-aaaa-aaaa-aaaaaaaaaaaa\",\"sequence\":7,\"last\":64,\"records\":[{\"kind\":\"group\",\"type\":\"dgr4\",\"id\":1,\"name\":\"Dg0\",\"length\":58,\"mark\":0,\"flags\":0,\"guid\":null,\"id1\":null,\"id2\":null},{\"kind\":\"disk\",\"type\":\"dsk4\",\"id\":2,\"name\":\"Disk1\",\"length\":61,\"mark\":0,\"flags\":0,\"guid\":\"24313131-3131-3131-312d-313131312d31\",\"alternative_name\":null}]}\n",
+    Status::Done,
+)];
+
+#[test]
+fn says_the_records_of_vista_as_json(rt: HostRuntime) -> Result<(), Fail> {
+    expect_cases(rt.alloc(), &rt, "records --json on A", 1, &VISTA_AS_JSON)
 }

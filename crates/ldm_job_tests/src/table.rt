@@ -71,6 +71,48 @@ fn spells_tables(rt: HostRuntime) -> Result<(), Fail> {
     play(rt.alloc(), &rt, 3, 64, TABLES)
 }
 
+// All volumes of a group in one line: none, three of which one has an array, and what can't be had.
+const ALL_TABLES: &str = "\
+$ table on A B C
+refused: no volume
+= 1
+$ edit on A B C
+< create S dddddddd-dddd-dddd-dddd-dddddddddddd stripe 8 24 Disk1 Disk2
+< create R cccccccc-cccc-cccc-cccc-cccccccccccc raid5 8 16 Disk1 Disk2 Disk3
+< create My\\x20Vol ffffffff-ffff-ffff-ffff-ffffffffffff span Disk3=5
+1 ok 8
+2 ok 9
+3 ok 10
+= 0 ABC
+$ table on A B C
+ldm_vol_Dg0_S,LDM-dddddddd-dddd-dddd-dddd-dddddddddddd,,ro,0 48 striped 2 8 A 63 B 63;\
+ldm_part_Dg0_p11,,,ro,0 16 linear A 87;ldm_part_Dg0_p12,,,ro,0 16 linear B 87;ldm_part_Dg0_p13,,,ro,0 16 linear C 63;\
+ldm_vol_Dg0_R,LDM-cccccccc-cccc-cccc-cccc-cccccccccccc,,ro,0 32 raid raid5_ls 2 8 nosync 3 \
+- /dev/mapper/ldm_part_Dg0_p11 - /dev/mapper/ldm_part_Dg0_p12 - /dev/mapper/ldm_part_Dg0_p13;\
+ldm_vol_Dg0_My\\\\x20Vol,LDM-ffffffff-ffff-ffff-ffff-ffffffffffff,,ro,0 5 linear C 79
+= 0
+$ table on A C
+refused: volume S: sector 8 is lost
+= 1
+$ table on A B
+refused: volume My\\x20Vol: sector 0 is lost
+= 1
+$ table on A B x:y
+refused: volume S: image 2: no word of a table
+= 1
+$ create V acacacac-acac-acac-acac-acacacacacac raid5 24 24 Disk1 Disk2 Disk3 on A B C
+1 ok 11
+= 0 ABC
+$ table on C B A
+refused: volume V: chunk of 24 sectors
+= 1
+";
+
+#[test]
+fn spells_all_tables(rt: HostRuntime) -> Result<(), Fail> {
+    play(rt.alloc(), &rt, 3, 64, ALL_TABLES)
+}
+
 // The names of the three partitions stand in the blocks 10 to 12: P1, P2 and P1, and then P1, P2 and
 // P3.
 const NAMESAKES: &str = "\
@@ -93,6 +135,42 @@ ldm_vol_Dg0_R,LDM-cccccccc-cccc-cccc-cccc-cccccccccccc,,ro,0 32 raid raid5_ls 2 
 #[test]
 fn refuses_two_parts_of_one_name(rt: HostRuntime) -> Result<(), Fail> {
     play(rt.alloc(), &rt, 3, 64, NAMESAKES)
+}
+
+// The name of the first partition of T stands in block 18: it is that of the first of R, and then
+// its own.
+const OTHER_NAMESAKES: &str = "\
+$ edit on A B C
+< create S dddddddd-dddd-dddd-dddd-dddddddddddd span Disk1=5
+< create R cccccccc-cccc-cccc-cccc-cccccccccccc raid5 8 16 Disk1 Disk2 Disk3
+< create T eeeeeeee-eeee-eeee-eeee-eeeeeeeeeeee raid5 8 8 Disk1 Disk2 Disk3
+1 ok 8
+2 ok 9
+3 ok 10
+= 0 ABC
+! *.copy+91b=703130
+$ table T on A B C
+ldm_part_Dg0_p10,,,ro,0 8 linear A 84;ldm_part_Dg0_p16,,,ro,0 8 linear B 79;ldm_part_Dg0_p17,,,ro,0 8 linear C 79;\
+ldm_vol_Dg0_T,LDM-eeeeeeee-eeee-eeee-eeee-eeeeeeeeeeee,,ro,0 16 raid raid5_ls 2 8 nosync 3 \
+- /dev/mapper/ldm_part_Dg0_p10 - /dev/mapper/ldm_part_Dg0_p16 - /dev/mapper/ldm_part_Dg0_p17
+= 0
+$ table on A B C
+refused: two parts have one name
+= 1
+! *.copy+91b=703135
+$ table on A B C
+ldm_vol_Dg0_S,LDM-dddddddd-dddd-dddd-dddd-dddddddddddd,,ro,0 5 linear A 63;\
+ldm_part_Dg0_p10,,,ro,0 16 linear A 68;ldm_part_Dg0_p11,,,ro,0 16 linear B 63;ldm_part_Dg0_p12,,,ro,0 16 linear C 63;\
+ldm_vol_Dg0_R,LDM-cccccccc-cccc-cccc-cccc-cccccccccccc,,ro,0 32 raid raid5_ls 2 8 nosync 3 \
+- /dev/mapper/ldm_part_Dg0_p10 - /dev/mapper/ldm_part_Dg0_p11 - /dev/mapper/ldm_part_Dg0_p12;\
+ldm_part_Dg0_p15,,,ro,0 8 linear A 84;ldm_part_Dg0_p16,,,ro,0 8 linear B 79;ldm_part_Dg0_p17,,,ro,0 8 linear C 79;\
+ldm_vol_Dg0_T,LDM-eeeeeeee-eeee-eeee-eeee-eeeeeeeeeeee,,ro,0 16 raid raid5_ls 2 8 nosync 3 \
+- /dev/mapper/ldm_part_Dg0_p15 - /dev/mapper/ldm_part_Dg0_p16 - /dev/mapper/ldm_part_Dg0_p17
+= 0";
+
+#[test]
+fn refuses_parts_of_two_volumes_with_one_name(rt: HostRuntime) -> Result<(), Fail> {
+    play(rt.alloc(), &rt, 3, 64, OTHER_NAMESAKES)
 }
 
 // Where the size of the volume stands whose GUID is sixteen of these bytes, in the last megabyte of

@@ -1,6 +1,6 @@
 //! Jobs on the bytes of volumes.
 use crate::edit::play;
-use crate::jobs::{answer_of, named_images, put, run_over, sample_group, words_in};
+use crate::jobs::{answer_of, expect, named_images, put, run_over, sample_group, words_in};
 use ldm_host::Host;
 use ldm_images::usual_images;
 use ldm_memory::MemoryHost;
@@ -61,6 +61,24 @@ refused: no volume
 = 1
 $ dump S on B C
 refused: sector 0 is lost
+= 1
+$ dump S 9 1 on B C
+refused: sector 9 is lost
+= 1
+$ dump S 0 0 on A B C
+refused: bad range
+= 1
+$ dump S 9 2 on B C
+refused: bad range
+= 1
+$ dump S 10 1 on A B C
+refused: bad range
+= 1
+$ dump S 18446744073709551615 2 on A B C
+refused: bad range
+= 1
+$ dump Nope 0 1 on A B C
+refused: no volume
 = 1
 ";
 
@@ -155,6 +173,45 @@ fn says_the_bytes_of_a_volume(rt: HostRuntime) -> Result<(), Fail> {
     Ok(())
 }
 
+// Sections of the volume: the words, the first sector, and the one behind the last. On A alone are
+// the chunks of the sectors 0 to 3 and 12 to 15.
+const SECTIONS: [(&str, usize, usize); 7] = [
+    ("dump R 0 24 on A B C", 0, 24),
+    ("dump R 5 14 on A B C", 5, 19),
+    ("dump R 5 14 on A C", 5, 19),
+    ("dump R 23 1 on C B", 23, 24),
+    ("dump R 0 4 on A", 0, 4),
+    ("dump R 12 4 on A", 12, 16),
+    ("dump R 14 1 on A", 14, 15),
+];
+
+// Sections that begin in front of a lost sector, in one, and among several.
+const LOST: [(&str, &str); 4] = [
+    ("dump R 3 2 on A", "refused: sector 4 is lost\n"),
+    ("dump R 6 1 on A", "refused: sector 6 is lost\n"),
+    ("dump R 12 12 on A", "refused: sector 16 is lost\n"),
+    ("dump R 12 13 on A", "refused: bad range\n"),
+];
+
+#[test]
+fn says_sections_of_a_volume(rt: HostRuntime) -> Result<(), Fail> {
+    let alloc = rt.alloc();
+    let group = filled_group(alloc)?;
+    let bytes = numbered(alloc)?;
+    for (words, first, end) in SECTIONS {
+        let section = first.saturating_mul(512)..end.saturating_mul(512);
+        let Some(wanted) = bytes.as_slice().get(section) else {
+            return Err(Fail::from("no section"));
+        };
+        expect_bytes(alloc, &rt, &group, words, wanted)?;
+    }
+    for (words, line) in LOST {
+        let images = named_images(alloc, &group, words)?;
+        expect(alloc, &rt, words, images, b"", (line, Status::Refused))?;
+    }
+    Ok(())
+}
+
 // Fills so many sectors of an image, from this one on.
 fn fill(images: &mut [Vec<u8>], image: usize, first: usize, count: usize, byte: u8) {
     if let Some(image) = images.get_mut(image) {
@@ -211,5 +268,7 @@ fn goes_back_to_the_first_copy(rt: HostRuntime) -> Result<(), Fail> {
     let all = sectors(alloc, &[(100, 1), (50, 3)])?;
     let absent = sectors(alloc, &[(100, 2), (50, 3)])?;
     expect_bytes(alloc, &rt, &group, "dump M on A B C", &all)?;
-    expect_bytes(alloc, &rt, &group, "dump M on B C", &absent)
+    expect_bytes(alloc, &rt, &group, "dump M on B C", &absent)?;
+    let across = sectors(alloc, &[(9, 2), (7, 3)])?;
+    expect_bytes(alloc, &rt, &group, "dump M 91 16 on B C", &across)
 }
