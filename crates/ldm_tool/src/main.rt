@@ -5,15 +5,26 @@
 //! `FileHost` that it makes are the trusted edge.
 #![tactic(auto)]
 
+ghost use Rattle.std.specs.Prelude.{IfSome};
+ghost use Rattle.ldm_look.specs.Runs.{HasImages};
+ghost use Rattle.ldm_explain.specs.Sights.{IsSight};
+ghost use Rattle.ldm_words.specs.Jobs.{texts, job_of, KeepsLimits};
+
+mod kept;
+
+use kept::Kept;
 use ldm_bytes::NoMemory;
 use ldm_console::{Counted, JobHelp, Meter, Tally, UsageError, tell, usage_error};
 use ldm_edge::{
     HELP, Stop, VERSION, Written, ending, exit_code, open_images, stop_unopened, words_of,
 };
+use ldm_explain::{Sight, explain};
 use ldm_files::{Access, Failure, FileHost, ImageFile, take_closed_streams};
+use ldm_host::Host;
 use ldm_locks::{System, hold};
 use ldm_run::run;
 use ldm_words::{Job, Status, WordsError, read_words};
+use std::alloc::Global;
 use std::io;
 use std::io::{IsTerminal, Read, Write};
 use std::process::ExitCode;
@@ -66,7 +77,7 @@ fn needs_of(job: &Job) -> Needs {
             Access::Read
         },
         makes: matches!(job, Job::Init { .. }),
-        script: matches!(job, Job::Try | Job::Edit),
+        script: matches!(job, Job::Try(_) | Job::Edit(_)),
         counted: match job {
             Job::Dump { .. } => Some(Counted::Said),
             Job::Scrub { .. } => Some(Counted::Read),
@@ -131,6 +142,67 @@ fn hold_images<'a>(
     Ok(())
 }
 
+// When it is seen what the images hold, by which a refusal is explained.
+#[derive(Clone, Copy, PartialEq, Eq)]
+enum Seen {
+    Before,
+    After,
+    Never,
+}
+
+// Before an edit of more lines than one, since those that are done change the group. A refusal is
+// explained where one sits at a terminal.
+fn seen_when(job: &Job, terminals: Terminals) -> Seen {
+    match job {
+        _ if !terminals.error => Seen::Never,
+        Job::Sample(_) => Seen::Never,
+        Job::Edit(_) => Seen::Before,
+        _ => Seen::After,
+    }
+}
+
+// Runs the words, which ask for this job, over a host. What the images hold is seen where a refusal
+// is to be explained by it.
+#[tactic(auto, using(crate::proofs::ImageLaws::images_stay))]
+fn run_over<H: Host>(
+    alloc: Global,
+    words: &[String],
+    names: &[String],
+    job: &Job,
+    seen: Seen,
+    host: &mut H,
+) -> (Status, Option<Sight>)
+    requires { HasImages (job_of (texts words.now)) (H.seen host.old) }
+    ensures { IfSome result.1 IsSight }
+{
+    match seen {
+        Seen::Before => {
+            let sight = Sight::of(alloc, host, names, job);
+            (run(alloc, words, host), sight)
+        }
+        Seen::After => match run(alloc, words, host) {
+            Status::Refused => (Status::Refused, Sight::of(alloc, host, names, job)),
+            status => (status, None),
+        },
+        Seen::Never => (run(alloc, words, host), None),
+    }
+}
+
+// Explains a refusal by what was seen of the images, and heard of the script.
+fn explain_end(rt: &HostRuntime, job: &Job, script: &[u8], status: Status, sight: Option<Sight>)
+    requires limits { KeepsLimits job.now }
+    requires sound { IfSome sight IsSight }
+{
+    if status != Status::Refused {
+        return;
+    }
+    if let Some(sight) = sight
+        && let Ok(text) = explain(rt.alloc(), sight, job, script)
+    {
+        let _ = rt.stderr().write_all(text.as_slice());
+    }
+}
+
 // Opens the images, and runs the words over them and these streams. All images are open, and locked
 // where the job writes, before the first of its calls.
 fn run_words<'a, I, O>(
@@ -145,11 +217,12 @@ where
     O: Write + Drop,
 {
     let alloc = rt.alloc();
-    let (needs, count) = match read_words(alloc, words) {
+    let (job, count) = match read_words(alloc, words) {
         Err(WordsError::Usage) => return Err(Stop::Usage(usage_error(alloc, words))),
         Err(WordsError::NoMemory) => return Err(Stop::NoMemory(Written::Never)),
-        Ok((job, count)) => (needs_of(&job), count),
+        Ok(read) => read,
     };
+    let needs = needs_of(&job);
     let names = &words[words.len() - count..];
     let unwritten = written_by(needs, false, None);
     let images = open_images::<UsageError<'a>>(alloc, rt, names, needs.access)?;
@@ -166,14 +239,25 @@ where
         );
     }
     let tally = tally_of(rt, needs, terminals);
-    let mut host = match FileHost::new(alloc, images, input, output, tally) {
+    let mut input = Kept::new(alloc, input, terminals.error && needs.script);
+    let mut host = match FileHost::new(alloc, images, &mut input, output, tally) {
         Ok(host) => host,
         Err(NoMemory) => return Err(Stop::NoMemory(unwritten)),
     };
-    let status = run(alloc, words, &mut host);
+    let (status, sight) = run_over(
+        alloc,
+        words,
+        names,
+        &job,
+        seen_when(&job, terminals),
+        &mut host,
+    );
     host.watch().end();
     let written = written_by(needs, host.has_written(), host.watch().lines());
-    ending(status, names, host.failure(), written)
+    let ended = ending(status, names, host.failure(), written);
+    drop(host);
+    explain_end(rt, &job, input.kept(), status, sight);
+    ended
 }
 
 // Says the help of a job.

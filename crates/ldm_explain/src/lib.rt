@@ -1,0 +1,26 @@
+//! Why a job refused, for one who sits at a terminal: in a line or two, with the paths of images,
+//! the names of disks and volumes, and numbers.
+//!
+//! Nothing is read of what the job said: the cause is found again, by the calls that the job made.
+//! The calls that take a host only look at its disks. Of the texts nothing is proved.
+#![tactic(auto)]
+
+mod command;
+mod explaining;
+mod group;
+mod image;
+mod line;
+mod names;
+mod saying;
+mod script;
+mod sight;
+mod volume;
+mod words;
+
+pub use command::say_refusal;
+pub use explaining::explain;
+pub use group::fault_line;
+pub use image::{Glimpse, copy_line, label_line};
+pub use line::say_unread;
+pub use sight::Sight;
+pub use words::words_of;

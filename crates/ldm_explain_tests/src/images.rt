@@ -1,0 +1,111 @@
+//! Images of a usual group, and what is explained of a job on them.
+use ldm_explain::{Sight, explain};
+use ldm_images::usual_images;
+use ldm_memory::MemoryHost;
+use ldm_text::Text;
+use ldm_words::read_words;
+use std::alloc::Global;
+use std::test::Fail;
+
+/// What is changed of the images.
+#[derive(Clone, Copy)]
+pub(crate) enum Change {
+    None,
+    /// The last sector of an image is missing.
+    Cut(usize),
+    /// The first entry of the MBR of an image has the type of a GPT disk, and no other is one.
+    Gpt(usize),
+    /// The first block of the database of an image has another beginning.
+    Block(usize),
+    /// All copies are closed.
+    Close,
+}
+
+// Where the config area begins, in bytes.
+const AREA: usize = (6144 + 17) * 512;
+
+fn put(image: &mut Vec<u8>, at: usize, byte: u8) {
+    if at < image.len() {
+        image[at] = byte;
+    }
+}
+
+fn change_image(image: &mut Vec<u8>, at: usize, change: Change) {
+    match change {
+        Change::Cut(cut) if cut == at => image.truncate(8191 * 512),
+        Change::Gpt(gpt) if gpt == at => put(image, 0x1C2, 0xEE),
+        Change::Block(block) if block == at => put(image, AREA + 512, 0),
+        Change::Close => put(image, AREA, 0),
+        _ => (),
+    }
+}
+
+// Copies of the images that the words name by their first letters. The letter x stands for one of
+// another group, which is older.
+fn named_images(alloc: Global, names: &[String], change: Change) -> Result<Vec<Vec<u8>>, Fail> {
+    let mut group = usual_images(alloc)?;
+    for (at, image) in group.iter_mut().enumerate() {
+        change_image(image, at, change);
+    }
+    let mut images = Vec::new(alloc);
+    for name in names {
+        images.push(image_named(alloc, &group, name.as_str())?)?;
+    }
+    Ok(images)
+}
+
+// A copy of the image with this name.
+fn image_named(alloc: Global, group: &[Vec<u8>], name: &str) -> Result<Vec<u8>, Fail> {
+    let place = match name.as_bytes().first() {
+        Some(b'b') => 1,
+        Some(b'c') => 2,
+        _ => 0,
+    };
+    let Some(image) = group.get(place) else {
+        return Err(Fail::from("no image"));
+    };
+    let mut copy = Vec::new(alloc);
+    copy.extend_from_slice(image.as_slice())?;
+    if name.starts_with("x") {
+        // Another disk, group and sequence.
+        for at in [6usize, 6144 + 1856, 6144 + 2047] {
+            put(&mut copy, at * 512 + 0x30, b'9');
+        }
+        put(&mut copy, AREA + 0x16, b'X');
+        put(&mut copy, AREA + 0x17, b'g');
+        put(&mut copy, AREA + 0x75 + 7, 6);
+        put(&mut copy, AREA + 0x7D + 7, 6);
+    }
+    Ok(copy)
+}
+
+/// A text that was made, as one.
+pub(crate) fn string_of(alloc: Global, text: &Text) -> Result<String, Fail> {
+    match str::from_utf8(text.as_slice()) {
+        Ok(text) => Ok(String::from_str(alloc, text)?),
+        Err(_) => Err(Fail::from("no UTF-8")),
+    }
+}
+
+/// What is explained of a job on the images that its words name, with this script.
+pub(crate) fn explained(
+    alloc: Global,
+    line: &str,
+    script: &str,
+    change: Change,
+) -> Result<String, Fail> {
+    let mut words = Vec::new(alloc);
+    for word in line.split(' ') {
+        words.push(String::from_str(alloc, word)?)?;
+    }
+    let Ok((job, count)) = read_words(alloc, &words) else {
+        return Err(Fail::from("no reading"));
+    };
+    let names = &words[words.len() - count..];
+    let images = named_images(alloc, names, change)?;
+    let mut host = MemoryHost::new(alloc, images, Vec::new(alloc))?;
+    match Sight::of(alloc, &mut host, names, &job) {
+        Some(sight) => string_of(alloc, &explain(alloc, sight, &job, script.as_bytes())?),
+        None => Ok(String::new(alloc)),
+    }
+}
