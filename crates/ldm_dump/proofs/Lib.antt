@@ -1,4 +1,5 @@
 pub mod RangeLaws
 pub mod RunLaws
+pub mod CountLaws
 pub mod ByteLaws
 pub mod ReadLaws

@@ -4,7 +4,7 @@ use borrow.Author.Count.{below_more}
 use Rattle.std.specs.Prelude.{◌&&◌, ◌||◌}
 use Rattle.std.specs.List.{range_with_len, list_all}
 use Rattle.std.specs.Option.{option_map, option_to_list}
-use Rattle.std.proofs.lemmas.Bool.{cases_lt, and_parts, eqb-true, eq-eqb, or_from, or_left, or_right, ne_eqb, false_from_ne_true, or_parts, true≢false}
+use Rattle.std.proofs.lemmas.Bool.{cases_lt, cases_Bool, and_parts, eqb-true, eq-eqb, or_from, or_left, or_right, ne_eqb, false_from_ne_true, or_parts, true≢false}
 use Rattle.ldm_places.specs.Layouts.{Layout, copies_of, copies_by, place_in, is_tiled, plex_spot, place_at}
 use Rattle.ldm_places.specs.Columns.{columns_of, own_column, column_in, moved, IsStretch, chunk_of, IsColumned}
 use Rattle.ldm_places.specs.declared.shape.Place.{Place}
@@ -16,7 +16,7 @@ use Rattle.ldm_dump.specs.Sources.{is_here, data_start, spot_at, first_copy, cop
 use Rattle.ldm_dump.specs.Runs.{behind, IsRun}
 use Rattle.ldm_dump.specs.declared.spots.Spot.{Spot}
 use Rattle.ldm_dump.proofs.RangeLaws.{find_first, find_nothing, all_in, all_but, all_at, made_moved, not_all, all_same_in}
-use Rattle.std.proofs.Math.Nat.{add-mod_right, add-mul-mod_self_left, div-add-mod, div-eq_of_lt-le, div-mul-le_self, mod-le, mul-div-le}
+use Rattle.std.proofs.Math.Nat.{add-mod_right, add-mul-div_left, add-mul-mod_self_left, div-add-mod, div-eq_of_lt-le, div-mul-le_self, mod-le, mul-div-le}
 use Rattle.std.proofs.lemmas.Nat.{le-div, mod_below, mul-le}
 use Rattle.ldm_places.proofs.SpotLaws.{place_by}
 use Rattle.ldm_places.specs.Places.{stripe_column, stripe_offset, raid5_offset}
@@ -387,6 +387,9 @@ module _ (found : Found) (l : Layout) (shape_is : l.shape ≡ Stripe) (columned 
       go true = refl
       go false = refl
 
+  pub again_stripe : (x y : ℕ) → x / l.chunk % length es ≡ y / l.chunk % length es → is_lost found l x ≡ is_lost found l y
+  again_stripe x y same = stripe_lost x ∙ (ap (λ c. not (is_column_here found es c)) same ∙ sym (stripe_lost y))
+
   pub early_stripe : (first y : ℕ) → is_lost found l y ≡ true → first ≤ y → IsEarly found l first y
   early_stripe first y is low =
       early_by found l first y columned (λ x same. stripe_lost x ∙ (ap (λ c. not (is_column_here found es c)) same ∙ (sym (stripe_lost y) ∙ is))) low
@@ -464,6 +467,17 @@ module _ (found : Found) (l : Layout) (shape_is : l.shape ≡ Raid5) (columned :
       let e : length cs - 1 + 1 ≡ length cs = omega (arith, columned.many) in
       subst (λ (k : ℕ). (length cs - 1 - q / (length cs - 1) % k + 1 + q % (length cs - 1)) % k ≡ q % k) e (round_by (length cs - 1) q)
 
+  lost_like : (x y : ℕ) → own_column l x ≡ own_column l y → is_lost found l y ≡ true → is_lost found l x ≡ true
+  lost_like x y same is = (let absent = absent_of y is in lost_by x (own_column l y) absent.0 same absent.1)
+
+  pub again_raid5 : (x y : ℕ) → x / l.chunk % length cs ≡ y / l.chunk % length cs → is_lost found l x ≡ is_lost found l y
+  again_raid5 x y same =
+      let own : own_column l x ≡ own_column l y = own_is x ∙ (same ∙ sym (own_is y)) in
+      elim (cases_Bool (is_lost found l y)) [
+        | inl is ↦ lost_like x y own is ∙ sym is
+        | inr is ↦ false_from_ne_true (is_lost found l x) (λ lost. true≢false (sym (lost_like y x (sym own) lost) ∙ is)) ∙ sym is
+      ]
+
   pub early_raid5 : (first y : ℕ) → is_lost found l y ≡ true → first ≤ y → IsEarly found l first y
   early_raid5 first y is low =
       let absent = absent_of y is in
@@ -479,6 +493,25 @@ early found l first y tiled columned is low = go l.shape refl tiled
     go Mirror e h = absurd cc
     go Stripe e h = early_stripe found l e columned first y is low
     go Raid5 e h = early_raid5 found l e columned first y is low
+
+-- what is lost repeats with each turn of the chunks over the columns
+pub lost_again : (found : Found) (l : Layout) → is_tiled l.shape ≡ false → IsColumned l → (x : ℕ) → is_lost found l (x + l.chunk * length (columns_of l)) ≡ is_lost found l x
+lost_again found l tiled columned x = go l.shape refl tiled
+  where
+    u : ℕ
+    u = l.chunk
+
+    k : ℕ
+    k = length (columns_of l)
+
+    same : (x + u * k) / u % k ≡ x / u % k
+    same = ap (λ n. n % k) (add-mul-div_left x k columned.chunked) ∙ add-mod_right (x / u) k
+
+    go : (s : Shape) → l.shape ≡ s → is_tiled s ≡ false → is_lost found l (x + u * k) ≡ is_lost found l x
+    go Span e h = absurd cc
+    go Mirror e h = absurd cc
+    go Stripe e h = again_stripe found l e columned (x + u * k) x same
+    go Raid5 e h = again_raid5 found l e columned (x + u * k) x same
 
 -- none is lost before a chunk, where the first sectors of those in front of it, from the first on, aren't
 pub none_before : (found : Found) (l : Layout) (first n y : ℕ) → is_tiled l.shape ≡ false → IsColumned l → ((c : ℕ) → c < n → is_lost found l (chunk_start l first c) ≡ false) → first ≤ y → y < chunk_start l first n

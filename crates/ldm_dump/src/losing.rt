@@ -1,7 +1,8 @@
-//! The least sector of a volume, and of some of its sectors, that is lost.
+//! The least sector of a volume, and of some of its sectors, that is lost, and how many are.
 ghost use Rattle.std.specs.Prelude.{◌≡◌, ◌+◌, ◌<◌, ◌≤◌, false};
 ghost use Rattle.ldm_places.specs.Layouts.{is_tiled};
 ghost use Rattle.ldm_dump.specs.Sources.{is_lost, chunk_start, IsLeastLost, IsLeastLostIn};
+ghost use Rattle.ldm_dump.specs.Sources.{lost_before, lost_sectors};
 
 use crate::runs::{is_run_lost, run_at};
 use ldm_found::Found;
@@ -83,4 +84,49 @@ pub fn lost(found: &Found, plan: &Plan) -> Option<u64>
     ensures { IsLeastLost found.now plan.now result }
 {
     lost_in(found, plan, 0, plan.size())
+}
+
+// How many sectors in front of this one are lost, by one test for each run.
+fn lost_before(found: &Found, plan: &Plan, end: u64) -> u64
+    requires { end ≤ plan.now.size }
+    ensures { result ≡ lost_before found.now plan.now end }
+{
+    prove!(end <= plan.size());
+    let mut lost = 0;
+    let mut sector = 0;
+    'runs: while sector < end {
+        let run = run_at(found, plan, sector);
+        let sectors = run.sectors.min(end - sector);
+        if is_run_lost(found, plan, sector, &run) {
+            lost += sectors;
+        }
+        sector += sectors;
+    }
+    lost
+}
+
+// How many sectors of a stripe or a RAID-5 are lost. Its chunks go round the columns, so what is
+// lost of one turn is lost of each.
+fn lost_in_turns(found: &Found, plan: &Plan) -> u64
+    requires { is_tiled plan.now.shape ≡ false }
+    ensures { result ≡ lost_sectors found.now plan.now }
+{
+    let size = plan.size();
+    let turn = u128::from(plan.chunk()) * plan.columns() as u128;
+    if u128::from(size) < turn {
+        return lost_before(found, plan, size);
+    }
+    let turn = turn as u64;
+    size / turn * lost_before(found, plan, turn) + lost_before(found, plan, size % turn)
+}
+
+/// How many sectors of the volume are lost. It takes the time of the volume's partitions and not of
+/// its sectors.
+pub fn lost_sectors(found: &Found, plan: &Plan) -> u64
+    ensures { result ≡ lost_sectors found.now plan.now }
+{
+    match plan.shape() {
+        Shape::Stripe | Shape::Raid5 => lost_in_turns(found, plan),
+        _ => lost_before(found, plan, plan.size()),
+    }
 }

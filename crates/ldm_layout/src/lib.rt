@@ -11,4 +11,4 @@ pub use faulty::{VolumeFault, faults};
 pub use laying::shape_of;
 pub use ldm_places::{Extent, LayoutError, LayoutFault, Place, Plan, Shape};
 pub use parts::{Parts, Plex};
-pub use planning::plan;
+pub use planning::{plan, plan_of};

@@ -24,8 +24,8 @@ pub fn volume_with(db: &Db, id: u64) -> Option<&Volume>
     }
 }
 
-// The layout of a volume of these parts.
-fn plan_of(alloc: Global, parts: &Parts, volume: &Volume) -> Result<Plan, LayoutError>
+/// The layout of a volume of these parts. The error is its first fault.
+pub fn plan_of(alloc: Global, parts: &Parts, volume: &Volume) -> Result<Plan, LayoutError>
     requires { All (λ p. AllEnd (extents_at p.id parts.now.extents))
         (plexes_at volume.now.head.id parts.now.plexes) }
     ensures { PlansAs result (checked (draft_of volume.now.size

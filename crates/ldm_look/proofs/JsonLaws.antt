@@ -24,7 +24,7 @@ use Rattle.ldm_look.specs.Paths.{path_of}
 use Rattle.ldm_look.specs.LabelJson.{label_json}
 use Rattle.ldm_look.specs.declared.fault_json.Named.{Named}
 use Rattle.ldm_look.specs.FaultJson.{named_json, refusal_json}
-use Rattle.ldm_look.specs.CheckJson.{note_sequence, note_json, kind_json, reason_json, note_jsons, absent_jsons, check_json}
+use Rattle.ldm_look.specs.CheckJson.{note_sequence, note_json, kind_json, reason_json, note_jsons, absent_jsons, check_json, check_members, BeginsCheck}
 use Rattle.ldm_look.specs.Volumes.{text_of_shape}
 use Rattle.json.specs.Json.{Json}
 use Rattle.ldm_records.specs.declared.types.Record.{Record}
@@ -40,6 +40,8 @@ use Rattle.ldm_layout.specs.Volumes.{shape_of}
 use Rattle.ldm_places.specs.declared.shape.Shape.{Shape}
 use Rattle.ldm_look.specs.declared.mapped.MappedDisk.{MappedDisk}
 use Rattle.ldm_look.specs.Map.{mapped_at}
+use Rattle.ldm_look.specs.States.{state_of, state_word, lost_count}
+use Rattle.ldm_look.specs.declared.states.VolumeState.{VolumeState}
 use Rattle.ldm_look.specs.ShowJson.{image_sector, in_64_bits, partition_json, component_json, volume_json, shaped_volume, group_json, layout_word, partition_jsons, disk_json, own_partitions, own_components, component_jsons, volume_jsons, all_volume_jsons, disk_jsons}
 
 pub same_disk_jsons : (paths : List (List ℕ)) (used : ℕ → ℕ) (taken : List Taken) (labels : List Label) (zs records : List Record) → ((disk : ℕ) → used disk ≡ used_on zs disk) → zs ≡ records
@@ -52,20 +54,23 @@ same_shapes : (lists : Lists) (records : List Record) → IsListsOf lists record
     → ◌≡◌ {A = ℕ → Option Shape} (λ volume. shape_of (plexes_at volume lists.plexes)) (λ volume. shape_of (plexes_of volume records))
 same_shapes lists records h = λ i. λ volume. shape_of (h.plexes_are volume i)
 
-pub same_volume_jsons : (lists : Lists) (disks : ℕ → Option MappedDisk) (partitions : ℕ → List Partition) (components : ℕ → List Component) (labels : List Label) (records : List Record)
-    → IsListsOf lists records → ((id : ℕ) → disks id ≡ mapped_at labels records id) → ((id : ℕ) → partitions id ≡ own_partitions records id)
-    → ((id : ℕ) → components id ≡ own_components records id)
-    → volume_jsons (λ volume. shape_of (plexes_at volume lists.plexes)) (λ volume. component_jsons disks partitions (components volume)) records
-    ≡ all_volume_jsons labels records
+pub same_volume_jsons : (lists : Lists) (disks : ℕ → Option MappedDisk) (partitions : ℕ → List Partition) (components : ℕ → List Component) (found : Found)
+    → IsListsOf lists found.db.records → ((id : ℕ) → disks id ≡ mapped_at found.labels found.db.records id) → ((id : ℕ) → partitions id ≡ own_partitions found.db.records id)
+    → ((id : ℕ) → components id ≡ own_components found.db.records id)
+    → volume_jsons (state_of found) (λ volume. shape_of (plexes_at volume lists.plexes)) (λ volume. component_jsons disks partitions (components volume)) found.db.records
+    ≡ all_volume_jsons found
 unfolding all_volume_jsons
-same_volume_jsons lists disks partitions components labels records h ds ps cs =
+same_volume_jsons lists disks partitions components found h ds ps cs =
+    let records = found.db.records in
+    let labels = found.labels in
+    let states = state_of found in
     let by_disks : disks ≡ mapped_at labels records = λ i id. ds id i in
     let by_partitions : partitions ≡ own_partitions records = λ i id. ps id i in
     let by_components : components ≡ own_components records = λ i id. cs id i in
-    ap (λ (f : ℕ → Option Shape). volume_jsons f (λ volume. component_jsons disks partitions (components volume)) records) (same_shapes lists records h)
-    ∙ ap (λ (f : ℕ → Option MappedDisk). volume_jsons (λ volume. shape_of (plexes_of volume records)) (λ volume. component_jsons f partitions (components volume)) records) by_disks
-    ∙ ap (λ (f : ℕ → List Partition). volume_jsons (λ volume. shape_of (plexes_of volume records)) (λ volume. component_jsons (mapped_at labels records) f (components volume)) records) by_partitions
-    ∙ ap (λ (f : ℕ → List Component). volume_jsons (λ volume. shape_of (plexes_of volume records)) (λ volume. component_jsons (mapped_at labels records) (own_partitions records) (f volume)) records) by_components
+    ap (λ (f : ℕ → Option Shape). volume_jsons states f (λ volume. component_jsons disks partitions (components volume)) records) (same_shapes lists records h)
+    ∙ ap (λ (f : ℕ → Option MappedDisk). volume_jsons states (λ volume. shape_of (plexes_of volume records)) (λ volume. component_jsons f partitions (components volume)) records) by_disks
+    ∙ ap (λ (f : ℕ → List Partition). volume_jsons states (λ volume. shape_of (plexes_of volume records)) (λ volume. component_jsons (mapped_at labels records) f (components volume)) records) by_partitions
+    ∙ ap (λ (f : ℕ → List Component). volume_jsons states (λ volume. shape_of (plexes_of volume records)) (λ volume. component_jsons (mapped_at labels records) (own_partitions records) (f volume)) records) by_components
 
 -- ---- objects that end with arrays
 
@@ -121,12 +126,13 @@ pub component_is : (disks : ℕ → Option MappedDisk) (partitions : List Partit
     ∷ (codes "partitions", json_array (partition_jsons disks partitions)) ∷ []) ≡ component_json disks partitions c
 component_is disks partitions c name layout chunk columns n l k m = rw (n, l, k, m) refl
 
-pub volume_is : (components : List Json) (v : Volume) (shape : Shape) (name word : List ℕ) (guid : ℕ) (bytes : Option ℕ) (hint : Option (List ℕ))
-    → name ≡ v.head.name → guid ≡ guid_of_volume v → word ≡ text_of_shape shape → bytes ≡ in_64_bits (v.size * 512) → hint ≡ v.hint
+pub volume_is : (components : List Json) (v : Volume) (state : VolumeState) (shape : Shape) (name word state_text : List ℕ) (guid : ℕ) (bytes lost : Option ℕ) (hint : Option (List ℕ))
+    → name ≡ v.head.name → guid ≡ guid_of_volume v → word ≡ text_of_shape shape → bytes ≡ in_64_bits (v.size * 512) → state_text ≡ state_word state → lost ≡ lost_count state → hint ≡ v.hint
     → json_object (
     (codes "id", number_json v.head.id) ∷ (codes "name", name_json name) ∷ (codes "guid", guid_json guid) ∷ (codes "type", string word) ∷ (codes "size", number_json v.size)
-    ∷ (codes "bytes", maybe_json bytes) ∷ (codes "hint", maybe_name_json hint) ∷ (codes "components", json_array components) ∷ []) ≡ volume_json components v shape
-volume_is components v shape name word guid bytes hint n g w b h = rw (n, g, w, b, h) refl
+    ∷ (codes "bytes", maybe_json bytes) ∷ (codes "state", string state_text) ∷ (codes "lost_sectors", maybe_json lost) ∷ (codes "hint", maybe_name_json hint)
+    ∷ (codes "components", json_array components) ∷ []) ≡ volume_json components v state shape
+volume_is components v state shape name word state_text guid bytes lost hint n g w b s l h = rw (n, g, w, b, s, l, h) refl
 
 pub disk_is : (paths : List (List ℕ)) (used : ℕ) (taken : List Taken) (labels : List Label) (d : Disk) (name : List ℕ) (at image : Option ℕ) (path : Option (List ℕ)) (start size free largest : Option ℕ) (label : Option Label)
     → name ≡ d.head.name → at ≡ image → path ≡ path_of paths image → image ≡ image_with d.guid labels → label ≡ label_with d.guid labels → start ≡ option_map (λ l. l.data_start) label
@@ -159,6 +165,41 @@ both_alone one two three four five op ms first second js ks a b is c d e =
     both_from one two three four five op ms first second js ks b is c d e
     ∙ ap (λ (ts : List Token). ts ++ json_tokens (json_object (ms ++ (first, json_array js) ∷ (second, json_array ks) ∷ []))) a
 
+-- an object that ends with three arrays, of tokens that stand alone
+three_alone : (one two three four five op : List Token) (ms : List Member) (first second third : List ℕ) (js ks ls : List Json) → one ≡ [] → two ≡ one ++ op → op ≡ beginning ms first
+    → three ≡ two ++ flat_map json_tokens js → four ≡ three ++ then_array second → five ≡ four ++ flat_map json_tokens ks
+    → ((five ++ then_array third) ++ flat_map json_tokens ls) ++ closing ≡ json_tokens (json_object (ms ++ (first, json_array js) ∷ (second, json_array ks) ∷ (third, json_array ls) ∷ []))
+three_alone one two three four five op ms first second third js ks ls z a is b c d =
+    grind (arith, append_assoc, members_are ms ((first, json_array js) ∷ (second, json_array ks) ∷ (third, json_array ls) ∷ []), items_are js, items_are ks, items_are ls)
+
+check_is : (paths : List (List ℕ)) (found : Found) (editable : Bool) (kind reason : Json) (notes : List Note) → editable ≡ is_none found.blocked → kind ≡ kind_json found.blocked
+    → reason ≡ reason_json found.blocked → notes ≡ found.notes
+    → json_object ((codes "editable", boolean editable) ∷ (codes "kind", kind) ∷ (codes "reason", reason) ∷ (codes "images", json_array (note_jsons paths notes))
+    ∷ (codes "absent", json_array (absent_jsons found.labels found.db.records)) ∷ []) ≡ check_json paths found
+check_is paths found editable kind reason notes a b c d = rw (a, b, c, d) refl
+
+-- what `check` begins with
+pub begins_check : (one two three four five op : List Token) (paths : List (List ℕ)) (found : Found) (editable : Bool) (kind reason : Json) (notes : List Note)
+    → editable ≡ is_none found.blocked → kind ≡ kind_json found.blocked → reason ≡ reason_json found.blocked → notes ≡ found.notes
+    → one ≡ [] → two ≡ one ++ op → op ≡ beginning ((codes "editable", boolean editable) ∷ (codes "kind", kind) ∷ (codes "reason", reason) ∷ []) (codes "images")
+    → three ≡ two ++ flat_map json_tokens (note_jsons paths notes) → four ≡ three ++ then_array (codes "absent")
+    → five ≡ four ++ flat_map json_tokens (absent_jsons found.labels found.db.records) → BeginsCheck paths found five
+begins_check one two three four five op paths found editable kind reason notes a b c d z e is f g h =
+    let ms : List Member = (codes "editable", boolean editable) ∷ (codes "kind", kind) ∷ (codes "reason", reason) ∷ [] in
+    let ns : List Json = note_jsons paths notes in
+    let absent : List Json = absent_jsons found.labels found.db.records in
+    record {
+      ends = both_alone one two three four five op ms (codes "images") (codes "absent") ns absent z e is f g h ∙ ap json_tokens (check_is paths found editable kind reason notes a b c d);
+      goes_on = λ key values. three_alone one two three four five op ms (codes "images") (codes "absent") key ns absent values z e is f g h
+          ∙ ap json_tokens (more_is key values);
+    }
+  where
+    more_is : (key : List ℕ) (values : List Json)
+        → json_object ((codes "editable", boolean editable) ∷ (codes "kind", kind) ∷ (codes "reason", reason) ∷ (codes "images", json_array (note_jsons paths notes))
+        ∷ (codes "absent", json_array (absent_jsons found.labels found.db.records)) ∷ (key, json_array values) ∷ [])
+        ≡ json_object (check_members paths found ++ (key, json_array values) ∷ [])
+    more_is key values = rw (a, b, c, d) refl
+
 pub open_is : (paths : List (List ℕ)) (image : ℕ) (path : Option (List ℕ)) (m : Membership) (group : List ℕ) (disk : Option (List ℕ)) → path ≡ slice_get paths image → group ≡ m.group → disk ≡ m.disk
     → json_object (
     (codes "image", number_json image) ∷ (codes "path", maybe_text_json path) ∷ (codes "state", string (codes "open")) ∷ (codes "group", name_json group)
@@ -173,12 +214,6 @@ pub label_is : (label : Label) (minor : ℕ) → minor ≡ label.minor
     ∷ (codes "area_start", number_json label.area_start) ∷ (codes "area_size", number_json label.area_sectors) ∷ (codes "log_start", number_json label.log_start)
     ∷ (codes "log_size", number_json label.log_sectors) ∷ []) ≡ label_json label
 label_is label minor a = rw a refl
-
-pub check_is : (paths : List (List ℕ)) (found : Found) (editable : Bool) (kind reason : Json) (notes : List Note) → editable ≡ is_none found.blocked → kind ≡ kind_json found.blocked
-    → reason ≡ reason_json found.blocked → notes ≡ found.notes
-    → json_object ((codes "editable", boolean editable) ∷ (codes "kind", kind) ∷ (codes "reason", reason) ∷ (codes "images", json_array (note_jsons paths notes))
-    ∷ (codes "absent", json_array (absent_jsons found.labels found.db.records)) ∷ []) ≡ check_json paths found
-check_is paths found editable kind reason notes a b c d = rw (a, b, c, d) refl
 
 pub note_is : (paths : List (List ℕ)) (image : ℕ) (note : Note) (path : Option (List ℕ)) (seq : Option ℕ) → path ≡ slice_get paths image → seq ≡ note_sequence note
     → json_object ((codes "image", number_json image) ∷ (codes "path", maybe_text_json path) ∷ (codes "sequence", maybe_json seq) ∷ []) ≡ note_json paths (image, note)
@@ -203,10 +238,10 @@ pub group_is : (disks volumes : List Json) (found : Found) (header : Header) (na
 group_is disks volumes found header name need room h n a b = rw (n, a, b, h) refl
 
 -- what is said of the volume of a shape
-pub volume_from : (start one two op : List Token) (ms : List Member) (js : List Json) (v : Volume) (shape : Shape) (some : Option Shape) → one ≡ start ++ op → op ≡ beginning ms (codes "components")
-    → two ≡ one ++ flat_map json_tokens js → json_object (ms ++ (codes "components", json_array js) ∷ []) ≡ volume_json js v shape → some ≡ Some shape
-    → two ++ closing ≡ start ++ flat_map json_tokens (shaped_volume js v some)
-volume_from start one two op ms js v shape some first at second is there =
+pub volume_from : (start one two op : List Token) (ms : List Member) (js : List Json) (v : Volume) (state : VolumeState) (shape : Shape) (some : Option Shape) → one ≡ start ++ op → op ≡ beginning ms (codes "components")
+    → two ≡ one ++ flat_map json_tokens js → json_object (ms ++ (codes "components", json_array js) ∷ []) ≡ volume_json js v state shape → some ≡ Some shape
+    → two ++ closing ≡ start ++ flat_map json_tokens (shaped_volume js v state some)
+volume_from start one two op ms js v state shape some first at second is there =
     closed_from start one two op ms (codes "components") js first at second
-    ∙ ap (λ (ts : List Token). start ++ ts) (ap json_tokens is ∙ sym (append-nil (json_tokens (volume_json js v shape))))
-    ∙ ap (λ (s : Option Shape). start ++ flat_map json_tokens (shaped_volume js v s)) (sym there)
+    ∙ ap (λ (ts : List Token). start ++ ts) (ap json_tokens is ∙ sym (append-nil (json_tokens (volume_json js v state shape))))
+    ∙ ap (λ (s : Option Shape). start ++ flat_map json_tokens (shaped_volume js v state s)) (sym there)

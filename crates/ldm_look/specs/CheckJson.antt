@@ -1,13 +1,15 @@
 -- The JSON of `check`: whether the group may be edited, or why not, and what each image holds.
-use Rattle.std.specs.Prelude.{ℕ, List, [], ◌∷◌, map, codes, is_none, slice_get, Option, Some, None, if◌then◌else◌, flat_map}
+use Rattle.std.specs.Prelude.{◌≡◌, ℕ, List, [], ◌∷◌, ◌++◌, map, codes, is_none, slice_get, Option, Some, None, if◌then◌else◌, flat_map}
 use Rattle.std.specs.List.{enumerate_from}
+use Rattle.json.specs.Token.{Token}
 use Rattle.json.specs.Json.{Json, null, boolean, string}
+use Rattle.json.specs.Tree.{json_tokens}
 use Rattle.ldm_records.specs.declared.types.Record.{Record}
 use Rattle.ldm_records.specs.declared.types.Record.TheVariants as kinds
 use Rattle.ldm_records.specs.declared.types.Disk.{Disk}
 use Rattle.ldm_label.specs.declared.Label.{Label}
 use Rattle.ldm_label.specs.Present.{image_with}
-use Rattle.ldm_json.specs.Values.{number_json, name_json, guid_json, maybe_json, maybe_text_json, said_json, json_object, json_array}
+use Rattle.ldm_json.specs.Values.{Member, number_json, name_json, guid_json, maybe_json, maybe_text_json, said_json, json_object, json_array, then_array, closing}
 use Rattle.ldm_copy.specs.declared.fault.OpenFault.{OpenFault}
 use Rattle.ldm_copy.specs.declared.notes.Note.{Note}
 use Rattle.ldm_copy.specs.declared.notes.Note.TheVariants.{Closed, Sequence}
@@ -57,12 +59,21 @@ absent_jsons_at labels _ = []
 abbrev pub absent_jsons : List Label → List Record → List Json
 absent_jsons labels records = flat_map (absent_jsons_at labels) records
 
-abbrev pub check_json : List (List ℕ) → Found → Json
-check_json paths found =
-    json_object (
+-- what `check` says: the members of an object, of which the last is an array
+abbrev pub check_members : List (List ℕ) → Found → List Member
+check_members paths found =
     (codes "editable", boolean (is_none found.blocked))
     ∷ (codes "kind", kind_json found.blocked)
     ∷ (codes "reason", reason_json found.blocked)
     ∷ (codes "images", json_array (note_jsons paths found.notes))
     ∷ (codes "absent", json_array (absent_jsons found.labels found.db.records))
-    ∷ [])
+    ∷ []
+
+abbrev pub check_json : List (List ℕ) → Found → Json
+check_json paths found = json_object (check_members paths found)
+
+-- These tokens begin what `check` says: it ends behind them, or has another array.
+pub record BeginsCheck (paths : List (List ℕ)) (found : Found) (front : List Token) : Type 0 where
+  pub ends : front ++ closing ≡ json_tokens (check_json paths found)
+  pub goes_on : (key : List ℕ) (values : List Json) → ((front ++ then_array key) ++ flat_map json_tokens values) ++ closing
+      ≡ json_tokens (json_object (check_members paths found ++ (key, json_array values) ∷ []))

@@ -2,6 +2,7 @@ pub mod Opening
 pub mod Paths
 pub mod Check
 pub mod Show
+pub mod States
 pub mod ShowJson
 pub mod FaultJson
 pub mod Foreign

@@ -24,6 +24,8 @@ use Rattle.ldm_text.specs.Texts.{guid_of_volume}
 use Rattle.ldm_look.specs.declared.mapped.MappedDisk.{MappedDisk}
 use Rattle.ldm_look.specs.Map.{mapped_at}
 use Rattle.ldm_look.specs.Paths.{path_of}
+use Rattle.ldm_look.specs.States.{state_of, state_word, lost_count}
+use Rattle.ldm_look.specs.declared.states.VolumeState.{VolumeState}
 use Rattle.ldm_look.specs.Volumes.{text_of_shape}
 
 -- a number, where 64 bits have room for it
@@ -95,9 +97,9 @@ component_jsons disks partitions components = map (λ c. component_json disks (p
 
 -- ---- volumes
 
--- a volume of this shape, with its components
-abbrev pub volume_json : List Json → Volume → Shape → Json
-volume_json components v shape =
+-- a volume of this state and shape, with its components
+abbrev pub volume_json : List Json → Volume → VolumeState → Shape → Json
+volume_json components v state shape =
     json_object (
     (codes "id", number_json v.head.id)
     ∷ (codes "name", name_json v.head.name)
@@ -105,22 +107,24 @@ volume_json components v shape =
     ∷ (codes "type", string (text_of_shape shape))
     ∷ (codes "size", number_json v.size)
     ∷ (codes "bytes", maybe_json (in_64_bits (v.size * 512)))
+    ∷ (codes "state", string (state_word state))
+    ∷ (codes "lost_sectors", maybe_json (lost_count state))
     ∷ (codes "hint", maybe_name_json v.hint)
     ∷ (codes "components", json_array components)
     ∷ [])
 
 -- nothing where the components make no shape: a group that is found has no such volume
-abbrev pub shaped_volume : List Json → Volume → Option Shape → List Json
-shaped_volume components v None = []
-shaped_volume components v (Some shape) = volume_json components v shape ∷ []
+abbrev pub shaped_volume : List Json → Volume → VolumeState → Option Shape → List Json
+shaped_volume components v state None = []
+shaped_volume components v state (Some shape) = volume_json components v state shape ∷ []
 
--- the record, where it is a volume, by the shape and the components of each volume
-abbrev pub volume_jsons_at : (ℕ → Option Shape) → (ℕ → List Json) → Record → List Json
-volume_jsons_at shapes components (kinds.Volume v) = shaped_volume (components v.head.id) v (shapes v.head.id)
-volume_jsons_at shapes components _ = []
+-- the record, where it is a volume, by the state, the shape and the components of each volume
+abbrev pub volume_jsons_at : (Volume → VolumeState) → (ℕ → Option Shape) → (ℕ → List Json) → Record → List Json
+volume_jsons_at states shapes components (kinds.Volume v) = shaped_volume (components v.head.id) v (states v) (shapes v.head.id)
+volume_jsons_at states shapes components _ = []
 
-abbrev pub volume_jsons : (ℕ → Option Shape) → (ℕ → List Json) → List Record → List Json
-volume_jsons shapes components records = flat_map (volume_jsons_at shapes components) records
+abbrev pub volume_jsons : (Volume → VolumeState) → (ℕ → Option Shape) → (ℕ → List Json) → List Record → List Json
+volume_jsons states shapes components records = flat_map (volume_jsons_at states shapes components) records
 
 -- ---- disks
 
@@ -163,11 +167,12 @@ group_json disks volumes found =
     ∷ [])
 
 -- the group with all its disks, and its volumes in rising id
-unfoldable pub all_volume_jsons : List Label → List Record → List Json
-all_volume_jsons labels records =
-    volume_jsons (λ volume. shape_of (plexes_of volume records))
-    (λ volume. component_jsons (mapped_at labels records) (own_partitions records) (own_components records volume)) records
+unfoldable pub all_volume_jsons : Found → List Json
+all_volume_jsons found =
+    let records = found.db.records in
+    volume_jsons (state_of found) (λ volume. shape_of (plexes_of volume records))
+    (λ volume. component_jsons (mapped_at found.labels records) (own_partitions records) (own_components records volume)) records
 
 -- the group, whose images have these words
 abbrev pub show_json : List (List ℕ) → Found → Json
-show_json paths found = group_json (disk_jsons paths (used_on found.db.records) (taken_in found.db.records) found.labels found.db.records) (all_volume_jsons found.labels found.db.records) found
+show_json paths found = group_json (disk_jsons paths (used_on found.db.records) (taken_in found.db.records) found.labels found.db.records) (all_volume_jsons found) found

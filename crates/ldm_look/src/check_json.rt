@@ -4,7 +4,8 @@ ghost use Rattle.std.specs.List.{enumerate_from};
 ghost use Rattle.json.specs.Tree.{json_tokens};
 ghost use Rattle.ldm_json.specs.Values.{json_of, line_of_json};
 ghost use Rattle.ldm_look.specs.CheckJson.{note_sequence, note_json, note_jsons, kind_json};
-ghost use Rattle.ldm_look.specs.CheckJson.{reason_json, absent_jsons_at, absent_jsons, check_json};
+ghost use Rattle.ldm_look.specs.CheckJson.{reason_json, absent_jsons_at, absent_jsons, BeginsCheck};
+ghost use Rattle.ldm_look.specs.CheckJson.{check_json};
 ghost use Rattle.ldm_records.specs.declared.types.Record.TheVariants as kinds;
 
 use crate::fault_json::kind_word;
@@ -87,17 +88,17 @@ fn is_editable(found: &Found) -> bool
     }
 }
 
-// The line, where these say why the group may not be edited.
-fn check_with<'a>(
+// The beginning, where these say why the group may not be edited.
+fn begin_with<'a>(
     alloc: Global,
     paths: &Paths,
     found: &Found,
     kind: Scalar<'a>,
     reason: Scalar<'a>,
-) -> Result<Bytes, NoMemory>
+) -> Result<Json, NoMemory>
     requires kind { json_of kind ≡ kind_json found.now.blocked }
     requires reason { json_of reason ≡ reason_json found.now.blocked }
-    ensures { IfOk result (λ text. text ≡ line_of_json (check_json paths.now found.now)) }
+    ensures { IfOk result (λ json. BeginsCheck paths.now found.now json) }
 {
     let fields = [
         ("editable", Scalar::Flag(is_editable(found))),
@@ -109,20 +110,29 @@ fn check_with<'a>(
     push_notes(&mut json, paths, found.notes.as_slice())?;
     json.next("absent")?;
     push_all_absent(&mut json, found)?;
-    json.close()?;
-    json.into_line()
+    Ok(json)
+}
+
+/// The beginning of the JSON of what each image holds, and of whether the group may be edited: an
+/// object whose last member, an array, is open.
+pub fn begin_check(alloc: Global, paths: &Paths, found: &Found) -> Result<Json, NoMemory>
+    ensures { IfOk result (λ json. BeginsCheck paths.now found.now json) }
+{
+    match &found.blocked {
+        None => begin_with(alloc, paths, found, Scalar::Null, Scalar::Null),
+        Some(fault) => {
+            let text = fault_text(alloc, fault)?;
+            let kind = Scalar::Word(kind_word(fault));
+            begin_with(alloc, paths, found, kind, Scalar::Said(text.as_slice()))
+        }
+    }
 }
 
 /// The JSON of what each image holds, and of whether the group may be edited, on a line.
 pub(crate) fn check_line(alloc: Global, paths: &Paths, found: &Found) -> Result<Bytes, NoMemory>
     ensures { IfOk result (λ text. text ≡ line_of_json (check_json paths.now found.now)) }
 {
-    match &found.blocked {
-        None => check_with(alloc, paths, found, Scalar::Null, Scalar::Null),
-        Some(fault) => {
-            let text = fault_text(alloc, fault)?;
-            let kind = Scalar::Word(kind_word(fault));
-            check_with(alloc, paths, found, kind, Scalar::Said(text.as_slice()))
-        }
-    }
+    let mut json = begin_check(alloc, paths, found)?;
+    json.close()?;
+    json.into_line()
 }

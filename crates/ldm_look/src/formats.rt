@@ -70,7 +70,7 @@ pub(crate) fn said_group(alloc: Global, format: &Format, found: &Found) -> Resul
 }
 
 /// What is said of the images of a group, and of whether it may be edited.
-pub(crate) fn said_check(alloc: Global, format: &Format, found: &Found) -> Result<Bytes, NoMemory>
+pub fn said_check(alloc: Global, format: &Format, found: &Found) -> Result<Bytes, NoMemory>
     ensures { IfOk result (λ text. text ≡ said_check format.now found.now) }
 {
     match format {

@@ -28,8 +28,11 @@ mod scanned;
 mod scanning;
 mod show_json;
 mod show_text;
+mod states;
 mod volumes;
 
+pub use check_json::begin_check;
+pub use formats::said_check;
 pub use looking::{check, disk, is_look, look, map, open_for, open_group, records, scan, show};
 pub use refusing::refuse_for;
 pub use saying::{refuse, say_made};

@@ -9,6 +9,7 @@ ghost use Rattle.ldm_group.specs.Partitions.{used_on, EndsInRange};
 ghost use Rattle.ldm_group.specs.Room.{IsFitting};
 ghost use Rattle.ldm_space.specs.Free.{taken_in};
 ghost use Rattle.ldm_space.specs.Gaps.{largest_free};
+ghost use Rattle.ldm_layout.specs.Grouped.{IsListsOf};
 ghost use Rattle.ldm_layout.specs.Parts.{plexes_at};
 ghost use Rattle.ldm_layout.specs.Volumes.{shape_of};
 ghost use Rattle.ldm_look.specs.ShowJson.{in_64_bits, partition_json};
@@ -16,12 +17,14 @@ ghost use Rattle.ldm_look.specs.ShowJson.{layout_word, component_json, component
 ghost use Rattle.ldm_look.specs.ShowJson.{partition_jsons, volume_json, shaped_volume};
 ghost use Rattle.ldm_look.specs.ShowJson.{volume_jsons, all_volume_jsons, disk_json, disk_jsons};
 ghost use Rattle.ldm_look.specs.ShowJson.{show_json};
+ghost use Rattle.ldm_look.specs.States.{state_of};
 ghost use Rattle.ldm_json.specs.Values.{line_of_json};
 
 use crate::families::{Components, Partitions, components_by_volume, partitions_by_component};
 use crate::mapped::{MappedDisk, image_sector, mapped_disks};
 use crate::optional::{chunk_of, columns_of, name_in};
 use crate::paths::{image_number, path_of};
+use crate::states::{VolumeState, lost_count, state_of, state_word};
 use crate::volumes::shape_word;
 use indexmap::IndexMap;
 use ldm_bytes::{Bytes, NoMemory};
@@ -175,19 +178,20 @@ fn bytes_in(sectors: u64) -> Option<u64>
     sectors.checked_mul(512)
 }
 
-// A volume with these components, where they make a shape.
+// A volume of this state with these components, where they make a shape.
 fn push_volume(
     json: &mut Json,
     disks: &HashMap<u64, MappedDisk>,
     partitions: &HashMap<u64, Partitions>,
     family: Option<&Components>,
     v: &Volume,
+    state: VolumeState,
     shape: Option<Shape>,
 ) -> Result<(), NoMemory>
     ensures { OnOk result (json.new ≡ json.old ++ flat_map json_tokens (shaped_volume
         (component_jsons (λ id. hash.get nat_eq disks.now id)
         (λ id. unwrap_or (hash.get nat_eq partitions.now id) [])
-        (unwrap_or (option_copied family.entry) [])) v.now shape)) }
+        (unwrap_or (option_copied family.entry) [])) v.now state shape)) }
 {
     let Some(shape) = shape else {
         return Ok(());
@@ -199,6 +203,8 @@ fn push_volume(
         ("type", Scalar::Word(shape_word(shape))),
         ("size", Scalar::Number(v.size)),
         ("bytes", Scalar::Maybe(bytes_in(v.size))),
+        ("state", Scalar::Word(state_word(state))),
+        ("lost_sectors", Scalar::Maybe(lost_count(state))),
         ("hint", Scalar::MaybeName(name_in(&v.hint))),
     ];
     json.open(&fields, "components")?;
@@ -208,24 +214,28 @@ fn push_volume(
 
 // All volumes, by the disks, and what components and volumes are made of.
 fn push_volumes(
+    alloc: Global,
     json: &mut Json,
     disks: &HashMap<u64, MappedDisk>,
     partitions: &HashMap<u64, Partitions>,
     components: &HashMap<u64, Components>,
     parts: &Parts,
-    records: &[Record],
+    found: &Found,
 ) -> Result<(), NoMemory>
+    requires ends { All EndsInRange found.now.db.records }
+    requires lists { IsListsOf parts.now found.now.db.records }
     ensures { OnOk result (json.new ≡ json.old ++ flat_map json_tokens (volume_jsons
-        (λ volume. shape_of (plexes_at volume parts.now.plexes))
+        (state_of found.now) (λ volume. shape_of (plexes_at volume parts.now.plexes))
         (λ volume. component_jsons (λ id. hash.get nat_eq disks.now id)
         (λ id. unwrap_or (hash.get nat_eq partitions.now id) [])
-        (unwrap_or (hash.get nat_eq components.now volume) [])) records.now)) }
+        (unwrap_or (hash.get nat_eq components.now volume) [])) found.now.db.records)) }
 {
-    for r in records {
+    for r in found.db.as_slice() {
         if let Record::Volume(v) = r {
+            let state = state_of(alloc, found, parts, v)?;
             let shape = shape_of(parts.plexes(v.head.id));
             let family = components.get(&v.head.id);
-            push_volume(json, disks, partitions, family, v, shape)?;
+            push_volume(json, disks, partitions, family, v, state, shape)?;
         }
     }
     Ok(())
@@ -233,15 +243,16 @@ fn push_volumes(
 
 // All volumes of a group.
 fn push_all_volumes(alloc: Global, json: &mut Json, found: &Found) -> Result<(), NoMemory>
+    requires { All EndsInRange found.now.db.records }
     ensures { OnOk result (json.new ≡ json.old ++ flat_map json_tokens
-        (all_volume_jsons found.now.labels found.now.db.records)) }
+        (all_volume_jsons found.now)) }
 {
     let records = found.db.as_slice();
     let disks = mapped_disks(alloc, found.labels.as_slice(), records)?;
     let partitions = partitions_by_component(alloc, records)?;
     let components = components_by_volume(alloc, records)?;
     let parts = Parts::of(alloc, records)?;
-    push_volumes(json, &disks, &partitions, &components, &parts, records)
+    push_volumes(alloc, json, &disks, &partitions, &components, &parts, found)
 }
 
 // The sectors of an image's data that no partition has.

@@ -14,7 +14,7 @@ pub returns : goal.returns
 returns c =
     let found = c.args.found.now in
     let disks : List Json = disk_jsons c.args.paths.now (used_on found.db.records) (taken_in found.db.records) found.labels found.db.records in
-    let volumes : List Json = all_volume_jsons found.labels found.db.records in
+    let volumes : List Json = all_volume_jsons found in
     subst (λ (ts : List Token). OnOk c.close.result (c.close.new.self ≡ ts))
     (both_from c.args.json.now c.open.new.self c.push_all_disks.new.json c.next.new.self c.push_all_volumes.new.json _
     ((codes "sector_size", number_json 512) ∷ (codes "name", name_json c.as_slice.result.now) ∷ (codes "guid", guid_json c.header-header.result.now.guid)
