@@ -8,6 +8,8 @@ mod batches;
 #[cfg(test)]
 mod copy;
 #[cfg(test)]
+mod damage;
+#[cfg(test)]
 mod found;
 #[cfg(test)]
 mod gate;

@@ -1,0 +1,4 @@
+pub mod LookLaws
+pub mod PatchingLaws
+pub mod DamageLaws
+pub mod TryLaws

@@ -1,0 +1,3 @@
+pub mod LayLaws
+pub mod PatchedLaws
+pub mod ViewLaws
