@@ -19,27 +19,27 @@ const JOBS: [(&str, &str); 20] = [
     ),
     (
         "show",
-        "Images of one group may come in any order, and some may be missing. The names that it says are what the other\njobs take. With --json behind show it is one JSON value.",
+        "Images of one group may come in any order, and some may be missing. The names that it says are what the other\njobs take. With --json behind show it is one JSON value. With --past-damage there it reads on\npast damaged labels and copies of the database.",
     ),
     (
         "check",
-        "It says the sequence of each copy, and the first reason why the group may not be edited, if there is one.\nWith --json behind check it is one JSON value.",
+        "It says the sequence of each copy, and the first reason why the group may not be edited, if there is one.\nWith --json behind check it is one JSON value. With --past-damage there it reads on past damaged labels and copies of\nthe database, and says first what is damaged.",
     ),
     (
         "map",
-        "FIRST is a sector of the volume, from 0 on. Each line names the disk, the sector of its data area, and that of\nits image. With --json behind map it is one JSON value.\n\nexample: ldm map 'Volume1' 0 1 on disk1.img disk2.img",
+        "FIRST is a sector of the volume, from 0 on. Each line names the disk, the sector of its data area, and that of\nits image. With --json behind map it is one JSON value. With --past-damage there it reads on past damaged labels and\ncopies of the database.\n\nexample: ldm map 'Volume1' 0 1 on disk1.img disk2.img",
     ),
     (
         "dump",
-        "Standard output has the sectors of the volume and nothing else; they are all that were asked for where the status is\n0. FIRST is a sector of the volume, from 0 on. Where a dump ended early, the sectors from FIRST on are still to come,\nwhich is the length of what it said by 512.\n\nexample: ldm dump 'Volume1' on disk1.img disk2.img > volume1",
+        "Standard output has the sectors of the volume and nothing else; they are all that were asked for where the status is\n0. FIRST is a sector of the volume, from 0 on. Where a dump ended early, the sectors from FIRST on are still to come,\nwhich is the length of what it said by 512. With --past-damage behind dump it reads on past damaged labels and copies\nof the database.\n\nexample: ldm dump 'Volume1' on disk1.img disk2.img > volume1",
     ),
     (
         "scrub",
-        "It needs all disks of the volume, and writes nothing. The status is 1 where a place is bad. With --json behind scrub\neach line is a JSON value.",
+        "It needs all disks of the volume, and writes nothing. The status is 1 where a place is bad. With --json behind scrub\neach line is a JSON value. With --past-damage there it reads on past damaged labels and copies of the database.",
     ),
     (
         "table",
-        "Each image is named in the table by its word here, so an image that is a file needs a loop device first.\nWithout VOLUME all volumes are made by one text; it is refused where one of them has no table.\n\nexample: dmsetup create --concise \"$(ldm table 'Volume1' on /dev/loop0 /dev/loop1)\"",
+        "Each image is named in the table by its word here, so an image that is a file needs a loop device first.\nWithout VOLUME all volumes are made by one text; it is refused where one of them has no table. With --past-damage\nbehind table it reads on past damaged labels and copies of the database.\n\nexample: dmsetup create --concise \"$(ldm table 'Volume1' on /dev/loop0 /dev/loop1)\"",
     ),
     (
         "try",

@@ -158,23 +158,29 @@ fn no_more<'a>(
     }
 }
 
-// The jobs that say JSON where --json stands behind their name.
-const WITH_JSON: [&str; 9] = [
-    "disk", "records", "scan", "show", "check", "map", "scrub", "try", "edit",
-];
+// The options of a job, which stand behind its name; none where it has none.
+fn options_of(job: &str) -> &'static str {
+    match job {
+        "disk" | "records" | "scan" | "try" | "edit" => "--json",
+        "show" | "check" | "map" | "scrub" => "--json and --past-damage",
+        "dump" | "table" => "--past-damage",
+        _ => "",
+    }
+}
 
-// The words of a job behind its option, where it has one.
+// The words of a job behind an option, where one stands in front.
 fn behind_option<'a>(
     job: &'static str,
     words: &'a [String],
 ) -> Result<&'a [String], FormError<'a>> {
+    let options = options_of(job);
     match words {
-        [word, rest @ ..] if WITH_JSON.contains(&job) && word.as_str().starts_with("--") => {
-            if word.as_str() == "--json" {
+        [word, rest @ ..] if !options.is_empty() && word.as_str().starts_with("--") => {
+            if options.split(' ').any(|option| option == word.as_str()) {
                 Ok(rest)
             } else {
                 let word = Shown(word.as_str());
-                Err(FormError::UnknownOption { job, word })
+                Err(FormError::UnknownOption { job, options, word })
             }
         }
         _ => Ok(words),
@@ -192,7 +198,8 @@ pub fn by_form<'a>(
         Some((names, _)) => names,
         None => form,
     };
-    let words = behind_option(word_of(form), words)?;
+    let job = word_of(form);
+    let words = behind_option(job, behind_option(job, words)?)?;
     let rest = parts(alloc, form, names, words)?;
     no_more(form, rest, on).and(images(form, on))
 }

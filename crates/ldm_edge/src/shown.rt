@@ -31,27 +31,55 @@ impl fmt::Debug for Shown<'_> {
 #[derive(Clone, Copy, Error)]
 pub enum FormError<'a> {
     #[error("\"{word}\" is a word too many: the form is {form}")]
-    Extra { form: &'a str, word: Shown<'a> },
+    Extra {
+        form: &'a str,
+        word: Shown<'a>,
+    },
     #[error("{what} is missing: the form is {form}")]
-    Missing { form: &'a str, what: &'a str },
+    Missing {
+        form: &'a str,
+        what: &'a str,
+    },
     #[error("{what} \"{word}\" is no number, of 1 to 20 decimal digits and below 2^64")]
-    Number { what: &'a str, word: Shown<'a> },
+    Number {
+        what: &'a str,
+        word: Shown<'a>,
+    },
     #[error("{what} \"{word}\" is no name, of 255 bytes at most: a backslash, or a byte that isn't visible ASCII, is written \\xHH, and no byte \\e")]
-    Name { what: &'a str, word: Shown<'a> },
+    Name {
+        what: &'a str,
+        word: Shown<'a>,
+    },
     #[error("{what} \"{word}\" is no name, as it has a space: write the space as \\x20")]
-    Space { what: &'a str, word: Shown<'a> },
-    #[error("\"{word}\" is no option of {job}, which takes --json")]
-    UnknownOption { job: &'a str, word: Shown<'a> },
+    Space {
+        what: &'a str,
+        word: Shown<'a>,
+    },
+    #[error("\"{word}\" is no option of {job}, which takes {options}")]
+    UnknownOption {
+        job: &'a str,
+        options: &'a str,
+        word: Shown<'a>,
+    },
     #[error("\"on\" is missing between {job} and its images")]
-    NoOn { job: &'a str },
+    NoOn {
+        job: &'a str,
+    },
     #[error("no image is named behind \"on\"")]
     NoImages,
     #[error("{job} takes one image, and {count} are named behind \"on\"")]
-    OneImage { job: &'a str, count: usize },
+    OneImage {
+        job: &'a str,
+        count: usize,
+    },
     #[error("a group has 64 images at most, and {count} are named behind \"on\"")]
-    ManyImages { count: usize },
+    ManyImages {
+        count: usize,
+    },
     #[error("{job} takes no images")]
-    TakesNone { job: &'a str },
+    TakesNone {
+        job: &'a str,
+    },
     #[error("no memory")]
     NoMemory,
 }

@@ -28,6 +28,7 @@ These jobs read:
 
 With --json behind its name, disk, records, scan, show, check or map says one JSON value: ldm show --json on IMAGE...
 With it scrub, try, edit or a COMMAND says a JSON value for each line: ldm edit --json on IMAGE...
+With --past-damage there, show, check, map, dump, scrub or table reads on past damaged labels and copies of the database.
 
 These write, to all images of the group. No other program may write to them meanwhile:
 

@@ -1,6 +1,6 @@
 //! Sessions of jobs on the disks of a small group: each job is run on what the jobs before it left.
 use crate::group::change_images;
-use crate::jobs::{letters_of, named_images, place_of, run_over, sample_group, words_in};
+use crate::jobs::{letters_of, named_images, place_of, run_any, sample_group, words_in};
 use ldm_host::Host;
 use ldm_memory::MemoryHost;
 use std::alloc::Global;
@@ -55,8 +55,8 @@ impl<'a> Session<'a> {
 
     // Runs the job, and compares all that is said, and how it ends.
     fn run(&mut self, alloc: Global, rt: &impl Abort, ending: &str) -> Result<(), Fail> {
-        let mut host = self.host(alloc)?;
-        let Some(status) = run_over(alloc, &words_in(alloc, self.words)?, &mut host) else {
+        let host = self.host(alloc)?;
+        let Some((host, status)) = run_any(alloc, &words_in(alloc, self.words)?, host) else {
             return Err(Fail::from("no run"));
         };
         assert_eq!(rt; host.said(), self.said.as_bytes(), "{}", self.words);

@@ -1,6 +1,7 @@
 //! How jobs are run over the images of a small group, and what is compared.
 use ldm_host::Host;
 use ldm_memory::MemoryHost;
+use ldm_past::{Ran, past_words, run_past};
 use ldm_run::{Status, run};
 use ldm_vectors::sample_images;
 use ldm_words::{WordsError, read_words};
@@ -20,6 +21,31 @@ pub(crate) fn run_over<H: Host>(alloc: Global, words: &[String], host: &mut H) -
         }
         Err(WordsError::Usage) => Some(run(alloc, words, host)),
         Err(WordsError::NoMemory) => None,
+    }
+}
+
+// Runs the words, past damage where they ask for that, where the host has just the images that they
+// name. The host comes back.
+pub(crate) fn run_any(
+    alloc: Global,
+    words: &[String],
+    host: MemoryHost,
+) -> Option<(MemoryHost, Status)> {
+    let Some(rest) = past_words(alloc, words).ok()? else {
+        let mut host = host;
+        let status = run_over(alloc, words, &mut host)?;
+        return Some((host, status));
+    };
+    match read_words(alloc, &rest) {
+        Ok((_, count)) if count == host.disks() => {
+            let Ran {
+                host,
+                status,
+                damages: _,
+            } = run_past(alloc, &rest, host);
+            Some((host, status))
+        }
+        _ => None,
     }
 }
 

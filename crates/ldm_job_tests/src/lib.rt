@@ -24,6 +24,8 @@ mod looking;
 #[cfg(test)]
 mod making;
 #[cfg(test)]
+mod past;
+#[cfg(test)]
 mod sample;
 #[cfg(test)]
 mod scripts;

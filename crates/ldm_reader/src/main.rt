@@ -24,6 +24,8 @@ use thiserror::Error;
 enum UsageError<'a> {
     #[error("there is no job")]
     NoJob,
+    #[error("this program doesn't read past damage: the whole program has --past-damage")]
+    PastDamage,
     #[error("\"{word}\" is no job of this program, which has disk, records, scan, show, check and map")]
     OtherJob { word: Shown<'a> },
     #[error(transparent)]
@@ -42,6 +44,9 @@ fn usage_error(alloc: Global, words: &[String]) -> Option<UsageError<'_>> {
     let [word, rest @ ..] = words else {
         return Some(UsageError::NoJob);
     };
+    if rest.iter().any(|word| word.as_str() == "--past-damage") {
+        return Some(UsageError::PastDamage);
+    }
     let form = match word.as_str() {
         word @ ("disk" | "records" | "scan" | "show" | "check" | "map") => {
             form_of(word, rest.len())

@@ -5,25 +5,30 @@
 //! `FileHost` that it makes are the trusted edge.
 #![tactic(auto)]
 
-ghost use Rattle.std.specs.Prelude.{IfSome};
+ghost use Rattle.std.specs.Prelude.{◌≡◌, ◌≤◌, IfSome, length, true};
 ghost use Rattle.ldm_look.specs.Runs.{HasImages};
 ghost use Rattle.ldm_explain.specs.Sights.{IsSight};
 ghost use Rattle.ldm_words.specs.Jobs.{texts, job_of, KeepsLimits};
+ghost use Rattle.ldm_past.specs.PastWords.{reads_past, is_read_as};
 
 mod kept;
+mod over;
 
 use kept::Kept;
 use ldm_bytes::NoMemory;
 use ldm_console::{Counted, JobHelp, Meter, Tally, UsageError, tell, usage_error};
+use ldm_damage::Damage;
 use ldm_edge::{
     HELP, Stop, VERSION, Written, ending, exit_code, open_images, stop_unopened, words_of,
 };
-use ldm_explain::{Sight, explain};
+use ldm_explain::{Sight, damage_text, explain};
 use ldm_files::{Access, Failure, FileHost, ImageFile, take_closed_streams};
 use ldm_host::Host;
 use ldm_locks::{System, hold};
+use ldm_past::{Ran, past_words, run_past};
 use ldm_run::run;
 use ldm_words::{Job, Status, WordsError, read_words};
+use over::{has_option, opens_past};
 use std::alloc::Global;
 use std::io;
 use std::io::{IsTerminal, Read, Write};
@@ -151,13 +156,31 @@ enum Seen {
 }
 
 // Before an edit of more lines than one, since those that are done change the group. A refusal is
-// explained where one sits at a terminal.
-fn seen_when(job: &Job, terminals: Terminals) -> Seen {
+// explained where one sits at a terminal, but that of a job past damage, which isn't of the images
+// as they stand.
+fn seen_when(job: &Job, past: bool, terminals: Terminals) -> Seen {
     match job {
-        _ if !terminals.error => Seen::Never,
+        _ if past || !terminals.error => Seen::Never,
         Job::Sample(_) => Seen::Never,
         Job::Edit(_) => Seen::Before,
         _ => Seen::After,
+    }
+}
+
+// Runs the words over a host, past damage or not.
+fn run_asked<H: Host>(alloc: Global, words: &[String], past: bool, host: H) -> Ran<H>
+    requires images { HasImages (job_of (texts words.now)) (H.seen host) }
+    requires reads { past ≡ true → is_read_as reads_past (job_of (texts words.now)) ≡ true }
+{
+    if past {
+        return run_past(alloc, words, host);
+    }
+    let mut host = host;
+    let status = run(alloc, words, &mut host);
+    Ran {
+        host,
+        status,
+        damages: None,
     }
 }
 
@@ -167,24 +190,49 @@ fn seen_when(job: &Job, terminals: Terminals) -> Seen {
 fn run_over<H: Host>(
     alloc: Global,
     words: &[String],
+    past: bool,
     names: &[String],
     job: &Job,
     seen: Seen,
-    host: &mut H,
-) -> (Status, Option<Sight>)
-    requires { HasImages (job_of (texts words.now)) (H.seen host.old) }
+    host: H,
+) -> (Ran<H>, Option<Sight>)
+    requires images { HasImages (job_of (texts words.now)) (H.seen host) }
+    requires reads { past ≡ true → is_read_as reads_past (job_of (texts words.now)) ≡ true }
     ensures { IfSome result.1 IsSight }
 {
+    let mut host = host;
     match seen {
         Seen::Before => {
-            let sight = Sight::of(alloc, host, names, job);
-            (run(alloc, words, host), sight)
+            let sight = Sight::of(alloc, &mut host, names, job);
+            (run_asked(alloc, words, past, host), sight)
         }
-        Seen::After => match run(alloc, words, host) {
-            Status::Refused => (Status::Refused, Sight::of(alloc, host, names, job)),
-            status => (status, None),
-        },
-        Seen::Never => (run(alloc, words, host), None),
+        Seen::After => {
+            let mut ran = run_asked(alloc, words, past, host);
+            if ran.status != Status::Refused {
+                return (ran, None);
+            }
+            let sight = Sight::of(alloc, &mut ran.host, names, job);
+            (ran, sight)
+        }
+        Seen::Never => (run_asked(alloc, words, past, host), None),
+    }
+}
+
+// Tells what was damaged, unless the answer says it.
+fn tell_damage(
+    rt: &HostRuntime,
+    names: &[String],
+    job: &Job,
+    status: Status,
+    damages: Option<Vec<Damage>>,
+) {
+    if matches!(job, Job::Check(_)) && status == Status::Done {
+        return;
+    }
+    if let Some(damages) = damages
+        && let Ok(text) = damage_text(rt.alloc(), names, &damages)
+    {
+        let _ = rt.stderr().write_all(text.as_slice());
     }
 }
 
@@ -203,11 +251,30 @@ fn explain_end(rt: &HostRuntime, job: &Job, script: &[u8], status: Status, sight
     }
 }
 
-// Opens the images, and runs the words over them and these streams. All images are open, and locked
-// where the job writes, before the first of its calls.
-fn run_words<'a, I, O>(
+// Whether the job of the words, which refused, would read on with the option.
+fn would_read_on<H: Host + Drop>(alloc: Global, words: &[String], host: H) -> bool {
+    if !has_option(alloc, words) {
+        return false;
+    }
+    let (_, opens) = opens_past(alloc, host);
+    opens
+}
+
+// Tells of the option.
+fn tell_option(rt: &HostRuntime, words: &[String]) {
+    if let [job, ..] = words {
+        let _ = eprint!(rt; "ldm: to read on past this damage: ldm {job} --past-damage ...\n");
+    }
+}
+
+// Opens the images that the command line names, and runs the words, which are those of the command
+// line or of its job that is to read past damage, over them and these streams. All images are open,
+// and locked where the job writes, before the first of its calls.
+fn run_job<'a, I, O>(
     rt: &HostRuntime,
-    words: &'a [String],
+    line: &'a [String],
+    words: &[String],
+    past: bool,
     input: I,
     mut output: O,
     terminals: Terminals,
@@ -215,15 +282,17 @@ fn run_words<'a, I, O>(
 where
     I: Read + Drop,
     O: Write + Drop,
+    requires shorter { length words.now ≤ length line.now }
+    requires reads { past ≡ true → is_read_as reads_past (job_of (texts words.now)) ≡ true }
 {
     let alloc = rt.alloc();
     let (job, count) = match read_words(alloc, words) {
-        Err(WordsError::Usage) => return Err(Stop::Usage(usage_error(alloc, words))),
+        Err(WordsError::Usage) => return Err(Stop::Usage(usage_error(alloc, line))),
         Err(WordsError::NoMemory) => return Err(Stop::NoMemory(Written::Never)),
         Ok(read) => read,
     };
     let needs = needs_of(&job);
-    let names = &words[words.len() - count..];
+    let names = &line[line.len() - count..];
     let unwritten = written_by(needs, false, None);
     let images = open_images::<UsageError<'a>>(alloc, rt, names, needs.access)?;
     if needs.access == Access::Edit {
@@ -240,24 +309,52 @@ where
     }
     let tally = tally_of(rt, needs, terminals);
     let mut input = Kept::new(alloc, input, terminals.error && needs.script);
-    let mut host = match FileHost::new(alloc, images, &mut input, output, tally) {
+    let host = match FileHost::new(alloc, images, &mut input, output, tally) {
         Ok(host) => host,
         Err(NoMemory) => return Err(Stop::NoMemory(unwritten)),
     };
-    let (status, sight) = run_over(
-        alloc,
-        words,
-        names,
-        &job,
-        seen_when(&job, terminals),
-        &mut host,
-    );
+    let seen = seen_when(&job, past, terminals);
+    let (ran, sight) = run_over(alloc, words, past, names, &job, seen, host);
+    let Ran {
+        host,
+        status,
+        damages,
+    } = ran;
     host.watch().end();
     let written = written_by(needs, host.has_written(), host.watch().lines());
     let ended = ending(status, names, host.failure(), written);
-    drop(host);
+    let refused = terminals.error && !past && status == Status::Refused;
+    let damaged = if refused {
+        would_read_on(alloc, words, host)
+    } else {
+        drop(host);
+        false
+    };
+    tell_damage(rt, names, &job, status, damages);
     explain_end(rt, &job, input.kept(), status, sight);
+    if damaged {
+        tell_option(rt, words);
+    }
     ended
+}
+
+// Runs the words of the command line over these streams.
+fn run_words<'a, I, O>(
+    rt: &HostRuntime,
+    words: &'a [String],
+    input: I,
+    output: O,
+    terminals: Terminals,
+) -> Result<Status, Stop<'a, UsageError<'a>>>
+where
+    I: Read + Drop,
+    O: Write + Drop,
+{
+    match past_words(rt.alloc(), words) {
+        Err(NoMemory) => Err(Stop::NoMemory(Written::Never)),
+        Ok(Some(rest)) => run_job(rt, words, &rest, true, input, output, terminals),
+        Ok(None) => run_job(rt, words, words, false, input, output, terminals),
+    }
 }
 
 // Says the help of a job.

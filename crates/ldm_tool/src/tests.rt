@@ -541,7 +541,8 @@ usage: ldm map VOLUME FIRST COUNT on IMAGE...
   where sectors of a volume lie, 4096 at most
 
 FIRST is a sector of the volume, from 0 on. Each line names the disk, the sector of its data area, and that of
-its image. With --json behind map it is one JSON value.
+its image. With --json behind map it is one JSON value. With --past-damage there it reads on past damaged labels and
+copies of the database.
 
 example: ldm map 'Volume1' 0 1 on disk1.img disk2.img
 ";

@@ -1,0 +1,3 @@
+pub mod TextLaws
+pub mod RunLaws
+pub mod PastLaws

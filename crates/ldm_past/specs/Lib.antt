@@ -1,0 +1,2 @@
+pub mod PastWords
+pub mod PastAnswer
