@@ -6,6 +6,7 @@
 #![tactic(auto)]
 
 mod command;
+mod damage;
 mod explaining;
 mod group;
 mod image;
@@ -14,10 +15,12 @@ mod names;
 mod saying;
 mod script;
 mod sight;
+mod tables;
 mod volume;
 mod words;
 
 pub use command::say_refusal;
+pub use damage::damage_text;
 pub use explaining::explain;
 pub use group::fault_line;
 pub use image::{Glimpse, copy_line, label_line};

@@ -6,21 +6,18 @@ ghost use Rattle.ldm_explain.specs.Sights.{IsSight};
 
 use crate::group::{block_line, fault_line, stranger_line};
 use crate::image::{Glimpse, copy_line, label_line};
-use crate::names::{Kind, say_unknown};
 use crate::saying::{line_of, path_line};
-use crate::volume::{say_range, say_undumped, say_unscrubbed, say_untabled};
+use crate::tables::{say_no_table, say_no_tables};
+use crate::volume::{say_range, say_undumped, say_unscrubbed};
 use ldm_bytes::{Bytes, NoMemory};
 use ldm_copy::{CopyError, CopyState, read_copy};
-use ldm_dump::volumes_lie_on_images;
 use ldm_found::{Found, OpenError, OpenFault, find_group};
 use ldm_group::Db;
 use ldm_host::Host;
 use ldm_init::{InitError, InitFault, check_disks};
 use ldm_label::{LabelError, LabelFault, read_label, read_sector};
-use ldm_rules::sound_plan;
-use ldm_table::table_text;
 use ldm_text::{Part, Text};
-use ldm_words::{Job, Names};
+use ldm_words::Job;
 use std::alloc::Global;
 
 /// What the images hold, as far as a refusal is explained by it.
@@ -186,31 +183,7 @@ fn faulty<H: Host>(alloc: Global, host: &mut H, names: &[String], fault: OpenFau
     advised(text, fault, names.len()).ok()
 }
 
-// Says why the volume of this name has no table, where there is one and it has none.
-fn say_no_table<H: Host>(
-    alloc: Global,
-    text: &mut Text,
-    host: &H,
-    names: &[String],
-    found: &Found,
-    name: &[u8],
-    words: &Names,
-) -> Result<(), NoMemory>
-    requires sound { IsSoundGroup found.now }
-    requires lies { LieOn found.now.labels (H.seen host.now).sizes }
-{
-    let Some(volume) = found.db.volume_named(name) else {
-        return say_unknown(alloc, text, &found.db, Kind::Volume, name);
-    };
-    let plan = sound_plan(alloc, &found.db, &found.labels, volume)?;
-    volumes_lie_on_images();
-    match table_text(alloc, host, found, volume, &plan, words)? {
-        Err(fault) => say_untabled(alloc, text, names, found, &plan, name, fault),
-        Ok(_) => Ok(()),
-    }
-}
-
-// Says why a job on a volume of a group refused.
+// Says why a job on volumes of a group refused.
 fn say_job<H: Host>(
     alloc: Global,
     text: &mut Text,
@@ -229,16 +202,19 @@ fn say_job<H: Host>(
             count,
             ..
         } => { say_range(alloc, text, &found.db, name.as_slice(), *first, *count) }
-        Job::Dump { name, .. } => say_undumped(alloc, text, found, name.as_slice()),
+        Job::Dump { name, section } => {
+            say_undumped(alloc, text, found, name.as_slice(), *section)
+        }
         Job::Scrub { name, .. } => say_unscrubbed(alloc, text, found, name.as_slice()),
         Job::Table { name, images, .. } => {
             say_no_table(alloc, text, host, names, found, name.as_slice(), images)
         }
+        Job::Tables { images } => say_no_tables(alloc, text, host, names, found, images),
         _ => Ok(()),
     }
 }
 
-// Why a job on a volume of a group refused. It is empty where that isn't known.
+// Why a job on volumes of a group refused. It is empty where that isn't known.
 fn job_line<H: Host>(
     alloc: Global,
     host: &H,

@@ -5,7 +5,7 @@ ghost use Rattle.ldm_found.specs.Facts.{IsSoundGroup};
 use crate::names::{Kind, say_unknown};
 use crate::saying::{path_of, say};
 use ldm_bytes::NoMemory;
-use ldm_dump::lost;
+use ldm_dump::{lost, lost_in};
 use ldm_found::Found;
 use ldm_group::Db;
 use ldm_layout::{Plan, Shape};
@@ -14,6 +14,7 @@ use ldm_rules::sound_plan;
 use ldm_scrub::missing_disk;
 use ldm_table::TableFault;
 use ldm_text::{Part, Text};
+use ldm_words::Section;
 use std::alloc::Global;
 
 /// Says the name and the GUID of the disk of this id.
@@ -32,6 +33,27 @@ fn say_on_absent(text: &mut Text, db: &Db, disk: u64) -> Result<(), NoMemory> {
     text.push(b" lies on ")?;
     say_disk(text, db, disk)?;
     text.push(b", which is absent: name its image")
+}
+
+// Says that a range ends behind the volume of this name, which has `size` sectors.
+fn say_behind(
+    text: &mut Text,
+    name: &[u8],
+    size: u64,
+    first: u64,
+    count: u64,
+) -> Result<(), NoMemory> {
+    let parts = [
+        Part::Name(name),
+        Part::Number(size),
+        Part::Number(count),
+        Part::Number(first),
+    ];
+    say(
+        text,
+        "% has % sectors, and % from sector % on end behind them",
+        &parts,
+    )
 }
 
 /// Says why a range isn't of the volume of this name.
@@ -53,17 +75,7 @@ pub fn say_range(
             &[Part::Number(count)],
         );
     }
-    let parts = [
-        Part::Name(name),
-        Part::Number(volume.size),
-        Part::Number(count),
-        Part::Number(first),
-    ];
-    say(
-        text,
-        "% has % sectors, and % from sector % on end behind them",
-        &parts,
-    )
+    say_behind(text, name, volume.size, first, count)
 }
 
 // The disk that a sector of a volume lies on, in the first copy.
@@ -90,12 +102,52 @@ fn say_sector(
     say_on_absent(text, db, disk_at(plan, sector))
 }
 
-/// Says why the volume of this name isn't dumped.
+// Says which disk is to be named for the first sector that is lost, where there is one.
+fn say_lost(
+    text: &mut Text,
+    db: &Db,
+    plan: &Plan,
+    name: &[u8],
+    lost: Option<u64>,
+) -> Result<(), NoMemory> {
+    match lost {
+        Some(sector) => say_sector(text, db, plan, name, sector),
+        None => Ok(()),
+    }
+}
+
+// Says why a section of the volume of this name, which has this plan, isn't dumped.
+fn say_section(
+    text: &mut Text,
+    found: &Found,
+    plan: &Plan,
+    name: &[u8],
+    section: Section,
+) -> Result<(), NoMemory> {
+    let Section { first, count } = section;
+    let size = plan.size();
+    if count == 0 {
+        return text.push(b"COUNT is 0, and dump takes 1 at least");
+    }
+    if size < first || size - first < count {
+        return say_behind(text, name, size, first, count);
+    }
+    say_lost(
+        text,
+        &found.db,
+        plan,
+        name,
+        lost_in(found, plan, first, count),
+    )
+}
+
+/// Says why the volume of this name, or a section of it, isn't dumped.
 pub fn say_undumped(
     alloc: Global,
     text: &mut Text,
     found: &Found,
     name: &[u8],
+    section: Option<Section>,
 ) -> Result<(), NoMemory>
     requires { IsSoundGroup found.now }
 {
@@ -103,9 +155,9 @@ pub fn say_undumped(
         return say_unknown(alloc, text, &found.db, Kind::Volume, name);
     };
     let plan = sound_plan(alloc, &found.db, &found.labels, volume)?;
-    match lost(found, &plan) {
-        Some(sector) => say_sector(text, &found.db, &plan, name, sector),
-        None => Ok(()),
+    match section {
+        Some(section) => say_section(text, found, &plan, name, section),
+        None => say_lost(text, &found.db, &plan, name, lost(found, &plan)),
     }
 }
 

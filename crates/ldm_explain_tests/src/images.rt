@@ -1,4 +1,5 @@
 //! Images of a usual group, and what is explained of a job on them.
+use crate::arrays::{clear_volumes, put_arrays};
 use ldm_explain::{Sight, explain};
 use ldm_images::usual_images;
 use ldm_memory::MemoryHost;
@@ -19,25 +20,36 @@ pub(crate) enum Change {
     Block(usize),
     /// All copies are closed.
     Close,
+    /// The group has no volume.
+    NoVolume,
+    /// Its volumes are R and T, two RAID-5s with partitions of one name.
+    Arrays,
 }
 
-// Where the config area begins, in bytes.
-const AREA: usize = (6144 + 17) * 512;
+/// Where the config area begins, in bytes.
+pub(crate) const AREA: usize = (6144 + 17) * 512;
 
-fn put(image: &mut Vec<u8>, at: usize, byte: u8) {
+/// Sets a byte of an image.
+pub(crate) fn put(image: &mut Vec<u8>, at: usize, byte: u8) {
     if at < image.len() {
         image[at] = byte;
     }
 }
 
-fn change_image(image: &mut Vec<u8>, at: usize, change: Change) {
+fn change_image(alloc: Global, image: &mut Vec<u8>, at: usize, change: Change) -> Result<(), Fail> {
     match change {
         Change::Cut(cut) if cut == at => image.truncate(8191 * 512),
         Change::Gpt(gpt) if gpt == at => put(image, 0x1C2, 0xEE),
         Change::Block(block) if block == at => put(image, AREA + 512, 0),
         Change::Close => put(image, AREA, 0),
+        Change::NoVolume => clear_volumes(image),
+        Change::Arrays => {
+            clear_volumes(image);
+            put_arrays(alloc, image)?;
+        }
         _ => (),
     }
+    Ok(())
 }
 
 // Copies of the images that the words name by their first letters. The letter x stands for one of
@@ -45,7 +57,7 @@ fn change_image(image: &mut Vec<u8>, at: usize, change: Change) {
 fn named_images(alloc: Global, names: &[String], change: Change) -> Result<Vec<Vec<u8>>, Fail> {
     let mut group = usual_images(alloc)?;
     for (at, image) in group.iter_mut().enumerate() {
-        change_image(image, at, change);
+        change_image(alloc, image, at, change)?;
     }
     let mut images = Vec::new(alloc);
     for name in names {

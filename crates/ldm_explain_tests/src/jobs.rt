@@ -152,6 +152,86 @@ fn explains_why_a_volume_is_not_had(rt: HostRuntime) -> Result<(), Fail> {
     check_rows(rt.alloc(), &rt, &DISKS)
 }
 
+const SECTIONS: [Row; 6] = [
+    (
+        "dump Stripe1 1020 5 on a.img b.img c.img",
+        "",
+        NONE,
+        "ldm: Stripe1 has 1024 sectors, and 5 from sector 1020 on end behind them\n",
+    ),
+    // The range is said, and no disk that is absent.
+    (
+        "dump Stripe1 1025 1 on b.img a.img",
+        "",
+        NONE,
+        "ldm: Stripe1 has 1024 sectors, and 1 from sector 1025 on end behind them\n",
+    ),
+    (
+        "dump Stripe1 128 0 on b.img a.img",
+        "",
+        NONE,
+        "ldm: COUNT is 0, and dump takes 1 at least\n",
+    ),
+    // Sectors 128 to 255 are lost too, and aren't asked for.
+    (
+        "dump Stripe1 300 100 on b.img a.img",
+        "",
+        NONE,
+        "ldm: sector 384 of Stripe1 lies on Disk3 (33333333-3333-3333-3333-333333333333), which is absent: name its image\n",
+    ),
+    (
+        "dump Stripe1 1023 1 on b.img a.img",
+        "",
+        NONE,
+        "ldm: sector 1023 of Stripe1 lies on Disk3 (33333333-3333-3333-3333-333333333333), which is absent: name its image\n",
+    ),
+    (
+        "dump Mirror 0 1 on a.img b.img c.img",
+        "",
+        NONE,
+        "ldm: no volume is called Mirror; the nearest is Mirror1\n",
+    ),
+];
+
+#[test]
+fn explains_why_a_section_is_not_dumped(rt: HostRuntime) -> Result<(), Fail> {
+    check_rows(rt.alloc(), &rt, &SECTIONS)
+}
+
+const TABLES: [Row; 5] = [
+    (
+        "table on b.img a.img",
+        "",
+        NONE,
+        "ldm: sector 128 of Stripe1 lies on Disk3 (33333333-3333-3333-3333-333333333333), which is absent: name its image\n",
+    ),
+    (
+        "table on a.img b:.img c.img",
+        "",
+        NONE,
+        "ldm: a table can't name b:.img, as it has a colon, a backslash or a byte that isn't visible ASCII: name it by a link\n",
+    ),
+    (
+        "table on a.img b.img c.img",
+        "",
+        Change::NoVolume,
+        "ldm: group Dg0 has no volume to make a device of\n",
+    ),
+    (
+        "table on a.img b.img c.img",
+        "",
+        Change::Arrays,
+        "ldm: R and T each have a partition called p2, and so two devices would have one name: take the table of one, and dump the other\n",
+    ),
+    // The partitions of one name lie on the absent disk, and nothing is wrong.
+    ("table on a.img c.img", "", Change::Arrays, ""),
+];
+
+#[test]
+fn explains_why_no_tables_are_had(rt: HostRuntime) -> Result<(), Fail> {
+    check_rows(rt.alloc(), &rt, &TABLES)
+}
+
 const SCRIPT: &str = "\
 create Data bbbbbbbb-bbbb-bbbb-bbbb-bbbbbbbbbbbb span Disk1=2048 Disk2=1000
 create Fast cccccccc-cccc-cccc-cccc-cccccccccccc stripe 128 512 Disk2 Disk3

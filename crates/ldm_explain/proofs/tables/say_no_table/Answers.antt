@@ -1,4 +1,4 @@
-use Rattle.ldm_explain.proofs.sight.say_no_table.Goals as goal
+use Rattle.ldm_explain.proofs.tables.say_no_table.Goals as goal
 
 -- the volume's sectors, and its columns, lie on the images
 pub table_text-requires-clause-lies : goal.table_text-requires-clause-lies
