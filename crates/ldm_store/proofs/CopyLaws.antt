@@ -9,11 +9,11 @@ use Rattle.ldm_copy.specs.declared.answer.CopyState.{CopyState}
 use Rattle.ldm_copy.specs.declared.answer.CopyState.TheVariants.{Closed, Valid}
 use Rattle.ldm_copy.specs.Copy.{config_area, IsCopyOf, IsOpen, gate_at, IsWritten}
 use Rattle.ldm_found.specs.Copies.{IsCopyIn, HasCopy, IsKnown, note_of}
-use Rattle.ldm_store.specs.Kept.{IsCurrent, IsKept, AlwaysKept}
+use Rattle.ldm_store.specs.Kept.{IsCurrent, IsOneOf, IsKept, AlwaysKept}
 use Rattle.ldm_body.specs.Body.{IsBetween, HasBody}
 use Rattle.std.proofs.lemmas.Bool.{cases_eq, cases_lt}
 use Rattle.std.proofs.lemmas.Option.{slice_get_within}
-use Rattle.ldm_store.specs.Turning.{AllSettled, AllHave, IsTurned}
+use Rattle.ldm_store.specs.Turning.{AllSettled, AllHave, AlwaysOneOf, IsTurned}
 use Rattle.ldm_found.specs.Labels.{AreSameOutside}
 use Rattle.ldm_host.proofs.Relations.{moments_trans}
 use Rattle.std.specs.Prelude.{nat_lt}
@@ -51,11 +51,11 @@ module _ (labels : List Label) (old new : List (List ℕ)) (disk : ℕ) where
       (label, at, (has.2.0, subst (λ (area : List ℕ). IsCopyOf area label.area_sectors (Ok has.2.0)) (sym same) there, has.2.2))
 
   -- while one copy takes the place of another
-  pub has_between : (o n : Database) (label : Label) → slice_get labels disk ≡ Some label → IsBetween label n (image old disk) (image new disk)
-      → HasCopy labels old disk (IsKnown o n) → HasCopy labels new disk (IsKnown o n)
-  has_between o n label at (inl same) has = has_area (IsKnown o n) label at same has
-  has_between o n label at (inr (inl shut)) has = (label, at, (Closed, shut, tt))
-  has_between o n label at (inr (inr written)) has = (label, at, (Valid n, written, inr (inr refl)))
+  pub has_between : (n : Database) (Is : CopyState → Type 0) → Is Closed → Is (Valid n) → (label : Label) → slice_get labels disk ≡ Some label
+      → IsBetween label n (image old disk) (image new disk) → HasCopy labels old disk Is → HasCopy labels new disk Is
+  has_between n Is closed valid label at (inl same) has = has_area Is label at same has
+  has_between n Is closed valid label at (inr (inl shut)) has = (label, at, (Closed, shut, closed))
+  has_between n Is closed valid label at (inr (inr written)) has = (label, at, (Valid n, written, valid))
 
 pub has_more : (labels : List Label) (images : List (List ℕ)) (disk : ℕ) (P Q : CopyState → Type 0) → ((c : CopyState) → P c → Q c) → HasCopy labels images disk P → HasCopy labels images disk Q
 has_more labels images disk P Q more has = (has.0, has.1, (has.2.0, has.2.1, more has.2.0 has.2.2))
@@ -65,6 +65,10 @@ known_current o n Closed (inl x) = absurd x
 known_current o n Closed (inr x) = absurd x
 known_current o n (Valid db) (inl x) = inr (inl x)
 known_current o n (Valid db) (inr x) = inr (inr x)
+
+pub one_of_current : (o n : Database) (c : CopyState) → IsCurrent o c ⊎ IsCurrent n c → IsOneOf o n c
+one_of_current o n Closed is = tt
+one_of_current o n (Valid db) is = is
 
 pub valid_current : (n : Database) (c : CopyState) → c ≡ Valid n → IsCurrent n c
 valid_current n c is = subst (λ (x : CopyState). IsCurrent n x) (sym is) refl
@@ -98,22 +102,42 @@ outside_torn label x y z out torn = record {
 abbrev pub IsEither : Database → Database → CopyState → Type 0
 IsEither o n copy = IsCurrent o copy ⊎ IsCurrent n copy
 
-module _ (labels : List Label) (o n : Database) (a b : Seen) (one_each : length b.sizes ≡ length labels) (settled : AllSettled labels b)
-    (known : AllHave labels b.content (IsKnown o n)) (outside : AreSameOutside labels a.content b.content) (quiet : b.said ≡ a.said) where
+module _ (labels : List Label) (b : Seen) (one_each : length b.sizes ≡ length labels) (settled : AllSettled labels b) where
   -- what a stop may leave while nothing is pending is the content
   pub left_is : (images : List (List ℕ)) → Leaves b images → (disk : ℕ) → disk < length labels → image images disk ≡ image b.content disk
   left_is images left disk lt = settled disk lt (image images disk) (left.each disk (subst (λ (l : ℕ). disk < l) (sym one_each) lt))
 
+  module _ (Is : CopyState → Type 0) (have : AllHave labels b.content Is) where
+    -- each copy, between two steps
+    pub copies_now : (images : List (List ℕ)) → Leaves b images → AllHave labels images Is
+    copies_now images left disk lt = has_image labels b.content images disk Is (left_is images left disk lt) (have disk lt)
+
+    -- each copy, while one disk is written
+    pub copies_step : (n : Database) → Is Closed → Is (Valid n) → (c : Seen) (disk : ℕ) (label : Label) → slice_get labels disk ≡ Some label
+        → Changes disk (gate_at label) (512 * label.area_sectors) b c
+        → AtEachMoment b c (λ images said. IsBetween label n (image b.content disk) (image images disk))
+        → AtEachMoment b c (λ images said. AllHave labels images Is)
+    copies_step n closed valid c disk label at changes between images said left k lt =
+        let m = changes.moments images said left in
+        ⊎_elim
+        (λ is. subst (λ (d : ℕ). HasCopy labels images d Is) (sym is)
+        (has_between labels b.content images disk n Is closed valid label at (between images said left) (have disk (slice_get_within labels disk label at))))
+        (λ ne. has_image labels b.content images k Is (m.2.others k ne ∙ left_is m.0 m.1 k lt) (have k lt))
+        (cases_eq k disk)
+
+module _ (labels : List Label) (o n : Database) (a b : Seen) (one_each : length b.sizes ≡ length labels) (settled : AllSettled labels b)
+    (known : AllHave labels b.content (IsKnown o n)) (outside : AreSameOutside labels a.content b.content) (quiet : b.said ≡ a.said) where
   -- between two steps
   pub kept_now : (one : (disk : ℕ) × (disk < length labels) × HasCopy labels b.content disk (IsEither o n))
       → (images : List (List ℕ)) (said : List ℕ) → Leaves b images → said ≡ b.said → IsKept labels o n a images said
   kept_now one images said left is = record {
     said_is = is ∙ quiet;
     one_each = left.one_each ∙ one_each;
-    outside = λ disk label at. outside_is label (image a.content disk) (image b.content disk) (image images disk) (outside disk label at) (left_is images left disk (slice_get_within labels disk label at));
+    outside = λ disk label at. outside_is label (image a.content disk) (image b.content disk) (image images disk) (outside disk label at)
+        (left_is labels b one_each settled images left disk (slice_get_within labels disk label at));
     recoverable = record {
-      known = λ disk lt. has_image labels b.content images disk (IsKnown o n) (left_is images left disk lt) (known disk lt);
-      one = (one.0, one.1, has_image labels b.content images one.0 (IsEither o n) (left_is images left one.0 one.1) one.2);
+      known = copies_now labels b one_each settled (IsKnown o n) known images left;
+      one = (one.0, one.1, has_image labels b.content images one.0 (IsEither o n) (left_is labels b one_each settled images left one.0 one.1) one.2);
     };
   }
 
@@ -131,14 +155,11 @@ module _ (labels : List Label) (o n : Database) (a b : Seen) (one_each : length 
         (λ is. subst (λ (d : ℕ). SameOutsideArea here (image a.content d) (image images d)) (sym is)
         (subst (λ (l : Label). SameOutsideArea l (image a.content disk) (image images disk)) (same_label labels disk label here at (subst (λ (d : ℕ). slice_get labels d ≡ Some here) is at_k))
         (outside_torn label (image a.content disk) (image b.content disk) (image images disk) (outside disk label at)
-        (subst (λ (x : List ℕ). Torn (gate_at label) (512 * label.area_sectors) x (image images disk)) (left_is m.0 m.1 disk in_range) m.2.here))))
+        (subst (λ (x : List ℕ). Torn (gate_at label) (512 * label.area_sectors) x (image images disk)) (left_is labels b one_each settled m.0 m.1 disk in_range) m.2.here))))
         (λ ne. outside_is here (image a.content k) (image b.content k) (image images k) (outside k here at_k) (stays k (slice_get_within labels k here at_k) ne))
         (cases_eq k disk);
     recoverable = record {
-      known = λ k lt. ⊎_elim
-          (λ is. subst (λ (d : ℕ). HasCopy labels images d (IsKnown o n)) (sym is) (has_between labels b.content images disk o n label at (between images said left) (known disk in_range)))
-          (λ ne. has_image labels b.content images k (IsKnown o n) (stays k lt ne) (known k lt))
-          (cases_eq k disk);
+      known = copies_step labels b one_each settled (IsKnown o n) known n tt (inr (inr refl)) c disk label at changes between images said left;
       one = (
         other.0,
         other.1,
@@ -161,7 +182,7 @@ module _ (labels : List Label) (o n : Database) (a b : Seen) (one_each : length 
       m = changes.moments images said left
 
       stays : (k : ℕ) → k < length labels → k ≢ disk → image images k ≡ image b.content k
-      stays k lt ne = m.2.others k ne ∙ left_is m.0 m.1 k lt
+      stays k lt ne = m.2.others k ne ∙ left_is labels b one_each settled m.0 m.1 k lt
 
 -- after one disk is written
 module _ (labels : List Label) (b c : Seen) (disk : ℕ) (label : Label) (at : slice_get labels disk ≡ Some label) (changes : Changes disk (gate_at label) (512 * label.area_sectors) b c) where
@@ -206,6 +227,8 @@ turned_none labels o n a several one_each settled current only = record {
       kept_now labels o n a a one_each settled (λ k lt. has_more labels a.content k (IsCurrent o) (IsKnown o n) (λ c is. known_current o n c (inl is)) (current k lt))
       (λ k label at. outside_itself label (image a.content k)) refl
       (0, first, has_more labels a.content 0 (IsCurrent o) (IsEither o n) (λ c is. inl is) (current 0 first)) images said now.0 now.1;
+  copies = λ images said left. copies_now labels a one_each settled (IsOneOf o n)
+      (λ k lt. has_more labels a.content k (IsCurrent o) (IsOneOf o n) (λ c is. one_of_current o n c (inl is)) (current k lt)) images (only images said left).0;
 }
 
 module _ (labels : List Label) (o n : Database) (a b : Seen) (done : ℕ) (several : 2 ≤ length labels) (one_each : length b.sizes ≡ length labels) (settled : AllSettled labels b) (said : b.said ≡ a.said)
@@ -230,6 +253,11 @@ module _ (labels : List Label) (o n : Database) (a b : Seen) (done : ℕ) (sever
         (kept_step labels o n a b one_each settled (λ k k_lt. has_more labels b.content k (IsEither o n) (IsKnown o n) (known_current o n) (either_one k k_lt)) turned.outside said c done label at
         (other_one.0, other_one.1, inl other_one.2, other_one.3) changes between)
 
+    pub turning_copies : AlwaysOneOf labels o n a c
+    turning_copies = moments_trans a b c (λ images said. AllHave labels images (IsOneOf o n)) later changes.later turned.copies
+        (copies_step labels b one_each settled (IsOneOf o n) (λ k lt. has_more labels b.content k (IsEither o n) (IsOneOf o n) (one_of_current o n) (either_one k lt))
+        n tt (inr refl) c done label at changes between)
+
     -- after it has succeeded
     pub turned_step : IsWritten label n (image c.content done) → IsTurned labels o n a c (done + 1)
     turned_step is = record {
@@ -242,6 +270,7 @@ module _ (labels : List Label) (o n : Database) (a b : Seen) (done : ℕ) (sever
           has_step labels b c done label at changes (IsCurrent o) k ne (turned.above k (omega (arith, ge)) k_lt);
       outside = outside_step labels b c done label at changes a turned.outside;
       always = turning_always;
+      copies = turning_copies;
     }
 
 -- what is handed to the disks, where each is handed so many bytes at most

@@ -20,6 +20,11 @@ abbrev pub IsCurrent : Database → CopyState → Type 0
 IsCurrent group Closed = ⊥
 IsCurrent group (Valid db) = IsSameCore db group
 
+-- closed, or open with one of the two groups
+abbrev pub IsOneOf : Database → Database → CopyState → Type 0
+IsOneOf older newer Closed = Unit {0}
+IsOneOf older newer (Valid db) = IsSameCore db older ⊎ IsSameCore db newer
+
 -- the newer is the older, or its sequence is one more
 abbrev pub IsNext : Database → Database → Type 0
 IsNext older newer = IsSameCore newer older ⊎ (newer.header.seq ≡ older.header.seq + 1)

@@ -10,4 +10,4 @@ mod sharing;
 
 pub use laws::{disks_alone, group_alone, kept_images_open};
 pub use session::{ApplyError, Session};
-pub use settling::settle;
+pub use settling::{settle, sync_all};

@@ -13,7 +13,7 @@ ghost use Rattle.ldm_changed.specs.declared.nexts.Next.TheVariants as nexts;
 ghost use Rattle.ldm_found.specs.Facts.{LieOn};
 ghost use Rattle.ldm_found.specs.Labels.{AreSameOutside};
 ghost use Rattle.ldm_store.specs.Kept.{IsCurrent, AlwaysKept};
-ghost use Rattle.ldm_store.specs.Turning.{IsBodyOnEach, AllSettled, AllHave};
+ghost use Rattle.ldm_store.specs.Turning.{IsBodyOnEach, AllSettled, AllHave, AlwaysOneOf};
 
 use ldm_changed::{Next, rewrite_next};
 use ldm_host::{Failed, Host};
@@ -37,6 +37,11 @@ pub fn rewrite_all<H: Host>(host: &mut H, labels: &[Label], next: &Next) -> Resu
         → AllHave labels.now (H.seen host.old).content (IsCurrent o)
         → IsBodyOnEach n labels.now (bytes_in next.now)
         → AlwaysKept labels.now o n (H.seen host.old) (H.seen host.new) }
+    // At each moment each copy is closed, or open with one of these two groups.
+    ensures copies { H.tells_disks → (o n : Database)
+        → AllHave labels.now (H.seen host.old).content (IsCurrent o)
+        → IsBodyOnEach n labels.now (bytes_in next.now)
+        → AlwaysOneOf labels.now o n (H.seen host.old) (H.seen host.new) }
     ensures done { H.tells_disks → OnOk result ((n : Database)
         → IsBodyOnEach n labels.now (bytes_in next.now)
         → AllHave labels.now (H.seen host.new).content (λ copy. copy ≡ CopyState.Valid n)) }

@@ -25,8 +25,10 @@ use ldm_host::{Failed, Host};
 use ldm_label::Label;
 use std::alloc::Global;
 
-// Syncs every disk.
-fn sync_all<H: Host>(host: &mut H) -> Result<(), Failed>
+/// Syncs every disk, in their order. `Failed` comes only from a call of a disk. Whatever the
+/// outcome, no disk is handed a byte, and a stop leaves at each moment what it could leave at the
+/// start.
+pub fn sync_all<H: Host>(host: &mut H) -> Result<(), Failed>
     ensures settled { OnOk result ((disk : ℕ) → disk < length (H.seen host.old).sizes
         → Settled (H.seen host.new) disk) }
     ensures settles { Settles (H.seen host.old) (H.seen host.new) }
