@@ -1,0 +1,13 @@
+pub mod ShutLaws
+pub mod StepLaws
+pub mod AlikeLaws
+pub mod PastLaws
+pub mod TurnLaws
+pub mod TextLaws
+pub mod ViewingLaws
+pub mod AnswerLaws
+pub mod RepairLaws
+pub mod GateLaws
+pub mod GoodLabelLaws
+pub mod HealLaws
+pub mod SaidLaws

@@ -1,0 +1,5 @@
+pub mod Closing
+pub mod Repairing
+pub mod RepairWords
+pub mod Turns
+pub mod Stages
