@@ -1,2 +1,3 @@
 pub mod PastWords
 pub mod PastAnswer
+pub mod PastTalk

@@ -9,8 +9,7 @@ use Rattle.ldm_words.specs.declared.job.Format.{Format}
 use Rattle.ldm_words.specs.declared.job.Format.TheVariants as formats
 use Rattle.ldm_words.specs.declared.job.Job.{Job}
 use Rattle.ldm_words.specs.declared.job.Job.TheVariants.{Check}
-use Rattle.ldm_words.specs.declared.status.Status.{Status}
-use Rattle.ldm_words.specs.declared.status.Status.TheVariants.{Done, DiskFault, NoMemory}
+use Rattle.ldm_words.specs.declared.status.Status.TheVariants.{Done}
 use Rattle.ldm_words.specs.Jobs.{job_of}
 use Rattle.ldm_label.specs.declared.LabelFault.{LabelFault}
 use Rattle.ldm_copy.specs.declared.answer.CopyFault.{CopyFault}
@@ -23,8 +22,6 @@ use Rattle.ldm_look.specs.CheckJson.{check_members}
 use Rattle.ldm_look.specs.Looks.{IsFormattedAnswer}
 use Rattle.ldm_run.specs.Answer.{IsJobAnswer, IsReadingAnswer}
 use Rattle.ldm_damage.specs.declared.damage.Damage.{Damage}
-use Rattle.ldm_damage.specs.declared.error.DamageError.{DamageError}
-use Rattle.ldm_damage.specs.declared.error.DamageError.TheVariants as errors
 use Rattle.ldm_damage.specs.Views.{AreDamaged}
 
 -- ---- lines
@@ -105,8 +102,3 @@ pub record IsPastAnswer (words images : List (List ℕ)) (input : List ℕ) (ans
   pub views : List (List ℕ)
   pub are : AreDamaged images damages views
   pub is : IsPastReading (job_of words) damages views input answer
-
--- the status where it isn't known what is damaged
-abbrev pub damage_status : DamageError → Status
-damage_status errors.Disk = DiskFault
-damage_status errors.NoMemory = NoMemory

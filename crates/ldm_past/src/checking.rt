@@ -7,6 +7,7 @@ ghost use Rattle.ldm_look.specs.Runs.{Answers, Causes, Completes, HasImages, NoF
 ghost use Rattle.ldm_past.specs.PastWords.{reads_past, is_read_as};
 ghost use Rattle.ldm_past.specs.PastAnswer.{said_past_check, past_check_answer};
 ghost use Rattle.ldm_past.specs.PastAnswer.{format_of_check, IsPastReading};
+ghost use Rattle.ldm_past.specs.PastTalk.{TalksPast, SaysWholePast};
 
 use crate::past_json::past_check_line;
 use crate::texts::past_check_text;
@@ -90,6 +91,10 @@ pub(crate) fn do_past<H: Host>(
         → result ≢ Status.NoMemory → Completes (H.seen host.old) (H.seen host.new)
         (IsPastReading (job_of (texts words.now)) damages.now (H.seen host.old).content
         (H.seen host.old).input) result }
+    ensures talk { TalksPast H.tells_talk (job_of (texts words.now)) (H.seen host.old)
+        (H.seen host.new) result }
+    ensures whole { H.tells_disks → SaysWholePast (job_of (texts words.now)) (H.seen host.old)
+        (H.seen host.new) result }
     ensures handed { (H.seen host.new).wrote ≡ (H.seen host.old).wrote }
 {
     match check_format(alloc, words) {

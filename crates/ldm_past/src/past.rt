@@ -2,44 +2,19 @@
 ghost use Rattle.std.specs.Prelude.{◌≡◌, ◌≢◌, List, ℕ, true, is_some, IfSome};
 ghost use Rattle.ldm_host.specs.Moves.{Still};
 ghost use Rattle.ldm_words.specs.Jobs.{texts, job_of};
+ghost use Rattle.ldm_words.specs.declared.status.Status.TheVariants.{NoMemory};
 ghost use Rattle.ldm_look.specs.Said.{Answer, HasAnswer};
 ghost use Rattle.ldm_look.specs.Runs.{Answers, Causes, Completes, HasImages, NoFault};
 ghost use Rattle.ldm_damage.specs.Views.{AreDamaged};
 ghost use Rattle.ldm_past.specs.PastWords.{reads_past, is_read_as};
-ghost use Rattle.ldm_past.specs.PastAnswer.{IsPastAnswer, damage_status};
+ghost use Rattle.ldm_past.specs.PastAnswer.{IsPastAnswer};
+ghost use Rattle.ldm_past.specs.PastTalk.{TalksPast, SaysWholePast};
 
 use crate::running::run_shown;
-use ldm_damage::{Damage, DamageError, find_damage};
+use ldm_damage::find_damage;
 use ldm_host::Host;
-use ldm_view::Patched;
-use ldm_words::Status;
+use ldm_repair::{Ran, damage_status, host_of};
 use std::alloc::Global;
-
-/// What a run past damage leaves.
-pub struct Ran<H: Host> {
-    pub host: H,
-    pub status: Status,
-    /// What is damaged on each image. None where a fault came before that was known.
-    pub damages: Option<Vec<Damage>>,
-}
-
-// The status where it isn't known what is damaged.
-fn damage_status(error: DamageError) -> Status
-    ensures { result ≡ damage_status error }
-{
-    match error {
-        DamageError::Disk => Status::DiskFault,
-        DamageError::NoMemory => Status::NoMemory,
-    }
-}
-
-// Takes the host out of its patches.
-fn host_of<H: Host>(under: Patched<H>) -> H
-    ensures { result ≡ under.host }
-{
-    let Patched { host, patches: _ } = under;
-    host
-}
 
 /// Does the job of words that can read past damage, over the views of the images: labels that are
 /// damaged are mended, and damaged copies of the database are passed over. Nothing is written.
@@ -61,9 +36,16 @@ pub fn run_past<H: Host>(alloc: Global, words: &[String], host: H) -> Ran<H>
     ensures causes { Causes (H.seen host) (H.seen result.host) result.status }
     // Where no count rose, the answer comes, or NoMemory.
     ensures complete { H.tells_disks → NoFault (H.seen host) (H.seen result.host)
-        → result.status ≢ Status.NoMemory
+        → result.status ≢ NoMemory
         → Completes (H.seen host) (H.seen result.host)
         (IsPastAnswer (texts words.now) (H.seen host).content (H.seen host).input) result.status }
+    // After a fault nothing more is said, but where the answer is said while the disks are read on.
+    ensures talk { TalksPast H.tells_talk (job_of (texts words.now)) (H.seen host)
+        (H.seen result.host) result.status }
+    // Where a disk or memory failed, what was said is whole sectors of a volume, and whole lines of
+    // all else.
+    ensures whole { H.tells_disks → SaysWholePast (job_of (texts words.now)) (H.seen host)
+        (H.seen result.host) result.status }
     // The disks are as they were.
     ensures still { ∥ Still (H.seen host) (H.seen result.host) ∥₁ }
 {

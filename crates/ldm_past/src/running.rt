@@ -6,6 +6,7 @@ ghost use Rattle.ldm_look.specs.Runs.{Answers, Causes, Completes, HasImages, NoF
 ghost use Rattle.ldm_view.specs.Patches.{shown};
 ghost use Rattle.ldm_past.specs.PastWords.{reads_past, is_read_as};
 ghost use Rattle.ldm_past.specs.PastAnswer.{IsPastReading};
+ghost use Rattle.ldm_past.specs.PastTalk.{TalksPast, SaysWholePast};
 
 use crate::checking::do_past;
 use ldm_damage::Damage;
@@ -34,6 +35,10 @@ fn run_in<H: Host, S: Start>(
         → result.1 ≢ Status.NoMemory → Completes (H.seen under.host) (H.seen result.0.host)
         (IsPastReading (job_of (texts words.now)) damages.now
         (shown under.patches.items (H.seen under.host).content) (H.seen under.host).input) result.1 }
+    ensures talk { TalksPast H.tells_talk (job_of (texts words.now)) (H.seen under.host)
+        (H.seen result.0.host) result.1 }
+    ensures whole { H.tells_disks → SaysWholePast (job_of (texts words.now)) (H.seen under.host)
+        (H.seen result.0.host) result.1 }
     ensures still { ∥ Still S.start (H.seen result.0.host) ∥₁ }
 {
     match View::<H, S>::new(alloc, under) {
@@ -63,6 +68,10 @@ pub(crate) fn run_shown<H: Host>(
         → result.1 ≢ Status.NoMemory → Completes (H.seen under.host) (H.seen result.0.host)
         (IsPastReading (job_of (texts words.now)) damages.now
         (shown under.patches.items (H.seen under.host).content) (H.seen under.host).input) result.1 }
+    ensures talk { TalksPast H.tells_talk (job_of (texts words.now)) (H.seen under.host)
+        (H.seen result.0.host) result.1 }
+    ensures whole { H.tells_disks → SaysWholePast (job_of (texts words.now)) (H.seen under.host)
+        (H.seen result.0.host) result.1 }
     ensures still { ∥ Still (H.seen under.host) (H.seen result.0.host) ∥₁ }
 {
     run_in::<H, Brand>(alloc, words, damages, under)

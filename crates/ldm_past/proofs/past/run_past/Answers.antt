@@ -8,8 +8,10 @@ use Rattle.ldm_damage.specs.declared.damage.Damage.{Damage}
 use Rattle.ldm_damage.specs.Views.{AreDamaged}
 use Rattle.ldm_damage.proofs.LookLaws.{same_sizes, same_content, no_less, no_less_talk, both_still, ok_at}
 use Rattle.ldm_past.specs.PastAnswer.{IsPastReading, IsPastAnswer}
+use Rattle.ldm_past.specs.PastTalk.{SaysWholePast}
 use Rattle.ldm_past.proofs.RunLaws.{answers_as, completes_as, has_images}
 use Rattle.ldm_past.proofs.PastLaws.{one_answer_past}
+use Rattle.ldm_past.proofs.TalkLaws.{says_as}
 use Rattle.ldm_past.proofs.past.run_past.Goals as goal
 
 pub run_shown-under-requires-clause-images : goal.run_shown-under-requires-clause-images
@@ -97,6 +99,16 @@ returns-clause-complete g c tells none some =
           (subst (λ (i : List ℕ). IsPastReading (job_of words) damages (shown patches u.content) i x) looked.quiet.input is);
     })
     (c.run_shown-under.ensures.complete tells no_fault some))
+
+pub returns-clause-whole : goal.returns-clause-whole
+returns-clause-whole g c tells =
+    let seen = g.H.Host.seen in
+    let a = seen c.args.host in
+    let u = seen c.find_damage-under.result.0.host in
+    let v = seen c.run_shown-under.result.0.host in
+    let reading = job_of (texts c.args.words.now) in
+    subst (λ (h : g.row.H.Denot). SaysWholePast reading a (seen h) c.run_shown-under.result.1) (sym c.host_of-2.ensures)
+    (says_as a v u v c.find_damage-under.ensures.looked.quiet.said refl reading c.run_shown-under.result.1 (c.run_shown-under.ensures.whole tells))
 
 pub returns-clause-still : goal.returns-clause-still
 returns-clause-still g c =
