@@ -4,7 +4,7 @@ use ldm_edge::{FormError, HELP, form_in, told_in, word_of};
 use std::fmt;
 
 // What is said of a job or a command beside its lines of the help.
-const JOBS: [(&str, &str); 20] = [
+const JOBS: [(&str, &str); 21] = [
     (
         "disk",
         "The image may be that of a disk whose group is incomplete. What is wrong with a label is explained in\ndocs/FORMAT.md. With --json behind disk it is one JSON value.",
@@ -49,6 +49,10 @@ const JOBS: [(&str, &str); 20] = [
     (
         "edit",
         "All images of the group are named. Each line has one reply, when it is done on all disks; one that is refused\nchanges nothing. Whatever a stop leaves is the group after the lines that were answered, or one more.\nWith --json behind edit each reply is a JSON value.\n\nexample: ldm try on disk1.img disk2.img < script && ldm edit on disk1.img disk2.img < script",
+    ),
+    (
+        "repair",
+        "All images of the group are named. A copy of the database that is damaged, closed or of a lower sequence is made anew\nof the group that check --past-damage says; that can't be undone, so look at it first. A damaged label is refused.\nThe answer is ok, the sequence of the group, and how many copies were damaged. Whatever a stop leaves is that group\nwhere it is read with --past-damage.\n\nexample: ldm check --past-damage on disk1.img disk2.img && ldm repair on disk1.img disk2.img",
     ),
     (
         "init",

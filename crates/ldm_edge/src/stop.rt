@@ -18,6 +18,8 @@ pub enum Written {
     Lines(u64),
     /// Bytes of a new group were handed to the disks.
     NewGroup,
+    /// A repair handed bytes to the disks.
+    Copies,
 }
 
 /// A fault of a run: the call that failed last, the names of the images, and what the run has
@@ -82,6 +84,11 @@ impl fmt::Display for Written {
                 f,
                 "ldm: the new group may be there in part: run check; if it refuses the disks, \
                  zero them as README says under \"A new group\", then run init again\n"
+            ),
+            Written::Copies => write!(
+                f,
+                "ldm: copies of the database may be closed or made in part: \
+                 run check --past-damage, then repair again\n"
             ),
         }
     }

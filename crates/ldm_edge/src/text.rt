@@ -33,6 +33,7 @@ With --past-damage there, show, check, map, dump, scrub or table reads on past d
 These write, to all images of the group. No other program may write to them meanwhile:
 
   edit on IMAGE...                        does the lines of a script on standard input
+  repair on IMAGE...                      makes copies of the database anew that are damaged or behind the others
   COMMAND on IMAGE...                     does one line, whose words these are
   init NAME GUID DISKGUID... on IMAGE...  makes a new group of empty disks, 2 to 64: a DISKGUID for each image
 

@@ -5,6 +5,7 @@
 //! The calls that take a host only look at its disks. Of the texts nothing is proved.
 #![tactic(auto)]
 
+mod behind;
 mod command;
 mod damage;
 mod explaining;
@@ -19,8 +20,9 @@ mod tables;
 mod volume;
 mod words;
 
+pub use behind::behind_text;
 pub use command::say_refusal;
-pub use damage::damage_text;
+pub use damage::{damage_text, repair_text};
 pub use explaining::explain;
 pub use group::fault_line;
 pub use image::{Glimpse, copy_line, label_line};

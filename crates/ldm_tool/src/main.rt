@@ -1,11 +1,11 @@
 //! Looks at the disks of a Windows dynamic disk group, and edits its volumes:
 //! `ldm JOB on IMAGE...`.
 //!
-//! The jobs are those of `run`, whose contract is the theorem of the program; `main` and the
-//! `FileHost` that it makes are the trusted edge.
+//! The jobs are those of `run`, whose contract is the theorem of the program, and `repair` has one of
+//! its own; `main` and the `FileHost` that it makes are the trusted edge.
 #![tactic(auto)]
 
-ghost use Rattle.std.specs.Prelude.{◌≡◌, ◌≤◌, IfSome, length, true};
+ghost use Rattle.std.specs.Prelude.{◌≡◌, ◌<◌, ◌≤◌, IfOk, IfSome, length, true, vec_len};
 ghost use Rattle.ldm_look.specs.Runs.{HasImages};
 ghost use Rattle.ldm_explain.specs.Sights.{IsSight};
 ghost use Rattle.ldm_words.specs.Jobs.{texts, job_of, KeepsLimits};
@@ -21,14 +21,15 @@ use ldm_damage::Damage;
 use ldm_edge::{
     HELP, Stop, VERSION, Written, ending, exit_code, open_images, stop_unopened, words_of,
 };
-use ldm_explain::{Sight, damage_text, explain};
+use ldm_explain::{Sight, behind_text, damage_text, explain, repair_text};
 use ldm_files::{Access, Failure, FileHost, ImageFile, take_closed_streams};
 use ldm_host::Host;
 use ldm_locks::{System, hold};
-use ldm_past::{Ran, past_words, run_past};
+use ldm_past::{past_words, run_past};
+use ldm_repair::{Ran, repair, repair_images};
 use ldm_run::run;
 use ldm_words::{Job, Status, WordsError, read_words};
-use over::{has_option, opens_past};
+use over::{group_of, has_option, opens_past};
 use std::alloc::Global;
 use std::io;
 use std::io::{IsTerminal, Read, Write};
@@ -57,15 +58,23 @@ fn asked_for(words: &[String]) -> Option<Told> {
     }
 }
 
-// What a job asks of the outside before it begins: how it opens its images, whether it makes a new
-// group of them, whether it hears a script, and which of its bytes tell how far it has come.
+// What a job asks of the outside before it begins: how it opens its images, what it may have written
+// where it doesn't come to its end, beside lines that were answered, whether it hears a script, and
+// which of its bytes tell how far it has come.
 #[derive(Clone, Copy)]
 struct Needs {
     access: Access,
-    makes: bool,
+    writes: Option<Written>,
     script: bool,
     counted: Option<Counted>,
 }
+
+const REPAIR: Needs = Needs {
+    access: Access::Edit,
+    writes: Some(Written::Copies),
+    script: false,
+    counted: None,
+};
 
 // Which of the standard streams are terminals.
 #[derive(Clone, Copy)]
@@ -81,7 +90,10 @@ fn needs_of(job: &Job) -> Needs {
         } else {
             Access::Read
         },
-        makes: matches!(job, Job::Init { .. }),
+        writes: match job {
+            Job::Init { .. } => Some(Written::NewGroup),
+            _ => None,
+        },
         script: matches!(job, Job::Try(_) | Job::Edit(_)),
         counted: match job {
             Job::Dump { .. } => Some(Counted::Said),
@@ -126,8 +138,7 @@ fn written_by(needs: Needs, has_written: bool, lines: Option<u64>) -> Written {
     match lines {
         _ if needs.access == Access::Read => Written::Never,
         _ if !has_written => Written::Nothing,
-        _ if needs.makes => Written::NewGroup,
-        lines => Written::Lines(lines.unwrap_or(0)),
+        lines => needs.writes.unwrap_or(Written::Lines(lines.unwrap_or(0))),
     }
 }
 
@@ -145,6 +156,21 @@ fn hold_images<'a>(
         }
     }
     Ok(())
+}
+
+// Opens the images of these names, and holds them for a job that writes.
+fn open_held<'a>(
+    rt: &HostRuntime,
+    names: &'a [String],
+    needs: Needs,
+) -> Result<Vec<ImageFile>, Stop<'a, UsageError<'a>>>
+    ensures { IfOk result (λ images. vec_len images ≡ length names.now) }
+{
+    let images = open_images::<UsageError<'a>>(rt.alloc(), rt, names, needs.access)?;
+    if needs.access == Access::Edit {
+        hold_images(rt, images.as_slice(), names)?;
+    }
+    Ok(images)
 }
 
 // When it is seen what the images hold, by which a refusal is explained.
@@ -251,19 +277,77 @@ fn explain_end(rt: &HostRuntime, job: &Job, script: &[u8], status: Status, sight
     }
 }
 
-// Whether the job of the words, which refused, would read on with the option.
-fn would_read_on<H: Host + Drop>(alloc: Global, words: &[String], host: H) -> bool {
-    if !has_option(alloc, words) {
+// Tells what is damaged on images that were repaired, or that were left as they were.
+fn tell_repair(rt: &HostRuntime, names: &[String], status: Status, damages: Option<Vec<Damage>>) {
+    if let Some(damages) = damages
+        && let Ok(text) = repair_text(rt.alloc(), names, &damages, status == Status::Done)
+    {
+        let _ = rt.stderr().write_all(text.as_slice());
+    }
+}
+
+// Whether a job says what the disks of volumes hold, or where: then old data would be taken for new.
+fn reads_volumes(job: &Job) -> bool {
+    matches!(
+        job,
+        Job::Show(_) | Job::Dump { .. } | Job::Scrub { .. } | Job::Table { .. } | Job::Tables { .. }
+    )
+}
+
+// Tells which images are behind, where a job on volumes was answered at a terminal. The host comes
+// back.
+fn tell_behind<H: Host>(rt: &HostRuntime, names: &[String], past: bool, told: bool, host: H) -> H {
+    if !told {
+        return host;
+    }
+    let (host, found) = group_of(rt.alloc(), host, past);
+    if let Some(found) = found
+        && let Ok(text) = behind_text(rt.alloc(), names, &found)
+    {
+        let _ = rt.stderr().write_all(text.as_slice());
+    }
+    host
+}
+
+// Whether a job changes a group that is there.
+fn changes_group(job: &Job) -> bool {
+    matches!(job, Job::Edit(_) | Job::One { .. })
+}
+
+// Whether a job refused images which hold a group past what is damaged on them, when it would read
+// on with the option or could be done behind a repair.
+fn refused_damage<H: Host + Drop>(
+    alloc: Global,
+    words: &[String],
+    job: &Job,
+    refused: bool,
+    host: H,
+) -> bool {
+    if !refused || !(changes_group(job) || has_option(alloc, words)) {
         return false;
     }
     let (_, opens) = opens_past(alloc, host);
     opens
 }
 
-// Tells of the option.
-fn tell_option(rt: &HostRuntime, words: &[String]) {
-    if let [job, ..] = words {
+// Tells what to do about damage that a job refused.
+fn tell_way_on(rt: &HostRuntime, words: &[String], job: &Job) {
+    if changes_group(job) {
+        let _ = eprint!(rt;
+            "ldm: ldm check --past-damage says what is damaged, and ldm repair makes damaged \
+             copies of the database anew\n"
+        );
+    } else if let [job, ..] = words {
         let _ = eprint!(rt; "ldm: to read on past this damage: ldm {job} --past-damage ...\n");
+    }
+}
+
+// Tells that a script is waited for, where one sits at a terminal.
+fn tell_waiting(rt: &HostRuntime, needs: Needs, terminals: Terminals) {
+    if terminals.input && needs.script {
+        let _ = eprint!(rt;
+            "ldm: waiting for the lines of a script on the terminal; Ctrl-D ends them\n"
+        );
     }
 }
 
@@ -294,19 +378,12 @@ where
     let needs = needs_of(&job);
     let names = &line[line.len() - count..];
     let unwritten = written_by(needs, false, None);
-    let images = open_images::<UsageError<'a>>(alloc, rt, names, needs.access)?;
-    if needs.access == Access::Edit {
-        hold_images(rt, images.as_slice(), names)?;
-    }
+    let images = open_held(rt, names, needs)?;
     if let Err(error) = try_output(needs, &mut output) {
         let failure = Some(Failure::Output(error));
         return ending(Status::TalkFault, names, failure, unwritten);
     }
-    if terminals.input && needs.script {
-        let _ = eprint!(rt;
-            "ldm: waiting for the lines of a script on the terminal; Ctrl-D ends them\n"
-        );
-    }
+    tell_waiting(rt, needs, terminals);
     let tally = tally_of(rt, needs, terminals);
     let mut input = Kept::new(alloc, input, terminals.error && needs.script);
     let host = match FileHost::new(alloc, images, &mut input, output, tally) {
@@ -323,19 +400,74 @@ where
     host.watch().end();
     let written = written_by(needs, host.has_written(), host.watch().lines());
     let ended = ending(status, names, host.failure(), written);
+    let told = terminals.error && ended.is_ok() && reads_volumes(&job);
+    let host = tell_behind(rt, names, past, told, host);
     let refused = terminals.error && !past && status == Status::Refused;
-    let damaged = if refused {
-        would_read_on(alloc, words, host)
-    } else {
-        drop(host);
-        false
-    };
+    let damaged = refused_damage(alloc, words, &job, refused, host);
     tell_damage(rt, names, &job, status, damages);
     explain_end(rt, &job, input.kept(), status, sight);
     if damaged {
-        tell_option(rt, words);
+        tell_way_on(rt, words, &job);
     }
     ended
+}
+
+// Opens so many images at the end of the words, and repairs them. All are open and locked before the
+// first call of one.
+fn run_repair<'a, I, O>(
+    rt: &HostRuntime,
+    words: &'a [String],
+    count: usize,
+    input: I,
+    mut output: O,
+) -> Result<Status, Stop<'a, UsageError<'a>>>
+where
+    I: Read + Drop,
+    O: Write + Drop,
+    requires some { 0 < count }
+    requires within { count ≤ length words.now }
+{
+    let alloc = rt.alloc();
+    let names = &words[words.len() - count..];
+    let unwritten = written_by(REPAIR, false, None);
+    let images = open_held(rt, names, REPAIR)?;
+    if let Err(error) = try_output(REPAIR, &mut output) {
+        let failure = Some(Failure::Output(error));
+        return ending(Status::TalkFault, names, failure, unwritten);
+    }
+    let host = match FileHost::new(alloc, images, input, output, Tally::Nothing) {
+        Ok(host) => host,
+        Err(NoMemory) => return Err(Stop::NoMemory(unwritten)),
+    };
+    let Ran {
+        host,
+        status,
+        damages,
+    } = repair(alloc, host);
+    let written = written_by(REPAIR, host.has_written(), None);
+    let ended = ending(status, names, host.failure(), written);
+    drop(host);
+    tell_repair(rt, names, status, damages);
+    ended
+}
+
+// Runs words without the option over these streams: those of a repair or of a job.
+fn run_plain<'a, I, O>(
+    rt: &HostRuntime,
+    words: &'a [String],
+    input: I,
+    output: O,
+    terminals: Terminals,
+) -> Result<Status, Stop<'a, UsageError<'a>>>
+where
+    I: Read + Drop,
+    O: Write + Drop,
+{
+    match repair_images(rt.alloc(), words) {
+        Err(NoMemory) => Err(Stop::NoMemory(Written::Never)),
+        Ok(Some(count)) => run_repair(rt, words, count, input, output),
+        Ok(None) => run_job(rt, words, words, false, input, output, terminals),
+    }
 }
 
 // Runs the words of the command line over these streams.
@@ -353,7 +485,7 @@ where
     match past_words(rt.alloc(), words) {
         Err(NoMemory) => Err(Stop::NoMemory(Written::Never)),
         Ok(Some(rest)) => run_job(rt, words, &rest, true, input, output, terminals),
-        Ok(None) => run_job(rt, words, words, false, input, output, terminals),
+        Ok(None) => run_plain(rt, words, input, output, terminals),
     }
 }
 

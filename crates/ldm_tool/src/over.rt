@@ -1,15 +1,11 @@
-//! Whether a job that refused would read on past damage.
-ghost use Rattle.std.specs.Prelude.{◌≡◌};
-ghost use Rattle.ldm_host.specs.Moves.{Still};
-
+//! What the images of a host hold after a job, past damage or not.
 use ldm_bytes::NoMemory;
 use ldm_damage::{Damage, find_damage};
-use ldm_found::find_group;
+use ldm_found::{Found, find_group};
 use ldm_host::Host;
 use ldm_past::past_words;
-use ldm_view::{Patched, Start, View};
+use ldm_repair::{find_shown, host_of};
 use std::alloc::Global;
-use std::marker::Brand;
 
 // The words with the option behind the first.
 fn with_option(alloc: Global, words: &[String]) -> Result<Vec<String>, NoMemory> {
@@ -35,37 +31,39 @@ fn is_damaged(damage: &Damage) -> bool {
     damage.label.is_some() || damage.copy.is_some()
 }
 
-// Takes the host out of its patches.
-fn host_of<H: Host>(under: Patched<H>) -> H {
-    let Patched { host, patches: _ } = under;
-    host
-}
-
-// Whether the views of images hold a group.
-fn opens_in<H: Host, S: Start>(alloc: Global, under: Patched<H>) -> (H, bool)
-    requires start { Still S.start (H.seen under.host) }
-    requires fixed { ∥ under.patches.items ≡ S.patches ∥₁ }
-{
-    match View::<H, S>::new(alloc, under) {
-        Ok(mut view) => {
-            let opens = view.disks() > 0 && find_group(alloc, &mut view).is_ok();
-            (host_of(view.into_under()), opens)
-        }
-        Err(under) => (host_of(under), false),
-    }
-}
-
-// Whether these patches show a group.
-fn opens<H: Host>(alloc: Global, under: Patched<H>) -> (H, bool) {
-    opens_in::<H, Brand>(alloc, under)
-}
-
 /// Whether the images of a host hold a group past damage, where something is damaged. The host comes
 /// back.
 pub fn opens_past<H: Host>(alloc: Global, host: H) -> (H, bool) {
     let (under, found) = find_damage(alloc, host);
     match found {
-        Ok(damages) if damages.iter().any(is_damaged) => opens(alloc, under),
+        Ok(damages) if damages.iter().any(is_damaged) && under.host.disks() > 0 => {
+            let (under, group) = find_shown(alloc, under);
+            (host_of(under), group.is_ok())
+        }
         _ => (host_of(under), false),
     }
+}
+
+// The group that the images of a host hold past damage, where they hold one. The host comes back.
+fn group_past<H: Host>(alloc: Global, host: H) -> (H, Option<Found>) {
+    let (under, found) = find_damage(alloc, host);
+    if found.is_err() || under.host.disks() == 0 {
+        return (host_of(under), None);
+    }
+    let (under, group) = find_shown(alloc, under);
+    (host_of(under), group.ok())
+}
+
+/// The group that the images of a host hold, past damage or not, where they hold one. The host comes
+/// back.
+pub fn group_of<H: Host>(alloc: Global, host: H, past: bool) -> (H, Option<Found>) {
+    if past {
+        return group_past(alloc, host);
+    }
+    let mut host = host;
+    if host.disks() == 0 {
+        return (host, None);
+    }
+    let found = find_group(alloc, &mut host).ok();
+    (host, found)
 }

@@ -387,6 +387,8 @@ fn says_what_a_job_has_written(rt: HostRuntime) -> Result<(), Fail> {
         assert!(rt; written_by(needs, false, Some(0)) == untouched);
         assert!(rt; written_by(needs, true, Some(3)) == touched);
     }
+    assert!(rt; written_by(REPAIR, false, None) == Written::Nothing);
+    assert!(rt; written_by(REPAIR, true, None) == Written::Copies);
     Ok(())
 }
 
@@ -471,6 +473,11 @@ ldm: no memory
 ldm: 1 line was answered; the next may be done: run check, then edit again
 ";
 
+const UNREPAIRED: &str = "\
+ldm: no memory
+ldm: copies of the database may be closed or made in part: run check --past-damage, then repair again
+";
+
 const NOT_UTF8: &str = "\
 ldm: usage: ldm JOB on IMAGE...
 ldm: a word is not UTF-8; an image whose path isn't can be named by a link to it
@@ -512,6 +519,7 @@ fn says_why_there_is_no_answer(rt: HostRuntime) -> Result<(), Fail> {
             5,
         ),
         (Stop::NoMemory(Written::Lines(1)), NO_MEMORY, 4),
+        (Stop::NoMemory(Written::Copies), UNREPAIRED, 4),
         (Stop::NoMemory(Written::Never), "ldm: no memory\n", 4),
         (Stop::NotUtf8, NOT_UTF8, 2),
         (Stop::Usage(Some(UsageError::NoJob)), NO_JOB, 2),
