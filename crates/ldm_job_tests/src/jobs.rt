@@ -1,7 +1,8 @@
 //! How jobs are run over the images of a small group, and what is compared.
 use ldm_host::Host;
 use ldm_memory::MemoryHost;
-use ldm_past::{Ran, past_words, run_past};
+use ldm_past::{past_words, run_past};
+use ldm_repair::{Ran, repair, repair_images};
 use ldm_run::{Status, run};
 use ldm_vectors::sample_images;
 use ldm_words::{WordsError, read_words};
@@ -24,6 +25,26 @@ pub(crate) fn run_over<H: Host>(alloc: Global, words: &[String], host: &mut H) -
     }
 }
 
+// Runs words without the option, which may be those of a repair. The host comes back.
+fn run_plain(alloc: Global, words: &[String], host: MemoryHost) -> Option<(MemoryHost, Status)> {
+    match repair_images(alloc, words).ok()? {
+        Some(count) if count == host.disks() => {
+            let Ran {
+                host,
+                status,
+                damages: _,
+            } = repair(alloc, host);
+            Some((host, status))
+        }
+        Some(_) => None,
+        None => {
+            let mut host = host;
+            let status = run_over(alloc, words, &mut host)?;
+            Some((host, status))
+        }
+    }
+}
+
 // Runs the words, past damage where they ask for that, where the host has just the images that they
 // name. The host comes back.
 pub(crate) fn run_any(
@@ -32,9 +53,7 @@ pub(crate) fn run_any(
     host: MemoryHost,
 ) -> Option<(MemoryHost, Status)> {
     let Some(rest) = past_words(alloc, words).ok()? else {
-        let mut host = host;
-        let status = run_over(alloc, words, &mut host)?;
-        return Some((host, status));
+        return run_plain(alloc, words, host);
     };
     match read_words(alloc, &rest) {
         Ok((_, count)) if count == host.disks() => {

@@ -26,6 +26,8 @@ mod making;
 #[cfg(test)]
 mod past;
 #[cfg(test)]
+mod repair;
+#[cfg(test)]
 mod sample;
 #[cfg(test)]
 mod scripts;

@@ -76,8 +76,29 @@ $ show --past-damage on A B C
 refused: image 1: no signature
 = 1";
 
+// The one image that holds the next sequence, as after a stop in the middle of a command, is
+// damaged: past damage the group is the one before.
+const LOWER: &str = "\
+! 1.copy+7c=08
+$ check on A B C
+image 0 sequence 7
+image 1 sequence 8
+image 2 sequence 7
+ok: editable
+= 0
+! 1.copy+200=57
+$ check --past-damage on A B C
+image 1 passed over: block 4: no VBLK
+image 0 sequence 7
+image 1 closed
+image 2 sequence 7
+ok: editable
+= 0";
+
 #[test]
 fn reads_past_damage(rt: HostRuntime) -> Result<(), Fail> {
-    play(rt.alloc(), &rt, 3, 64, COPY)?;
-    play(rt.alloc(), &rt, 3, 64, LABEL)
+    for text in [COPY, LABEL, LOWER] {
+        play(rt.alloc(), &rt, 3, 64, text)?;
+    }
+    Ok(())
 }
