@@ -1,16 +1,11 @@
 # shellcheck shell=sh disable=SC2034
-# Read by tests/edge and tests/scripts: a folder of its own for a run, and how a case is judged. It sets `here` (the top of the
-# repository) and `room` (that folder).
+# Read by tests/scripts: a folder of its own for a run, and how a case is judged. It sets `here` (the top of the repository) and
+# `room` (that folder).
 here=$(CDPATH='' cd -- "$(dirname "$0")/.." && pwd) || exit 2
-room=$(mktemp -d "${TMPDIR:-/tmp}/ldm-edge-XXXXXX") || exit 2
-trap 'leave; chmod -R u+rwx "$room"; rm -rf "$room"' EXIT
+room=$(mktemp -d "${TMPDIR:-/tmp}/ldm-scripts-XXXXXX") || exit 2
+trap 'rm -rf "$room"' EXIT
 trap 'exit 130' INT TERM HUP
 cases=0 failures=0 skips=0
-
-# What a run gives back when it ends, besides its folder.
-leave() {
-    :
-}
 
 skip() {
     skips=$((skips + 1))
