@@ -12,6 +12,7 @@ file_writes sizes faults more talk wrote next disk at n lt counted rose is = rec
     sizes = refl;
     disk_faults = rose;
     talk_faults = omega arith;
+    failed = ([], refl);
     said = ([], refl);
     clock = omega arith;
     keeps = λ t images said le left. left;

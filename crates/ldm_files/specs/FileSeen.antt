@@ -16,6 +16,7 @@ file_seen sizes disk_faults talk_faults wrote = record {
   input = [];
   disk_faults = disk_faults;
   talk_faults = talk_faults;
+  failed = [];
   wrote = wrote;
 }
 

@@ -4,7 +4,8 @@ use Rattle.std.proofs.Math.Nat.{suc-ne-zero}
 use Rattle.std.proofs.lemmas.List.{get_or-set_same, get_or-set_other, length-set, append-nil, append_cancel_left}
 use Rattle.std.proofs.lemmas.Bool.{cases_eq}
 use Rattle.ldm_host.specs.Seen.{Seen, Leaves, image}
-use Rattle.ldm_host.specs.Moves.{Rose, DiskFailed, Begins, Torn, TornAt, Later, Quiet, Still, Looks, Works, AtEachMoment, Writes, Syncs, Settles}
+use Rattle.ldm_host.specs.declared.host.DiskRange.{DiskRange}
+use Rattle.ldm_host.specs.Moves.{Rose, DiskFailed, Begins, Grows, Torn, TornAt, Later, Quiet, Still, Looks, Works, AtEachMoment, Writes, Syncs, Settles}
 
 pub begins_itself : (x : List ℕ) → Begins x x
 begins_itself x = ([], sym (append-nil x))
@@ -26,6 +27,12 @@ rose_sooner a b c le (inr last) = inr last
 
 pub begins_trans : (x y z : List ℕ) → Begins x y → Begins y z → Begins x z
 begins_trans x y z first second = (first.0 ++ second.0, second.1 ∙ ap (λ (l : List ℕ). l ++ second.0) first.1 ∙ append_assoc x first.0 second.0)
+
+pub grows_itself : (x : List DiskRange) → Grows x x
+grows_itself x = ([], sym (append-nil x))
+
+pub grows_trans : (x y z : List DiskRange) → Grows x y → Grows y z → Grows x z
+grows_trans x y z first second = (first.0 ++ second.0, second.1 ∙ ap (λ (l : List DiskRange). l ++ second.0) first.1 ∙ append_assoc x first.0 second.0)
 
 pub torn_itself : (at n : ℕ) (x : List ℕ) → Torn at n x x
 torn_itself at n x = record { size = refl; outside = λ k out. refl }
@@ -54,6 +61,7 @@ later_trans a b c first second = record {
   sizes = second.sizes ∙ first.sizes;
   disk_faults = omega (arith, first.disk_faults, second.disk_faults);
   talk_faults = omega (arith, first.talk_faults, second.talk_faults);
+  failed = grows_trans a.failed b.failed c.failed first.failed second.failed;
   said = begins_trans a.said b.said c.said first.said second.said;
   clock = omega (arith, first.clock, second.clock);
   keeps = λ t images said le left. second.keeps t images said (omega (arith, le, first.clock)) (first.keeps t images said le left);
@@ -125,6 +133,7 @@ module _ (a : Seen)
     sizes = refl;
     disk_faults = omega arith;
     talk_faults = omega arith;
+    failed = grows_itself a.failed;
     said = begins_itself a.said;
     clock = omega arith;
     keeps = λ t images said le left. left;

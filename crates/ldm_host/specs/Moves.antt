@@ -1,6 +1,7 @@
 -- What a call of a host may change.
 use Rattle.std.specs.Prelude.{◌≡◌, ◌≢◌, ◌⊎◌, ◌↔◌, ℕ, ◌+◌, ◌-◌, ◌^◌, ◌<◌, ◌≤◌, List, ◌++◌, length, slice_index}
 use Rattle.ldm_host.specs.Seen.{Seen, Leaves, image}
+use Rattle.ldm_host.specs.declared.host.DiskRange.{DiskRange}
 
 -- a count rose in the call, or stands at the counter's last value
 abbrev pub Rose : ℕ → ℕ → Type 0
@@ -22,6 +23,10 @@ AtEachMoment start host P = (images : List (List ℕ)) (said : List ℕ) → hos
 abbrev pub Begins : List ℕ → List ℕ → Type 0
 Begins front whole = (rest : List ℕ) × (whole ≡ front ++ rest)
 
+-- the second list of ranges begins with the first
+abbrev pub Grows : List DiskRange → List DiskRange → Type 0
+Grows before after = (more : List DiskRange) × (after ≡ before ++ more)
+
 -- the bytes stay, but for any bytes in a range
 pub record Torn (at n : ℕ) (old new : List ℕ) : Type 0 where
   pub size : length new ≡ length old
@@ -39,6 +44,7 @@ pub record Later (old new : Seen) : Type 0 where
   pub sizes : new.sizes ≡ old.sizes
   pub disk_faults : old.disk_faults ≤ new.disk_faults
   pub talk_faults : old.talk_faults ≤ new.talk_faults
+  pub failed : Grows old.failed new.failed
   pub said : Begins old.said new.said
   pub clock : old.clock ≤ new.clock
   pub keeps : (t : ℕ) (images : List (List ℕ)) (said : List ℕ) → t ≤ old.clock → old.left_since t images said → new.left_since t images said

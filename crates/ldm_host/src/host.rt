@@ -1,5 +1,5 @@
 //! Disks, an input and an output: what each call promises, also of stops.
-ghost use Rattle.std.specs.Prelude.{◌≡◌, ◌^◌, ◌+◌, ◌-◌, ◌*◌, ◌/◌, ◌<◌, ◌≤◌, ◌++◌, min, List, ℕ};
+ghost use Rattle.std.specs.Prelude.{◌≡◌, ◌^◌, ◌+◌, ◌-◌, ◌*◌, ◌/◌, ◌<◌, ◌≤◌, ◌++◌, ◌∷◌, [], min, List, ℕ};
 ghost use Rattle.std.specs.Prelude.{length, take, set, slice_index, slice_range, IfOk, OnOk, OnErr};
 ghost use Rattle.std.specs.Prelude.{IsErr, is_ok, Bool, ⊤};
 ghost use Rattle.ldm_bytes.specs.Numbers.{IsBytes};
@@ -12,6 +12,14 @@ ghost use Rattle.ldm_host.specs.Acts.{Act};
 /// A call of a host failed.
 #[derive(Clone, Copy, PartialEq, Eq)]
 pub struct Failed;
+
+/// Bytes of a disk: so many from a place on.
+#[derive(Clone, Copy, Debug, PartialEq, Eq)]
+pub struct DiskRange {
+    pub disk: usize,
+    pub at: u64,
+    pub length: usize,
+}
 
 /// The disks of a group, standard input and standard output.
 ///
@@ -42,14 +50,18 @@ pub trait Host {
         ensures fits { result < 2 ^ 55 };
 
     /// Fills the buffer with the bytes of a disk from a place on. After `Failed` it holds any
-    /// bytes.
+    /// bytes, and the range is in the account of the reads that failed.
     fn read_at(&mut self, disk: usize, at: u64, buf: &mut [u8]) -> Result<(), Failed>
         requires disk { disk < length (seen self.old).sizes }
         requires range { at + length buf.old ≤ 512 * slice_index (seen self.old).sizes disk }
         ensures filled { tells_disks → OnOk result (buf.new
             ≡ slice_range (image (seen self.old).content disk) at (at + length buf.old)) }
         ensures looks { Looks (seen self.old) (seen self.new) (IsErr result) }
-        ensures ending { ending Act.Read self.old self.new (is_ok result) };
+        ensures read { tells_disks → OnOk result ((seen self.new).failed ≡ (seen self.old).failed) }
+        ensures failed { tells_disks → OnErr result ((seen self.new).failed ≡ (seen self.old).failed
+            ++ record { disk = disk; at = at; length = length buf.old } ∷ []) }
+        ensures ending { ending (Act.Read (record { disk = disk; at = at; length = length buf.old }))
+            self.old self.new (is_ok result) };
 
     /// Writes the bytes to a disk from a place on. Until a later sync of that disk succeeds, a stop
     /// may leave any bytes in the range, and after `Failed` a read may give any bytes there.
@@ -65,6 +77,7 @@ pub trait Host {
             + length bytes.now) (2 ^ 64 - 1)) }
         ensures ticks { Ticks (seen self.old) (seen self.new) }
         ensures cause { IsErr result → DiskFailed (seen self.old) (seen self.new) }
+        ensures account { (seen self.new).failed ≡ (seen self.old).failed }
         ensures ending { ending (Act.Write disk at bytes.now) self.old self.new (is_ok result) };
 
     /// After Ok nothing is pending on that disk: a stop leaves what a read gives. After `Failed`
@@ -76,6 +89,7 @@ pub trait Host {
         ensures pending { OnErr result (SameLeft (seen self.old) (seen self.new)) }
         ensures ticks { Ticks (seen self.old) (seen self.new) }
         ensures cause { IsErr result → DiskFailed (seen self.old) (seen self.new) }
+        ensures account { (seen self.new).failed ≡ (seen self.old).failed }
         ensures ending { ending (Act.Sync disk) self.old self.new (is_ok result) };
 
     /// Moves the next bytes of the input to the front of the buffer, and answers how many. It
@@ -92,6 +106,7 @@ pub trait Host {
         ensures still { Still (seen self.old) (seen self.new) }
         ensures ticks { Ticks (seen self.old) (seen self.new) }
         ensures cause { IsErr result → TalkFailed (seen self.old) (seen self.new) }
+        ensures account { (seen self.new).failed ≡ (seen self.old).failed }
         ensures ending { ending Act.Hear self.old self.new (is_ok result) };
 
     /// Appends the bytes to what was said, or after `Failed` some of those at their front.
@@ -105,6 +120,7 @@ pub trait Host {
         ensures still { Still (seen self.old) (seen self.new) }
         ensures ticks { Ticks (seen self.old) (seen self.new) }
         ensures cause { IsErr result → TalkFailed (seen self.old) (seen self.new) }
+        ensures account { (seen self.new).failed ≡ (seen self.old).failed }
         ensures ending { ending (Act.Say bytes.now) self.old self.new (is_ok result) };
 
     /// A host that tells its disks tells the talk.

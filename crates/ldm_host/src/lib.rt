@@ -6,4 +6,4 @@
 
 mod host;
 
-pub use host::{Failed, Host};
+pub use host::{DiskRange, Failed, Host};

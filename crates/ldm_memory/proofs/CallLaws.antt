@@ -1,7 +1,7 @@
 -- What one call more makes of what is seen of a host in memory: the bytes round a range that is written, what a stop may leave, and what each kind of call changes.
 use Rattle.std.proofs.Common.{[], ◌≡◌, ◌⊎◌, inl, inr, ⊎_elim, ℕ, ◌+◌, ◌-◌, ◌<◌, ◌≤◌, List, length, drop, slice_index, slice_range, sym, ◌∙◌, ap, arith, rules, ◌∷◌, ◌++◌, refl, subst, ◌≢◌, zero, suc, ◌/◌, set, take, Vec}
 use Rattle.std.proofs.lemmas.List.{map-set, places, get_or-take, get_or-drop, take-append-le, length_push, length-set, length-map, get_or-set_same, get_or-set_other, set-get_or, ext_get_or}
-use Rattle.ldm_host.specs.Moves.{Torn, Begins, Later, TornAt, Still, Settled, Writes, Syncs}
+use Rattle.ldm_host.specs.Moves.{Torn, Begins, Grows, Later, TornAt, Still, Settled, Writes, Syncs}
 use Rattle.ldm_bytes.specs.Numbers.{IsBytes}
 use Rattle.ldm_bytes.specs.Places.{put}
 use Rattle.ldm_bytes.proofs.PlaceLaws.{length-put}
@@ -107,6 +107,7 @@ said_after s call = begins_itself s.said
 pub record CountsRise (old new : Counts) : Type 0 where
   pub disk_faults : old.disk_faults ≤ new.disk_faults
   pub talk_faults : old.talk_faults ≤ new.talk_faults
+  pub failed : Grows old.failed new.failed
 
 module _ (first : StoryState) (calls : List Call) (call : Call) where
   abbrev longer : List Call
@@ -188,6 +189,7 @@ module _ (first : StoryState) (calls : List Call) (call : Call) where
     sizes = ap (λ (s : StoryState). sizes_of s.disks) (run_push first calls call) ∙ sizes;
     disk_faults = rise.disk_faults;
     talk_faults = rise.talk_faults;
+    failed = rise.failed;
     said = subst (λ (s : StoryState). Begins (run first calls).said s.said) (sym (run_push first calls call)) (said_after (run first calls) call);
     clock = omega (arith, one_longer);
     keeps = λ t images said le left. keeps t images said left;
@@ -225,6 +227,7 @@ module _ (first : StoryState) (calls : List Call) (script : List ℕ) (old new :
     sizes = refl;
     disk_faults = rise.disk_faults;
     talk_faults = rise.talk_faults;
+    failed = rise.failed;
     said = begins_itself now.said;
     clock = omega arith;
     keeps = λ t images said le left. left;

@@ -1,20 +1,22 @@
 -- What a call of a host in memory does and how it ends, from what its steps did.
-use Rattle.std.proofs.Common.{[], ◌≡◌, Bool, true, false, List, ◌∷◌, ◌++◌, if◌then◌else◌, refl, ◌≢◌, ℕ, ◌+◌, ◌-◌, ◌^◌, ◌<◌, ◌≤◌, min, length, get_or, set, slice_index, ◌∙◌, ap, arith, inl, inr, ◌/◌, ◌&&◌, take, drop, sym, subst, not, ◌||◌, ◌↔◌, IsTrue, IsFalse, is_ok, IfOk, IsErr, OnOk, OnErr, Result, Ok, Err}
+use Rattle.std.proofs.Common.{[], ◌≡◌, Bool, true, false, List, ◌∷◌, ◌++◌, if◌then◌else◌, refl, ◌≢◌, ℕ, ◌+◌, ◌-◌, ◌^◌, ◌<◌, ◌≤◌, min, length, get_or, set, slice_index, ◌∙◌, ap, arith, inl, inr, ◌/◌, ◌&&◌, take, drop, sym, subst, not, ◌||◌, ◌↔◌, IsTrue, IsFalse, is_ok, IfOk, IsErr, OnOk, OnErr, Result, Ok, Err, Vec}
+use Rattle.std.specs.declared.alloc.Global.{Global}
 use Rattle.ldm_memory.specs.declared.call.Call.{Call}
-use Rattle.ldm_memory.specs.Steps.{AddsCall, IsNothing, IsWriteOf, IsWrite, IsSync, IsHear, IsSayOf, IsSay, is_whole}
+use Rattle.ldm_memory.specs.Steps.{AddsCall, IsNothing, IsWriteOf, IsWrite, IsSync, IsHear, IsSayOf, IsSay, EndsRead, is_whole}
 use Rattle.std.proofs.lemmas.List.{get_or-set_same, get_or-set_other, length_push, length-take, take_all, append-nil}
 use Rattle.ldm_bytes.specs.Numbers.{IsBytes}
 use Rattle.ldm_bytes.specs.Places.{put}
 use Rattle.ldm_host.specs.Seen.{Seen, image}
-use Rattle.ldm_host.specs.Moves.{Still, Writes, Syncs, Settled, Ticks, Rose}
+use Rattle.ldm_host.specs.Moves.{Still, Writes, Syncs, Settled, Ticks, Rose, Grows}
 use Rattle.ldm_host.specs.Acts.{Act}
 use Rattle.ldm_memory.specs.declared.call.Call.TheVariants.{Write, Say}
 use Rattle.ldm_memory.specs.declared.outcome.Outcome.{Outcome}
 use Rattle.ldm_memory.specs.declared.outcome.Outcome.TheVariants.{Whole, Half, Nothing}
 use Rattle.ldm_memory.specs.Story.{Story, StoryState, Counts, seen_of, fresh_state, run, after, disk_at, sizes_of}
-use Rattle.ldm_memory.specs.Ending.{TakesNothing, TakesHalf, Pends, first_half, EndsCall, is_talk, is_read}
+use Rattle.ldm_memory.specs.Ending.{TakesNothing, TakesHalf, Pends, first_half, EndsCall, is_talk, is_to_fail, is_unreadable}
 use Rattle.ldm_memory.proofs.CallLaws.{CountsRise, run_push, still_counts, still_push, nothing_push, writes_counts, writes_nothing, writes_push, put_content, pending_push, syncs_counts, syncs_push, settled}
-use Rattle.ldm_host.proofs.Relations.{still_syncs}
+use Rattle.ldm_host.specs.declared.host.DiskRange.{DiskRange}
+use Rattle.ldm_host.proofs.Relations.{still_syncs, grows_itself}
 use Rattle.std.specs.Result.{result_and}
 use Rattle.std.proofs.lemmas.Bool.{cases_lt}
 use Rattle.ldm_memory.specs.declared.memory.MemoryHost.{MemoryHost}
@@ -108,10 +110,8 @@ module _ (story : Story) (old new : Counts) (rise : CountsRise old new) where
   pub read_still : new.wrote ≡ old.wrote → Still before (seen_by story.calls)
   read_still wrote = still_counts first story.calls story.script old new rise wrote
 
-  pub read_took : (outcome : Outcome) → Took Act.Read outcome true before (seen_by story.calls)
-  read_took Whole = tt
-  read_took Half = (nothing_same, tt)
-  read_took Nothing = nothing_same
+  pub read_took : TakesNothing before (seen_by story.calls)
+  read_took = nothing_same
 
   -- ---- to write
 
@@ -326,15 +326,16 @@ module _ (act : Act) (m new : MemoryHost) (outcome : Outcome) (found ok : Bool) 
   abbrev p : Plan
   p = plan_of new
 
-  pub ends : outcome_of (next_plan (plan_of m)) ≡ outcome → ok ≡ is_whole outcome && found → (IsTrue (is_read act) → IsTrue found)
+  pub ends : outcome_of (next_plan (plan_of m)) ≡ outcome → ok ≡ is_whole outcome && found → new.bad ≡ m.bad
+      → is_to_fail act p new.bad.items (not found) ≡ is_past p || is_chosen p || not found
       → new.disk_faults ≡ (if ok || is_talk act then m.disk_faults else next m.disk_faults) → new.talk_faults ≡ (if ok || not (is_talk act) then m.talk_faults else next m.talk_faults)
       → new.dry ≡ (if not found then next m.dry else m.dry) → Took act outcome found (memory_seen m) (memory_seen new) → EndsCall act m new ok
-  ends is ok_is read disk talk dry took = record {
+  ends is ok_is bad fail disk talk dry took = record {
     ran_dry = not found;
     plan = plan;
-    fails = subst (λ (b : Bool). IsFalse b ↔ IsTrue (is_past p || is_chosen p || not found)) (sym ok_by) (fails (is_past p) (is_chosen p) found);
+    bad = ap (λ (v : Vec DiskRange Global). v.items) bad;
+    fails = subst (λ (b : Bool). IsFalse ok ↔ IsTrue b) (sym fail) (subst (λ (b : Bool). IsFalse b ↔ IsTrue (is_past p || is_chosen p || not found)) (sym ok_by) (fails (is_past p) (is_chosen p) found));
     dry = dry;
-    read = λ reads. ap not (read reads);
     disk_faults = disk;
     talk_faults = talk;
     pending = by_parts.pending;
@@ -351,6 +352,61 @@ module _ (act : Act) (m new : MemoryHost) (outcome : Outcome) (found ok : Bool) 
       by_parts : Parts act ok (is_chosen p && not (is_past p || not found)) (memory_seen m) (memory_seen new)
       by_parts = subst (λ (b : Bool). Parts act b (is_chosen p && not (is_past p || not found)) (memory_seen m) (memory_seen new)) (sym ok_by)
           (parts act (memory_seen m) (memory_seen new) (is_past p) (is_chosen p) found (subst (λ (o : Outcome). Took act o found (memory_seen m) (memory_seen new)) (sym picked) took))
+
+-- ---- How a read ends.
+
+-- it fails where it was to fail, by its outcome's tests
+reads_fail : (past chosen bad dry : Bool) → IsFalse (not ((not (is_whole (pick past chosen)) || bad) && not dry)) ↔ IsTrue ((past || chosen || bad) && not dry)
+reads_fail false false false false = (λ f. absurd (cc f), λ t. absurd (cc t))
+reads_fail true chosen bad false = (λ f. refl, λ t. refl)
+reads_fail false true bad false = (λ f. refl, λ t. refl)
+reads_fail false false true false = (λ f. refl, λ t. refl)
+reads_fail true chosen bad true = (λ f. absurd (cc f), λ t. absurd (cc t))
+reads_fail false true bad true = (λ f. absurd (cc f), λ t. absurd (cc t))
+reads_fail false false true true = (λ f. absurd (cc f), λ t. absurd (cc t))
+reads_fail false false false true = (λ f. absurd (cc f), λ t. absurd (cc t))
+
+pub grown : (ok : Bool) (range : DiskRange) (old new : List DiskRange) → new ≡ (if ok then old else old ++ range ∷ []) → Grows old new
+grown true range old new is = subst (λ (l : List DiskRange). Grows old l) (sym is) (grows_itself old)
+grown false range old new is = (range ∷ [], is)
+
+pub same_where_ok : {T E : Type 0} (r : Result T E) (range : DiskRange) (old new : List DiskRange) → new ≡ (if is_ok r then old else old ++ range ∷ []) → OnOk r (new ≡ old)
+same_where_ok (Ok x) range old new is = is
+same_where_ok (Err e) range old new is = tt
+
+pub added_where_not : {T E : Type 0} (r : Result T E) (range : DiskRange) (old new : List DiskRange) → new ≡ (if is_ok r then old else old ++ range ∷ []) → OnErr r (new ≡ old ++ range ∷ [])
+added_where_not (Ok x) range old new is = tt
+added_where_not (Err e) range old new is = is
+
+module _ (range : DiskRange) (m new : MemoryHost) (outcome : Outcome) (ok : Bool) (plan : plan_of new ≡ next_plan (plan_of m)) where
+  abbrev q : Plan
+  q = plan_of new
+
+  pub ends_read : outcome_of (next_plan (plan_of m)) ≡ outcome → new.bad ≡ m.bad → new.talk_faults ≡ m.talk_faults
+      → EndsRead (not (is_whole outcome) || is_unreadable m.bad.items range) ok range m.failed.items new.failed.items m.disk_faults new.disk_faults m.dry new.dry
+      → TakesNothing (memory_seen m) (memory_seen new) → EndsCall (Act.Read range) m new ok
+  ends_read is bad talk ended nothing = record {
+    ran_dry = ended.ran_dry;
+    plan = plan;
+    bad = same_bad;
+    fails = subst (λ (l : List DiskRange). IsFalse ok ↔ IsTrue ((is_past q || is_chosen q || is_unreadable l range) && not ended.ran_dry)) (sym same_bad)
+        (subst (λ (b : Bool). IsFalse b ↔ IsTrue ((is_past q || is_chosen q || is_unreadable m.bad.items range) && not ended.ran_dry)) (sym ok_by) (reads_fail (is_past q) (is_chosen q) (is_unreadable m.bad.items range) ended.ran_dry));
+    dry = ended.dry_is;
+    disk_faults = failed_count ok m.disk_faults new.disk_faults ended.faults_are;
+    talk_faults = talk ∙ kept_count ok m.talk_faults;
+    pending = λ t. tt;
+    took_half = λ f t. nothing;
+    took_nothing = λ f n. nothing;
+  }
+    where
+      same_bad : new.bad.items ≡ m.bad.items
+      same_bad = ap (λ (v : Vec DiskRange Global). v.items) bad
+
+      picked : pick (is_past q) (is_chosen q) ≡ outcome
+      picked = subst (λ (r : Plan). outcome_of r ≡ outcome) (sym plan) is
+
+      ok_by : ok ≡ not ((not (is_whole (pick (is_past q) (is_chosen q))) || is_unreadable m.bad.items range) && not ended.ran_dry)
+      ok_by = ended.ok_is ∙ ap (λ (o : Outcome). not ((not (is_whole o) || is_unreadable m.bad.items range) && not ended.ran_dry)) (sym picked)
 
 -- the result of a step, where the call didn't fail
 pub and_ok : {T U E : Type 0} (r : Result U E) (step : Result T E) (outcome : Outcome) → is_ok r ≡ is_whole outcome && is_ok step → is_ok (result_and r step) ≡ is_ok r

@@ -1,5 +1,5 @@
 -- What the steps of a call of a host in memory do.
-use Rattle.std.specs.Prelude.{◌≡◌, ℕ, ◌+◌, List, [], ◌∷◌, ◌++◌, length, set, take, drop, Bool, true, false, if◌then◌else◌, Vec}
+use Rattle.std.specs.Prelude.{◌≡◌, ℕ, ◌+◌, List, [], ◌∷◌, ◌++◌, ◌&&◌, not, length, set, take, drop, Bool, true, false, if◌then◌else◌, Vec}
 use Rattle.std.specs.declared.alloc.Global.{Global}
 use Rattle.ldm_bytes.specs.Places.{put}
 use Rattle.ldm_memory.specs.declared.call.Call.{Call}
@@ -7,6 +7,8 @@ use Rattle.ldm_memory.specs.declared.call.Call.TheVariants.{Write, Sync, Hear, S
 use Rattle.ldm_memory.specs.declared.outcome.Outcome.{Outcome}
 use Rattle.ldm_memory.specs.declared.outcome.Outcome.TheVariants.{Whole, Half, Nothing}
 use Rattle.ldm_host.specs.Seen.{image}
+use Rattle.ldm_host.specs.declared.host.DiskRange.{DiskRange}
+use Rattle.ldm_memory.specs.Plan.{next}
 use Rattle.ldm_memory.specs.Ending.{first_half}
 
 -- A call of this kind was kept in the list, or it found no memory and the list is as it was.
@@ -59,6 +61,15 @@ abbrev pub is_whole : Outcome → Bool
 is_whole Whole = true
 is_whole Half = false
 is_whole Nothing = false
+
+-- How a read ends that is to fail, or isn't, and whether it was Ok: one that failed is in the account and counted. Where
+-- there is no memory for the account it reads.
+pub record EndsRead (fails ok : Bool) (range : DiskRange) (old new : List DiskRange) (faults more dry later : ℕ) : Type 0 where
+  pub ran_dry : Bool
+  pub ok_is : ok ≡ not (fails && not ran_dry)
+  pub failed : new ≡ (if ok then old else old ++ range ∷ [])
+  pub faults_are : more ≡ (if ok then faults else next faults)
+  pub dry_is : later ≡ (if ran_dry then next dry else dry)
 
 -- the images, with these bytes in one of them where memory was found
 abbrev pub bytes_placed : Bool → ℕ → ℕ → List ℕ → List (List ℕ) → List (List ℕ)

@@ -4,6 +4,7 @@ use Rattle.ldm_host.specs.Seen.{Seen, image}
 use Rattle.ldm_bytes.specs.Numbers.{IsBytes}
 use Rattle.ldm_bytes.specs.Places.{put}
 use Rattle.ldm_host.specs.Moves.{Begins}
+use Rattle.ldm_host.specs.declared.host.DiskRange.{DiskRange}
 use Rattle.ldm_memory.specs.declared.call.Call.{Call}
 use Rattle.ldm_memory.specs.declared.call.Call.TheVariants.{Write, Sync, Hear, Say, Nothing}
 
@@ -84,13 +85,14 @@ pub record LeftSince (first : StoryState) (calls : List Call) (t : ℕ) (images 
   pub said_before : Begins (state_at first calls k).said said
   pub said_after : Begins said (state_at first calls (k + 1)).said
 
--- how often a call of a disk, and of the talk, has failed; how many calls found no memory; and the bytes that were
--- handed to each disk
+-- how often a call of a disk, and of the talk, has failed; how many calls found no memory; the bytes that were handed to
+-- each disk; and the reads that failed
 pub record Counts : Type 0 where
   pub disk_faults : ℕ
   pub talk_faults : ℕ
   pub dry : ℕ
   pub wrote : List ℕ
+  pub failed : List DiskRange
 
 -- What is seen after these calls. What a stop may leave is all that agrees with the content outside what is pending.
 abbrev pub seen_from : StoryState → List Call → List ℕ → Counts → Seen
@@ -105,6 +107,7 @@ seen_from first calls script counts = record {
   input = drop (run first calls).heard script;
   disk_faults = counts.disk_faults;
   talk_faults = counts.talk_faults;
+  failed = counts.failed;
   wrote = counts.wrote;
 }
 

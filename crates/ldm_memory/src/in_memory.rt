@@ -1,9 +1,9 @@
 //! The calls of a host in memory.
 // A host in memory is a host that tells everything.
 use crate::MemoryHost;
-use crate::outcome::{hand, next_outcome, read_in};
-use crate::steps::{end_call, hear_part, say_part, sync_part, write_part};
-use ldm_host::{Failed, Host};
+use crate::outcome::{hand, is_read_to_fail, next_outcome, read_in};
+use crate::steps::{end_call, end_read, hear_part, say_part, sync_part, write_part};
+use ldm_host::{DiskRange, Failed, Host};
 
 impl Host for MemoryHost {
     ghost use Rattle.std.specs.Prelude.{⊤};
@@ -51,8 +51,18 @@ impl Host for MemoryHost {
 
     fn read_at(&mut self, disk: usize, at: u64, buf: &mut [u8]) -> Result<(), Failed> {
         let outcome = next_outcome(&self.chosen, self.stop, &mut self.number);
-        read_in(&self.held, outcome, disk, at as usize, buf);
-        end_call(outcome, true, &mut self.disk_faults, &mut self.dry)
+        let length = buf.len();
+        let range = DiskRange { disk, at, length };
+        let fails = is_read_to_fail(outcome, &self.bad, range);
+        let done = end_read(
+            &mut self.failed,
+            range,
+            fails,
+            &mut self.disk_faults,
+            &mut self.dry,
+        );
+        read_in(&self.held, done.is_ok(), disk, at as usize, buf);
+        done
     }
 
     fn write_at(&mut self, disk: usize, at: u64, bytes: &[u8]) -> Result<(), Failed> {

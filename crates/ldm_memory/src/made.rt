@@ -5,13 +5,14 @@ ghost use Rattle.std.specs.Prelude.{IfOk, OnOk, Ok, Vec};
 ghost use Rattle.std.specs.declared.alloc.Global.{Global};
 ghost use Rattle.ldm_bytes.specs.Numbers.{IsBytes};
 ghost use Rattle.ldm_host.specs.Images.{items_of};
-ghost use Rattle.ldm_memory.specs.Memory.{memory_seen, story_of, host_counts, plan_of};
+ghost use Rattle.ldm_memory.specs.Memory.{memory_seen, story_of, host_counts, plan_of, bad_ranges};
 ghost use Rattle.ldm_host.specs.Moves.{Settled};
 ghost use Rattle.ldm_memory.specs.Plan.{no_failures};
 ghost use Rattle.ldm_host.specs.Seen.{image};
 
 use crate::MemoryHost;
 use ldm_bytes::NoMemory;
+use ldm_host::DiskRange;
 use std::alloc::{AllocError, Global};
 
 // A copy of an image.
@@ -67,7 +68,9 @@ impl MemoryHost {
         ensures dry { IfOk result (λ host. (host_counts host).dry ≡ 0) }
         ensures wrote { IfOk result (λ host. (host_counts host).wrote
             ≡ replicate (length images.items) 0) }
+        ensures failed { IfOk result (λ host. (host_counts host).failed ≡ []) }
         ensures plan { IfOk result (λ host. plan_of host ≡ no_failures) }
+        ensures bad { IfOk result (λ host. bad_ranges host ≡ []) }
     {
         if let Ok(first) = copies(alloc, &images)
             && let Ok(handed) = zeros(alloc, images.len())
@@ -87,6 +90,8 @@ impl MemoryHost {
                 disk_faults: 0,
                 talk_faults: 0,
                 dry: 0,
+                bad: Vec::new(alloc),
+                failed: Vec::new(alloc),
             })
         } else {
             Err(NoMemory)
@@ -102,6 +107,7 @@ impl MemoryHost {
         ensures story { story_of result ≡ story_of self }
         ensures counts { host_counts result ≡ host_counts self }
         ensures plan { plan_of result ≡ record (plan_of self) { chosen = calls.items } }
+        ensures bad { bad_ranges result ≡ bad_ranges self }
     {
         let mut host = self;
         host.chosen = calls;
@@ -113,9 +119,22 @@ impl MemoryHost {
         ensures story { story_of result ≡ story_of self }
         ensures counts { host_counts result ≡ host_counts self }
         ensures plan { plan_of result ≡ record (plan_of self) { stop = calls } }
+        ensures bad { bad_ranges result ≡ bad_ranges self }
     {
         let mut host = self;
         host.stop = calls;
+        host
+    }
+
+    /// Each read that touches a byte of one of these ranges fails, whenever it is tried.
+    pub fn with_bad(self, ranges: Vec<DiskRange>) -> MemoryHost
+        ensures story { story_of result ≡ story_of self }
+        ensures counts { host_counts result ≡ host_counts self }
+        ensures plan { plan_of result ≡ plan_of self }
+        ensures bad { bad_ranges result ≡ ranges.items }
+    {
+        let mut host = self;
+        host.bad = ranges;
         host
     }
 

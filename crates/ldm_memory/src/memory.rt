@@ -3,13 +3,15 @@ ghost use Rattle.ldm_host.specs.Images.{items_of};
 ghost use Rattle.ldm_memory.specs.Kept.{IsKeptHost};
 
 use crate::call::Call;
+use ldm_host::DiskRange;
 use std::alloc::Global;
 
 /// A host in memory, which tells everything.
 ///
 /// It keeps a list of its calls of `write_at`, `sync`, `hear` and `say`, so that what a stop could
 /// have left at any time is known. Such a call may find no memory for the list: it then answers
-/// `Failed`, takes nothing and is counted by `dry`.
+/// `Failed`, takes nothing and is counted by `dry`. A read that is to fail and finds no memory for
+/// the account of it is counted so too, but it reads.
 pub struct MemoryHost {
     pub(crate) alloc: Global,
     /// The images and the input at the start, and the calls since.
@@ -30,6 +32,9 @@ pub struct MemoryHost {
     pub(crate) disk_faults: u64,
     pub(crate) talk_faults: u64,
     pub(crate) dry: u64,
+    /// The ranges of which no byte reads, and the reads that failed.
+    pub(crate) bad: Vec<DiskRange>,
+    pub(crate) failed: Vec<DiskRange>,
     ghost kept: { IsKeptHost (items_of first.items) calls.items script.items held.items said.items heard handed.items },
 }
 
@@ -51,6 +56,8 @@ impl Drop for MemoryHost {
             disk_faults: _,
             talk_faults: _,
             dry: _,
+            bad: _,
+            failed: _,
         } = self;
     }
 }

@@ -1,12 +1,16 @@
 //! Which calls of a host in memory fail, and what they take.
 // How a call ends, and what its bytes do.
 ghost use Rattle.std.specs.Prelude.{◌≡◌, ◌≤◌, ◌<◌, ◌+◌, ◌-◌, ◌^◌, length, min, set, slice_index};
+ghost use Rattle.std.specs.Prelude.{true, not, ◌||◌};
+ghost use Rattle.ldm_memory.specs.Ending.{touches, is_unreadable};
+ghost use Rattle.ldm_memory.specs.Steps.{is_whole};
 ghost use Rattle.std.specs.Prelude.{slice_range};
 ghost use Rattle.ldm_bytes.specs.Places.{put};
-ghost use Rattle.ldm_memory.specs.declared.outcome.Outcome.TheVariants.{Whole};
 ghost use Rattle.ldm_host.specs.Images.{items_of};
 ghost use Rattle.ldm_memory.specs.Plan.{next, outcome_of};
 ghost use Rattle.ldm_host.specs.Seen.{image};
+
+use ldm_host::DiskRange;
 
 /// How a call ends, where it finds memory.
 #[derive(Clone, Copy)]
@@ -63,14 +67,40 @@ pub fn hand(handed: &mut Vec<u64>, disk: usize, n: usize)
     handed[disk] = handed[disk].saturating_add(n as u64);
 }
 
-/// Reads bytes at a place of one image, where the outcome is whole.
-pub fn read_in(images: &Vec<Vec<u8>>, outcome: Outcome, disk: usize, at: usize, buf: &mut [u8])
+// Whether two ranges share a byte.
+fn touches(one: DiskRange, other: DiskRange) -> bool
+    ensures { result ≡ touches one other }
+{
+    one.disk == other.disk
+        && u128::from(one.at) < u128::from(other.at) + other.length as u128
+        && u128::from(other.at) < u128::from(one.at) + one.length as u128
+}
+
+// Whether one of the bad ranges has a byte of this one.
+fn is_unreadable(bad: &[DiskRange], range: DiskRange) -> bool
+    ensures { result ≡ is_unreadable bad.now range }
+{
+    bad.iter().any(|other| touches(range, *other))
+}
+
+/// Whether a read of a range is to fail: its outcome isn't whole, or a bad range has a byte of it.
+pub fn is_read_to_fail(outcome: Outcome, bad: &[DiskRange], range: DiskRange) -> bool
+    ensures { result ≡ not (is_whole outcome) || is_unreadable bad.now range }
+{
+    match outcome {
+        Outcome::Whole => is_unreadable(bad, range),
+        _ => true,
+    }
+}
+
+/// Reads bytes at a place of one image, where it is to.
+pub fn read_in(images: &Vec<Vec<u8>>, reads: bool, disk: usize, at: usize, buf: &mut [u8])
     requires disk { disk < length images.now.items }
     requires range { at + length buf.old ≤ length (image (items_of images.now.items) disk) }
-    ensures { outcome ≡ Whole → buf.new ≡ slice_range (image (items_of images.now.items) disk) at
+    ensures { reads ≡ true → buf.new ≡ slice_range (image (items_of images.now.items) disk) at
         (at + length buf.old) }
 {
-    if let Outcome::Whole = outcome {
+    if reads {
         buf.copy_from_slice(&images[disk][at..at + buf.len()]);
     }
 }

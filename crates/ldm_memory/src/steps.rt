@@ -6,13 +6,13 @@ ghost use Rattle.ldm_memory.specs.declared.outcome.Outcome.TheVariants.{Whole};
 ghost use Rattle.ldm_host.specs.Images.{items_of};
 ghost use Rattle.ldm_memory.specs.Plan.{next};
 ghost use Rattle.ldm_host.specs.Seen.{image};
-ghost use Rattle.ldm_memory.specs.Steps.{AddsCall, IsHear, IsSay, IsSayOf, IsSync, IsWrite};
+ghost use Rattle.ldm_memory.specs.Steps.{AddsCall, EndsRead, IsHear, IsSay, IsSayOf, IsSync, IsWrite};
 ghost use Rattle.ldm_memory.specs.Steps.{IsWriteOf, Moved, held_after, is_whole, bytes_placed};
 ghost use Rattle.ldm_memory.specs.Steps.{said_after, said_more};
 
 use crate::call::Call;
 use crate::outcome::{Outcome, put_in};
-use ldm_host::Failed;
+use ldm_host::{DiskRange, Failed};
 use std::alloc::Global;
 
 // Each of these says whether it found memory.
@@ -184,6 +184,30 @@ pub fn hear_part(
     buf[..count].copy_from_slice(&script[*heard..*heard + count]);
     *heard += count;
     Ok(count)
+}
+
+/// Ends a read. One that is to fail is kept in the account, and counted. Where there is no memory
+/// for the account it is Ok.
+pub fn end_read(
+    failed: &mut Vec<DiskRange>,
+    range: DiskRange,
+    fails: bool,
+    faults: &mut u64,
+    dry: &mut u64,
+) -> Result<(), Failed>
+    ensures is { EndsRead fails (is_ok result) range failed.old.items failed.new.items faults.old
+        faults.new dry.old dry.new }
+    ensures rises { faults.old ≤ faults.new }
+{
+    if !fails {
+        return Ok(());
+    }
+    if failed.push(range).is_err() {
+        *dry = dry.saturating_add(1);
+        return Ok(());
+    }
+    *faults = faults.saturating_add(1);
+    Err(Failed)
 }
 
 /// Ends a call, and counts that it failed, or found no memory.

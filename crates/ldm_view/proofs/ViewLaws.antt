@@ -3,7 +3,7 @@ use Rattle.std.proofs.Common.{[], ◌≡◌, ◌⊎◌, inl, inr, ⊎_elim, ℕ,
 use Rattle.std.proofs.lemmas.List.{get_or-set_same, get_or-set_other}
 use Rattle.ldm_host.specs.Seen.{Seen, Leaves, image}
 use Rattle.ldm_host.specs.Moves.{Rose, Later, Still, Looks, Writes, Syncs}
-use Rattle.ldm_host.proofs.Relations.{begins_itself, torn_itself, torn_at_itself}
+use Rattle.ldm_host.proofs.Relations.{begins_itself, grows_itself, torn_itself, torn_at_itself}
 use Rattle.ldm_view.specs.declared.patch.Patch.{Patch}
 use Rattle.ldm_bytes.specs.Places.{put}
 use Rattle.ldm_view.specs.Patches.{patched, shown, IsOnDisk, FitAll}
@@ -48,6 +48,7 @@ view_later tells patches wrote refused a b still = record {
   sizes = still.later.sizes;
   disk_faults = omega (arith, still.later.disk_faults);
   talk_faults = still.later.talk_faults;
+  failed = still.later.failed;
   said = still.later.said;
   clock = still.later.clock;
   keeps = λ t images said le since. since_back tells patches a b sizes content t t images said (since.moment.0, still.later.keeps t since.moment.0 said le since.moment.1) since;
@@ -110,6 +111,7 @@ module _ (tells : Type 0) (patches : List Patch) (wrote next : List ℕ) (refuse
     sizes = refl;
     disk_faults = omega arith;
     talk_faults = omega arith;
+    failed = grows_itself a.failed;
     said = begins_itself a.said;
     clock = omega arith;
     keeps = λ t images said le since. since;

@@ -14,5 +14,6 @@ nothing_seen = record {
   input = [];
   disk_faults = 0;
   talk_faults = 0;
+  failed = [];
   wrote = [];
 }

@@ -30,3 +30,6 @@ returns-clause-is g c tells =
 
 pub returns-in_err-is_empty-clause-looks : goal.returns-in_err-is_empty-clause-looks
 returns-in_err-is_empty-clause-looks g c = looks_then c.loop-disk.invariant.looks c.in_err-is_empty.ensures.looks (λ is. refl)
+
+pub returns-then-not-branch-clause-looks : goal.returns-then-not-branch-clause-looks
+returns-then-not-branch-clause-looks g c = looks_then c.loop-disk.invariant.looks c.in_ok-is_empty.ensures.looks (λ failed. absurd (cc failed))

@@ -79,3 +79,8 @@ pub returns-clause-written : goal.returns-clause-written
 returns-clause-written g c tells disk label at =
     let within = slice_get_within c.args.labels.now disk label at in
     c.disks.invariant.written tells disk label at (omega (arith, within))
+
+pub returns-in_err-write_disk-clause-works : goal.returns-in_err-write_disk-clause-works
+returns-in_err-write_disk-clause-works g c =
+    let changes = c.write_disk.ensures.changes in
+    works_then c.disks.invariant.works (record { later = changes.later; quiet = changes.quiet; cause = c.in_err-write_disk.ensures.cause }) (λ failed. refl)

@@ -1,6 +1,7 @@
 use Rattle.std.proofs.Common.{◌≡◌, ◌≤◌, ◌++◌, ℕ, List, Bool, length, take, ◌&&◌, not, if◌then◌else◌, Result, IfOk, is_ok, refl, sym, ◌∙◌, ap, subst, arith}
 use Rattle.ldm_host.specs.declared.host.Failed.{Failed}
 use Rattle.ldm_host.specs.Acts.{Act}
+use Rattle.ldm_host.proofs.Relations.{grows_itself}
 use Rattle.ldm_host.specs.Images.{items_of}
 use Rattle.ldm_memory.specs.Memory.{memory_seen, story_of, host_counts}
 use Rattle.ldm_host.specs.Moves.{Quiet}
@@ -36,8 +37,8 @@ returns c =
     let found = is_ok heard in
     let calls = step.new.calls.items in
     let adds = step.ensures.calls in
-    let new : Counts = record { disk_faults = m.disk_faults; talk_faults = c.end_call.new.faults; dry = c.end_call.new.dry; wrote = m.handed.items } in
-    let rises : CountsRise (host_counts m) new = record { disk_faults = omega arith; talk_faults = ended.rises } in
+    let new : Counts = record { disk_faults = m.disk_faults; talk_faults = c.end_call.new.faults; dry = c.end_call.new.dry; wrote = m.handed.items; failed = m.failed.items } in
+    let rises : CountsRise (host_counts m) new = record { disk_faults = omega arith; talk_faults = ended.rises; failed = grows_itself m.failed.items } in
     let later = seen_of (record { first = items_of m.first.items; calls = calls; script = m.script.items }) new in
     let took = hear_took (story_of m) (host_counts m) new rises m.heard step.new.heard outcome found calls adds in
     let ended_ok : is_ok c.end_call.result ≡ is_whole outcome && found = ended.ok ∙ ap (λ (b : Bool). is_whole outcome && b) c.is_ok.ensures.value in
@@ -57,5 +58,6 @@ returns c =
       still = hear_still (story_of m) (host_counts m) new rises m.heard step.new.heard outcome found calls refl adds;
       ticks = adds_ticks (story_of m) (host_counts m) new rises found (IsHear outcome m.heard step.new.heard) calls adds;
       cause = λ failed. rose (is_ok c.and.result) m.talk_faults c.end_call.new.faults faults (is_failed c.and.result failed);
-      ending = ends Act.Hear m _ outcome found (is_ok c.and.result) plan is (ok ∙ ended_ok) (λ reads. absurd (cc reads)) (kept_count (is_ok c.and.result) m.disk_faults) (failed_count (is_ok c.and.result) m.talk_faults c.end_call.new.faults faults) dry took;
+      account = refl;
+      ending = ends Act.Hear m _ outcome found (is_ok c.and.result) plan is (ok ∙ ended_ok) refl refl (kept_count (is_ok c.and.result) m.disk_faults) (failed_count (is_ok c.and.result) m.talk_faults c.end_call.new.faults faults) dry took;
     }

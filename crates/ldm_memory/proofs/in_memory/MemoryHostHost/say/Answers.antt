@@ -1,5 +1,6 @@
 use Rattle.std.proofs.Common.{◌≡◌, ◌++◌, is_ok, refl, sym, ◌∙◌, arith}
 use Rattle.ldm_host.specs.Acts.{Act}
+use Rattle.ldm_host.proofs.Relations.{grows_itself}
 use Rattle.ldm_host.specs.Images.{items_of}
 use Rattle.ldm_memory.specs.Memory.{memory_seen, story_of, host_counts}
 use Rattle.ldm_memory.specs.Steps.{IsSay}
@@ -27,8 +28,8 @@ returns c =
     let found = c.say_part-found.result in
     let calls = c.say_part-found.new.calls.items in
     let adds = c.say_part-found.ensures.calls in
-    let new : Counts = record { disk_faults = m.disk_faults; talk_faults = c.end_call.new.faults; dry = c.end_call.new.dry; wrote = m.handed.items } in
-    let rises : CountsRise (host_counts m) new = record { disk_faults = omega arith; talk_faults = ended.rises } in
+    let new : Counts = record { disk_faults = m.disk_faults; talk_faults = c.end_call.new.faults; dry = c.end_call.new.dry; wrote = m.handed.items; failed = m.failed.items } in
+    let rises : CountsRise (host_counts m) new = record { disk_faults = omega arith; talk_faults = ended.rises; failed = grows_itself m.failed.items } in
     let later = seen_of (record { first = items_of m.first.items; calls = calls; script = m.script.items }) new in
     let hears = say_hears (story_of m) (host_counts m) new rises bytes outcome found calls adds in
     record {
@@ -39,5 +40,6 @@ returns c =
       still = say_still (story_of m) (host_counts m) new rises bytes outcome found calls refl adds;
       ticks = adds_ticks (story_of m) (host_counts m) new rises found (IsSay outcome bytes) calls adds;
       cause = λ failed. rose ok m.talk_faults c.end_call.new.faults ended.faults (is_failed c.end_call.result failed);
-      ending = ends (Act.Say bytes) m _ outcome found _ plan is ended.ok (λ reads. absurd (cc reads)) (kept_count ok m.disk_faults) (failed_count ok m.talk_faults c.end_call.new.faults ended.faults) ended.dry (say_took (story_of m) (host_counts m) new rises bytes outcome found calls adds);
+      account = refl;
+      ending = ends (Act.Say bytes) m _ outcome found _ plan is ended.ok refl refl (kept_count ok m.disk_faults) (failed_count ok m.talk_faults c.end_call.new.faults ended.faults) ended.dry (say_took (story_of m) (host_counts m) new rises bytes outcome found calls adds);
     }

@@ -1,5 +1,6 @@
 use Rattle.std.proofs.Common.{is_ok, refl, sym, ◌∙◌, arith}
 use Rattle.ldm_host.specs.Acts.{Act}
+use Rattle.ldm_host.proofs.Relations.{grows_itself}
 use Rattle.ldm_host.specs.Images.{items_of}
 use Rattle.ldm_memory.specs.Memory.{memory_seen, story_of, host_counts}
 use Rattle.ldm_host.specs.Moves.{SameLeft, Settled}
@@ -27,8 +28,8 @@ returns c =
     let found = c.sync_part-found.result in
     let calls = c.sync_part-found.new.calls.items in
     let adds = c.sync_part-found.ensures in
-    let new : Counts = record { disk_faults = c.end_call.new.faults; talk_faults = m.talk_faults; dry = c.end_call.new.dry; wrote = m.handed.items } in
-    let rises : CountsRise (host_counts m) new = record { disk_faults = ended.rises; talk_faults = omega arith } in
+    let new : Counts = record { disk_faults = c.end_call.new.faults; talk_faults = m.talk_faults; dry = c.end_call.new.dry; wrote = m.handed.items; failed = m.failed.items } in
+    let rises : CountsRise (host_counts m) new = record { disk_faults = ended.rises; talk_faults = omega arith; failed = grows_itself m.failed.items } in
     let later = seen_of (record { first = items_of m.first.items; calls = calls; script = m.script.items }) new in
     let took = sync_took (story_of m) (host_counts m) new rises disk c.requires refl outcome found calls adds in
     record {
@@ -37,5 +38,6 @@ returns c =
       pending = on_err (SameLeft (memory_seen m) later) c.end_call.result (λ failed. (nothing_failed (Act.Sync disk) outcome found (memory_seen m) later (λ nothing. nothing) took (sym ended.ok ∙ failed)).left);
       ticks = adds_ticks (story_of m) (host_counts m) new rises found (IsSync outcome disk) calls adds;
       cause = λ failed. rose ok m.disk_faults c.end_call.new.faults ended.faults (is_failed c.end_call.result failed);
-      ending = ends (Act.Sync disk) m _ outcome found _ plan is ended.ok (λ reads. absurd (cc reads)) (failed_count ok m.disk_faults c.end_call.new.faults ended.faults) (kept_count ok m.talk_faults) ended.dry took;
+      account = refl;
+      ending = ends (Act.Sync disk) m _ outcome found _ plan is ended.ok refl refl (failed_count ok m.disk_faults c.end_call.new.faults ended.faults) (kept_count ok m.talk_faults) ended.dry took;
     }

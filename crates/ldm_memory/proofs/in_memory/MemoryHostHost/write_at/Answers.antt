@@ -1,8 +1,9 @@
-use Rattle.std.proofs.Common.{◌≡◌, ◌<◌, length, set, is_ok, sym, ◌∙◌, ap, arith}
+use Rattle.std.proofs.Common.{refl, ◌≡◌, ◌<◌, length, set, is_ok, sym, ◌∙◌, ap, arith}
 use Rattle.std.proofs.lemmas.List.{length-set}
 use Rattle.ldm_bytes.specs.Numbers.{IsBytes}
 use Rattle.ldm_bytes.specs.Places.{put}
 use Rattle.ldm_host.specs.Acts.{Act}
+use Rattle.ldm_host.proofs.Relations.{grows_itself}
 use Rattle.ldm_host.specs.Images.{items_of}
 use Rattle.ldm_memory.specs.Laws.{held_now}
 use Rattle.ldm_memory.specs.Memory.{memory_seen, story_of, host_counts}
@@ -49,8 +50,8 @@ returns c =
     let calls = c.write_part-found.new.calls.items in
     let adds = c.write_part-found.ensures.calls in
     let handed = c.hand.new.handed.items in
-    let new : Counts = record { disk_faults = c.end_call.new.faults; talk_faults = m.talk_faults; dry = c.end_call.new.dry; wrote = handed } in
-    let rises : CountsRise (host_counts m) new = record { disk_faults = ended.rises; talk_faults = omega arith } in
+    let new : Counts = record { disk_faults = c.end_call.new.faults; talk_faults = m.talk_faults; dry = c.end_call.new.dry; wrote = handed; failed = m.failed.items } in
+    let rises : CountsRise (host_counts m) new = record { disk_faults = ended.rises; talk_faults = omega arith; failed = grows_itself m.failed.items } in
     let disks = (run (fresh_state (items_of m.first.items)) m.calls.items).disks in
     let held : disk < length m.handed.items = omega (arith, there m.held.items disks m.kept.content disk c.requires.disk, m.kept.each) in
     let inside = fits_disk disks disk at (length bytes) c.requires.range in
@@ -65,5 +66,6 @@ returns c =
       wrote = c.hand.ensures;
       ticks = adds_ticks (story_of m) (host_counts m) new rises found (IsWrite outcome disk at bytes) calls adds;
       cause = λ failed. rose ok m.disk_faults c.end_call.new.faults ended.faults (is_failed c.end_call.result failed);
-      ending = ends (Act.Write disk at bytes) m _ outcome found _ plan is ended.ok (λ reads. absurd (cc reads)) (failed_count ok m.disk_faults c.end_call.new.faults ended.faults) (kept_count ok m.talk_faults) ended.dry took;
+      account = refl;
+      ending = ends (Act.Write disk at bytes) m _ outcome found _ plan is ended.ok refl refl (failed_count ok m.disk_faults c.end_call.new.faults ended.faults) (kept_count ok m.talk_faults) ended.dry took;
     }
