@@ -1,4 +1,4 @@
-//! The records of a usual group, each as it is spelled.
+//! The records of a usual group: a table of them, and each as it is spelled.
 
 use ldm_bytes::{NoMemory, number_len, put_number, write_guid};
 use ldm_sample_disks::guid_with;
@@ -58,379 +58,208 @@ fn push_field(bytes: &mut Vec<u8>, field: Field) -> Result<(), NoMemory> {
     }
 }
 
-/// A record of this type with these flags and fields.
-fn payload_of(alloc: Global, kind: u8, flags: u8, fields: &[Field]) -> Result<Payload, NoMemory> {
-    let mut bytes = Vec::new(alloc);
-    push_field(&mut bytes, Field::Plain(&[0, 0, flags, kind, 0, 0, 0, 0]))?;
+fn push_fields(bytes: &mut Vec<u8>, fields: &[Field]) -> Result<(), NoMemory> {
     for field in fields {
-        push_field(&mut bytes, *field)?;
+        push_field(bytes, *field)?;
     }
-    Ok(Payload { bytes })
-}
-
-fn push(
-    alloc: Global,
-    payloads: &mut Vec<Payload>,
-    kind: u8,
-    flags: u8,
-    fields: &[Field],
-) -> Result<(), NoMemory> {
-    payloads.push(payload_of(alloc, kind, flags, fields)?)?;
     Ok(())
 }
 
-fn push_disk(
+/// A record of this type with these flags: the fields that each record begins with, and its own.
+fn payload_of(
     alloc: Global,
-    payloads: &mut Vec<Payload>,
-    id: u64,
-    name: &[u8],
-    guid: u128,
-) -> Result<(), NoMemory> {
-    let fields = [
-        Field::Number(id),
-        Field::Text(name),
-        Field::Guid(guid),
-        Field::Plain(&[0; 13]),
-    ];
-    push(alloc, payloads, 0x34, 0, &fields)
+    kind: u8,
+    flags: u8,
+    head: &[Field],
+    own: &[Field],
+) -> Result<Payload, NoMemory> {
+    let mut bytes = Vec::new(alloc);
+    bytes.extend_from_slice(&[0, 0, flags, kind, 0, 0, 0, 0])?;
+    push_fields(&mut bytes, head)?;
+    push_fields(&mut bytes, own)?;
+    Ok(Payload { bytes })
 }
 
-/// A volume, whose GUID has this byte 16 times, with a drive hint where that isn't empty.
-struct Volume<'a> {
-    id: u64,
-    name: &'a [u8],
-    children: u64,
-    size: u64,
-    guid: u8,
-    hint: &'a [u8],
+/// What a record has besides its id and its name. Sizes and places are in sectors.
+#[derive(Clone, Copy)]
+enum Rest {
+    /// The group, whose GUID is number 0xA of the sample.
+    Group,
+    /// A disk: the number of its GUID in the sample, below 16.
+    Disk(u8),
+    /// A volume: how many components it has, its size, the byte that its GUID has 16 times, and its
+    /// drive letter, if it isn't empty.
+    Volume(u64, u64, u8, &'static [u8]),
+    /// A component: its volume, how many partitions it has, and the chunk and the count of columns
+    /// of a stripe, as they are spelled; of others nothing.
+    Component(u64, u64, &'static [u8]),
+    /// A partition: its component, its disk, where it begins in the disk's data, its size, its
+    /// offset in the component, and the index of a column, as it is spelled; of others nothing.
+    Partition(u64, u64, u64, u64, u64, &'static [u8]),
 }
 
-fn push_volume(alloc: Global, payloads: &mut Vec<Payload>, v: &Volume) -> Result<(), NoMemory> {
-    let (flags, hint) = if v.hint.is_empty() {
-        (0, Field::Plain(v.hint))
+/// The records, in the order of their ids: the group and its three disks, a simple volume, a
+/// spanned, a striped and a mirrored one.
+const RECORDS: [(u64, &[u8], Rest); 20] = [
+    (1, b"Dg0", Rest::Group),
+    (1025, b"Disk1", Rest::Disk(1)),
+    (1026, b"Disk2", Rest::Disk(2)),
+    (1027, b"Disk3", Rest::Disk(3)),
+    (1028, b"Volume1", Rest::Volume(1, 1000, 0x55, b"E:")),
+    (1029, b"Volume1-01", Rest::Component(1028, 1, b"")),
+    (
+        1030,
+        b"Disk1-01",
+        Rest::Partition(1029, 1025, 0, 1000, 0, b""),
+    ),
+    (1031, b"Volume2", Rest::Volume(1, 1500, 0x66, b"")),
+    (1032, b"Volume2-01", Rest::Component(1031, 2, b"")),
+    (
+        1033,
+        b"Disk1-02",
+        Rest::Partition(1032, 1025, 1000, 500, 0, b""),
+    ),
+    (
+        1034,
+        b"Disk2-01",
+        Rest::Partition(1032, 1026, 0, 1000, 500, b""),
+    ),
+    (1035, b"Stripe1", Rest::Volume(1, 1024, 0x77, b"")),
+    (
+        1036,
+        b"Stripe1-01",
+        Rest::Component(1035, 2, &[1, 128, 1, 2]),
+    ),
+    (
+        1037,
+        b"Disk2-02",
+        Rest::Partition(1036, 1026, 1000, 512, 0, &[1, 0]),
+    ),
+    (
+        1038,
+        b"Disk3-01",
+        Rest::Partition(1036, 1027, 0, 512, 0, &[1, 1]),
+    ),
+    (1039, b"Mirror1", Rest::Volume(2, 700, 0x88, b"")),
+    (1040, b"Mirror1-01", Rest::Component(1039, 1, b"")),
+    (
+        1041,
+        b"Disk1-03",
+        Rest::Partition(1040, 1025, 1500, 700, 0, b""),
+    ),
+    (1042, b"Mirror1-02", Rest::Component(1039, 1, b"")),
+    (
+        1043,
+        b"Disk3-02",
+        Rest::Partition(1042, 1027, 512, 700, 0, b""),
+    ),
+];
+
+// Volume, component or partition: what each has behind its id and its name.
+
+fn volume_of(
+    alloc: Global,
+    head: &[Field],
+    (components, size, guid): (u64, u64, u8),
+    hint: &[u8],
+) -> Result<Payload, NoMemory> {
+    let (flags, hint) = if hint.is_empty() {
+        (0, Field::Plain(hint))
     } else {
-        (0x02, Field::Text(v.hint))
+        (0x02, Field::Text(hint))
     };
     let fields = [
-        Field::Number(v.id),
-        Field::Text(v.name),
         Field::Text(b"gen"),
         Field::Plain(b"\0ACTIVE\0\0\0\0\0\0\0\0\x03\0\0\0\0\0\0"),
-        Field::Number(v.children),
+        Field::Number(components),
         Field::Plain(&[0; 16]),
-        Field::Number(v.size),
+        Field::Number(size),
         Field::Plain(&[0, 0, 0, 0, 0x07]),
-        Field::Plain(&[v.guid; 16]),
+        Field::Plain(&[guid; 16]),
         hint,
     ];
-    push(alloc, payloads, 0x51, flags, &fields)
+    payload_of(alloc, 0x51, flags, head, &fields)
 }
 
-/// A component. That of a stripe has its chunk and its count of columns, as they are spelled; of
-/// others it is empty.
-struct Component<'a> {
-    id: u64,
-    name: &'a [u8],
-    children: u64,
-    parent: u64,
-    striping: &'a [u8],
-}
-
-fn push_component(
+fn component_of(
     alloc: Global,
-    payloads: &mut Vec<Payload>,
-    c: &Component,
-) -> Result<(), NoMemory> {
-    let (flags, layout) = if c.striping.is_empty() {
+    head: &[Field],
+    volume: u64,
+    partitions: u64,
+    striping: &[u8],
+) -> Result<Payload, NoMemory> {
+    let (flags, layout) = if striping.is_empty() {
         (0, 2)
     } else {
         (0x10, 1)
     };
     let fields = [
-        Field::Number(c.id),
-        Field::Text(c.name),
         Field::Text(b"ACTIVE"),
         Field::Byte(layout),
         Field::Plain(&[0; 4]),
-        Field::Number(c.children),
+        Field::Number(partitions),
         Field::Plain(&[0; 16]),
-        Field::Number(c.parent),
+        Field::Number(volume),
         Field::Plain(&[0]),
-        Field::Plain(c.striping),
+        Field::Plain(striping),
     ];
-    push(alloc, payloads, 0x32, flags, &fields)
+    payload_of(alloc, 0x32, flags, head, &fields)
 }
 
-/// A partition of a component, from a sector of its disk's data on. A column has an index, as it is
-/// spelled; of others it is empty.
-struct Partition<'a> {
-    id: u64,
-    name: &'a [u8],
-    disk: u64,
-    start: u64,
-    size: u64,
-    offset: u64,
-    parent: u64,
-    index: &'a [u8],
-}
-
-fn push_partition(
+fn partition_of(
     alloc: Global,
-    payloads: &mut Vec<Payload>,
-    p: &Partition,
-) -> Result<(), NoMemory> {
-    let flags = if p.index.is_empty() { 0 } else { 0x08 };
+    head: &[Field],
+    (component, disk): (u64, u64),
+    (start, size, offset): (u64, u64, u64),
+    index: &[u8],
+) -> Result<Payload, NoMemory> {
+    let flags = if index.is_empty() { 0 } else { 0x08 };
     let fields = [
-        Field::Number(p.id),
-        Field::Text(p.name),
         Field::Plain(&[0; 12]),
-        Field::Fixed(p.start),
-        Field::Fixed(p.offset),
-        Field::Number(p.size),
-        Field::Number(p.parent),
-        Field::Number(p.disk),
-        Field::Plain(p.index),
+        Field::Fixed(start),
+        Field::Fixed(offset),
+        Field::Number(size),
+        Field::Number(component),
+        Field::Number(disk),
+        Field::Plain(index),
     ];
-    push(alloc, payloads, 0x33, flags, &fields)
+    payload_of(alloc, 0x33, flags, head, &fields)
 }
 
-pub(crate) fn push_disks(alloc: Global, payloads: &mut Vec<Payload>) -> Result<(), NoMemory> {
-    let group = [
-        Field::Number(1),
-        Field::Text(b"Dg0"),
-        Field::Guid(guid_with(0xA)),
-        Field::Plain(&[0; 12]),
-    ];
-    push(alloc, payloads, 0x35, 0, &group)?;
-    push_disk(alloc, payloads, 1025, b"Disk1", guid_with(1))?;
-    push_disk(alloc, payloads, 1026, b"Disk2", guid_with(2))?;
-    push_disk(alloc, payloads, 1027, b"Disk3", guid_with(3))
+fn record_of(alloc: Global, id: u64, name: &[u8], rest: Rest) -> Result<Payload, NoMemory> {
+    let head = [Field::Number(id), Field::Text(name)];
+    match rest {
+        Rest::Group => {
+            let fields = [Field::Guid(guid_with(0xA)), Field::Plain(&[0; 12])];
+            payload_of(alloc, 0x35, 0, &head, &fields)
+        }
+        Rest::Disk(guid) => {
+            let fields = [Field::Guid(guid_with(guid & 0xF)), Field::Plain(&[0; 13])];
+            payload_of(alloc, 0x34, 0, &head, &fields)
+        }
+        Rest::Volume(components, size, guid, hint) => {
+            volume_of(alloc, &head, (components, size, guid), hint)
+        }
+        Rest::Component(volume, partitions, striping) => {
+            component_of(alloc, &head, volume, partitions, striping)
+        }
+        Rest::Partition(component, disk, start, size, offset, index) => {
+            partition_of(
+                alloc,
+                &head,
+                (component, disk),
+                (start, size, offset),
+                index,
+            )
+        }
+    }
 }
 
-pub(crate) fn push_simple(alloc: Global, payloads: &mut Vec<Payload>) -> Result<(), NoMemory> {
-    push_volume(
-        alloc,
-        payloads,
-        &Volume {
-            id: 1028,
-            name: b"Volume1",
-            children: 1,
-            size: 1000,
-            guid: 0x55,
-            hint: b"E:",
-        },
-    )?;
-    push_component(
-        alloc,
-        payloads,
-        &Component {
-            id: 1029,
-            name: b"Volume1-01",
-            children: 1,
-            parent: 1028,
-            striping: b"",
-        },
-    )?;
-    push_partition(
-        alloc,
-        payloads,
-        &Partition {
-            id: 1030,
-            name: b"Disk1-01",
-            disk: 1025,
-            start: 0,
-            size: 1000,
-            offset: 0,
-            parent: 1029,
-            index: b"",
-        },
-    )
-}
-
-// The partitions of the spanned volume.
-fn push_tiles(alloc: Global, payloads: &mut Vec<Payload>) -> Result<(), NoMemory> {
-    push_partition(
-        alloc,
-        payloads,
-        &Partition {
-            id: 1033,
-            name: b"Disk1-02",
-            disk: 1025,
-            start: 1000,
-            size: 500,
-            offset: 0,
-            parent: 1032,
-            index: b"",
-        },
-    )?;
-    push_partition(
-        alloc,
-        payloads,
-        &Partition {
-            id: 1034,
-            name: b"Disk2-01",
-            disk: 1026,
-            start: 0,
-            size: 1000,
-            offset: 500,
-            parent: 1032,
-            index: b"",
-        },
-    )
-}
-
-pub(crate) fn push_spanned(alloc: Global, payloads: &mut Vec<Payload>) -> Result<(), NoMemory> {
-    push_volume(
-        alloc,
-        payloads,
-        &Volume {
-            id: 1031,
-            name: b"Volume2",
-            children: 1,
-            size: 1500,
-            guid: 0x66,
-            hint: b"",
-        },
-    )?;
-    push_component(
-        alloc,
-        payloads,
-        &Component {
-            id: 1032,
-            name: b"Volume2-01",
-            children: 2,
-            parent: 1031,
-            striping: b"",
-        },
-    )?;
-    push_tiles(alloc, payloads)
-}
-
-// The columns of the striped volume.
-fn push_columns(alloc: Global, payloads: &mut Vec<Payload>) -> Result<(), NoMemory> {
-    push_partition(
-        alloc,
-        payloads,
-        &Partition {
-            id: 1037,
-            name: b"Disk2-02",
-            disk: 1026,
-            start: 1000,
-            size: 512,
-            offset: 0,
-            parent: 1036,
-            index: &[1, 0],
-        },
-    )?;
-    push_partition(
-        alloc,
-        payloads,
-        &Partition {
-            id: 1038,
-            name: b"Disk3-01",
-            disk: 1027,
-            start: 0,
-            size: 512,
-            offset: 0,
-            parent: 1036,
-            index: &[1, 1],
-        },
-    )
-}
-
-pub(crate) fn push_striped(alloc: Global, payloads: &mut Vec<Payload>) -> Result<(), NoMemory> {
-    push_volume(
-        alloc,
-        payloads,
-        &Volume {
-            id: 1035,
-            name: b"Stripe1",
-            children: 1,
-            size: 1024,
-            guid: 0x77,
-            hint: b"",
-        },
-    )?;
-    push_component(
-        alloc,
-        payloads,
-        &Component {
-            id: 1036,
-            name: b"Stripe1-01",
-            children: 2,
-            parent: 1035,
-            striping: &[1, 128, 1, 2],
-        },
-    )?;
-    push_columns(alloc, payloads)
-}
-
-// The second component of the mirrored volume, and its partition.
-fn push_second_copy(alloc: Global, payloads: &mut Vec<Payload>) -> Result<(), NoMemory> {
-    push_component(
-        alloc,
-        payloads,
-        &Component {
-            id: 1042,
-            name: b"Mirror1-02",
-            children: 1,
-            parent: 1039,
-            striping: b"",
-        },
-    )?;
-    push_partition(
-        alloc,
-        payloads,
-        &Partition {
-            id: 1043,
-            name: b"Disk3-02",
-            disk: 1027,
-            start: 512,
-            size: 700,
-            offset: 0,
-            parent: 1042,
-            index: b"",
-        },
-    )
-}
-
-pub(crate) fn push_mirrored(alloc: Global, payloads: &mut Vec<Payload>) -> Result<(), NoMemory> {
-    push_volume(
-        alloc,
-        payloads,
-        &Volume {
-            id: 1039,
-            name: b"Mirror1",
-            children: 2,
-            size: 700,
-            guid: 0x88,
-            hint: b"",
-        },
-    )?;
-    push_component(
-        alloc,
-        payloads,
-        &Component {
-            id: 1040,
-            name: b"Mirror1-01",
-            children: 1,
-            parent: 1039,
-            striping: b"",
-        },
-    )?;
-    push_partition(
-        alloc,
-        payloads,
-        &Partition {
-            id: 1041,
-            name: b"Disk1-03",
-            disk: 1025,
-            start: 1500,
-            size: 700,
-            offset: 0,
-            parent: 1040,
-            index: b"",
-        },
-    )?;
-    push_second_copy(alloc, payloads)
+/// The records, each as it is spelled.
+pub(crate) fn payloads(alloc: Global) -> Result<Vec<Payload>, NoMemory> {
+    let mut payloads = Vec::new(alloc);
+    for (id, name, rest) in &RECORDS {
+        payloads.push(record_of(alloc, *id, name, *rest)?)?;
+    }
+    Ok(payloads)
 }

@@ -5,9 +5,7 @@ ghost use Rattle.ldm_bytes.specs.Places.{put};
 ghost use Rattle.ldm_host.specs.Images.{items_of};
 ghost use Rattle.ldm_images.specs.Usual.{usual_header, IsUsualImage, AreUsualImages, KeepsHeader};
 
-use crate::payloads::{
-    Payload, push_disks, push_mirrored, push_simple, push_spanned, push_striped,
-};
+use crate::payloads::{Payload, payloads};
 use ldm_bytes::{NoMemory, put_bytes, put_u16, put_u32, put_u64, write_guid};
 use ldm_label::write_label;
 use ldm_sample_disks::{guid_with, sample_label, zeros};
@@ -132,11 +130,6 @@ pub fn usual_images(alloc: Global) -> Result<Vec<Vec<u8>>, NoMemory>
     // Each reads as the label of its disk, and has the header of the database behind an open gate.
     ensures are { IfOk result (λ images. AreUsualImages 3 (items_of images.items)) }
 {
-    let mut payloads = Vec::new(alloc);
-    push_disks(alloc, &mut payloads)?;
-    push_simple(alloc, &mut payloads)?;
-    push_spanned(alloc, &mut payloads)?;
-    push_striped(alloc, &mut payloads)?;
-    push_mirrored(alloc, &mut payloads)?;
+    let payloads = payloads(alloc)?;
     images_with(alloc, &payloads)
 }
