@@ -20,7 +20,7 @@ image 2 sequence 8
 ok: editable
 = 0
 $ check --past-damage --json on A B C
-{\"editable\":true,\"kind\":null,\"reason\":null,\"images\":[{\"image\":0,\"path\":\"A\",\"sequence\":8},{\"image\":1,\"path\":\"B\",\"sequence\":null},{\"image\":2,\"path\":\"C\",\"sequence\":8}],\"absent\":[],\"damaged\":[{\"image\":1,\"path\":\"B\",\"mended\":null,\"passed_over\":\"block 4: no VBLK\"}]}
+{\"editable\":true,\"kind\":null,\"reason\":null,\"images\":[{\"image\":0,\"path\":\"A\",\"sequence\":8,\"headers\":3,\"tables\":4},{\"image\":1,\"path\":\"B\",\"sequence\":null,\"headers\":3,\"tables\":4},{\"image\":2,\"path\":\"C\",\"sequence\":8,\"headers\":3,\"tables\":4}],\"absent\":[],\"damaged\":[{\"image\":1,\"path\":\"B\",\"mended\":null,\"passed_over\":\"block 4: no VBLK\"}]}
 = 0
 $ map Data 2048 1 on A B C
 refused: image 1: block 4: no VBLK
@@ -68,7 +68,7 @@ image 2 sequence 7
 ok: editable
 = 0
 $ check --json --past-damage on C B A
-{\"editable\":true,\"kind\":null,\"reason\":null,\"images\":[{\"image\":0,\"path\":\"C\",\"sequence\":7},{\"image\":1,\"path\":\"B\",\"sequence\":null},{\"image\":2,\"path\":\"A\",\"sequence\":7}],\"absent\":[],\"damaged\":[{\"image\":1,\"path\":\"B\",\"mended\":\"no signature\",\"passed_over\":\"block 4: no VBLK\"}]}
+{\"editable\":true,\"kind\":null,\"reason\":null,\"images\":[{\"image\":0,\"path\":\"C\",\"sequence\":7,\"headers\":3,\"tables\":4},{\"image\":1,\"path\":\"B\",\"sequence\":null,\"headers\":3,\"tables\":4},{\"image\":2,\"path\":\"A\",\"sequence\":7,\"headers\":3,\"tables\":4}],\"absent\":[],\"damaged\":[{\"image\":1,\"path\":\"B\",\"mended\":\"no signature\",\"passed_over\":\"block 4: no VBLK\"}]}
 = 0
 ! 1.zero+1f40=
 ! 1.zero+1fff=

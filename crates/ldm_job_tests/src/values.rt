@@ -17,7 +17,7 @@ $ scan --json on C A
 [{\"image\":0,\"path\":\"C\",\"state\":\"open\",\"group\":\"Dg0\",\"group_guid\":\"aaaaaaaa-aaaa-aaaa-aaaa-aaaaaaaaaaaa\",\"disk\":\"Disk3\",\"disk_guid\":\"33333333-3333-3333-3333-333333333333\",\"sequence\":7,\"reason\":null,\"format\":null},{\"image\":1,\"path\":\"A\",\"state\":\"open\",\"group\":\"Dg0\",\"group_guid\":\"aaaaaaaa-aaaa-aaaa-aaaa-aaaaaaaaaaaa\",\"disk\":\"Disk1\",\"disk_guid\":\"11111111-1111-1111-1111-111111111111\",\"sequence\":7,\"reason\":null,\"format\":null}]
 = 0
 $ check --json on A B C
-{\"editable\":true,\"kind\":null,\"reason\":null,\"images\":[{\"image\":0,\"path\":\"A\",\"sequence\":7},{\"image\":1,\"path\":\"B\",\"sequence\":7},{\"image\":2,\"path\":\"C\",\"sequence\":7}],\"absent\":[]}
+{\"editable\":true,\"kind\":null,\"reason\":null,\"images\":[{\"image\":0,\"path\":\"A\",\"sequence\":7,\"headers\":3,\"tables\":4},{\"image\":1,\"path\":\"B\",\"sequence\":7,\"headers\":3,\"tables\":4},{\"image\":2,\"path\":\"C\",\"sequence\":7,\"headers\":3,\"tables\":4}],\"absent\":[]}
 = 0
 $ create Data bbbbbbbb-bbbb-bbbb-bbbb-bbbbbbbbbbbb span Disk1=2048 Disk1=10 on A B C
 1 ok 8
@@ -54,7 +54,7 @@ $ map --json Data 0 1 on B C B
 {\"refused\":{\"kind\":\"same disk\",\"image\":0,\"path\":\"B\",\"other_image\":2,\"other_path\":\"B\",\"rule\":null,\"id\":null,\"reason\":\"images 0 and 2 are one disk\"}}
 = 1
 $ check --json on A B
-{\"editable\":false,\"kind\":\"absent\",\"reason\":\"disk 4 is absent\",\"images\":[{\"image\":0,\"path\":\"A\",\"sequence\":9},{\"image\":1,\"path\":\"B\",\"sequence\":9}],\"absent\":[{\"id\":4,\"name\":\"Disk3\",\"guid\":\"33333333-3333-3333-3333-333333333333\"}]}
+{\"editable\":false,\"kind\":\"absent\",\"reason\":\"disk 4 is absent\",\"images\":[{\"image\":0,\"path\":\"A\",\"sequence\":9,\"headers\":3,\"tables\":4},{\"image\":1,\"path\":\"B\",\"sequence\":9,\"headers\":3,\"tables\":4}],\"absent\":[{\"id\":4,\"name\":\"Disk3\",\"guid\":\"33333333-3333-3333-3333-333333333333\"}]}
 = 0
 $ show --json on B C B
 {\"refused\":{\"kind\":\"same disk\",\"image\":0,\"path\":\"B\",\"other_image\":2,\"other_path\":\"B\",\"rule\":null,\"id\":null,\"reason\":\"images 0 and 2 are one disk\"}}
@@ -70,7 +70,7 @@ $ records --json on B
 {\"state\":\"closed\",\"name\":null,\"guid\":null,\"sequence\":null,\"last\":null,\"records\":[]}
 = 0
 $ check --json on B A C
-{\"editable\":true,\"kind\":null,\"reason\":null,\"images\":[{\"image\":0,\"path\":\"B\",\"sequence\":null},{\"image\":1,\"path\":\"A\",\"sequence\":9},{\"image\":2,\"path\":\"C\",\"sequence\":9}],\"absent\":[]}
+{\"editable\":true,\"kind\":null,\"reason\":null,\"images\":[{\"image\":0,\"path\":\"B\",\"sequence\":null,\"headers\":3,\"tables\":4},{\"image\":1,\"path\":\"A\",\"sequence\":9,\"headers\":3,\"tables\":4},{\"image\":2,\"path\":\"C\",\"sequence\":9,\"headers\":3,\"tables\":4}],\"absent\":[]}
 = 0
 $ show --json on B
 {\"refused\":{\"kind\":\"no copy\",\"image\":null,\"path\":null,\"other_image\":null,\"other_path\":null,\"rule\":null,\"id\":null,\"reason\":\"no open copy\"}}

@@ -186,6 +186,11 @@ pub copy_there : (header : PrivateHeader) (read copy : List ℕ) (n m : ℕ) (r 
     → r ≡ differs header read n → read ≡ copy → n ≡ m → r ≡ there → differs header copy m ≡ there
 copy_there header read copy n m r there e bytes size is = cc
 
+-- a header that was read has no fault just where the disk's has none
+pub good_there : (read head : List ℕ) (n m : ℕ) (good : Bool) → read ≡ head → n ≡ m
+    → good ≡ is_ok (answer (header_faults read n) (header_of read)) → good ≡ is_ok (answer (header_faults head m) (header_of head))
+good_there read head n m good bytes size is = rw (← bytes, ← size) is
+
 -- ---- What the tables of contents that parse say together.
 
 -- the places of the four tables of contents

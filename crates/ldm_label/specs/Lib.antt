@@ -5,3 +5,4 @@ pub mod Parts
 pub mod Laws
 pub mod Written
 pub mod Present
+pub mod GoodCopies

@@ -8,6 +8,7 @@
 ghost use Rattle.std.specs.Prelude.{◌≡◌};
 ghost use Rattle.ldm_label.specs.declared.LabelError.TheVariants.{Fault, Disk};
 
+mod counting;
 mod header;
 mod labels;
 mod laws;
@@ -18,6 +19,7 @@ mod sectors;
 mod toc;
 mod writing;
 
+pub use counting::{GoodCopies, count_good};
 pub use labels::Labels;
 pub use laws::{label_is_outside_its_area, written_label_reads_back};
 use ldm_host::Failed;

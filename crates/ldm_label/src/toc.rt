@@ -16,8 +16,9 @@ pub struct Toc {
     pub log_sectors: u64,
 }
 
+/// That the sector begins as a table of contents does, and names its two areas.
 #[tactic(auto, unfolding(crate::specs::Fields::parses))]
-fn has_names(toc: &[u8; 512]) -> bool
+pub fn has_names(toc: &[u8; 512]) -> bool
     ensures { result ≡ parses toc.now }
 {
     has_text(toc, 0, b"TOCBLOCK")

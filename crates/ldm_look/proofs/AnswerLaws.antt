@@ -59,7 +59,7 @@ one_of_look (Disk format) images a b x y = x ∙ sym y
 one_of_look (Records format) images a b x y = one_records format (label_of (image images 0)) (image images 0) a b x y
 one_of_look (Scan format) images a b x y = one_scan (scan_answer format) images a b x y
 one_of_look (Show format) images a b x y = one_formatted format (show_answer format) images a b x y
-one_of_look (Check format) images a b x y = one_formatted format (check_answer format) images a b x y
+one_of_look (Check format) images a b x y = one_formatted format (check_answer format images) images a b x y
 one_of_look (Map name first count format) images a b x y = one_formatted format (map_answer format name first count) images a b x y
 one_of_look other images a b x y = absurd x
 

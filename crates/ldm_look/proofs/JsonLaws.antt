@@ -9,6 +9,7 @@ use Rattle.json.specs.Json.{string, boolean, null}
 use Rattle.json.specs.Token as token
 use Rattle.ldm_json.specs.Values.{Member, json_members, json_object, json_array, then_array, closing, number_json, maybe_json, maybe_text_json, name_json, maybe_name_json, guid_json, said_json}
 use Rattle.ldm_json.proofs.TokenLaws.{items_are, array_is}
+use Rattle.ldm_label.specs.declared.counting.GoodCopies.{GoodCopies}
 use Rattle.ldm_label.specs.Present.{image_with, label_with}
 use Rattle.ldm_records.specs.declared.types.Disk.{Disk}
 use Rattle.ldm_records.specs.declared.types.Volume.{Volume}
@@ -172,32 +173,32 @@ three_alone : (one two three four five op : List Token) (ms : List Member) (firs
 three_alone one two three four five op ms first second third js ks ls z a is b c d =
     grind (arith, append_assoc, members_are ms ((first, json_array js) ∷ (second, json_array ks) ∷ (third, json_array ls) ∷ []), items_are js, items_are ks, items_are ls)
 
-check_is : (paths : List (List ℕ)) (found : Found) (editable : Bool) (kind reason : Json) (notes : List Note) → editable ≡ is_none found.blocked → kind ≡ kind_json found.blocked
+check_is : (paths : List (List ℕ)) (goods : List GoodCopies) (found : Found) (editable : Bool) (kind reason : Json) (notes : List Note) → editable ≡ is_none found.blocked → kind ≡ kind_json found.blocked
     → reason ≡ reason_json found.blocked → notes ≡ found.notes
-    → json_object ((codes "editable", boolean editable) ∷ (codes "kind", kind) ∷ (codes "reason", reason) ∷ (codes "images", json_array (note_jsons paths notes))
-    ∷ (codes "absent", json_array (absent_jsons found.labels found.db.records)) ∷ []) ≡ check_json paths found
-check_is paths found editable kind reason notes a b c d = rw (a, b, c, d) refl
+    → json_object ((codes "editable", boolean editable) ∷ (codes "kind", kind) ∷ (codes "reason", reason) ∷ (codes "images", json_array (note_jsons paths goods notes))
+    ∷ (codes "absent", json_array (absent_jsons found.labels found.db.records)) ∷ []) ≡ check_json paths goods found
+check_is paths goods found editable kind reason notes a b c d = rw (a, b, c, d) refl
 
 -- what `check` begins with
-pub begins_check : (one two three four five op : List Token) (paths : List (List ℕ)) (found : Found) (editable : Bool) (kind reason : Json) (notes : List Note)
+pub begins_check : (one two three four five op : List Token) (paths : List (List ℕ)) (goods : List GoodCopies) (found : Found) (editable : Bool) (kind reason : Json) (notes : List Note)
     → editable ≡ is_none found.blocked → kind ≡ kind_json found.blocked → reason ≡ reason_json found.blocked → notes ≡ found.notes
     → one ≡ [] → two ≡ one ++ op → op ≡ beginning ((codes "editable", boolean editable) ∷ (codes "kind", kind) ∷ (codes "reason", reason) ∷ []) (codes "images")
-    → three ≡ two ++ flat_map json_tokens (note_jsons paths notes) → four ≡ three ++ then_array (codes "absent")
-    → five ≡ four ++ flat_map json_tokens (absent_jsons found.labels found.db.records) → BeginsCheck paths found five
-begins_check one two three four five op paths found editable kind reason notes a b c d z e is f g h =
+    → three ≡ two ++ flat_map json_tokens (note_jsons paths goods notes) → four ≡ three ++ then_array (codes "absent")
+    → five ≡ four ++ flat_map json_tokens (absent_jsons found.labels found.db.records) → BeginsCheck paths goods found five
+begins_check one two three four five op paths goods found editable kind reason notes a b c d z e is f g h =
     let ms : List Member = (codes "editable", boolean editable) ∷ (codes "kind", kind) ∷ (codes "reason", reason) ∷ [] in
-    let ns : List Json = note_jsons paths notes in
+    let ns : List Json = note_jsons paths goods notes in
     let absent : List Json = absent_jsons found.labels found.db.records in
     record {
-      ends = both_alone one two three four five op ms (codes "images") (codes "absent") ns absent z e is f g h ∙ ap json_tokens (check_is paths found editable kind reason notes a b c d);
+      ends = both_alone one two three four five op ms (codes "images") (codes "absent") ns absent z e is f g h ∙ ap json_tokens (check_is paths goods found editable kind reason notes a b c d);
       goes_on = λ key values. three_alone one two three four five op ms (codes "images") (codes "absent") key ns absent values z e is f g h
           ∙ ap json_tokens (more_is key values);
     }
   where
     more_is : (key : List ℕ) (values : List Json)
-        → json_object ((codes "editable", boolean editable) ∷ (codes "kind", kind) ∷ (codes "reason", reason) ∷ (codes "images", json_array (note_jsons paths notes))
+        → json_object ((codes "editable", boolean editable) ∷ (codes "kind", kind) ∷ (codes "reason", reason) ∷ (codes "images", json_array (note_jsons paths goods notes))
         ∷ (codes "absent", json_array (absent_jsons found.labels found.db.records)) ∷ (key, json_array values) ∷ [])
-        ≡ json_object (check_members paths found ++ (key, json_array values) ∷ [])
+        ≡ json_object (check_members paths goods found ++ (key, json_array values) ∷ [])
     more_is key values = rw (a, b, c, d) refl
 
 pub open_is : (paths : List (List ℕ)) (image : ℕ) (path : Option (List ℕ)) (m : Membership) (group : List ℕ) (disk : Option (List ℕ)) → path ≡ slice_get paths image → group ≡ m.group → disk ≡ m.disk
@@ -215,9 +216,11 @@ pub label_is : (label : Label) (minor : ℕ) → minor ≡ label.minor
     ∷ (codes "log_size", number_json label.log_sectors) ∷ []) ≡ label_json label
 label_is label minor a = rw a refl
 
-pub note_is : (paths : List (List ℕ)) (image : ℕ) (note : Note) (path : Option (List ℕ)) (seq : Option ℕ) → path ≡ slice_get paths image → seq ≡ note_sequence note
-    → json_object ((codes "image", number_json image) ∷ (codes "path", maybe_text_json path) ∷ (codes "sequence", maybe_json seq) ∷ []) ≡ note_json paths (image, note)
-note_is paths image note path seq p s = rw (p, s) refl
+pub note_is : (paths : List (List ℕ)) (goods : List GoodCopies) (image : ℕ) (note : Note) (path : Option (List ℕ)) (seq headers tables : Option ℕ) → path ≡ slice_get paths image
+    → seq ≡ note_sequence note → headers ≡ option_map (λ good. good.headers) (slice_get goods image) → tables ≡ option_map (λ good. good.tables) (slice_get goods image)
+    → json_object ((codes "image", number_json image) ∷ (codes "path", maybe_text_json path) ∷ (codes "sequence", maybe_json seq) ∷ (codes "headers", maybe_json headers) ∷ (codes "tables", maybe_json tables) ∷ [])
+    ≡ note_json paths goods (image, note)
+note_is paths goods image note path seq headers tables p s h t = rw (p, s, h, t) refl
 
 pub refusal_is : (paths : List (List ℕ)) (kind text : List ℕ) (named : Named) (image other : Option ℕ) (path other_path : Option (List ℕ))
     → image ≡ named.image → path ≡ path_of paths named.image → other ≡ named.other → other_path ≡ path_of paths named.other

@@ -27,7 +27,8 @@ use Rattle.ldm_copy.specs.declared.fault.OpenFault.TheVariants as faults
 use Rattle.ldm_look.specs.FaultJson.{fault_json, refusal_json}
 use Rattle.ldm_look.specs.LabelJson.{label_json}
 use Rattle.ldm_look.specs.ShowJson.{show_json}
-use Rattle.ldm_look.specs.CheckJson.{check_json}
+use Rattle.ldm_label.specs.declared.counting.GoodCopies.{GoodCopies}
+use Rattle.ldm_look.specs.CheckJson.{goods_of, check_json}
 use Rattle.ldm_look.specs.RecordsJson.{records_json}
 use Rattle.ldm_look.specs.declared.scanned.Scanned.{Scanned}
 use Rattle.ldm_look.specs.Scan.{AreScanned, text_of_scan, scan_json}
@@ -99,12 +100,18 @@ said_group (Json paths) found = line_of_json (show_json paths found)
 abbrev pub show_answer : Format → Found → Answer
 show_answer format found = (said_group format found, Done)
 
-abbrev pub said_check : Format → Found → List ℕ
-said_check Lines found = text_of_check found
-said_check (Json paths) found = line_of_json (check_json paths found)
+-- These are the good copies of each image with a label, where they are said in this format.
+abbrev pub AreCounted : Format → List (List ℕ) → List Label → List GoodCopies → Type 0
+AreCounted Lines images labels goods = Unit {0}
+AreCounted (Json paths) images labels goods = goods ≡ goods_of images labels
 
-abbrev pub check_answer : Format → Found → Answer
-check_answer format found = (said_check format found, Done)
+-- of a group whose images have so many good copies
+abbrev pub said_check : Format → List GoodCopies → Found → List ℕ
+said_check Lines goods found = text_of_check found
+said_check (Json paths) goods found = line_of_json (check_json paths goods found)
+
+abbrev pub check_answer : Format → List (List ℕ) → Found → Answer
+check_answer format images found = (said_check format (goods_of images found.labels) found, Done)
 
 -- ---- images alone
 
@@ -142,7 +149,7 @@ IsLookAnswer (Disk format) images answer = answer ≡ disk_answer format (label_
 IsLookAnswer (Records format) images answer = IsRecordsAnswer format (label_of (image images 0)) (image images 0) answer
 IsLookAnswer (Scan format) images answer = IsScanAnswer (scan_answer format) images answer
 IsLookAnswer (Show format) images answer = IsFormattedAnswer format (show_answer format) images answer
-IsLookAnswer (Check format) images answer = IsFormattedAnswer format (check_answer format) images answer
+IsLookAnswer (Check format) images answer = IsFormattedAnswer format (check_answer format images) images answer
 IsLookAnswer (Map name first count format) images answer = IsFormattedAnswer format (map_answer format name first count) images answer
 IsLookAnswer _ images answer = ⊥
 

@@ -1,5 +1,6 @@
 //! The JSON of `check`.
-ghost use Rattle.std.specs.Prelude.{◌≡◌, ◌++◌, OnOk, IfOk, flat_map, is_none, map};
+ghost use Rattle.std.specs.Prelude.{◌≡◌, ◌++◌, OnOk, IfOk, flat_map, is_none, map, slice_get};
+ghost use Rattle.std.specs.Option.{option_map};
 ghost use Rattle.std.specs.List.{enumerate_from};
 ghost use Rattle.json.specs.Tree.{json_tokens};
 ghost use Rattle.ldm_json.specs.Values.{json_of, line_of_json};
@@ -13,6 +14,7 @@ use crate::opening::fault_text;
 use ldm_bytes::{Bytes, NoMemory};
 use ldm_copy::{Found, Note};
 use ldm_json::{Json, Scalar};
+use ldm_label::GoodCopies;
 use ldm_records::{Disk, Record};
 use ldm_words::Paths;
 use std::alloc::Global;
@@ -26,26 +28,59 @@ fn note_sequence(note: &Note) -> Option<u64>
     }
 }
 
+// How many private headers of an image are good.
+fn headers_of(goods: &[GoodCopies], image: usize) -> Option<u64>
+    ensures { result ≡ option_map (λ good. good.headers) (slice_get goods.now image) }
+{
+    match goods.get(image) {
+        Some(good) => Some(good.headers),
+        None => None,
+    }
+}
+
+// How many tables of contents of an image are good.
+fn tables_of(goods: &[GoodCopies], image: usize) -> Option<u64>
+    ensures { result ≡ option_map (λ good. good.tables) (slice_get goods.now image) }
+{
+    match goods.get(image) {
+        Some(good) => Some(good.tables),
+        None => None,
+    }
+}
+
 // What an image holds.
-fn push_note(json: &mut Json, paths: &Paths, image: usize, note: &Note) -> Result<(), NoMemory>
+fn push_note(
+    json: &mut Json,
+    paths: &Paths,
+    goods: &[GoodCopies],
+    image: usize,
+    note: &Note,
+) -> Result<(), NoMemory>
     ensures { OnOk result (json.new
-        ≡ json.old ++ json_tokens (note_json paths.now (image, note.now))) }
+        ≡ json.old ++ json_tokens (note_json paths.now goods.now (image, note.now))) }
 {
     let fields = [
         ("image", Scalar::Number(image as u64)),
         ("path", Scalar::MaybeWord(paths.get(image))),
         ("sequence", Scalar::Maybe(note_sequence(note))),
+        ("headers", Scalar::Maybe(headers_of(goods, image))),
+        ("tables", Scalar::Maybe(tables_of(goods, image))),
     ];
     json.object(&fields)
 }
 
 // What each image holds.
-fn push_notes(json: &mut Json, paths: &Paths, notes: &[Note]) -> Result<(), NoMemory>
+fn push_notes(
+    json: &mut Json,
+    paths: &Paths,
+    goods: &[GoodCopies],
+    notes: &[Note],
+) -> Result<(), NoMemory>
     ensures { OnOk result (json.new
-        ≡ json.old ++ flat_map json_tokens (note_jsons paths.now notes.now)) }
+        ≡ json.old ++ flat_map json_tokens (note_jsons paths.now goods.now notes.now)) }
 {
     for (image, note) in notes.iter().enumerate() {
-        push_note(json, paths, image, note)?;
+        push_note(json, paths, goods, image, note)?;
     }
     Ok(())
 }
@@ -92,13 +127,14 @@ fn is_editable(found: &Found) -> bool
 fn begin_with<'a>(
     alloc: Global,
     paths: &Paths,
+    goods: &[GoodCopies],
     found: &Found,
     kind: Scalar<'a>,
     reason: Scalar<'a>,
 ) -> Result<Json, NoMemory>
     requires kind { json_of kind ≡ kind_json found.now.blocked }
     requires reason { json_of reason ≡ reason_json found.now.blocked }
-    ensures { IfOk result (λ json. BeginsCheck paths.now found.now json) }
+    ensures { IfOk result (λ json. BeginsCheck paths.now goods.now found.now json) }
 {
     let fields = [
         ("editable", Scalar::Flag(is_editable(found))),
@@ -107,32 +143,50 @@ fn begin_with<'a>(
     ];
     let mut json = Json::new(alloc);
     json.open(&fields, "images")?;
-    push_notes(&mut json, paths, found.notes.as_slice())?;
+    push_notes(&mut json, paths, goods, found.notes.as_slice())?;
     json.next("absent")?;
     push_all_absent(&mut json, found)?;
     Ok(json)
 }
 
 /// The beginning of the JSON of what each image holds, and of whether the group may be edited: an
-/// object whose last member, an array, is open.
-pub fn begin_check(alloc: Global, paths: &Paths, found: &Found) -> Result<Json, NoMemory>
-    ensures { IfOk result (λ json. BeginsCheck paths.now found.now json) }
+/// object whose last member, an array, is open. Each image has as many good copies as these say.
+pub fn begin_check(
+    alloc: Global,
+    paths: &Paths,
+    goods: &[GoodCopies],
+    found: &Found,
+) -> Result<Json, NoMemory>
+    ensures { IfOk result (λ json. BeginsCheck paths.now goods.now found.now json) }
 {
     match &found.blocked {
-        None => begin_with(alloc, paths, found, Scalar::Null, Scalar::Null),
+        None => begin_with(alloc, paths, goods, found, Scalar::Null, Scalar::Null),
         Some(fault) => {
             let text = fault_text(alloc, fault)?;
             let kind = Scalar::Word(kind_word(fault));
-            begin_with(alloc, paths, found, kind, Scalar::Said(text.as_slice()))
+            begin_with(
+                alloc,
+                paths,
+                goods,
+                found,
+                kind,
+                Scalar::Said(text.as_slice()),
+            )
         }
     }
 }
 
 /// The JSON of what each image holds, and of whether the group may be edited, on a line.
-pub(crate) fn check_line(alloc: Global, paths: &Paths, found: &Found) -> Result<Bytes, NoMemory>
-    ensures { IfOk result (λ text. text ≡ line_of_json (check_json paths.now found.now)) }
+pub(crate) fn check_line(
+    alloc: Global,
+    paths: &Paths,
+    goods: &[GoodCopies],
+    found: &Found,
+) -> Result<Bytes, NoMemory>
+    ensures { IfOk result (λ text. text
+        ≡ line_of_json (check_json paths.now goods.now found.now)) }
 {
-    let mut json = begin_check(alloc, paths, found)?;
+    let mut json = begin_check(alloc, paths, goods, found)?;
     json.close()?;
     json.into_line()
 }

@@ -8,7 +8,7 @@ use ldm_label::LabelFault;
 
 /// A format of images, or of disks, that isn't LDM's.
 #[derive(Clone, Copy)]
-pub(crate) enum Foreign {
+pub enum Foreign {
     Qcow2,
     Vmdk,
     Vhd,

@@ -14,7 +14,7 @@ use crate::show_json::show_json;
 use crate::show_text::show_text;
 use ldm_bytes::{Bytes, NoMemory};
 use ldm_copy::{CopyState, Found};
-use ldm_label::Label;
+use ldm_label::{GoodCopies, Label};
 use ldm_text::{label_text, records_text};
 use ldm_words::Format;
 use std::alloc::Global;
@@ -69,12 +69,18 @@ pub(crate) fn said_group(alloc: Global, format: &Format, found: &Found) -> Resul
     }
 }
 
-/// What is said of the images of a group, and of whether it may be edited.
-pub fn said_check(alloc: Global, format: &Format, found: &Found) -> Result<Bytes, NoMemory>
-    ensures { IfOk result (λ text. text ≡ said_check format.now found.now) }
+/// What is said of the images of a group, which have so many good copies each, and of whether it may
+/// be edited.
+pub fn said_check(
+    alloc: Global,
+    format: &Format,
+    goods: &[GoodCopies],
+    found: &Found,
+) -> Result<Bytes, NoMemory>
+    ensures { IfOk result (λ text. text ≡ said_check format.now goods.now found.now) }
 {
     match format {
         Format::Lines => check_text(alloc, found),
-        Format::Json(paths) => check_line(alloc, paths, found),
+        Format::Json(paths) => check_line(alloc, paths, goods, found),
     }
 }

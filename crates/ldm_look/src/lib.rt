@@ -6,6 +6,7 @@
 
 mod check_json;
 mod check_text;
+mod counting;
 mod families;
 mod fault_json;
 mod foreign;
@@ -32,7 +33,12 @@ mod states;
 mod volumes;
 
 pub use check_json::begin_check;
+pub use counting::open_counted;
+pub use foreign::Foreign;
 pub use formats::said_check;
 pub use looking::{check, disk, is_look, look, map, open_for, open_group, records, scan, show};
 pub use refusing::refuse_for;
 pub use saying::{refuse, say_made};
+pub use scan_text::{push_scanned_json, push_scanned_line};
+pub use scanned::{Membership, Scanned};
+pub use scanning::{ScanError, scan_image};

@@ -14,6 +14,7 @@ ghost use Rattle.ldm_look.specs.Looks.{IsCopyAnswer, IsGroupAnswer, IsLookAnswer
 ghost use Rattle.ldm_look.specs.Looks.{IsFormattedAnswer, look_in, look_of};
 ghost use Rattle.ldm_look.specs.Runs.{Completes, HasImages, NoFault, OfLook, OnlyReads};
 
+use crate::counting::open_counted;
 use crate::formats::{said_check, said_copy, said_group, said_label, said_scan};
 use crate::mapping::mapped;
 use crate::saying::{refuse, refuse_opening, say_made};
@@ -146,9 +147,12 @@ pub fn check<H: Host>(alloc: Global, host: &mut H, format: &Format) -> Status
     ensures { OnlyReads H.tells_disks (H.seen host.old) (H.seen host.new)
         (IsLookAnswer (jobs.Check format.now) (H.seen host.old).content) result }
 {
-    match open_for(alloc, host, format) {
+    match open_counted(alloc, host, format) {
         Err(status) => status,
-        Ok(found) => say_made(host, said_check(alloc, format, &found), Status::Done),
+        Ok((found, goods)) => {
+            let text = said_check(alloc, format, goods.as_slice(), &found);
+            say_made(host, text, Status::Done)
+        }
     }
 }
 

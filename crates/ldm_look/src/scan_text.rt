@@ -89,8 +89,8 @@ fn push_scanned(alloc: Global, text: &mut Text, scanned: &Scanned) -> Result<(),
     }
 }
 
-// The line of an image.
-fn push_line(
+/// Appends the line of an image that was scanned, which has this number.
+pub fn push_scanned_line(
     alloc: Global,
     text: &mut Text,
     image: usize,
@@ -108,7 +108,7 @@ pub(crate) fn scan_text(alloc: Global, scanned: &[Scanned]) -> Result<Bytes, NoM
 {
     let mut text = Text::new(alloc);
     for (image, one) in scanned.iter().enumerate() {
-        push_line(alloc, &mut text, image, one)?;
+        push_scanned_line(alloc, &mut text, image, one)?;
     }
     Ok(text.into_bytes())
 }
@@ -199,8 +199,9 @@ fn push_open_json<'a>(
     json.object(&fields)
 }
 
-// The object of an image.
-fn push_scanned_json(
+/// Appends the object of an image that was scanned, which has this number and of the paths the one
+/// at that place.
+pub fn push_scanned_json(
     alloc: Global,
     json: &mut Json,
     paths: &Paths,

@@ -14,7 +14,7 @@ use Rattle.ldm_past.specs.PastAnswer.{past_check_answer, format_of_check, IsAnsw
 module _ (words : List (List ℕ)) (damages : List Damage) (views : List (List ℕ)) (input : List ℕ) (a b : Answer) where
   one_by_format : (format : Option Format) (reading : Job × ℕ) → job_of words ≡ Some reading
       → IsAnswerPast format reading.0 damages views input a → IsAnswerPast format reading.0 damages views input b → a ≡ b
-  one_by_format (Some format) reading is x y = one_formatted format (past_check_answer format damages) views a b x y
+  one_by_format (Some format) reading is x y = one_formatted format (past_check_answer format damages views) views a b x y
   one_by_format None reading is x y =
       one_answer words views input a b (subst (λ (o : Option (Job × ℕ)). IsReadingAnswer o views input a) (sym is) x)
       (subst (λ (o : Option (Job × ℕ)). IsReadingAnswer o views input b) (sym is) y)

@@ -12,13 +12,14 @@ use Rattle.ldm_words.specs.declared.job.Job.TheVariants.{Check}
 use Rattle.ldm_words.specs.declared.status.Status.TheVariants.{Done}
 use Rattle.ldm_words.specs.Jobs.{job_of}
 use Rattle.ldm_label.specs.declared.LabelFault.{LabelFault}
+use Rattle.ldm_label.specs.declared.counting.GoodCopies.{GoodCopies}
 use Rattle.ldm_copy.specs.declared.answer.CopyFault.{CopyFault}
 use Rattle.ldm_copy.specs.declared.found.Found.{Found}
 use Rattle.ldm_text.specs.Texts.{text_of_label_fault}
 use Rattle.ldm_text.specs.Records.{text_of_copy_fault}
 use Rattle.ldm_look.specs.Said.{Answer}
 use Rattle.ldm_look.specs.Check.{text_of_check}
-use Rattle.ldm_look.specs.CheckJson.{check_members}
+use Rattle.ldm_look.specs.CheckJson.{goods_of, check_members}
 use Rattle.ldm_look.specs.Looks.{IsFormattedAnswer}
 use Rattle.ldm_run.specs.Answer.{IsJobAnswer, IsReadingAnswer}
 use Rattle.ldm_damage.specs.declared.damage.Damage.{Damage}
@@ -69,18 +70,19 @@ damage_jsons_at paths (image, damage) =
 abbrev pub damage_jsons : List (List ℕ) → List Damage → List Json
 damage_jsons paths damages = flat_map (damage_jsons_at paths) (enumerate_from 0 damages)
 
--- what `check` says of the views, and what is damaged
-abbrev pub past_check_json : List (List ℕ) → List Damage → Found → Json
-past_check_json paths damages found = json_object (check_members paths found ++ (codes "damaged", json_array (damage_jsons paths damages)) ∷ [])
+-- What `check` says of the views, whose images have so many good copies, and what is damaged.
+abbrev pub past_check_json : List (List ℕ) → List Damage → List GoodCopies → Found → Json
+past_check_json paths damages goods found = json_object (check_members paths goods found ++ (codes "damaged", json_array (damage_jsons paths damages)) ∷ [])
 
 -- ---- answers
 
-abbrev pub said_past_check : Format → List Damage → Found → List ℕ
-said_past_check formats.Lines damages found = text_of_damages damages ++ text_of_check found
-said_past_check (formats.Json paths) damages found = line_of_json (past_check_json paths damages found)
+abbrev pub said_past_check : Format → List Damage → List GoodCopies → Found → List ℕ
+said_past_check formats.Lines damages goods found = text_of_damages damages ++ text_of_check found
+said_past_check (formats.Json paths) damages goods found = line_of_json (past_check_json paths damages goods found)
 
-abbrev pub past_check_answer : Format → List Damage → Found → Answer
-past_check_answer format damages found = (said_past_check format damages found, Done)
+-- of a group that is found over these views
+abbrev pub past_check_answer : Format → List Damage → List (List ℕ) → Found → Answer
+past_check_answer format damages views found = (said_past_check format damages (goods_of views found.labels) found, Done)
 
 -- the format of `check`, where the job is that
 abbrev pub format_of_check : Job → Option Format
@@ -89,7 +91,7 @@ format_of_check job = None
 
 -- the answer of `check` in this format, or else of another job, over these views, which get over these damages
 abbrev pub IsAnswerPast : Option Format → Job → List Damage → List (List ℕ) → List ℕ → Answer → Type 0
-IsAnswerPast (Some format) job damages views input answer = IsFormattedAnswer format (past_check_answer format damages) views answer
+IsAnswerPast (Some format) job damages views input answer = IsFormattedAnswer format (past_check_answer format damages views) views answer
 IsAnswerPast None job damages views input answer = IsJobAnswer job views input answer
 
 abbrev pub IsPastReading : Option (Job × ℕ) → List Damage → List (List ℕ) → List ℕ → Answer → Type 0

@@ -15,7 +15,8 @@ use ldm_bytes::{Bytes, NoMemory};
 use ldm_copy::Found;
 use ldm_damage::Damage;
 use ldm_host::Host;
-use ldm_look::{open_for, say_made};
+use ldm_label::GoodCopies;
+use ldm_look::{open_counted, say_made};
 use ldm_run::run;
 use ldm_words::{Format, Job, Status, WordsError, read_words};
 use std::alloc::Global;
@@ -25,13 +26,15 @@ fn said_past_check(
     alloc: Global,
     format: &Format,
     damages: &[Damage],
+    goods: &[GoodCopies],
     found: &Found,
 ) -> Result<Bytes, NoMemory>
-    ensures { IfOk result (λ text. text ≡ said_past_check format.now damages.now found.now) }
+    ensures { IfOk result (λ text. text
+        ≡ said_past_check format.now damages.now goods.now found.now) }
 {
     match format {
         Format::Lines => past_check_text(alloc, damages, found),
-        Format::Json(paths) => past_check_line(alloc, paths, damages, found),
+        Format::Json(paths) => past_check_line(alloc, paths, damages, goods, found),
     }
 }
 
@@ -39,13 +42,13 @@ fn said_past_check(
 fn check_past<H: Host>(alloc: Global, format: &Format, damages: &[Damage], host: &mut H) -> Status
     requires { 0 < length (H.seen host.old).sizes }
     ensures { OnlyReads H.tells_disks (H.seen host.old) (H.seen host.new)
-        (IsFormattedAnswer format.now (past_check_answer format.now damages.now)
-        (H.seen host.old).content) result }
+        (IsFormattedAnswer format.now (past_check_answer format.now damages.now
+        (H.seen host.old).content) (H.seen host.old).content) result }
 {
-    match open_for(alloc, host, format) {
+    match open_counted(alloc, host, format) {
         Err(status) => status,
-        Ok(found) => {
-            let text = said_past_check(alloc, format, damages, &found);
+        Ok((found, goods)) => {
+            let text = said_past_check(alloc, format, damages, goods.as_slice(), &found);
             say_made(host, text, Status::Done)
         }
     }

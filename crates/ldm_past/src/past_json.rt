@@ -13,7 +13,7 @@ use ldm_bytes::{Bytes, NoMemory};
 use ldm_copy::{CopyFault, Found};
 use ldm_damage::Damage;
 use ldm_json::{Json, Scalar};
-use ldm_label::LabelFault;
+use ldm_label::{GoodCopies, LabelFault};
 use ldm_look::begin_check;
 use ldm_text::{copy_fault_text, label_fault_text};
 use ldm_words::Paths;
@@ -109,12 +109,13 @@ pub(crate) fn past_check_line(
     alloc: Global,
     paths: &Paths,
     damages: &[Damage],
+    goods: &[GoodCopies],
     found: &Found,
 ) -> Result<Bytes, NoMemory>
     ensures { IfOk result (λ text. text
-        ≡ line_of_json (past_check_json paths.now damages.now found.now)) }
+        ≡ line_of_json (past_check_json paths.now damages.now goods.now found.now)) }
 {
-    let mut json = begin_check(alloc, paths, found)?;
+    let mut json = begin_check(alloc, paths, goods, found)?;
     json.next("damaged")?;
     push_damages(alloc, &mut json, paths, damages)?;
     json.close()?;

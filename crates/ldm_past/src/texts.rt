@@ -80,7 +80,7 @@ pub(crate) fn past_check_text(
 {
     let mut text = Text::new(alloc);
     push_damages(alloc, &mut text, damages)?;
-    let checked = said_check(alloc, &Format::Lines, found)?;
+    let checked = said_check(alloc, &Format::Lines, &[], found)?;
     text.push(checked.as_slice())?;
     Ok(text.into_bytes())
 }

@@ -1,12 +1,22 @@
-use Rattle.std.proofs.Common.{Ok}
-use Rattle.ldm_look.specs.Looks.{said_check, check_answer}
+use Rattle.std.proofs.Common.{rules, ◌≡◌, List, Ok, subst, sym}
+use Rattle.ldm_label.specs.declared.counting.GoodCopies.{GoodCopies}
+use Rattle.ldm_look.specs.Looks.{said_check, check_answer, AreCounted}
 use Rattle.ldm_look.proofs.EndLaws.{says_first}
+use Rattle.ldm_look.proofs.GoodLaws.{counted_answer}
 use Rattle.ldm_look.proofs.looking.check.Goals as goal
 
 pub returns-in-Err : goal.returns-in-Err
-returns-in-Err g c = c.in-Err.ensures.fault (check_answer c.args.format.now)
+returns-in-Err g c = c.in-Err.ensures.fault (check_answer c.args.format.now (g.H.Host.seen c.args.host.now).content)
 
 pub returns-in-Ok : goal.returns-in-Ok
 returns-in-Ok g c =
-    says_first (c.say_made.ensures.says (said_check c.args.format.now c.in-Ok.found) c.said_check.ensures) c.in-Ok.ensures.looks g.met.H.Host.tells_both
-    (λ tells answer e. (Ok c.in-Ok.found, c.in-Ok.ensures.found tells, e))
+    let content = (g.H.Host.seen c.args.host.now).content in
+    let goods = c.as_slice.result.now in
+    let same : goods ≡ c.in-Ok.goods.items = search rules in
+    says_first (c.say_made.ensures.says (said_check c.args.format.now goods c.in-Ok.found) c.said_check-text.ensures) c.in-Ok.ensures.looks g.met.H.Host.tells_both
+    (λ tells answer e. (
+      Ok c.in-Ok.found,
+      c.in-Ok.ensures.found tells,
+      counted_answer c.args.format.now content goods c.in-Ok.found answer
+          (subst (λ (l : List GoodCopies). AreCounted c.args.format.now content c.in-Ok.found.labels l) (sym same) (c.in-Ok.ensures.counted tells)) e,
+    ))
