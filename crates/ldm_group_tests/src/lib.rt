@@ -22,6 +22,8 @@ mod layout_columns;
 #[cfg(test)]
 mod made;
 #[cfg(test)]
+mod rescue;
+#[cfg(test)]
 mod rules;
 #[cfg(test)]
 mod sectors;

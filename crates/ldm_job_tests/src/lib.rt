@@ -30,6 +30,8 @@ mod repair;
 #[cfg(test)]
 mod sample;
 #[cfg(test)]
+mod scanning;
+#[cfg(test)]
 mod scripts;
 #[cfg(test)]
 mod stop;

@@ -13,6 +13,7 @@ ghost use Rattle.ldm_past.specs.PastWords.{reads_past, is_read_as};
 
 mod kept;
 mod over;
+mod scan;
 
 use kept::Kept;
 use ldm_bytes::NoMemory;
@@ -30,6 +31,7 @@ use ldm_repair::{Ran, repair, repair_images};
 use ldm_run::run;
 use ldm_words::{Job, Status, WordsError, read_words};
 use over::{group_of, has_option, opens_past};
+use scan::scan_files;
 use std::alloc::Global;
 use std::io;
 use std::io::{IsTerminal, Read, Write};
@@ -353,7 +355,8 @@ fn tell_waiting(rt: &HostRuntime, needs: Needs, terminals: Terminals) {
 
 // Opens the images that the command line names, and runs the words, which are those of the command
 // line or of its job that is to read past damage, over them and these streams. All images are open,
-// and locked where the job writes, before the first of its calls.
+// and locked where the job writes, before the first of its calls; `scan` goes on without those that
+// don't open.
 fn run_job<'a, I, O>(
     rt: &HostRuntime,
     line: &'a [String],
@@ -375,8 +378,11 @@ where
         Err(WordsError::NoMemory) => return Err(Stop::NoMemory(Written::Never)),
         Ok(read) => read,
     };
-    let needs = needs_of(&job);
     let names = &line[line.len() - count..];
+    if let Job::Scan(format) = &job {
+        return scan_files(rt, names, format, input, output);
+    }
+    let needs = needs_of(&job);
     let unwritten = written_by(needs, false, None);
     let images = open_held(rt, names, needs)?;
     if let Err(error) = try_output(needs, &mut output) {

@@ -257,6 +257,26 @@ fn opens_nothing_but_files_and_block_devices(rt: HostRuntime) -> Result<(), Fail
     Ok(())
 }
 
+// What scan says of an image, of nothing, of a folder, and of one image more.
+const SCANNED: &[u8] = b"\
+image 0 group Dg0 aaaaaaaa-aaaa-aaaa-aaaa-aaaaaaaaaaaa disk Disk1 11111111-1111-1111-1111-111111111111 sequence 7
+image 1 cannot open: there is no such file
+image 2 cannot open: it is a directory, and neither a regular file nor a block device
+image 3 group Dg0 aaaaaaaa-aaaa-aaaa-aaaa-aaaaaaaaaaaa disk Disk3 33333333-3333-3333-3333-333333333333 sequence 7
+";
+
+#[test]
+fn scans_past_images_that_do_not_open(rt: HostRuntime) -> Result<(), Fail> {
+    let folder = sample_folder(&rt, "past")?;
+    let names = ["a.img", "missing", ".", "c.img"];
+    let end = run_on(&rt, "scan", &folder, &names, b"")?;
+    assert_eq!(rt; end.status, Status::Done);
+    assert_eq!(rt; end.said.as_slice(), SCANNED);
+    assert_eq!(rt; end.error.as_str(), "");
+    fs::remove_dir_all(&rt, &folder)?;
+    Ok(())
+}
+
 // Opens a file of these bytes, for writing too.
 fn file_of(
     rt: &HostRuntime,

@@ -1,0 +1,6 @@
+pub mod ListLaws
+pub mod SourceLaws
+pub mod RescueLaws
+pub mod DumpLaws
+pub mod LossLaws
+pub mod ToldLaws

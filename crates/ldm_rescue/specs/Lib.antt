@@ -1,0 +1,3 @@
+pub mod Rescued
+pub mod Losses
+pub mod Told

@@ -1,0 +1,4 @@
+pub mod LoneLaws
+pub mod FailLaws
+pub mod FindingLaws
+pub mod RunLaws

@@ -1,0 +1,5 @@
+pub mod Failed
+pub mod Findings
+pub mod LoneSeen
+pub mod Start
+pub mod Laws
