@@ -122,6 +122,48 @@ class Images(Case):
         self.misread(self.ldm("disk on", NOT_UTF8), why)
 
 
+LINE = "image {} group Dg0 aaaaaaaa-aaaa-aaaa-aaaa-aaaaaaaaaaaa disk Disk1 11111111-1111-1111-1111-111111111111 sequence 7\n"
+# A regular file that is shorter than the system says, so that a read of it fails.
+UNREAD = "/sys/kernel/uevent_seqnum"
+
+
+class Scans(Case):
+    """Images that don't open or can't be read, beside others that a scan looks at."""
+
+    needs = (needs.a_program,)
+
+    @classmethod
+    def furnish(cls):
+        rooms.lay_images(cls.first, cls.room)
+
+    @rows(
+        ("scan goes on past a missing file", "missing.img", MISSING),
+        ("scan goes on past a directory", "folder", not_disk("a directory")),
+        ("scan goes on past a named pipe with no writer", "pipe", not_disk("a pipe")),
+    )
+    def goes_on(self, path, why):
+        """What doesn't open has its line, and so have the images before it and behind it."""
+        said = LINE.format(0) + f"image 1 cannot open: {why}\n" + LINE.format(2)
+        self.ends(self.ldm("scan on a.img", path, "a.img"), 0, said)
+
+    @case("scan has no image that opens")
+    def none_opens(self):
+        """Nothing is left to look at, and that is no fault."""
+        said = "".join(f"image {number} cannot open: {MISSING}\n" for number in range(2))
+        self.ends(self.ldm("scan on missing.img dangling.img"), 0, said)
+
+    @case("scan goes on past an image that can't be read")
+    def unread(self):
+        """The line says that it can't be read, and standard error which read failed."""
+        if not os.path.exists(UNREAD):
+            self.skipTest(f"no {UNREAD}")
+        ending = self.ran(self.ldm("scan on missing.img", UNREAD, "a.img"))
+        told = ending.err.decode()
+        self.is_ending(ending._replace(err=b""), 0, f"image 0 cannot open: {MISSING}\nimage 1 cannot read\n" + LINE.format(2))
+        front = f"ldm: disk fault: image 1 ({UNREAD}): read of sectors "
+        self.judge([] if told.startswith(front) else [f"standard error was {told!r}"])
+
+
 # The forms of the jobs that read images, as the help says them.
 FORMS = (
     "disk on IMAGE",
