@@ -1,17 +1,16 @@
 -- There is one answer to what is damaged.
-use Rattle.std.proofs.Common.{◌≡◌, ◌<◌, ℕ, List, [], ◌∷◌, Option, Some, None, Result, Ok, Err, Bool, true, false, is_ok, nat_lt, if◌then◌else◌, length, get_or, refl, sym, ◌∙◌, ap, subst, arith}
+use Rattle.std.proofs.Common.{◌≡◌, ◌<◌, ℕ, List, [], ◌∷◌, Option, Some, None, Result, Ok, Err, Bool, true, false, is_ok, if◌then◌else◌, length, get_or, refl, sym, ◌∙◌, ap, subst, arith}
 use Rattle.std.proofs.lemmas.List.{same_lists}
 use Rattle.std.proofs.lemmas.Option.{slice_get-get_or, same_Some}
 use Rattle.ldm_host.specs.Seen.{image}
 use Rattle.ldm_label.specs.declared.Label.{Label}
 use Rattle.ldm_label.specs.declared.LabelFault.{LabelFault}
-use Rattle.ldm_label.specs.Fields.{sectors_of}
 use Rattle.ldm_label.specs.LabelOf.{label_of}
 use Rattle.ldm_copy.specs.declared.answer.CopyFault.{CopyFault}
 use Rattle.ldm_copy.specs.Copy.{config_area}
 use Rattle.ldm_copy.proofs.OneCopy.{one_copy}
 use Rattle.ldm_damage.specs.Passing.{IsFaultOfCopy, IsPassed, shut_by}
-use Rattle.ldm_damage.specs.Mending.{first_labelled, mended, mended_by, mended_fault, tries}
+use Rattle.ldm_damage.specs.Mending.{first_labelled, is_left, mended, mended_by, mended_fault, tries}
 use Rattle.ldm_damage.specs.Views.{IsDamage, no_damage}
 use Rattle.ldm_damage.specs.declared.damage.Damage.{Damage}
 use Rattle.ldm_damage.specs.Laws.{PlainIsShown, OneDamage}
@@ -41,21 +40,21 @@ first_of_none (view ∷ more) bytes fault none = by_label (first_of_none more by
 -- an image with a label is its mended view
 pub labelled_stays : (bytes : List ℕ) (label : Label) → label_of bytes ≡ Ok label → mended bytes ≡ bytes
 unfolding mended
-labelled_stays bytes label is = by_size (nat_lt (sectors_of bytes) 2055)
+labelled_stays bytes label is = by_left (is_left bytes)
   where
-    by_size : (few : Bool) → (if few then bytes else first_labelled (bytes ∷ tries bytes) bytes) ≡ bytes
-    by_size true = refl
-    by_size false = ap (λ (l : Result Label LabelFault). if is_ok l then bytes else first_labelled (tries bytes) bytes) is
+    by_left : (left : Bool) → (if left then bytes else first_labelled (bytes ∷ tries bytes) bytes) ≡ bytes
+    by_left true = refl
+    by_left false = ap (λ (l : Result Label LabelFault). if is_ok l then bytes else first_labelled (tries bytes) bytes) is
 
 -- an image whose label can't be mended is its own mended view too
 pub unlabelled_stays : (bytes : List ℕ) (fault : LabelFault) → label_of (mended bytes) ≡ Err fault → mended bytes ≡ bytes
 unfolding mended
-unlabelled_stays bytes fault = by_size (nat_lt (sectors_of bytes) 2055)
+unlabelled_stays bytes fault = by_left (is_left bytes)
   where
-    by_size : (few : Bool) → label_of (if few then bytes else first_labelled (bytes ∷ tries bytes) bytes) ≡ Err fault
-        → (if few then bytes else first_labelled (bytes ∷ tries bytes) bytes) ≡ bytes
-    by_size true none = refl
-    by_size false none = first_of_none (bytes ∷ tries bytes) bytes fault none
+    by_left : (left : Bool) → label_of (if left then bytes else first_labelled (bytes ∷ tries bytes) bytes) ≡ Err fault
+        → (if left then bytes else first_labelled (bytes ∷ tries bytes) bytes) ≡ bytes
+    by_left true none = refl
+    by_left false none = first_of_none (bytes ∷ tries bytes) bytes fault none
 
 unmended : (bytes : List ℕ) → mended_fault bytes ≡ None → mended bytes ≡ bytes
 unmended bytes none = by_labels (label_of bytes) (label_of (mended bytes)) refl refl none

@@ -1,5 +1,5 @@
 -- Views that are tried for a label.
-use Rattle.std.proofs.Common.{◌≡◌, ℕ, ◌-◌, ◌*◌, nat_lt, List, [], ◌∷◌, Option, Some, None, Result, Ok, Err, IfOk, Bool, true, false, is_ok, length, if◌then◌else◌, refl, sym, ◌∙◌, ap, subst}
+use Rattle.std.proofs.Common.{◌≡◌, ℕ, ◌-◌, ◌*◌, List, [], ◌∷◌, Option, Some, None, Result, Ok, Err, IfOk, Bool, true, false, is_ok, length, if◌then◌else◌, refl, sym, ◌∙◌, ap, subst}
 use Rattle.std.specs.Prelude.{All}
 use Rattle.std.proofs.lemmas.List.Elements.{All-nil, All-cons, All-head, All-tail}
 use Rattle.ldm_label.specs.declared.Label.{Label}
@@ -13,7 +13,7 @@ use Rattle.ldm_damage.specs.declared.error.DamageError.{DamageError}
 use Rattle.ldm_damage.specs.Passing.{IsFaultOfCopy, IsPassed, shut_by}
 use Rattle.ldm_damage.specs.Views.{IsDamage}
 use Rattle.ldm_damage.specs.declared.mending.Mended.{Mended}
-use Rattle.ldm_damage.specs.Mending.{first_labelled, header_tries, lacks_header, mended, mended_by, tries, with_mbr}
+use Rattle.ldm_damage.specs.Mending.{first_labelled, header_tries, lacks_header, is_left, mended, mended_by, tries, with_mbr}
 use Rattle.ldm_damage.specs.Trying.{IsTried, IsMended, headed}
 use Rattle.ldm_damage.proofs.DamageLaws.{labelled_stays}
 
@@ -49,10 +49,10 @@ first_of_unlabelled (view ∷ more) other all = chosen view more other false (Al
 
 -- ---- labels that are mended
 
-mended_is : (bytes : List ℕ) (fault : LabelFault) → label_of bytes ≡ Err fault → nat_lt (sectors_of bytes) 2055 ≡ false → mended bytes ≡ first_labelled (tries bytes) bytes
+mended_is : (bytes : List ℕ) (fault : LabelFault) → label_of bytes ≡ Err fault → is_left bytes ≡ false → mended bytes ≡ first_labelled (tries bytes) bytes
 unfolding mended
-mended_is bytes fault is many =
-    ap (λ (b : Bool). if b then bytes else first_labelled (bytes ∷ tries bytes) bytes) many
+mended_is bytes fault is mbr =
+    ap (λ (b : Bool). if b then bytes else first_labelled (bytes ∷ tries bytes) bytes) mbr
     ∙ chosen bytes (tries bytes) bytes false (ap is_ok is)
 
 -- a label that stays as it is
@@ -70,27 +70,27 @@ stays bytes view m label same stay is told none = record {
 pub stays_labelled : (bytes view : List ℕ) (m : Mended) (label : Label) → view ≡ bytes → label_of bytes ≡ Ok label → m.label ≡ Ok label → m.fault ≡ None → IsMended bytes m view
 stays_labelled bytes view m label same is told none = stays bytes view m (Ok label) same (labelled_stays bytes label is) is told none
 
-pub stays_short : (bytes view : List ℕ) (m : Mended) (fault : LabelFault) → view ≡ bytes → nat_lt (sectors_of bytes) 2055 ≡ true → label_of bytes ≡ Err fault → m.label ≡ Err fault → m.fault ≡ None
+pub stays_left : (bytes view : List ℕ) (m : Mended) (fault : LabelFault) → view ≡ bytes → is_left bytes ≡ true → label_of bytes ≡ Err fault → m.label ≡ Err fault → m.fault ≡ None
     → IsMended bytes m view
 unfolding mended
-stays_short bytes view m fault same few is told none =
-    stays bytes view m (Err fault) same (ap (λ (b : Bool). if b then bytes else first_labelled (bytes ∷ tries bytes) bytes) few) is told none
+stays_left bytes view m fault same left is told none =
+    stays bytes view m (Err fault) same (ap (λ (b : Bool). if b then bytes else first_labelled (bytes ∷ tries bytes) bytes) left) is told none
 
-pub stays_unmended : (bytes before after view : List ℕ) (m : Mended) (fault : LabelFault) → view ≡ bytes → nat_lt (sectors_of bytes) 2055 ≡ false → label_of bytes ≡ Err fault
+pub stays_unmended : (bytes before after view : List ℕ) (m : Mended) (fault : LabelFault) → view ≡ bytes → is_left bytes ≡ false → label_of bytes ≡ Err fault
     → IsTried (tries bytes) before None after → m.label ≡ Err fault → m.fault ≡ None → IsMended bytes m view
-stays_unmended bytes before after view m fault same many is tried told none =
-    stays bytes view m (Err fault) same (mended_is bytes fault is many ∙ first_of_unlabelled (tries bytes) bytes tried.1) is told none
+stays_unmended bytes before after view m fault same mbr is tried told none =
+    stays bytes view m (Err fault) same (mended_is bytes fault is mbr ∙ first_of_unlabelled (tries bytes) bytes tried.1) is told none
 
-pub is_mended : (bytes before view : List ℕ) (m : Mended) (fault : LabelFault) (label : Label) → nat_lt (sectors_of bytes) 2055 ≡ false → label_of bytes ≡ Err fault
+pub is_mended : (bytes before view : List ℕ) (m : Mended) (fault : LabelFault) (label : Label) → is_left bytes ≡ false → label_of bytes ≡ Err fault
     → IsTried (tries bytes) before (Some label) view → m.label ≡ Ok label → m.fault ≡ Some fault → IsMended bytes m view
-is_mended bytes before view m fault label many is tried told some = record {
+is_mended bytes before view m fault label mbr is tried told some = record {
   shows = sym there;
   label = told ∙ sym (ap label_of there ∙ tried.1);
   fault = some ∙ sym (ap (λ (l : Result Label LabelFault). mended_by l (label_of (mended bytes))) is ∙ ap (mended_by (Err fault)) (ap label_of there ∙ tried.1));
 }
   where
     there : mended bytes ≡ view
-    there = mended_is bytes fault is many ∙ tried.0 bytes
+    there = mended_is bytes fault is mbr ∙ tried.0 bytes
 
 -- more views behind one that has a label
 pub tried_more : (view : List ℕ) (more : List (List ℕ)) (before : List ℕ) (label : Label) (after : List ℕ) → IsTried (view ∷ []) before (Some label) after

@@ -1,10 +1,10 @@
--- The view of an image that mends its label: the MBR, and copy 1 of the private header in sector 6, where these are damaged. Copies 2
+-- The view of an image that mends the label of an MBR disk: the MBR, and copy 1 of the private header in sector 6, where these are damaged. Copies 2
 -- and 3 of the private header are in sectors 1856 and 2047 of the database, which has 2048 sectors and mostly ends with the disk.
-use Rattle.std.specs.Prelude.{ℕ, ◌-◌, ◌*◌, nat_lt, Bool, true, false, List, [], ◌∷◌, Option, Some, None, Result, Ok, Err, is_ok, if◌then◌else◌}
+use Rattle.std.specs.Prelude.{ℕ, ◌-◌, ◌*◌, nat_lt, ◌||◌, Bool, true, false, List, [], ◌∷◌, Option, Some, None, Result, Ok, Err, is_ok, if◌then◌else◌}
 use Rattle.ldm_label.specs.declared.Label.{Label}
 use Rattle.ldm_label.specs.declared.LabelFault.{LabelFault}
 use Rattle.ldm_label.specs.declared.LabelFault.TheVariants.{NoPrivhead, Version, DatabaseSize, Range, Guid}
-use Rattle.ldm_label.specs.Fields.{sectors_of, sector}
+use Rattle.ldm_label.specs.Fields.{sectors_of, sector, is_protective}
 use Rattle.ldm_label.specs.LabelOf.{label_of}
 use Rattle.ldm_view.specs.Patches.{laid}
 
@@ -38,10 +38,14 @@ abbrev pub first_labelled : List (List ℕ) → List ℕ → List ℕ
 first_labelled [] image = image
 first_labelled (view ∷ more) image = if is_ok (label_of view) then view else first_labelled more image
 
--- An image that has a label is left as it is, and so is one for which no try has one. No image of fewer than 2055 sectors has one:
--- the database begins behind sector 6.
+-- An image of fewer than 2055 sectors isn't tried, since none has a label: the database begins behind sector 6. Nor is one with a
+-- protective MBR: it is a GPT disk, which may still have private headers of the MBR disk that it was.
+abbrev pub is_left : List ℕ → Bool
+is_left image = nat_lt (sectors_of image) 2055 || is_protective (sector image 0)
+
+-- An image that has a label is left as it is, and so is one for which no try has one.
 unfoldable pub mended : List ℕ → List ℕ
-mended image = if nat_lt (sectors_of image) 2055 then image else first_labelled (image ∷ tries image) image
+mended image = if is_left image then image else first_labelled (image ∷ tries image) image
 
 -- the fault of the first label, where the second is a label
 abbrev pub mended_by : Result Label LabelFault → Result Label LabelFault → Option LabelFault

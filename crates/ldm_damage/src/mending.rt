@@ -1,19 +1,19 @@
 //! Labels that are mended.
-ghost use Rattle.std.specs.Prelude.{◌≡◌, ◌≢◌, ◌+◌, ◌*◌, ◌<◌, ◌≤◌, ◌∷◌, [], ℕ, List, Err};
+ghost use Rattle.std.specs.Prelude.{◌≡◌, ◌≢◌, ◌+◌, ◌*◌, ◌<◌, ◌≤◌, ◌∷◌, [], ℕ, List, Err, false};
 ghost use Rattle.std.specs.Prelude.{length, slice_index, IfOk, OnOk, IsErrOf, IfSome, if◌then◌else◌};
 ghost use Rattle.ldm_host.specs.Moves.{Looks};
 ghost use Rattle.ldm_host.specs.Seen.{image};
-ghost use Rattle.ldm_label.specs.Fields.{sector};
+ghost use Rattle.ldm_label.specs.Fields.{sector, is_protective};
 ghost use Rattle.ldm_label.specs.LabelOf.{label_of, Fits};
 ghost use Rattle.ldm_view.specs.Patches.{laid, patched};
 ghost use Rattle.ldm_damage.specs.Looked.{Looked};
-ghost use Rattle.ldm_damage.specs.Mending.{lacks_header, tries, with_mbr};
+ghost use Rattle.ldm_damage.specs.Mending.{is_left, lacks_header, tries, with_mbr};
 ghost use Rattle.ldm_damage.specs.Trying.{AddsPatches, IsTried, IsMended, headed};
 
 use crate::error::DamageError;
 use crate::labels::label_shown;
 use ldm_host::Host;
-use ldm_label::{Label, LabelFault};
+use ldm_label::{Label, LabelFault, is_protective};
 use ldm_view::{Patch, Patched};
 use std::alloc::Global;
 
@@ -230,10 +230,72 @@ fn try_label<H: Host>(
     }
 }
 
+// That a disk has a protective MBR.
+fn has_protective_mbr<H: Host>(under: &mut Patched<H>, disk: usize) -> Result<bool, DamageError>
+    requires disk { disk < length (H.seen under.old.host).sizes }
+    requires room { 7 ≤ slice_index (H.seen under.old.host).sizes disk }
+    ensures is { H.tells_disks → IfOk result (λ protective. protective
+        ≡ is_protective (sector (image (H.seen under.old.host).content disk) 0)) }
+    ensures patches { under.new.patches.items ≡ under.old.patches.items }
+    ensures looks { Looks (H.seen under.old.host) (H.seen under.new.host)
+        (IsErrOf result DamageError.Disk) }
+{
+    let mut mbr = [0u8; 512];
+    under.read_under(disk, 0, &mut mbr)?;
+    Ok(is_protective(&mbr))
+}
+
+// Mends the label of an MBR disk without patches, which has this fault.
+fn mend_mbr_disk<H: Host>(
+    alloc: Global,
+    under: Patched<H>,
+    disk: usize,
+    fault: LabelFault,
+) -> (Patched<H>, Result<Mended, DamageError>)
+    requires disk { disk < length (H.seen under.host).sizes }
+    requires room { 2055 ≤ slice_index (H.seen under.host).sizes disk }
+    requires plain { (i : List ℕ) → patched under.patches.items disk i ≡ i }
+    ensures is { H.tells_disks → IfOk result.1 (λ m.
+        label_of (image (H.seen under.host).content disk) ≡ Err fault
+        → is_left (image (H.seen under.host).content disk) ≡ false
+        → IsMended (image (H.seen under.host).content disk) m
+        (patched result.0.patches.items disk (image (H.seen under.host).content disk))) }
+    ensures fits { IfOk result.1 (λ m. IfOk m.label (λ label.
+        Fits label (slice_index (H.seen under.host).sizes disk))) }
+    ensures others { IfOk result.1 (λ m. (d : ℕ) (i : List ℕ) → d ≢ disk
+        → patched result.0.patches.items d i ≡ patched under.patches.items d i) }
+    ensures looked { Looked (H.seen under.host) (H.seen result.0.host)
+        (IsErrOf result.1 DamageError.Disk) }
+{
+    let patches = under.patches.len();
+    let (mut under, found) = try_label(alloc, under, disk);
+    let label = match found {
+        Ok(label) => label,
+        Err(error) => return (under, Err(error)),
+    };
+    match label {
+        Some(label) => {
+            let mended = Mended {
+                label: Ok(label),
+                fault: Some(fault),
+            };
+            (under, Ok(mended))
+        }
+        None => {
+            under.keep(patches);
+            let left = Mended {
+                label: Err(fault),
+                fault: None,
+            };
+            (under, Ok(left))
+        }
+    }
+}
+
 // Mends the label of a disk without patches, which has this fault.
 fn mend_fault<H: Host>(
     alloc: Global,
-    under: Patched<H>,
+    mut under: Patched<H>,
     disk: usize,
     fault: LabelFault,
 ) -> (Patched<H>, Result<Mended, DamageError>)
@@ -258,24 +320,10 @@ fn mend_fault<H: Host>(
     if sectors < 2055 {
         return (under, Ok(left));
     }
-    let patches = under.patches.len();
-    let (mut under, found) = try_label(alloc, under, disk);
-    let label = match found {
-        Ok(label) => label,
-        Err(error) => return (under, Err(error)),
-    };
-    match label {
-        Some(label) => {
-            let mended = Mended {
-                label: Ok(label),
-                fault: Some(fault),
-            };
-            (under, Ok(mended))
-        }
-        None => {
-            under.keep(patches);
-            (under, Ok(left))
-        }
+    match has_protective_mbr(&mut under, disk) {
+        Ok(true) => (under, Ok(left)),
+        Ok(false) => mend_mbr_disk(alloc, under, disk, fault),
+        Err(error) => (under, Err(error)),
     }
 }
 

@@ -24,6 +24,7 @@ use Rattle.ldm_records.specs.declared.types.Record.TheVariants as kinds
 use Rattle.ldm_records.specs.declared.types.Volume.{Volume}
 use Rattle.ldm_records.specs.declared.types.Disk.{Disk}
 use Rattle.ldm_group.specs.Looks.{by_id, disk_in}
+use Rattle.ldm_label.specs.declared.Style.{Style}
 use Rattle.ldm_label.specs.declared.Label.{Label}
 use Rattle.ldm_label.specs.LabelOf.{Fits}
 use Rattle.ldm_places.proofs.SpotLaws.{none, sizes, least_at, place_by, some_same}
@@ -171,7 +172,7 @@ has_image found disk image is = go (disk_in (by_id 2 disk found.db.records)) ref
     go : (o : Option Disk) → disk_in (by_id 2 disk found.db.records) ≡ o → option_and_then (λ (d : Disk). image_with d.guid found.labels) o ≡ Some image → HasImage found disk image
     go None e h = absurd cc
     go (Some d) e h =
-        let some : Label = record { disk_guid = 0; minor = 0; data_start = 0; data_size = 0; config_start = 0; area_start = 0; area_sectors = 0; log_start = 0; log_sectors = 0 } in
+        let some : Label = record { style = Style.Mbr; disk_guid = 0; minor = 0; data_start = 0; data_size = 0; config_start = 0; area_start = 0; area_sectors = 0; log_start = 0; log_sectors = 0 } in
         let lt = (position-Some (has_guid d.guid) found.labels image some h).0 in
         let label : Label = get_or found.labels image some in
         let at : slice_get found.labels image ≡ Some label = slice_get-get_or found.labels image some lt in
@@ -206,12 +207,11 @@ spot_on found on component e o s sound lies part within is = go (image_of e.disk
         ap (λ (f : Extent). data_size found.labels found.db.records f.disk) part.is ∙ has.ends in
         let begin : p.start ≡ e.start = ap (λ (f : Extent). f.start) part.is in
         let long : p.size ≡ e.size = ap (λ (f : Extent). f.size) part.is in
-        let before = fits.before in
-        let inside = fits.inside in
+        let ends = fits.within in
         let there = has.within in
         let at_image : IsOn on (record { image = image; sector = data_start found.labels image + (e.start + o) }) = record {
           image = omega (arith, there, one);
-          sector = omega (arith, start, low, disk, begin, long, before, inside, within);
+          sector = omega (arith, start, low, disk, begin, long, ends, within);
         } in
         subst (λ (t : Spot). IsOn on t) same at_image
 
@@ -284,7 +284,7 @@ up_within (suc i) zero (x ∷ xs) lt = omega arith
 up_within (suc i) (suc j) (x ∷ xs) lt = (let rest = up_within i j xs (omega arith) in omega arith)
 
 some_label : Label
-some_label = record { disk_guid = 0; minor = 0; data_start = 0; data_size = 0; config_start = 0; area_start = 0; area_sectors = 0; log_start = 0; log_sectors = 0 }
+some_label = record { style = Style.Mbr; disk_guid = 0; minor = 0; data_start = 0; data_size = 0; config_start = 0; area_start = 0; area_sectors = 0; log_start = 0; log_sectors = 0 }
 
 -- the image of a disk is the one that has its label
 image_at : (labels : List Label) (k guid : ℕ) (label : Label) → slice_get labels k ≡ Some label → k < length labels → label.disk_guid ≡ guid → AreApart labels → image_with guid labels ≡ Some k

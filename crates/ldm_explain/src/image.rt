@@ -3,7 +3,7 @@ use crate::saying::path_line;
 use ldm_bytes::{NoMemory, get_u16, get_u64};
 use ldm_copy::CopyFault;
 use ldm_frags::FragFault;
-use ldm_label::LabelFault;
+use ldm_label::{LabelFault, is_protective};
 use ldm_payloads::RecordFault;
 use ldm_text::Text;
 use ldm_vmdb::VmdbFault;
@@ -32,7 +32,6 @@ fn entry_said(first: u8) -> (&'static str, [u64; 3]) {
             "% is a basic disk: the first entry of its MBR has the type 0x07, and none has 0x42",
             NONE,
         ),
-        0xEE => ("% is a GPT disk; ldm reads MBR disks only", NONE),
         _ => (
             "% is no dynamic disk: the first entry of its MBR has the type % (in decimal), and none has 0x42",
             [u64::from(first), 0, 0],
@@ -66,8 +65,71 @@ fn version_said(head: &[u8; 512]) -> (&'static str, [u64; 3]) {
     )
 }
 
+// What is said of an image whose GPT has this fault.
+fn gpt_said(fault: LabelFault) -> Option<&'static str> {
+    match fault {
+        LabelFault::NoGpt => Some(
+            "the MBR of % is that of a GPT disk, and sector 1 is no GPT header (EFI PART): was it overwritten?",
+        ),
+        LabelFault::GptSize => Some("the GPT header of % has a size that ldm doesn't read"),
+        LabelFault::GptChecksum => Some("the checksum of the GPT header of % is wrong"),
+        LabelFault::GptEntries => {
+            Some("the GPT of % has entries that don't have 128 bytes, or more than 1024")
+        }
+        LabelFault::GptRange => {
+            Some("the GPT header of % says sectors that don't fit the disk: is its end missing?")
+        }
+        LabelFault::EntriesChecksum => Some("the checksum of the entries of the GPT of % is wrong"),
+        LabelFault::NoMetadata => {
+            Some("% is a basic GPT disk: its GPT has no LDM metadata partition")
+        }
+        LabelFault::MetadataSize => {
+            Some("the LDM metadata partition of % doesn't have 2048 sectors")
+        }
+        LabelFault::MetadataRange => {
+            Some("the LDM metadata partition of % isn't in the usable sectors of its GPT")
+        }
+        _ => None,
+    }
+}
+
+// What is said of a GPT disk whose private header, in the last sector of the LDM metadata
+// partition, has this fault.
+fn header_on_gpt_said(fault: LabelFault) -> Option<&'static str> {
+    match fault {
+        LabelFault::NoPrivhead => Some(
+            "the last sector of the LDM metadata partition of % is no private header (PRIVHEAD): was it overwritten?",
+        ),
+        LabelFault::Version => {
+            Some(
+                "the private header of % has a version that ldm doesn't read; it reads 2.11 and 2.12",
+            )
+        }
+        LabelFault::DatabaseSize => {
+            Some("the private header of % says a database that doesn't have 2048 sectors")
+        }
+        LabelFault::Range => {
+            Some("the private header of % says data and a database that don't fit the GPT")
+        }
+        _ => None,
+    }
+}
+
 // What is said of an image without a label, where its path and three numbers stand.
 fn label_said(glimpse: &Glimpse, fault: LabelFault) -> (&'static str, [u64; 3]) {
+    if let Some(said) = gpt_said(fault) {
+        return (said, NONE);
+    }
+    if is_protective(&glimpse.mbr) {
+        if let Some(said) = header_on_gpt_said(fault) {
+            return (said, NONE);
+        }
+    }
+    mbr_label_said(glimpse, fault)
+}
+
+// What is said of an MBR disk without a label, and of faults that any disk may have.
+fn mbr_label_said(glimpse: &Glimpse, fault: LabelFault) -> (&'static str, [u64; 3]) {
     let (sectors, head) = (glimpse.sectors, &glimpse.head);
     match fault {
         LabelFault::Short => (
@@ -100,6 +162,15 @@ fn label_said(glimpse: &Glimpse, fault: LabelFault) -> (&'static str, [u64; 3]) 
             "the table of contents of % says an area that is empty or ends behind the database",
             NONE,
         ),
+        LabelFault::NoGpt
+        | LabelFault::GptSize
+        | LabelFault::GptChecksum
+        | LabelFault::GptEntries
+        | LabelFault::GptRange
+        | LabelFault::EntriesChecksum
+        | LabelFault::NoMetadata
+        | LabelFault::MetadataSize
+        | LabelFault::MetadataRange => ("the GPT of % can't be used", NONE),
     }
 }
 

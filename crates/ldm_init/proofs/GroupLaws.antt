@@ -1,5 +1,5 @@
 -- The records and the labels of a new group.
-use Rattle.std.proofs.Common.{[], ◌≡◌, ℕ, zero, suc, ◌+◌, ◌*◌, ◌^◌, ◌<◌, ◌≤◌, List, ◌∷◌, ◌++◌, length, slice_index, Contains, Option, Some, None, refl, sym, ap, subst, ◌∙◌, arith, decimal, map, slice_get, All}
+use Rattle.std.proofs.Common.{[], ◌≡◌, inl, ℕ, zero, suc, ◌+◌, ◌*◌, ◌^◌, ◌<◌, ◌≤◌, List, ◌∷◌, ◌++◌, length, slice_index, Contains, Option, Some, None, refl, sym, ap, subst, ◌∙◌, arith, decimal, map, slice_get, All}
 use Rattle.std.specs.Prelude.{codes, IsPermutation}
 use Rattle.std.specs.List.{filter_map, range_with_len}
 use Rattle.std.proofs.lemmas.Fmt.{length-decimal-le}
@@ -219,7 +219,9 @@ pub new_takes : (sectors guid : ℕ) (body : List ℕ) → 2112 ≤ sectors → 
 new_takes sectors guid body large writable size = record {
   fits = record {
     some_data = λ none. absurd (omega (arith, large, none));
-    before = omega (arith, large);
+    before = λ is. omega (arith, large);
+    apart = inl (omega (arith, large));
+    within = omega (arith, large);
     room = omega (arith, large);
     inside = omega (arith, large);
     some_area = λ none. absurd cc;

@@ -10,6 +10,8 @@ mod damaged;
 #[cfg(test)]
 mod edit;
 #[cfg(test)]
+mod gpt;
+#[cfg(test)]
 mod group;
 #[cfg(test)]
 mod handed;

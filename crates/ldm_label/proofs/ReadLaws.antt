@@ -1,5 +1,5 @@
 -- What the steps of reading a label find: tables of faults, headers, tables of contents, and the label that they make.
-use Rattle.std.proofs.Common.{◌≡◌, Bool, true, false, cond, List, [], ◌∷◌, ◌++◌, Option, Some, None, Result, Ok, Err, refl, IsErrAnd, IsErrOf, ap, ◌≢◌, ℕ, ◌+◌, ◌≤◌, ◌||◌, ◌∙◌, sym, ◌<◌, ◌&&◌, length, get_or, drop, arith, drop-cons, add-one, append_assoc}
+use Rattle.std.proofs.Common.{◌≡◌, Bool, true, false, cond, List, [], ◌∷◌, ◌++◌, Option, Some, None, Result, Ok, Err, refl, IsErrAnd, IsErrOf, ap, ◌≢◌, ℕ, ◌+◌, ◌≤◌, ◌||◌, ◌∙◌, sym, ◌<◌, ◌&&◌, length, get_or, drop, arith, drop-cons, add-one, append_assoc, ◌⊎◌, inl, inr}
 use Rattle.ldm_bytes.specs.Tables.{first_fault, unless}
 use Rattle.ldm_label.specs.declared.LabelFault.{LabelFault}
 use Rattle.ldm_label.specs.Answer.{answer, GivesUnlessDisk}
@@ -7,14 +7,16 @@ use Rattle.std.proofs.lemmas.Result.{err_from_is_err_and}
 use Rattle.ldm_label.specs.declared.LabelError.{LabelError}
 use Rattle.ldm_label.specs.declared.LabelError.TheVariants.{Fault, Disk}
 use Rattle.std.specs.Prelude.{nat_eq, nat_lt, not, is_none, is_some, unwrap_or, is_ok, slice_get}
-use Rattle.std.proofs.lemmas.Bool.{eqb-false, ltb-false, or_parts, eq-eqb, ne_eqb, lt-ltb, le-ltb}
+use Rattle.std.proofs.lemmas.Bool.{cases_lt, eqb-false, ltb-false, or_parts, eq-eqb, ne_eqb, lt-ltb, le-ltb}
 use Rattle.ldm_label.specs.declared.header.PrivateHeader.{PrivateHeader}
 use Rattle.ldm_label.specs.declared.toc.Toc.{Toc}
-use Rattle.ldm_label.specs.Fields.{is_out_of_range, is_out_of_database, is_privhead, has_version, config_size, disk_guid, header_of, same_header, sector, toc_of, same_toc, sectors_of}
-use Rattle.ldm_label.specs.Parts.{HeaderFits, TocFits, joined_tables, in_database}
-use Rattle.ldm_bytes.specs.Places.{u16_at, u64_at}
+use Rattle.ldm_label.specs.declared.Style.{Style}
+use Rattle.ldm_label.specs.declared.gpt.GptBounds.{GptBounds}
+use Rattle.ldm_label.specs.declared.table.Table.{Table}
+use Rattle.ldm_label.specs.Fields.{is_out_of_range, is_out_of_mbr, is_out_of_gpt, is_out_of_database, is_privhead, has_version, config_size, disk_guid, header_of, same_header, sector, toc_of, same_toc, sectors_of}
+use Rattle.ldm_label.specs.Parts.{GptFits, TableFits, HeaderFits, TocFits, joined_tables, in_database}
 use Rattle.ldm_label.specs.declared.LabelFault.TheVariants.{NoPrivhead, Version, DatabaseSize, Range, Guid, TocsDiffer, TocRange, Short}
-use Rattle.ldm_label.specs.LabelOf.{header_faults, differs, toc_faults, tocs_in, some_differ, first_toc, label_of, label_from, mbr_faults, copy_faults}
+use Rattle.ldm_label.specs.LabelOf.{header_faults, differs, toc_faults, tocs_in, some_differ, first_toc, label_of, label_from, table_faults, disk_table, table_style, header_at, copy_faults, AreSeparate}
 use Rattle.std.specs.List.{cons_option, filter_map, list_any}
 use Rattle.std.proofs.lemmas.List.{drop_all, append-nil}
 use Rattle.std.proofs.lemmas.Bool.Decides.{nat_tests}
@@ -112,11 +114,48 @@ in_range size start config n e =
     let first = or_parts (nat_eq size 0) (nat_lt config (start + size)) third.0 in
     (eqb-false size 0 first.0, ltb-false config (start + size) first.1, ltb-false config 7 third.1, ltb-false n (config + 2048) last.1)
 
-pub header_fits : (header : PrivateHeader) (n : ℕ) → is_out_of_range header n ≡ false → HeaderFits header n
-unfolding is_out_of_range
-header_fits header n e =
+mbr_fits : (header : PrivateHeader) (n : ℕ) → is_out_of_mbr header n ≡ false → HeaderFits header Style.Mbr n
+unfolding is_out_of_mbr
+mbr_fits header n e =
     let r = in_range header.data_size header.data_start header.config_start n e in
-    record { some_data = r.0; before = r.1; room = r.2; inside = r.3 }
+    record { some_data = r.0; before = λ _. r.1; apart = inl r.1; within = omega (arith, r.1, r.3); room = r.2; inside = r.3 }
+
+apart_by : (from to a b : ℕ) → (nat_lt from b && nat_lt a to) ≡ false → (b ≤ from) ⊎ (to ≤ a)
+apart_by from to a b e = elim (cases_lt from b) [ inl lt ↦ inr (grind (arith, nat_tests)) | inr ge ↦ inl ge ]
+
+pub in_bounds : (size start config first last metadata : ℕ)
+    → (nat_eq size 0 || not (nat_eq config metadata) || nat_lt start first || nat_lt (last + 1) (start + size) || (nat_lt config (start + size) && nat_lt start (config + 2048))) ≡ false
+    → (size ≢ 0) × (config ≡ metadata) × (first ≤ start) × (start + size ≤ last + 1) × AreSeparate start size config
+in_bounds size start config first last metadata e =
+    let fifth = or_parts (nat_eq size 0 || not (nat_eq config metadata) || nat_lt start first || nat_lt (last + 1) (start + size)) (nat_lt config (start + size) && nat_lt start (config + 2048)) e in
+    let fourth = or_parts (nat_eq size 0 || not (nat_eq config metadata) || nat_lt start first) (nat_lt (last + 1) (start + size)) fifth.0 in
+    let third = or_parts (nat_eq size 0 || not (nat_eq config metadata)) (nat_lt start first) fourth.0 in
+    let second = or_parts (nat_eq size 0) (not (nat_eq config metadata)) third.0 in
+    (eqb-false size 0 second.0, is config metadata second.1, ltb-false start first third.1, ltb-false (last + 1) (start + size) fourth.1, apart_by config (config + 2048) start (start + size) fifth.1)
+  where
+    is : (a b : ℕ) → not (nat_eq a b) ≡ false → a ≡ b
+    is a b h = grind (arith, nat_tests)
+
+gpt_fits : (header : PrivateHeader) (bounds : GptBounds) (n : ℕ) → GptFits bounds n → is_out_of_gpt header bounds ≡ false → HeaderFits header Style.Gpt n
+unfolding is_out_of_gpt
+gpt_fits header bounds n fits e =
+    let r = in_bounds header.data_size header.data_start header.config_start bounds.first_usable bounds.last_usable bounds.metadata e in
+    let first = fits.first in
+    let behind = fits.behind in
+    let before = fits.before in
+    let end = fits.end in
+    record {
+      some_data = r.0;
+      before = λ is. absurd (cc is);
+      apart = r.4;
+      within = omega (arith, r.3, end);
+      room = omega (arith, r.1, first, behind);
+      inside = omega (arith, r.1, before, end);
+    }
+
+pub header_fits : (header : PrivateHeader) (table : Table) (n : ℕ) → TableFits table n → is_out_of_range header table n ≡ false → HeaderFits header (table_style table) n
+header_fits header Table.Mbr n fits e = mbr_fits header n e
+header_fits header (Table.Gpt bounds) n fits e = gpt_fits header bounds n fits e
 
 in_database_by : (sectors start size log : ℕ)
     → (nat_eq sectors 0 || nat_lt 2048 (start + sectors) || nat_lt 2048 (log + size)) ≡ false
@@ -134,62 +173,50 @@ toc_fits toc e =
 
 -- ---- The first fault of a private header, by its tests.
 
--- the values that were read one by one
-pub header_is : (head : List ℕ) (guid : Option ℕ) (own minor start size config : ℕ) → guid ≡ disk_guid head → own ≡ unwrap_or guid 0 → minor ≡ u16_at head 0x0E
-    → start ≡ u64_at head 0x11B → size ≡ u64_at head 0x123 → config ≡ u64_at head 0x12B
-    → record { disk_guid = own; minor = minor; data_start = start; data_size = size; config_start = config } ≡ header_of head
-header_is head guid own minor start size config guid_is own_is minor_is start_is size_is config_is =
-    λ i. record { disk_guid = (own_is ∙ ap (λ (o : Option ℕ). unwrap_or o 0) guid_is) i; minor = minor_is i; data_start = start_is i; data_size = size_is i; config_start = config_is i }
-
 pub none_is : (guid : Option ℕ) (none : Bool) → is_some guid ≡ not none → is_none guid ≡ none
 none_is (Some g) true e = absurd cc
 none_is (Some g) false e = refl
 none_is None true e = refl
 none_is None false e = absurd cc
 
-module _ {A : Type 0} (head : List ℕ) (n : ℕ) (value : A) where
-  pub no_magic : is_privhead head ≡ false → answer (header_faults head n) value ≡ Err NoPrivhead
+module _ {A : Type 0} (head : List ℕ) (table : Table) (n : ℕ) (value : A) where
+  pub no_magic : is_privhead head ≡ false → answer (header_faults head table n) value ≡ Err NoPrivhead
   unfolding header_faults
   no_magic magic = rw magic refl
 
   module _ (magic : is_privhead head ≡ true) where
-    pub no_version : has_version head ≡ false → answer (header_faults head n) value ≡ Err Version
+    pub no_version : has_version head ≡ false → answer (header_faults head table n) value ≡ Err Version
     unfolding header_faults
     no_version version = rw (magic, version) refl
 
     module _ (version : has_version head ≡ true) where
-      pub no_size : config_size head ≢ 2048 → answer (header_faults head n) value ≡ Err DatabaseSize
+      pub no_size : config_size head ≢ 2048 → answer (header_faults head table n) value ≡ Err DatabaseSize
       unfolding header_faults
       no_size size = let other = ne_eqb (config_size head) 2048 size in rw (magic, version, other) refl
 
       module _ (size : config_size head ≡ 2048) where
-        pub no_range : is_out_of_range (header_of head) n ≡ true → answer (header_faults head n) value ≡ Err Range
+        pub no_range : is_out_of_range (header_of head) table n ≡ true → answer (header_faults head table n) value ≡ Err Range
         unfolding header_faults
         no_range range = let same = eq-eqb (config_size head) 2048 size in rw (magic, version, same, range) refl
 
-        pub by_guid : is_out_of_range (header_of head) n ≡ false → (none : Bool) → is_none (disk_guid head) ≡ none → answer (header_faults head n) value ≡ answer ((Guid, none) ∷ []) value
+        pub by_guid : is_out_of_range (header_of head) table n ≡ false → (none : Bool) → is_none (disk_guid head) ≡ none → answer (header_faults head table n) value ≡ answer ((Guid, none) ∷ []) value
         unfolding header_faults
         by_guid range none guid = let same = eq-eqb (config_size head) 2048 size in rw (magic, version, same, range, guid) refl
 
 -- ---- What copies 2 and 3 of the private header say.
 
-pub good_differs : (header other : PrivateHeader) (copy : List ℕ) (n : ℕ) → Ok other ≡ answer (header_faults copy n) (header_of copy)
-    → not (same_header header other) ≡ differs header copy n
+pub good_differs : (header other : PrivateHeader) (copy : List ℕ) (table : Table) (n : ℕ) → Ok other ≡ answer (header_faults copy table n) (header_of copy)
+    → not (same_header header other) ≡ differs header copy table n
 unfolding differs
-good_differs header other copy n e =
-    let good : is_ok (answer (header_faults copy n) (header_of copy)) ≡ true = ap (λ (r : Result PrivateHeader LabelFault). is_ok r) (sym e) in
-    let value : header_of copy ≡ other = ok_value (header_faults copy n) (header_of copy) other (sym e) in
+good_differs header other copy table n e =
+    let good : is_ok (answer (header_faults copy table n) (header_of copy)) ≡ true = ap (λ (r : Result PrivateHeader LabelFault). is_ok r) (sym e) in
+    let value : header_of copy ≡ other = ok_value (header_faults copy table n) (header_of copy) other (sym e) in
     rw (good, value) refl
 
 -- the bytes that were read are those of the disk
-pub copy_there : (header : PrivateHeader) (read copy : List ℕ) (n m : ℕ) (r there : Bool)
-    → r ≡ differs header read n → read ≡ copy → n ≡ m → r ≡ there → differs header copy m ≡ there
-copy_there header read copy n m r there e bytes size is = cc
-
--- a header that was read has no fault just where the disk's has none
-pub good_there : (read head : List ℕ) (n m : ℕ) (good : Bool) → read ≡ head → n ≡ m
-    → good ≡ is_ok (answer (header_faults read n) (header_of read)) → good ≡ is_ok (answer (header_faults head m) (header_of head))
-good_there read head n m good bytes size is = rw (← bytes, ← size) is
+pub copy_there : (header : PrivateHeader) (table : Table) (read copy : List ℕ) (n m : ℕ) (r there : Bool)
+    → r ≡ differs header read table n → read ≡ copy → n ≡ m → r ≡ there → differs header copy table m ≡ there
+copy_there header table read copy n m r there e bytes size is = cc
 
 -- ---- What the tables of contents that parse say together.
 
@@ -415,48 +442,69 @@ past_short : {A : Type 0} (n : ℕ) (rows : List (LabelFault × Bool)) (value : 
 past_short n rows value long = rw (le-ltb n 7 long) refl
 
 module _ (image : List ℕ) (long : 7 ≤ sectors_of image) where
-  abbrev header : PrivateHeader
-  header = header_of (sector image 6)
+  abbrev head : Table → List ℕ
+  head table = sector image (header_at table)
 
-  abbrev head_faults : List (LabelFault × Bool)
-  head_faults = mbr_faults (sector image 0) ++ header_faults (sector image 6) (sectors_of image)
+  abbrev header : Table → PrivateHeader
+  header table = header_of (head table)
+
+  abbrev rows : Table → List (LabelFault × Bool)
+  rows table = header_faults (head table) table (sectors_of image)
 
   -- the values of the tables of contents, and the label, behind that header
   abbrev tocs : PrivateHeader → List Toc
   tocs read = tocs_in read.config_start image
 
-  abbrev label : PrivateHeader → Label
-  label read = label_from read (first_toc (tocs read))
+  abbrev label : Table → PrivateHeader → Label
+  label table read = label_from (table_style table) read (first_toc (tocs read))
 
-  abbrev rest : PrivateHeader → List (LabelFault × Bool)
-  rest read = copy_faults read image ++ toc_faults (tocs read)
+  abbrev rest : Table → PrivateHeader → List (LabelFault × Bool)
+  rest table read = copy_faults read table image ++ toc_faults (tocs read)
 
-  long_label : label_of image ≡ answer (head_faults ++ rest header) (label header)
+  -- the rows behind those of the table of partitions
+  abbrev behind : Table → List (LabelFault × Bool)
+  behind table = rows table ++ rest table (header table)
+
+  long_label : label_of image ≡ answer (table_faults image ++ behind (disk_table image)) (label (disk_table image) (header (disk_table image)))
   unfolding label_of
-  long_label = past_short (sectors_of image) (head_faults ++ copy_faults header image ++ toc_faults (tocs header)) (label header) long
-      ∙ ap (λ (l : List (LabelFault × Bool)). answer l (label header)) (append_assoc head_faults (copy_faults header image) (toc_faults (tocs header)))
+  long_label =
+      let t = disk_table image in
+      let copies = copy_faults (header t) t image in
+      let tables = toc_faults (tocs (header t)) in
+      past_short (sectors_of image) (table_faults image ++ rows t ++ copies ++ tables) (label t (header t)) long
+      ∙ ap (λ (l : List (LabelFault × Bool)). answer l (label t (header t)))
+      (append_assoc (table_faults image ++ rows t) copies tables ∙ append_assoc (table_faults image) (rows t) (copies ++ tables))
 
-  pub header_err : (fault : LabelFault) → answer head_faults header ≡ Err fault → label_of image ≡ Err fault
-  header_err fault e = long_label ∙ front_err head_faults (rest header) header (label header) fault e
+  pub table_err : (fault : LabelFault) → answer (table_faults image) (disk_table image) ≡ Err fault → label_of image ≡ Err fault
+  table_err fault e = long_label ∙ front_err (table_faults image) (behind (disk_table image)) (disk_table image) (label (disk_table image) (header (disk_table image))) fault e
 
-  module _ (read : PrivateHeader) (good : answer head_faults header ≡ Ok read) where
-    past_header : label_of image ≡ answer (rest read) (label read)
-    past_header = long_label ∙ front_ok head_faults (rest header) header read (label header) good
-        ∙ ap (λ (h : PrivateHeader). answer (rest h) (label h)) (ok_value head_faults header read good)
+  module _ (table : Table) (found : answer (table_faults image) (disk_table image) ≡ Ok table) where
+    past_table : label_of image ≡ answer (behind table) (label table (header table))
+    past_table = long_label
+        ∙ front_ok (table_faults image) (behind (disk_table image)) (disk_table image) table (label (disk_table image) (header (disk_table image))) found
+        ∙ ap (λ (t : Table). answer (behind t) (label t (header t))) (ok_value (table_faults image) (disk_table image) table found)
 
-    pub copies_err : (fault : LabelFault) → answer {A = Unit {0}} (copy_faults read image) tt ≡ Err fault → label_of image ≡ Err fault
-    copies_err fault e = past_header ∙ front_err (copy_faults read image) (toc_faults (tocs read)) tt (label read) fault e
+    pub header_err : (fault : LabelFault) → answer (rows table) (header table) ≡ Err fault → label_of image ≡ Err fault
+    header_err fault e = past_table ∙ front_err (rows table) (rest table (header table)) (header table) (label table (header table)) fault e
 
-    module _ (agree : answer {A = Unit {0}} (copy_faults read image) tt ≡ Ok tt) where
-      past_copies : label_of image ≡ answer (toc_faults (tocs read)) (label read)
-      past_copies = past_header ∙ front_ok (copy_faults read image) (toc_faults (tocs read)) tt tt (label read) agree
+    module _ (read : PrivateHeader) (good : answer (rows table) (header table) ≡ Ok read) where
+      past_header : label_of image ≡ answer (rest table read) (label table read)
+      past_header = past_table ∙ front_ok (rows table) (rest table (header table)) (header table) read (label table (header table)) good
+          ∙ ap (λ (h : PrivateHeader). answer (rest table h) (label table h)) (ok_value (rows table) (header table) read good)
 
-      pub tables_err : (fault : LabelFault)
-          → answer (toc_faults (tocs read)) (first_toc (tocs read)) ≡ Err fault
-          → label_of image ≡ Err fault
-      tables_err fault e = past_copies ∙ without_value (toc_faults (tocs read))
-          (first_toc (tocs read)) (label read) fault e
+      pub copies_err : (fault : LabelFault) → answer {A = Unit {0}} (copy_faults read table image) tt ≡ Err fault → label_of image ≡ Err fault
+      copies_err fault e = past_header ∙ front_err (copy_faults read table image) (toc_faults (tocs read)) tt (label table read) fault e
 
-      pub label_is : (toc : Toc) → answer (toc_faults (tocs read)) (first_toc (tocs read)) ≡ Ok toc → label_of image ≡ Ok (label_from read toc)
-      label_is toc e = past_copies ∙ with_value (toc_faults (tocs read)) (first_toc (tocs read)) toc (label read) e
-          ∙ ap (λ (t : Toc). Ok (label_from read t)) (ok_value (toc_faults (tocs read)) (first_toc (tocs read)) toc e)
+      module _ (agree : answer {A = Unit {0}} (copy_faults read table image) tt ≡ Ok tt) where
+        past_copies : label_of image ≡ answer (toc_faults (tocs read)) (label table read)
+        past_copies = past_header ∙ front_ok (copy_faults read table image) (toc_faults (tocs read)) tt tt (label table read) agree
+
+        pub tables_err : (fault : LabelFault)
+            → answer (toc_faults (tocs read)) (first_toc (tocs read)) ≡ Err fault
+            → label_of image ≡ Err fault
+        tables_err fault e = past_copies ∙ without_value (toc_faults (tocs read))
+            (first_toc (tocs read)) (label table read) fault e
+
+        pub label_is : (toc : Toc) → answer (toc_faults (tocs read)) (first_toc (tocs read)) ≡ Ok toc → label_of image ≡ Ok (label_from (table_style table) read toc)
+        label_is toc e = past_copies ∙ with_value (toc_faults (tocs read)) (first_toc (tocs read)) toc (label table read) e
+            ∙ ap (λ (t : Toc). Ok (label_from (table_style table) read t)) (ok_value (toc_faults (tocs read)) (first_toc (tocs read)) toc e)

@@ -1,16 +1,18 @@
 -- What the written sectors of a label say, that an image which has them reads as the label, and where they are put.
-use Rattle.std.proofs.Common.{◌≡◌, inl, inr, ℕ, ◌+◌, ◌^◌, ◌<◌, ◌≤◌, true, false, List, [], ◌∷◌, ◌++◌, length, get_or, ◌||◌, replicate, slice_range, Some, Ok, refl, sym, ◌∙◌, ap, arith, ◌≢◌, ◌⊎◌, ◌*◌, ◌/◌, subst}
+use Rattle.std.proofs.Common.{◌≡◌, inl, inr, ℕ, ◌+◌, ◌^◌, ◌<◌, ◌≤◌, true, false, List, [], ◌∷◌, length, get_or, ◌||◌, replicate, slice_range, Some, Ok, refl, sym, ◌∙◌, ap, arith, ◌≢◌, ◌⊎◌, ◌*◌, ◌/◌, subst}
 use Rattle.std.specs.Prelude.{nat_eq}
 use Rattle.std.proofs.lemmas.Bool.Decides.{nat_tests}
 use Rattle.ldm_bytes.specs.Guid.{guid_of, own_guid}
 use Rattle.ldm_bytes.specs.Places.{u16_at, u64_at, put_each}
 use Rattle.ldm_bytes.proofs.GuidLaws.{own_guid-len, guid_again}
-use Rattle.ldm_label.specs.declared.header.PrivateHeader.{PrivateHeader}
+use Rattle.ldm_label.specs.declared.Style.{Style}
+use Rattle.ldm_label.specs.declared.table.Table.{Table}
 use Rattle.ldm_label.specs.declared.toc.Toc.{Toc}
 use Rattle.ldm_label.specs.declared.Label.{Label}
 use Rattle.ldm_label.specs.Answer.{answer}
-use Rattle.ldm_label.specs.Fields.{sectors_of, sector, has_signature, has_ldm_entry, is_privhead, has_version, config_size, disk_guid, header_of, is_out_of_range, same_header, parses, toc_of, is_out_of_database}
-use Rattle.ldm_label.specs.LabelOf.{label_of, mbr_faults, header_faults, differs, copy_faults, tocs_in, some_differ, first_toc, toc_faults, Fits, SameOutsideArea}
+use Rattle.ldm_label.specs.Fields.{sectors_of, sector, has_signature, has_ldm_entry, is_out_of_mbr, is_privhead, has_version, config_size, disk_guid, header_of, same_header, parses, toc_of, is_out_of_database}
+use Rattle.ldm_label.specs.LabelOf.{label_of, label_from, mbr_faults, style_of, table_faults, disk_table, header_faults, differs, copy_faults, tocs_in, some_differ, first_toc, toc_faults, Fits, SameOutsideArea}
+use Rattle.ldm_label.specs.GoodCopies.{header_values}
 use Rattle.ldm_label.specs.Written.{header_fields, toc_fields, written_mbr, written_header, written_toc, HasLabel, IsKnownMinor, IsWritable, written_sectors, IsOutsideLabel, SameOutsideLabel}
 use Rattle.ldm_label.proofs.ReadLaws.{front_ok, label_is, same_itself}
 use Rattle.ldm_bytes.proofs.PutLaws.{InOrder, length-put_each, field_there, number_there, AllMiss, outside_each}
@@ -20,16 +22,6 @@ use Rattle.ldm_label.specs.Laws.{IsClearOfLabel}
 use Rattle.ldm_label.proofs.OkLaws.{same_sector}
 
 -- ---- What the written sectors of a label say, and that an image that has them reads as the label.
-
--- the values of the sectors of a label
-abbrev pub header_values : Label → PrivateHeader
-header_values label = record {
-  disk_guid = label.disk_guid;
-  minor = label.minor;
-  data_start = label.data_start;
-  data_size = label.data_size;
-  config_start = label.config_start;
-}
 
 abbrev pub toc_values : Label → Toc
 toc_values label = record {
@@ -50,6 +42,10 @@ zeros = replicate 512 0
 mbr_good : answer {A = Unit {0}} (mbr_faults written_mbr) tt ≡ Ok tt
 unfolding mbr_faults has_signature has_ldm_entry written_mbr put_each
 mbr_good = refl
+
+mbr_style : style_of written_mbr ≡ Style.Mbr
+unfolding has_ldm_entry written_mbr put_each
+mbr_style = refl
 
 -- ---- the sectors are whole
 
@@ -118,11 +114,11 @@ module _ (label : Label) (n : ℕ) (fits : Fits label n) (writable : IsWritable 
   unfolding has_version
   header_version = rw (header_major label, header_minor) (known label.minor writable.minor)
 
-  in_range : is_out_of_range (header_values label) n ≡ false
-  unfolding is_out_of_range
-  in_range = grind (arith, nat_tests)
+  in_range : is_out_of_mbr (header_values label) n ≡ false
+  unfolding is_out_of_mbr
+  in_range = let before = fits.before writable.style in grind (arith, nat_tests)
 
-  header_good : answer (header_faults (written_header label) n) (header_of (written_header label)) ≡ Ok (header_values label)
+  header_good : answer (header_faults (written_header label) Table.Mbr n) (header_of (written_header label)) ≡ Ok (header_values label)
   unfolding header_faults
   header_good = rw (header_magic label, header_version, header_size label, header_is, in_range, header_guid label writable.guid) refl
 
@@ -132,7 +128,7 @@ module _ (label : Label) (n : ℕ) (fits : Fits label n) (writable : IsWritable 
   unfolding same_header
   same_values = grind (arith, nat_tests)
 
-  copy_agrees : differs (header_values label) (written_header label) n ≡ false
+  copy_agrees : differs (header_values label) (written_header label) Table.Mbr n ≡ false
   unfolding differs
   copy_agrees = rw (header_good, header_is, same_values) refl
 
@@ -176,12 +172,14 @@ module _ (label : Label) (image : List ℕ) (has : HasLabel label image) (fits :
   long : 7 ≤ sectors_of image
   long = omega (arith, fits.inside)
 
-  good : answer (mbr_faults (sector image 0) ++ header_faults (sector image 6) (sectors_of image)) (header_of (sector image 6)) ≡ Ok (header_values label)
-  good = rw (has.mbr, has.header)
-      (front_ok (mbr_faults written_mbr) (header_faults (written_header label) (sectors_of image)) tt tt (header_of (written_header label)) mbr_good
-      ∙ header_good label (sectors_of image) fits writable)
+  table : (answer (table_faults image) (disk_table image) ≡ Ok Table.Mbr) × (disk_table image ≡ Table.Mbr)
+  unfolding table_faults disk_table
+  table = rw (has.mbr, mbr_style) (front_ok (mbr_faults written_mbr) [] tt tt Table.Mbr mbr_good, refl)
 
-  agree : answer {A = Unit {0}} (copy_faults (header_values label) image) tt ≡ Ok tt
+  good : answer (header_faults (sector image 6) Table.Mbr (sectors_of image)) (header_of (sector image 6)) ≡ Ok (header_values label)
+  good = rw has.header (header_good label (sectors_of image) fits writable)
+
+  agree : answer {A = Unit {0}} (copy_faults (header_values label) Table.Mbr image) tt ≡ Ok tt
   unfolding copy_faults
   agree = rw (has.header_2, has.header_3, copy_agrees label (sectors_of image) fits writable) refl
 
@@ -189,11 +187,12 @@ module _ (label : Label) (image : List ℕ) (has : HasLabel label image) (fits :
   unfolding tocs_in four
   tocs = rw (has.toc_1, has.toc_2, has.toc_3, has.toc_4, toc_is label (sectors_of image) fits writable) refl
 
-  table : answer (toc_faults (tocs_in label.config_start image)) (first_toc (tocs_in label.config_start image)) ≡ Ok (toc_values label)
-  table = rw (tocs) (four_good label (sectors_of image) fits writable)
+  contents : answer (toc_faults (tocs_in label.config_start image)) (first_toc (tocs_in label.config_start image)) ≡ Ok (toc_values label)
+  contents = rw (tocs) (four_good label (sectors_of image) fits writable)
 
   pub label_reads : label_of image ≡ Ok label
-  label_reads = label_is image long (header_values label) good agree (toc_values label) table
+  label_reads = label_is image long Table.Mbr table.0 (header_values label) good agree (toc_values label) contents
+      ∙ ap (λ (style : Style). Ok (label_from style (header_values label) (toc_values label))) (sym writable.style)
 
 -- ---- An image to which the eight sectors of a label were written.
 

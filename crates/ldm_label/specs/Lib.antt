@@ -1,5 +1,6 @@
 pub mod Answer
 pub mod Fields
+pub mod Gpt
 pub mod LabelOf
 pub mod Parts
 pub mod Laws

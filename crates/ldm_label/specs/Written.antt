@@ -3,6 +3,7 @@ use Rattle.std.specs.Prelude.{◌≡◌, ◌≢◌, ◌⊎◌, ℕ, ◌+◌, ◌
 use Rattle.byteorder.specs.Endian.{big_bytes}
 use Rattle.ldm_bytes.specs.Guid.{own_guid}
 use Rattle.ldm_bytes.specs.Places.{put_each}
+use Rattle.ldm_label.specs.declared.Style.{Style}
 use Rattle.ldm_label.specs.declared.Label.{Label}
 use Rattle.ldm_label.specs.declared.writing.LabelSectors.{LabelSectors}
 use Rattle.ldm_label.specs.Fields.{sector}
@@ -88,9 +89,10 @@ pub record SameOutsideLabel (label : Label) (old new : List ℕ) : Type 0 where
 abbrev pub IsKnownMinor : ℕ → Type 0
 IsKnownMinor minor = (minor ≡ 11) ⊎ (minor ≡ 12)
 
--- The fields of the sectors have room for the label's numbers. Those that aren't named here are below the start of the
+-- The label is one of an MBR disk, and the fields of the sectors have room for its numbers. Those that aren't named here are below the start of the
 -- database, or of its 2048 sectors, where the label fits its disk.
 pub record IsWritable (label : Label) : Type 0 where
+  pub style : label.style ≡ Style.Mbr
   pub minor : IsKnownMinor label.minor
   pub guid : label.disk_guid < 2 ^ 128
   pub start : label.config_start < 2 ^ 64

@@ -22,7 +22,7 @@ use Rattle.ldm_look.specs.declared.scanned.Membership.{Membership}
 use Rattle.ldm_look.specs.declared.scanned.Scanned.TheVariants.{Open}
 use Rattle.ldm_look.specs.Scan.{scanned_json}
 use Rattle.ldm_look.specs.Paths.{path_of}
-use Rattle.ldm_look.specs.LabelJson.{label_json}
+use Rattle.ldm_look.specs.LabelJson.{label_json, style_word}
 use Rattle.ldm_look.specs.declared.fault_json.Named.{Named}
 use Rattle.ldm_look.specs.FaultJson.{named_json, refusal_json}
 use Rattle.ldm_look.specs.CheckJson.{note_sequence, note_json, kind_json, reason_json, note_jsons, absent_jsons, check_json, check_members, BeginsCheck}
@@ -201,20 +201,21 @@ begins_check one two three four five op paths goods found editable kind reason n
         ≡ json_object (check_members paths goods found ++ (key, json_array values) ∷ [])
     more_is key values = rw (a, b, c, d) refl
 
-pub open_is : (paths : List (List ℕ)) (image : ℕ) (path : Option (List ℕ)) (m : Membership) (group : List ℕ) (disk : Option (List ℕ)) → path ≡ slice_get paths image → group ≡ m.group → disk ≡ m.disk
+pub open_is : (paths : List (List ℕ)) (image : ℕ) (path : Option (List ℕ)) (m : Membership) (group : List ℕ) (disk : Option (List ℕ)) (word : List ℕ) → path ≡ slice_get paths image → group ≡ m.group → disk ≡ m.disk
+    → word ≡ style_word m.style
     → json_object (
     (codes "image", number_json image) ∷ (codes "path", maybe_text_json path) ∷ (codes "state", string (codes "open")) ∷ (codes "group", name_json group)
     ∷ (codes "group_guid", guid_json m.group_guid) ∷ (codes "disk", maybe_name_json disk) ∷ (codes "disk_guid", guid_json m.disk_guid)
-    ∷ (codes "sequence", number_json m.seq) ∷ (codes "reason", null) ∷ (codes "format", null) ∷ []) ≡ scanned_json paths (image, Open m)
-open_is paths image path m group disk p a b = rw (p, a, b) refl
+    ∷ (codes "sequence", number_json m.seq) ∷ (codes "reason", null) ∷ (codes "format", null) ∷ (codes "partition_style", string word) ∷ []) ≡ scanned_json paths (image, Open m)
+open_is paths image path m group disk word p a b w = rw (p, a, b, w) refl
 
-pub label_is : (label : Label) (minor : ℕ) → minor ≡ label.minor
+pub label_is : (label : Label) (minor : ℕ) (word : List ℕ) → minor ≡ label.minor → word ≡ style_word label.style
     → json_object (
     (codes "sector_size", number_json 512) ∷ (codes "guid", guid_json label.disk_guid) ∷ (codes "version_minor", number_json minor) ∷ (codes "data_start", number_json label.data_start)
     ∷ (codes "data_size", number_json label.data_size) ∷ (codes "database_start", number_json label.config_start) ∷ (codes "database_size", number_json 2048)
     ∷ (codes "area_start", number_json label.area_start) ∷ (codes "area_size", number_json label.area_sectors) ∷ (codes "log_start", number_json label.log_start)
-    ∷ (codes "log_size", number_json label.log_sectors) ∷ []) ≡ label_json label
-label_is label minor a = rw a refl
+    ∷ (codes "log_size", number_json label.log_sectors) ∷ (codes "partition_style", string word) ∷ []) ≡ label_json label
+label_is label minor word a w = rw (a, w) refl
 
 pub note_is : (paths : List (List ℕ)) (goods : List GoodCopies) (image : ℕ) (note : Note) (path : Option (List ℕ)) (seq headers tables : Option ℕ) → path ≡ slice_get paths image
     → seq ≡ note_sequence note → headers ≡ option_map (λ good. good.headers) (slice_get goods image) → tables ≡ option_map (λ good. good.tables) (slice_get goods image)

@@ -4,7 +4,7 @@
 use Rattle.std.specs.Prelude.{ℕ, ◌==◌, ◌&&◌, Bool, true, false, List, [], ◌∷◌, codes, slice_index, slice_range, nat_lt, Option, Some, None, if◌then◌else◌}
 use Rattle.std.specs.Str.{bytes_eq}
 use Rattle.ldm_label.specs.declared.LabelFault.{LabelFault}
-use Rattle.ldm_label.specs.declared.LabelFault.TheVariants.{NoSignature, NoLdmEntry}
+use Rattle.ldm_label.specs.declared.LabelFault.TheVariants.{NoSignature, NoLdmEntry, NoMetadata}
 use Rattle.ldm_label.specs.Fields.{sector, sectors_of}
 use Rattle.ldm_look.specs.declared.foreign.Foreign.{Foreign}
 use Rattle.ldm_look.specs.declared.foreign.Foreign.TheVariants.{Qcow2, Vmdk, Vhd, Vhdx, Ewf, Gpt}
@@ -28,6 +28,7 @@ foreign_of first =
 abbrev pub lacks_ldm : LabelFault → Bool
 lacks_ldm NoSignature = true
 lacks_ldm NoLdmEntry = true
+lacks_ldm NoMetadata = true
 lacks_ldm fault = false
 
 -- what an image with this fault is

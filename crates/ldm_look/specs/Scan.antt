@@ -7,6 +7,7 @@ use Rattle.ldm_bytes.specs.Guid.{own_guid}
 use Rattle.ldm_json.specs.Values.{number_json, maybe_text_json, name_json, maybe_name_json, guid_json, said_json, json_object, json_array}
 use Rattle.ldm_label.specs.declared.Label.{Label}
 use Rattle.ldm_label.specs.declared.LabelFault.{LabelFault}
+use Rattle.ldm_label.specs.declared.Style.{Style}
 use Rattle.ldm_label.specs.LabelOf.{label_of}
 use Rattle.ldm_group.specs.Database.{Database}
 use Rattle.ldm_group.specs.Looks.{disk_with}
@@ -18,6 +19,7 @@ use Rattle.ldm_text.specs.Texts.{text_of_label_fault}
 use Rattle.ldm_text.specs.Records.{text_of_copy_fault}
 use Rattle.ldm_words.specs.Names.{esc}
 use Rattle.ldm_look.specs.declared.foreign.Foreign.{Foreign}
+use Rattle.ldm_look.specs.LabelJson.{style_word}
 use Rattle.ldm_look.specs.Foreign.{foreign_in, format_word, text_of_foreign}
 use Rattle.ldm_look.specs.declared.scanned.Membership.{Membership}
 use Rattle.ldm_look.specs.declared.scanned.Scanned.{Scanned}
@@ -34,12 +36,13 @@ membership_of label db =
       seq = db.header.seq;
       disk = option_map (λ d. d.head.name) (disk_with label.disk_guid db.records);
       disk_guid = label.disk_guid;
+      style = label.style;
     }
 
 abbrev pub scanned_copy : Label → Result CopyState CopyFault → Scanned
-scanned_copy label (Ok copies.Closed) = Closed label.disk_guid
+scanned_copy label (Ok copies.Closed) = Closed label.style label.disk_guid
 scanned_copy label (Ok (copies.Valid db)) = Open (membership_of label db)
-scanned_copy label (Err fault) = BadCopy fault
+scanned_copy label (Err fault) = BadCopy label.style fault
 
 -- what an image with this label is, by the copy in the config area that the label says
 abbrev pub IsScannedAs : Result Label LabelFault → List ℕ → Scanned → Type 0
@@ -73,8 +76,8 @@ text_of_membership m =
 -- what follows image I
 abbrev pub text_of_scanned : Scanned → List ℕ
 text_of_scanned (BadLabel fault foreign) = codes " refused: " ++ (text_of_label_fault fault ++ (text_of_foreign foreign ++ codes "\n"))
-text_of_scanned (BadCopy fault) = codes " refused: " ++ (text_of_copy_fault fault ++ codes "\n")
-text_of_scanned (Closed disk) = codes " closed disk " ++ (own_guid disk ++ codes "\n")
+text_of_scanned (BadCopy style fault) = codes " refused: " ++ (text_of_copy_fault fault ++ codes "\n")
+text_of_scanned (Closed style disk) = codes " closed disk " ++ (own_guid disk ++ codes "\n")
 text_of_scanned (Open m) = text_of_membership m
 
 abbrev pub line_of_scanned : ℕ × Scanned → List ℕ
@@ -87,8 +90,8 @@ text_of_scan scanned = flat_map line_of_scanned (enumerate_from 0 scanned)
 -- ---- JSON
 
 -- an image in this state, its word, and what is known of it
-abbrev pub state_json : List (List ℕ) → ℕ → List ℕ → Json → Json → Json → Json → Json → Json → Json → Json
-state_json paths image state group group_guid disk disk_guid seq reason format =
+abbrev pub state_json : List (List ℕ) → ℕ → List ℕ → Json → Json → Json → Json → Json → Json → Json → Json → Json
+state_json paths image state group group_guid disk disk_guid seq reason format style =
     json_object (
     (codes "image", number_json image)
     ∷ (codes "path", maybe_text_json (slice_get paths image))
@@ -100,17 +103,22 @@ state_json paths image state group group_guid disk disk_guid seq reason format =
     ∷ (codes "sequence", seq)
     ∷ (codes "reason", reason)
     ∷ (codes "format", format)
+    ∷ (codes "partition_style", style)
     ∷ [])
 
-abbrev pub refused_json : List (List ℕ) → ℕ → List ℕ → Option Foreign → Json
-refused_json paths image fault foreign = state_json paths image (codes "refused") null null null null null (said_json fault) (maybe_text_json (option_map format_word foreign))
+abbrev pub refused_json : List (List ℕ) → ℕ → List ℕ → Option Foreign → Option Style → Json
+refused_json paths image fault foreign style =
+    state_json paths image (codes "refused") null null null null null (said_json fault) (maybe_text_json (option_map format_word foreign))
+    (maybe_text_json (option_map style_word style))
 
 abbrev pub scanned_json : List (List ℕ) → ℕ × Scanned → Json
-scanned_json paths (image, BadLabel fault foreign) = refused_json paths image (text_of_label_fault fault) foreign
-scanned_json paths (image, BadCopy fault) = refused_json paths image (text_of_copy_fault fault) None
-scanned_json paths (image, Closed disk) = state_json paths image (codes "closed") null null null (guid_json disk) null null null
+scanned_json paths (image, BadLabel fault foreign) = refused_json paths image (text_of_label_fault fault) foreign None
+scanned_json paths (image, BadCopy style fault) = refused_json paths image (text_of_copy_fault fault) None (Some style)
+scanned_json paths (image, Closed style disk) =
+    state_json paths image (codes "closed") null null null (guid_json disk) null null null (string (style_word style))
 scanned_json paths (image, Open m) =
     state_json paths image (codes "open") (name_json m.group) (guid_json m.group_guid) (maybe_name_json m.disk) (guid_json m.disk_guid) (number_json m.seq) null null
+    (string (style_word m.style))
 
 -- an object for each image
 abbrev pub scan_jsons : List (List ℕ) → List Scanned → List Json

@@ -52,7 +52,10 @@ pub(crate) fn foreign_of(first: &[u8; 512]) -> Option<Foreign>
 pub(crate) fn lacks_ldm(fault: LabelFault) -> bool
     ensures { result ≡ lacks_ldm fault }
 {
-    matches!(fault, LabelFault::NoSignature | LabelFault::NoLdmEntry)
+    matches!(
+        fault,
+        LabelFault::NoSignature | LabelFault::NoLdmEntry | LabelFault::NoMetadata
+    )
 }
 
 /// The format's name for a script.

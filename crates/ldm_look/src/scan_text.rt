@@ -9,12 +9,15 @@ ghost use Rattle.ldm_look.specs.Scan.{text_of_its_disk, text_of_membership, text
 ghost use Rattle.ldm_look.specs.Scan.{line_of_scanned, text_of_scan, refused_json, scanned_json};
 ghost use Rattle.ldm_look.specs.Scan.{scan_jsons, scan_json};
 ghost use Rattle.ldm_look.specs.Foreign.{format_word, text_of_foreign};
+ghost use Rattle.ldm_look.specs.LabelJson.{style_word};
 
 use crate::foreign::{Foreign, foreign_text, format_word};
+use crate::label_json::style_word;
 use crate::optional::name_in;
 use crate::scanned::{Membership, Scanned};
 use ldm_bytes::{Bytes, NoMemory};
 use ldm_json::{Json, Scalar};
+use ldm_label::Style;
 use ldm_text::{
     Part, Text, copy_fault_text, label_fault_text, push_named, push_number, push_parts,
 };
@@ -73,11 +76,11 @@ fn push_scanned(alloc: Global, text: &mut Text, scanned: &Scanned) -> Result<(),
             let fault = label_fault_text(alloc, *fault)?;
             push_refused(text, fault.as_slice(), *foreign)
         }
-        Scanned::BadCopy(fault) => {
+        Scanned::BadCopy(_, fault) => {
             let fault = copy_fault_text(alloc, *fault)?;
             push_refused(text, fault.as_slice(), None)
         }
-        Scanned::Closed(disk) => {
+        Scanned::Closed(_, disk) => {
             let parts = [
                 Part::Word(b" closed disk "),
                 Part::Guid(*disk),
@@ -123,6 +126,15 @@ fn maybe_word(foreign: Option<Foreign>) -> Option<&'static str>
     }
 }
 
+fn maybe_style(style: Option<Style>) -> Option<&'static str>
+    ensures { option_map (λ word. word.now) result ≡ option_map style_word style }
+{
+    match style {
+        Some(style) => Some(style_word(style)),
+        None => None,
+    }
+}
+
 // The object of an image that is refused.
 fn push_refused_json<'a>(
     json: &mut Json,
@@ -130,9 +142,10 @@ fn push_refused_json<'a>(
     image: usize,
     fault: &'a [u8],
     foreign: Option<Foreign>,
+    style: Option<Style>,
 ) -> Result<(), NoMemory>
     ensures { OnOk result (json.new
-        ≡ json.old ++ json_tokens (refused_json paths.now image fault.now foreign)) }
+        ≡ json.old ++ json_tokens (refused_json paths.now image fault.now foreign style)) }
 {
     let fields = [
         ("image", Scalar::Number(image as u64)),
@@ -145,6 +158,7 @@ fn push_refused_json<'a>(
         ("sequence", Scalar::Null),
         ("reason", Scalar::Said(fault)),
         ("format", Scalar::MaybeWord(maybe_word(foreign))),
+        ("partition_style", Scalar::MaybeWord(maybe_style(style))),
     ];
     json.object(&fields)
 }
@@ -154,10 +168,11 @@ fn push_closed_json(
     json: &mut Json,
     paths: &Paths,
     image: usize,
+    style: Style,
     disk: u128,
 ) -> Result<(), NoMemory>
     ensures { OnOk result (json.new
-        ≡ json.old ++ json_tokens (scanned_json paths.now (image, Scanned.Closed disk))) }
+        ≡ json.old ++ json_tokens (scanned_json paths.now (image, Scanned.Closed style disk))) }
 {
     let fields = [
         ("image", Scalar::Number(image as u64)),
@@ -170,6 +185,7 @@ fn push_closed_json(
         ("sequence", Scalar::Null),
         ("reason", Scalar::Null),
         ("format", Scalar::Null),
+        ("partition_style", Scalar::Word(style_word(style))),
     ];
     json.object(&fields)
 }
@@ -195,6 +211,7 @@ fn push_open_json<'a>(
         ("sequence", Scalar::Number(m.seq)),
         ("reason", Scalar::Null),
         ("format", Scalar::Null),
+        ("partition_style", Scalar::Word(style_word(m.style))),
     ];
     json.object(&fields)
 }
@@ -214,13 +231,13 @@ pub fn push_scanned_json(
     match scanned {
         Scanned::BadLabel(fault, foreign) => {
             let fault = label_fault_text(alloc, *fault)?;
-            push_refused_json(json, paths, image, fault.as_slice(), *foreign)
+            push_refused_json(json, paths, image, fault.as_slice(), *foreign, None)
         }
-        Scanned::BadCopy(fault) => {
+        Scanned::BadCopy(style, fault) => {
             let fault = copy_fault_text(alloc, *fault)?;
-            push_refused_json(json, paths, image, fault.as_slice(), None)
+            push_refused_json(json, paths, image, fault.as_slice(), None, Some(*style))
         }
-        Scanned::Closed(disk) => push_closed_json(json, paths, image, *disk),
+        Scanned::Closed(style, disk) => push_closed_json(json, paths, image, *style, *disk),
         Scanned::Open(m) => push_open_json(json, paths, image, m),
     }
 }

@@ -7,6 +7,7 @@ use Rattle.ldm_host.specs.Seen.{Seen, Leaves, image}
 use Rattle.ldm_host.specs.Moves.{AtEachMoment, DiskFailed, Torn, TornAt, Settled, Works, Writes}
 use Rattle.ldm_host.proofs.Relations.{moments_trans}
 use Rattle.ldm_label.specs.declared.Label.{Label}
+use Rattle.ldm_label.specs.declared.Style.{Style}
 use Rattle.ldm_label.specs.LabelOf.{label_of, SameOutsideArea}
 use Rattle.ldm_label.specs.Laws.{IsClearOfLabel}
 use Rattle.ldm_copy.specs.declared.answer.CopyFault.{CopyFault}
@@ -22,7 +23,7 @@ use Rattle.ldm_repair.specs.Closing.{IsClosedAs, IsClosing, closing_bytes}
 use Rattle.ldm_repair.proofs.ShutLaws.{closed_view, same_outside, between_shut, is_view, plain_view, faulty_view, view_between, view_outside}
 
 abbrev pub no_label : Label
-no_label = record { disk_guid = 0; minor = 0; data_start = 0; data_size = 0; config_start = 0; area_start = 0; area_sectors = 0; log_start = 0; log_sectors = 0 }
+no_label = record { style = Style.Mbr; disk_guid = 0; minor = 0; data_start = 0; data_size = 0; config_start = 0; area_start = 0; area_sectors = 0; log_start = 0; log_sectors = 0 }
 
 -- what stands at a place of a slice of the labels
 pub label_in : (slice labels : List Label) (disk : ℕ) → slice ≡ labels → disk < length slice → slice_get labels disk ≡ Some (get_or slice disk no_label)

@@ -1,6 +1,7 @@
 -- The disks of the sample groups.
 use Rattle.std.specs.Prelude.{◌≡◌, ℕ, ◌+◌, ◌*◌, List, map, length, slice_index}
 use Rattle.std.specs.List.{range_with_len}
+use Rattle.ldm_label.specs.declared.Style.{Style}
 use Rattle.ldm_label.specs.declared.Label.{Label}
 
 -- the GUID whose every hexadecimal digit is this one
@@ -11,6 +12,7 @@ guid_with digit = digit * 0x11111111111111111111111111111111
 -- from sector 6144 on, with a config area of 1481 sectors and a log area of 224.
 abbrev pub sample_label : ℕ → Label
 sample_label disk = record {
+  style = Style.Mbr;
   disk_guid = guid_with (disk + 1);
   minor = 11;
   data_start = 63;

@@ -3,7 +3,7 @@ ghost use Rattle.std.specs.Prelude.{◌≡◌, ◌<◌, IfOk};
 ghost use Rattle.ldm_sample_disks.specs.Disks.{guid_with, sample_label, IsZeros};
 
 use ldm_bytes::NoMemory;
-use ldm_label::Label;
+use ldm_label::{Label, Style};
 use std::alloc::Global;
 
 /// This number of zeros, as an image begins.
@@ -27,6 +27,7 @@ pub fn sample_label(disk: u8) -> Label
     ensures { result ≡ sample_label disk }
 {
     Label {
+        style: Style::Mbr,
         disk_guid: guid_with(disk + 1),
         minor: 11,
         data_start: 63,

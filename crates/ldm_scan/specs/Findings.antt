@@ -59,7 +59,7 @@ text_of_findings findings = flat_map line_of_finding (enumerate_from 0 findings)
 
 -- an image in this state, in which nothing is known of it, and why
 abbrev pub unknown_json : List (List ℕ) → ℕ → List ℕ → List ℕ → Json
-unknown_json paths number state reason = state_json paths number state null null null null null (said_json reason) null
+unknown_json paths number state reason = state_json paths number state null null null null null (said_json reason) null null
 
 abbrev pub finding_json : List (List ℕ) → ℕ × Finding → Json
 finding_json paths (number, Unopened cause) = unknown_json paths number (codes "unopened") cause

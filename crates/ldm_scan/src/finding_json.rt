@@ -34,6 +34,7 @@ fn push_unknown<'a>(
         ("sequence", Scalar::Null),
         ("reason", Scalar::Said(reason)),
         ("format", Scalar::Null),
+        ("partition_style", Scalar::Null),
     ];
     json.object(&fields)
 }

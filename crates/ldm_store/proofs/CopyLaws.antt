@@ -2,6 +2,7 @@
 use Rattle.std.proofs.Common.{◌≡◌, ◌⊎◌, inl, inr, ⊎_elim, ℕ, ◌*◌, List, slice_get, Some, Ok, refl, sym, subst, ◌∙◌, arith, ◌≢◌, ◌<◌, length, ◌+◌, ◌≤◌, slice_index, true, false, ap}
 use Rattle.ldm_host.specs.Seen.{image, Seen, Leaves}
 use Rattle.ldm_host.specs.Moves.{Torn, TornAt, Settled, Changes, AtEachMoment, Later}
+use Rattle.ldm_label.specs.declared.Style.{Style}
 use Rattle.ldm_label.specs.declared.Label.{Label}
 use Rattle.ldm_label.specs.LabelOf.{SameOutsideArea}
 use Rattle.ldm_group.specs.Database.{Database}
@@ -28,7 +29,7 @@ use Rattle.ldm_found.proofs.FoundLaws.{HoldsGroup, copy_known, holder}
 -- ---- The copies on disks, carried over by their bytes.
 
 abbrev pub no_label : Label
-no_label = record { disk_guid = 0; minor = 0; data_start = 0; data_size = 0; config_start = 0; area_start = 0; area_sectors = 0; log_start = 0; log_sectors = 0 }
+no_label = record { style = Style.Mbr; disk_guid = 0; minor = 0; data_start = 0; data_size = 0; config_start = 0; area_start = 0; area_sectors = 0; log_start = 0; log_sectors = 0 }
 
 one_some : {a b : Label} → Some a ≡ Some b → a ≡ b
 one_some e = cc

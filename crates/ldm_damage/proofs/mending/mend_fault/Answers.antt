@@ -1,71 +1,61 @@
-use Rattle.std.proofs.Common.{◌≡◌, ◌∙◌, ◌<◌, ◌≤◌, ℕ, Option, Some, None, Ok, Err, true, false, nat_lt, IsErrOf, refl, sym, ap, subst, arith}
+use Rattle.std.proofs.Common.{◌≡◌, ◌∙◌, ◌<◌, ◌≤◌, ◌||◌, ℕ, List, None, Err, Bool, true, false, nat_lt, IfOk, refl, sym, ap, subst, arith}
 use Rattle.std.proofs.lemmas.Bool.Decides.{nat_tests}
 use Rattle.ldm_host.specs.Seen.{image}
-use Rattle.ldm_label.specs.declared.Label.{Label}
-use Rattle.ldm_label.specs.Fields.{sectors_of}
+use Rattle.ldm_label.specs.Fields.{sectors_of, sector, is_protective}
+use Rattle.ldm_label.specs.LabelOf.{label_of}
+use Rattle.ldm_view.specs.declared.patch.Patch.{Patch}
 use Rattle.ldm_view.specs.Patches.{patched}
-use Rattle.ldm_view.proofs.ViewLaws.{shows_as}
-use Rattle.ldm_damage.specs.declared.error.DamageError.{DamageError}
-use Rattle.ldm_damage.specs.declared.error.DamageError.TheVariants.{Disk}
 use Rattle.ldm_damage.specs.declared.mending.Mended.{Mended}
-use Rattle.ldm_damage.specs.Looked.{Looked}
-use Rattle.ldm_damage.specs.Mending.{tries, with_mbr}
-use Rattle.ldm_damage.specs.Trying.{IsTried}
-use Rattle.ldm_damage.proofs.LookLaws.{ok_at, looked_on}
-use Rattle.ldm_damage.proofs.PatchingLaws.{left_off}
-use Rattle.ldm_damage.proofs.TryLaws.{stays_short, stays_unmended, is_mended}
+use Rattle.ldm_damage.specs.Mending.{is_left}
+use Rattle.ldm_damage.specs.Trying.{IsMended}
+use Rattle.ldm_damage.proofs.LookLaws.{ok_map, looked_as, looked_then}
+use Rattle.ldm_damage.proofs.TryLaws.{stays_left}
 use Rattle.ldm_damage.proofs.mending.mend_fault.Goals as goal
 
-few : (n m : ℕ) → n ≡ m → n < 2055 → nat_lt m 2055 ≡ true
-few n m same lt = grind (arith, nat_tests)
+short_left : (n m : ℕ) (b : Bool) → n ≡ m → n < 2055 → (nat_lt m 2055 || b) ≡ true
+short_left n m b same lt =
+    let few : nat_lt m 2055 ≡ true = grind (arith, nat_tests) in
+    ap (λ (few : Bool). few || b) few
 
-many : (n m : ℕ) → n ≡ m → 2055 ≤ n → nat_lt m 2055 ≡ false
-many n m same le = grind (arith, nat_tests)
+by_mbr : (n m : ℕ) (b : Bool) → n ≡ m → 2055 ≤ n → (nat_lt m 2055 || b) ≡ b
+by_mbr n m b same le =
+    let many : nat_lt m 2055 ≡ false = grind (arith, nat_tests) in
+    ap (λ (few : Bool). few || b) many
 
 pub returns-then-sectors-lt2055-clause-is : goal.returns-then-sectors-lt2055-clause-is
 returns-then-sectors-lt2055-clause-is g c tells is =
     let disk = c.args.disk in
     let whole = image (g.H.Host.seen c.args.under.host).content disk in
     let size = c.sectors-sectors.ensures.size ∙ sym (g.met.H.Host.lengths tells c.args.under.host disk c.requires.disk) in
-    stays_short whole (patched c.args.under.patches.items disk whole) (record { label = Err c.args.fault; fault = None }) c.args.fault (c.requires.plain whole)
-    (few c.sectors-sectors.result (sectors_of whole) size c.if-sectors-lt2055.true) is refl refl
+    stays_left whole (patched c.args.under.patches.items disk whole) (record { label = Err c.args.fault; fault = None }) c.args.fault (c.requires.plain whole)
+    (short_left c.sectors-sectors.result (sectors_of whole) (is_protective (sector whole 0)) size c.if-sectors-lt2055.true) is refl refl
 
-pub returns-in-Some-clause-is : goal.returns-in-Some-clause-is
-returns-in-Some-clause-is g c tells is =
+pub returns-in-Ok-true-clause-is : goal.returns-in-Ok-true-clause-is
+returns-in-Ok-true-clause-is g c tells is =
     let disk = c.args.disk in
-    let next = c.try_label-under.result.0 in
-    let label = c.in-Some.label in
     let whole = image (g.H.Host.seen c.args.under.host).content disk in
     let size = c.sectors-sectors.ensures.size ∙ sym (g.met.H.Host.lengths tells c.args.under.host disk c.requires.disk) in
-    let tried = ok_at c.try_label-under.result.1 (λ (found : Option Label). IsTried (tries whole) (with_mbr whole) found (patched next.patches.items disk whole))
-    (Some label) (c.in-Ok.is ∙ ap (λ (l : Option Label). Ok l) c.in-Some.is) (c.try_label-under.ensures.is tells) in
-    is_mended whole (with_mbr whole) (patched next.patches.items disk whole) (record { label = Ok label; fault = Some c.args.fault }) c.args.fault label
-    (many c.sectors-sectors.result (sectors_of whole) size c.if-sectors-lt2055.false) is tried refl refl
+    let protective : is_protective (sector whole 0) ≡ true = sym (c.in-Ok-true.ensures.is tells) ∙ c.in-Ok-true.field-0-test in
+    stays_left whole (patched c.has_protective_mbr.new.under.patches.items disk whole) (record { label = Err c.args.fault; fault = None }) c.args.fault
+    (ap (λ (l : List Patch). patched l disk whole) c.has_protective_mbr.ensures.patches ∙ c.requires.plain whole)
+    (by_mbr c.sectors-sectors.result (sectors_of whole) (is_protective (sector whole 0)) size c.if-sectors-lt2055.false ∙ protective) is refl refl
 
-pub returns-in-Some-clause-others : goal.returns-in-Some-clause-others
-returns-in-Some-clause-others g c = c.try_label-under.ensures.adds.others
-
-pub returns-in-None-clause-is : goal.returns-in-None-clause-is
-returns-in-None-clause-is g c tells is =
+pub returns-in-Ok-false-clause-is : goal.returns-in-Ok-false-clause-is
+returns-in-Ok-false-clause-is g c tells =
     let disk = c.args.disk in
-    let next = c.try_label-under.result.0 in
     let whole = image (g.H.Host.seen c.args.under.host).content disk in
+    let last = c.mend_mbr_disk.result.0 in
     let size = c.sectors-sectors.ensures.size ∙ sym (g.met.H.Host.lengths tells c.args.under.host disk c.requires.disk) in
-    let tried = ok_at c.try_label-under.result.1 (λ (found : Option Label). IsTried (tries whole) (with_mbr whole) found (patched next.patches.items disk whole))
-    None (c.in-Ok.is ∙ ap (λ (l : Option Label). Ok l) c.in-None.is) (c.try_label-under.ensures.is tells) in
-    let off = left_off disk c.args.under.patches.items next.patches.items c.keep.new.self.patches.items c.len-patches.result c.try_label-under.ensures.adds (c.len-patches.ensures ∙ c.args.under.patches.ok.0) c.keep.ensures.kept in
-    stays_unmended whole (with_mbr whole) (patched next.patches.items disk whole) (patched c.keep.new.self.patches.items disk whole) (record { label = Err c.args.fault; fault = None }) c.args.fault
-    (shows_as c.args.under.patches.items c.keep.new.self.patches.items disk whole off ∙ c.requires.plain whole)
-    (many c.sectors-sectors.result (sectors_of whole) size c.if-sectors-lt2055.false) is tried refl refl
+    let plain : is_protective (sector whole 0) ≡ false = sym (c.in-Ok-false.ensures.is tells) ∙ c.in-Ok-false.field-0-test in
+    let tried = by_mbr c.sectors-sectors.result (sectors_of whole) (is_protective (sector whole 0)) size c.if-sectors-lt2055.false ∙ plain in
+    ok_map c.mend_mbr_disk.result.1 _ _ (λ m mends is. mends is tried)
+    (subst (λ (l : List (List ℕ)). IfOk c.mend_mbr_disk.result.1 (λ (m : Mended). label_of (image l disk) ≡ Err c.args.fault → is_left (image l disk) ≡ false
+    → IsMended (image l disk) m (patched last.patches.items disk (image l disk))))
+    c.has_protective_mbr.ensures.looks.still.content (c.mend_mbr_disk.ensures.is tells))
 
-pub returns-in-None-clause-others : goal.returns-in-None-clause-others
-returns-in-None-clause-others g c d i ne =
-    shows_as c.args.under.patches.items c.keep.new.self.patches.items d i
-    (left_off c.args.disk c.args.under.patches.items c.try_label-under.result.0.patches.items c.keep.new.self.patches.items c.len-patches.result c.try_label-under.ensures.adds
-    (c.len-patches.ensures ∙ c.args.under.patches.ok.0) c.keep.ensures.kept)
-
-pub returns-in-None-clause-looked : goal.returns-in-None-clause-looked
-returns-in-None-clause-looked g c =
-    let left : Mended = record { label = Err c.args.fault; fault = None } in
-    subst (λ (h : g.row.H.Denot). Looked (g.H.Host.seen c.args.under.host) (g.H.Host.seen h) (IsErrOf {T = Mended} {E = DamageError} (Ok left) Disk)) (sym c.keep.ensures.host)
-    (looked_on _ _ _ _ c.try_label-under.ensures.looked (λ (failed : IsErrOf {T = Mended} {E = DamageError} (Ok left) Disk). absurd (cc failed)))
+pub returns-in-Ok-false-clause-looked : goal.returns-in-Ok-false-clause-looked
+returns-in-Ok-false-clause-looked g c =
+    let old = g.H.Host.seen c.args.under.host in
+    let mid = g.H.Host.seen c.has_protective_mbr.new.under.host in
+    looked_then old mid (g.H.Host.seen c.mend_mbr_disk.result.0.host) _ _ _ (looked_as old mid _ c.has_protective_mbr.ensures.looks) c.mend_mbr_disk.ensures.looked
+    (λ failed. failed)
