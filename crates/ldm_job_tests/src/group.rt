@@ -10,6 +10,7 @@ use std::test::Fail;
 fn sectors_of(name: &str) -> &'static [usize] {
     match name {
         "mbr" => &[0],
+        "gpt" => &[1],
         "head" => &[6],
         "heads" => &[6, 8000, 8191],
         "second" => &[8000],

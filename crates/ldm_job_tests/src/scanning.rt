@@ -141,7 +141,7 @@ fn goes_on_past_images(rt: HostRuntime) -> Result<(), Fail> {
 }
 
 const JSON: &str =
-    "[{\"image\":0,\"path\":\"gone\",\"state\":\"unopened\",\"group\":null,\"group_guid\":null,\"disk\":null,\"disk_guid\":null,\"sequence\":null,\"reason\":\"no such luck\",\"format\":null},{\"image\":1,\"path\":\"A\",\"state\":\"unread\",\"group\":null,\"group_guid\":null,\"disk\":null,\"disk_guid\":null,\"sequence\":null,\"reason\":\"a read failed\",\"format\":null},{\"image\":2,\"path\":\"C\",\"state\":\"open\",\"group\":\"Dg0\",\"group_guid\":\"aaaaaaaa-aaaa-aaaa-aaaa-aaaaaaaaaaaa\",\"disk\":\"Disk3\",\"disk_guid\":\"33333333-3333-3333-3333-333333333333\",\"sequence\":7,\"reason\":null,\"format\":null}]
+    "[{\"image\":0,\"path\":\"gone\",\"state\":\"unopened\",\"group\":null,\"group_guid\":null,\"disk\":null,\"disk_guid\":null,\"sequence\":null,\"reason\":\"no such luck\",\"format\":null,\"partition_style\":null},{\"image\":1,\"path\":\"A\",\"state\":\"unread\",\"group\":null,\"group_guid\":null,\"disk\":null,\"disk_guid\":null,\"sequence\":null,\"reason\":\"a read failed\",\"format\":null,\"partition_style\":null},{\"image\":2,\"path\":\"C\",\"state\":\"open\",\"group\":\"Dg0\",\"group_guid\":\"aaaaaaaa-aaaa-aaaa-aaaa-aaaaaaaaaaaa\",\"disk\":\"Disk3\",\"disk_guid\":\"33333333-3333-3333-3333-333333333333\",\"sequence\":7,\"reason\":null,\"format\":null,\"partition_style\":\"mbr\"}]
 ";
 
 #[test]

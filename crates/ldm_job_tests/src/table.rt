@@ -71,7 +71,8 @@ fn spells_tables(rt: HostRuntime) -> Result<(), Fail> {
     play(rt.alloc(), &rt, 3, 64, TABLES)
 }
 
-// All volumes of a group in one line: none, three of which one has an array, and what can't be had.
+// All volumes of a group in one line: none, three of which one has an array, those that have a table
+// where another has none, and what can't be had.
 const ALL_TABLES: &str = "\
 $ table on A B C
 refused: no volume
@@ -92,10 +93,19 @@ ldm_vol_Dg0_R,LDM-cccccccc-cccc-cccc-cccc-cccccccccccc,,ro,0 32 raid raid5_ls 2 
 ldm_vol_Dg0_My\\\\x20Vol,LDM-ffffffff-ffff-ffff-ffff-ffffffffffff,,ro,0 5 linear C 79
 = 0
 $ table on A C
-refused: volume S: sector 8 is lost
-= 1
+ldm_part_Dg0_p11,,,ro,0 16 linear A 87;ldm_part_Dg0_p13,,,ro,0 16 linear C 63;\
+ldm_vol_Dg0_R,LDM-cccccccc-cccc-cccc-cccc-cccccccccccc,,ro,0 32 raid raid5_ls 2 8 nosync 3 \
+- /dev/mapper/ldm_part_Dg0_p11 - - - /dev/mapper/ldm_part_Dg0_p13;\
+ldm_vol_Dg0_My\\\\x20Vol,LDM-ffffffff-ffff-ffff-ffff-ffffffffffff,,ro,0 5 linear C 79
+= 0
 $ table on A B
-refused: volume My\\x20Vol: sector 0 is lost
+ldm_vol_Dg0_S,LDM-dddddddd-dddd-dddd-dddd-dddddddddddd,,ro,0 48 striped 2 8 A 63 B 63;\
+ldm_part_Dg0_p11,,,ro,0 16 linear A 87;ldm_part_Dg0_p12,,,ro,0 16 linear B 87;\
+ldm_vol_Dg0_R,LDM-cccccccc-cccc-cccc-cccc-cccccccccccc,,ro,0 32 raid raid5_ls 2 8 nosync 3 \
+- /dev/mapper/ldm_part_Dg0_p11 - /dev/mapper/ldm_part_Dg0_p12 - -
+= 0
+$ table on B
+refused: volume S: sector 0 is lost
 = 1
 $ table on A B x:y
 refused: volume S: image 2: no word of a table
@@ -103,9 +113,16 @@ refused: volume S: image 2: no word of a table
 $ create V acacacac-acac-acac-acac-acacacacacac raid5 24 24 Disk1 Disk2 Disk3 on A B C
 1 ok 11
 = 0 ABC
-$ table on C B A
-refused: volume V: chunk of 24 sectors
-= 1
+$ create T eeeeeeee-eeee-eeee-eeee-eeeeeeeeeeee span Disk2=7 on A B C
+1 ok 12
+= 0 ABC
+$ table on C B
+ldm_part_Dg0_p12,,,ro,0 16 linear B 87;ldm_part_Dg0_p13,,,ro,0 16 linear C 63;\
+ldm_vol_Dg0_R,LDM-cccccccc-cccc-cccc-cccc-cccccccccccc,,ro,0 32 raid raid5_ls 2 8 nosync 3 \
+- - - /dev/mapper/ldm_part_Dg0_p12 - /dev/mapper/ldm_part_Dg0_p13;\
+ldm_vol_Dg0_My\\\\x20Vol,LDM-ffffffff-ffff-ffff-ffff-ffffffffffff,,ro,0 5 linear C 79;\
+ldm_vol_Dg0_T,LDM-eeeeeeee-eeee-eeee-eeee-eeeeeeeeeeee,,ro,0 7 linear B 127
+= 0
 ";
 
 #[test]
@@ -171,6 +188,29 @@ ldm_vol_Dg0_T,LDM-eeeeeeee-eeee-eeee-eeee-eeeeeeeeeeee,,ro,0 16 raid raid5_ls 2 
 #[test]
 fn refuses_parts_of_two_volumes_with_one_name(rt: HostRuntime) -> Result<(), Fail> {
     play(rt.alloc(), &rt, 3, 64, OTHER_NAMESAKES)
+}
+
+// The name of the first partition of T is that of the first of V, which has no table.
+const NAMESAKES_WITHOUT: &str = "\
+$ edit on A B C
+< create S dddddddd-dddd-dddd-dddd-dddddddddddd span Disk1=5
+< create V acacacac-acac-acac-acac-acacacacacac raid5 24 24 Disk1 Disk2 Disk3
+< create T eeeeeeee-eeee-eeee-eeee-eeeeeeeeeeee raid5 8 8 Disk1 Disk2 Disk3
+1 ok 8
+2 ok 9
+3 ok 10
+= 0 ABC
+! *.copy+91b=703130
+$ table on A B C
+ldm_vol_Dg0_S,LDM-dddddddd-dddd-dddd-dddd-dddddddddddd,,ro,0 5 linear A 63;\
+ldm_part_Dg0_p10,,,ro,0 8 linear A 92;ldm_part_Dg0_p16,,,ro,0 8 linear B 87;ldm_part_Dg0_p17,,,ro,0 8 linear C 87;\
+ldm_vol_Dg0_T,LDM-eeeeeeee-eeee-eeee-eeee-eeeeeeeeeeee,,ro,0 16 raid raid5_ls 2 8 nosync 3 \
+- /dev/mapper/ldm_part_Dg0_p10 - /dev/mapper/ldm_part_Dg0_p16 - /dev/mapper/ldm_part_Dg0_p17
+= 0";
+
+#[test]
+fn passes_over_names_of_a_volume_without_a_table(rt: HostRuntime) -> Result<(), Fail> {
+    play(rt.alloc(), &rt, 3, 64, NAMESAKES_WITHOUT)
 }
 
 // Where the size of the volume stands whose GUID is sixteen of these bytes, in the last megabyte of

@@ -7,14 +7,14 @@ use std::test::Fail;
 // are of no group.
 const SESSION: &str = "\
 $ disk --json on A
-{\"sector_size\":512,\"guid\":\"11111111-1111-1111-1111-111111111111\",\"version_minor\":11,\"data_start\":63,\"data_size\":6081,\"database_start\":6144,\"database_size\":2048,\"area_start\":17,\"area_size\":1481,\"log_start\":1498,\"log_size\":224}
+{\"sector_size\":512,\"guid\":\"11111111-1111-1111-1111-111111111111\",\"version_minor\":11,\"data_start\":63,\"data_size\":6081,\"database_start\":6144,\"database_size\":2048,\"area_start\":17,\"area_size\":1481,\"log_start\":1498,\"log_size\":224,\"partition_style\":\"mbr\"}
 = 0
 $ scan on C A
 image 0 group Dg0 aaaaaaaa-aaaa-aaaa-aaaa-aaaaaaaaaaaa disk Disk3 33333333-3333-3333-3333-333333333333 sequence 7
 image 1 group Dg0 aaaaaaaa-aaaa-aaaa-aaaa-aaaaaaaaaaaa disk Disk1 11111111-1111-1111-1111-111111111111 sequence 7
 = 0
 $ scan --json on C A
-[{\"image\":0,\"path\":\"C\",\"state\":\"open\",\"group\":\"Dg0\",\"group_guid\":\"aaaaaaaa-aaaa-aaaa-aaaa-aaaaaaaaaaaa\",\"disk\":\"Disk3\",\"disk_guid\":\"33333333-3333-3333-3333-333333333333\",\"sequence\":7,\"reason\":null,\"format\":null},{\"image\":1,\"path\":\"A\",\"state\":\"open\",\"group\":\"Dg0\",\"group_guid\":\"aaaaaaaa-aaaa-aaaa-aaaa-aaaaaaaaaaaa\",\"disk\":\"Disk1\",\"disk_guid\":\"11111111-1111-1111-1111-111111111111\",\"sequence\":7,\"reason\":null,\"format\":null}]
+[{\"image\":0,\"path\":\"C\",\"state\":\"open\",\"group\":\"Dg0\",\"group_guid\":\"aaaaaaaa-aaaa-aaaa-aaaa-aaaaaaaaaaaa\",\"disk\":\"Disk3\",\"disk_guid\":\"33333333-3333-3333-3333-333333333333\",\"sequence\":7,\"reason\":null,\"format\":null,\"partition_style\":\"mbr\"},{\"image\":1,\"path\":\"A\",\"state\":\"open\",\"group\":\"Dg0\",\"group_guid\":\"aaaaaaaa-aaaa-aaaa-aaaa-aaaaaaaaaaaa\",\"disk\":\"Disk1\",\"disk_guid\":\"11111111-1111-1111-1111-111111111111\",\"sequence\":7,\"reason\":null,\"format\":null,\"partition_style\":\"mbr\"}]
 = 0
 $ check --json on A B C
 {\"editable\":true,\"kind\":null,\"reason\":null,\"images\":[{\"image\":0,\"path\":\"A\",\"sequence\":7,\"headers\":3,\"tables\":4},{\"image\":1,\"path\":\"B\",\"sequence\":7,\"headers\":3,\"tables\":4},{\"image\":2,\"path\":\"C\",\"sequence\":7,\"headers\":3,\"tables\":4}],\"absent\":[]}
@@ -64,7 +64,7 @@ $ scan on B
 image 0 closed disk 22222222-2222-2222-2222-222222222222
 = 0
 $ scan --json on B
-[{\"image\":0,\"path\":\"B\",\"state\":\"closed\",\"group\":null,\"group_guid\":null,\"disk\":null,\"disk_guid\":\"22222222-2222-2222-2222-222222222222\",\"sequence\":null,\"reason\":null,\"format\":null}]
+[{\"image\":0,\"path\":\"B\",\"state\":\"closed\",\"group\":null,\"group_guid\":null,\"disk\":null,\"disk_guid\":\"22222222-2222-2222-2222-222222222222\",\"sequence\":null,\"reason\":null,\"format\":null,\"partition_style\":\"mbr\"}]
 = 0
 $ records --json on B
 {\"state\":\"closed\",\"name\":null,\"guid\":null,\"sequence\":null,\"last\":null,\"records\":[]}
@@ -88,7 +88,7 @@ image 0 refused: no signature
 image 1 group Dg0 aaaaaaaa-aaaa-aaaa-aaaa-aaaaaaaaaaaa no disk 93333333-3333-3333-3333-333333333333 sequence 9
 = 0
 $ scan --json on A
-[{\"image\":0,\"path\":\"A\",\"state\":\"refused\",\"group\":null,\"group_guid\":null,\"disk\":null,\"disk_guid\":null,\"sequence\":null,\"reason\":\"no signature\",\"format\":null}]
+[{\"image\":0,\"path\":\"A\",\"state\":\"refused\",\"group\":null,\"group_guid\":null,\"disk\":null,\"disk_guid\":null,\"sequence\":null,\"reason\":\"no signature\",\"format\":null,\"partition_style\":null}]
 = 0
 $ disk --json on A
 {\"refused\":{\"kind\":\"label\",\"image\":0,\"path\":\"A\",\"other_image\":null,\"other_path\":null,\"rule\":null,\"id\":null,\"reason\":\"image 0: no signature\"}}
@@ -105,44 +105,44 @@ $ scan on A
 image 0 refused: no signature: a QCOW2 container
 = 0
 $ scan --json on A
-[{\"image\":0,\"path\":\"A\",\"state\":\"refused\",\"group\":null,\"group_guid\":null,\"disk\":null,\"disk_guid\":null,\"sequence\":null,\"reason\":\"no signature\",\"format\":\"qcow2\"}]
+[{\"image\":0,\"path\":\"A\",\"state\":\"refused\",\"group\":null,\"group_guid\":null,\"disk\":null,\"disk_guid\":null,\"sequence\":null,\"reason\":\"no signature\",\"format\":\"qcow2\",\"partition_style\":null}]
 = 0
 ! 0.mbr+0=4b444d56
 $ scan on A
 image 0 refused: no signature: a VMDK container
 = 0
 $ scan --json on A
-[{\"image\":0,\"path\":\"A\",\"state\":\"refused\",\"group\":null,\"group_guid\":null,\"disk\":null,\"disk_guid\":null,\"sequence\":null,\"reason\":\"no signature\",\"format\":\"vmdk\"}]
+[{\"image\":0,\"path\":\"A\",\"state\":\"refused\",\"group\":null,\"group_guid\":null,\"disk\":null,\"disk_guid\":null,\"sequence\":null,\"reason\":\"no signature\",\"format\":\"vmdk\",\"partition_style\":null}]
 = 0
 ! 0.mbr+0=636f6e6563746978
 $ scan on A
 image 0 refused: no signature: a VHD container
 = 0
 $ scan --json on A
-[{\"image\":0,\"path\":\"A\",\"state\":\"refused\",\"group\":null,\"group_guid\":null,\"disk\":null,\"disk_guid\":null,\"sequence\":null,\"reason\":\"no signature\",\"format\":\"vhd\"}]
+[{\"image\":0,\"path\":\"A\",\"state\":\"refused\",\"group\":null,\"group_guid\":null,\"disk\":null,\"disk_guid\":null,\"sequence\":null,\"reason\":\"no signature\",\"format\":\"vhd\",\"partition_style\":null}]
 = 0
 ! 0.mbr+0=7668647866696c65
 $ scan on A
 image 0 refused: no signature: a VHDX container
 = 0
 $ scan --json on A
-[{\"image\":0,\"path\":\"A\",\"state\":\"refused\",\"group\":null,\"group_guid\":null,\"disk\":null,\"disk_guid\":null,\"sequence\":null,\"reason\":\"no signature\",\"format\":\"vhdx\"}]
+[{\"image\":0,\"path\":\"A\",\"state\":\"refused\",\"group\":null,\"group_guid\":null,\"disk\":null,\"disk_guid\":null,\"sequence\":null,\"reason\":\"no signature\",\"format\":\"vhdx\",\"partition_style\":null}]
 = 0
 ! 0.mbr+0=4556460900000000
 $ scan on A
 image 0 refused: no signature: an EWF container
 = 0
 $ scan --json on A
-[{\"image\":0,\"path\":\"A\",\"state\":\"refused\",\"group\":null,\"group_guid\":null,\"disk\":null,\"disk_guid\":null,\"sequence\":null,\"reason\":\"no signature\",\"format\":\"ewf\"}]
+[{\"image\":0,\"path\":\"A\",\"state\":\"refused\",\"group\":null,\"group_guid\":null,\"disk\":null,\"disk_guid\":null,\"sequence\":null,\"reason\":\"no signature\",\"format\":\"ewf\",\"partition_style\":null}]
 = 0
 ! 0.mbr+0=0000000000000000
 ! 0.mbr+1c2=ee
 ! 0.mbr+1fe=55
 $ scan on A
-image 0 refused: no 0x42 entry: a GPT disk
+image 0 refused: no GPT header
 = 0
 $ scan --json on A
-[{\"image\":0,\"path\":\"A\",\"state\":\"refused\",\"group\":null,\"group_guid\":null,\"disk\":null,\"disk_guid\":null,\"sequence\":null,\"reason\":\"no 0x42 entry\",\"format\":\"gpt\"}]
+[{\"image\":0,\"path\":\"A\",\"state\":\"refused\",\"group\":null,\"group_guid\":null,\"disk\":null,\"disk_guid\":null,\"sequence\":null,\"reason\":\"no GPT header\",\"format\":null,\"partition_style\":null}]
 = 0
 ";
 

@@ -27,7 +27,7 @@ abbrev pub table_answer : List ℕ → List (List ℕ) → Found → Answer
 table_answer name words found =
     named_answer Lines (λ v. laid_answer (volume_table words found v) (layout_of found.db.records v)) (volume_named name found.db.records)
 
--- the tables of all volumes, or why there are none
+-- the tables of all volumes that have one, or why there are none
 abbrev pub all_answer : Result (List ℕ) TablesFault → Answer
 all_answer (Ok text) = (text, Done)
 all_answer (Err fault) = refused (text_of_tables_fault fault)

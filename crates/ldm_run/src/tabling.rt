@@ -99,8 +99,8 @@ fn group_refusal(alloc: Global, fault: &TablesFault) -> Result<Bytes, NoMemory>
     refusal_text(alloc, text.as_slice())
 }
 
-// What is answered on a group: the line that makes the devices of all volumes, or that of the
-// refusal.
+// What is answered on a group: the line that makes the devices of all volumes that have a table, or
+// that of the refusal.
 fn all_tabled<H: Host>(
     alloc: Global,
     host: &H,

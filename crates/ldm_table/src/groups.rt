@@ -1,16 +1,16 @@
-//! The tables of all volumes of a group, in one text.
+//! The tables of all volumes of a group that have one, in one text.
 ghost use Rattle.std.specs.Prelude.{◌≡◌, ◌++◌, ◌∷◌, true, Some, Contains, IfOk, OnOk};
 ghost use Rattle.ldm_records.specs.declared.types.Record.TheVariants as kinds;
 ghost use Rattle.ldm_group.specs.Looks.{by_id};
 ghost use Rattle.ldm_group.specs.Order.{kind_of, id_of};
 ghost use Rattle.ldm_found.specs.Facts.{IsSoundGroup, LieOn};
-ghost use Rattle.ldm_table.specs.Groups.{laid_volumes, separator, AddsTable, AddsRecord};
-ghost use Rattle.ldm_table.specs.Groups.{IsAllDevices, tables_text, text_of_tables_fault};
-ghost use Rattle.ldm_table.specs.Laws.{GroupTablesAreVolumes};
+ghost use Rattle.ldm_table.specs.Groups.{separator, AddsTable, AddsRecord, IsAllDevices};
+ghost use Rattle.ldm_table.specs.Groups.{tables_text, text_of_tables_fault};
+ghost use Rattle.ldm_table.specs.Laws.{GroupTablesAreVolumes, EachIsTabledOrFaulty};
 
 use crate::faults::{TableFault, fault_text, has_namesakes};
 use crate::parts::{Member, array_of};
-use crate::table::push_devices;
+use crate::table::{fault_over, push_devices};
 use ldm_bytes::{Bytes, NoMemory};
 use ldm_dump::volumes_lie_on_images;
 use ldm_found::Found;
@@ -21,11 +21,10 @@ use ldm_text::{Text, push_name};
 use ldm_words::Names;
 use std::alloc::Global;
 
-/// Why a group has no text of all its tables. Where there are more reasons than one, the first
-/// counts.
+/// Why a group has no text of its tables. Where there are more reasons than one, the first counts.
 #[derive(Drop)]
 pub enum TablesFault {
-    /// The volume of this name has no table, and those of less ids have one.
+    /// No volume has a table: the first is that of this name, and has none for this reason.
     NoTable(Bytes, TableFault),
     /// The group has no volume.
     NoVolume,
@@ -33,14 +32,14 @@ pub enum TablesFault {
     OneName,
 }
 
-/// What the volumes so far are made of.
+/// What the volumes so far that have a table are made of.
 #[derive(Drop)]
 pub(crate) struct Devices {
     /// The devices as text.
     pub text: Text,
     /// The devices of their arrays.
     pub members: Vec<Option<Member>>,
-    /// Whether there is a volume.
+    /// Whether there is such a volume.
     pub some: bool,
 }
 
@@ -77,8 +76,11 @@ fn push_volume<H: Host>(
     let plan = sound_plan(alloc, &found.db, &found.labels, volume)?;
     volumes_lie_on_images();
     let mut members = array_of(alloc, host, found, &plan)?;
+    if let Some(fault) = fault_over(alloc, found, volume, &plan, words, &members)? {
+        return Ok(Some(fault));
+    }
     push_separator(devices)?;
-    let fault = push_devices(
+    push_devices(
         alloc,
         &mut devices.text,
         host,
@@ -89,7 +91,7 @@ fn push_volume<H: Host>(
         &members,
     )?;
     devices.members.append(&mut members)?;
-    Ok(fault)
+    Ok(None)
 }
 
 // Adds the volume that a record is, or answers why it has no table.
@@ -118,7 +120,7 @@ fn push_record<H: Host>(
     }
 }
 
-// The devices of all volumes, or why one has no table.
+// The devices of all volumes that have a table, or why none has one.
 fn all_devices<H: Host>(
     alloc: Global,
     host: &H,
@@ -127,24 +129,27 @@ fn all_devices<H: Host>(
 ) -> Result<Result<Devices, TablesFault>, NoMemory>
     requires sound { IsSoundGroup found.now }
     requires lies { LieOn found.now.labels (H.seen host.now).sizes }
-    ensures { IfOk result (λ answer. IsAllDevices words.now found.now
-        (laid_volumes found.now.db.records) answer) }
+    ensures { IfOk result (λ answer. IsAllDevices words.now found.now answer) }
 {
     let mut devices = Devices {
         text: Text::new(alloc),
         members: Vec::new(alloc),
         some: false,
     };
+    let mut first = None;
     for record in found.db.as_slice() {
-        if let Some(fault) = push_record(alloc, &mut devices, host, found, record, words)? {
-            return Ok(Err(fault));
-        }
+        let fault = push_record(alloc, &mut devices, host, found, record, words)?;
+        first = first.or(fault);
     }
-    Ok(Ok(devices))
+    if devices.some {
+        Ok(Ok(devices))
+    } else {
+        Ok(Err(first.unwrap_or(TablesFault::NoVolume)))
+    }
 }
 
-/// The line that makes read-only devices of all volumes of the group, of images that these words
-/// name, or why there is none.
+/// The line that makes read-only devices of all volumes of the group that have a table, of images
+/// that these words name, or why there is none.
 pub fn tables_text<H: Host>(
     alloc: Global,
     host: &H,
@@ -159,9 +164,6 @@ pub fn tables_text<H: Host>(
         Err(fault) => return Ok(Err(fault)),
         Ok(devices) => devices,
     };
-    if !devices.some {
-        return Ok(Err(TablesFault::NoVolume));
-    }
     if has_namesakes(&devices.members) {
         return Ok(Err(TablesFault::OneName));
     }
@@ -196,8 +198,10 @@ pub fn tables_fault_text(alloc: Global, fault: &TablesFault) -> Result<Bytes, No
     }
 }
 
-/// That the devices of all volumes of one text, as the targets of the tables are read, have exactly
-/// the sectors of the volumes, each with the bytes of its volume. The call does nothing.
+/// That the devices of each volume in the text of a group, as the targets of the tables are read,
+/// have exactly the sectors of the volume, each with the bytes of the volume; and that each volume of
+/// the group is in the text or has no table. The call does nothing.
 pub fn group_tables_are_volumes()
-    ensures { GroupTablesAreVolumes }
+    ensures devices { GroupTablesAreVolumes }
+    ensures each { EachIsTabledOrFaulty }
 {}

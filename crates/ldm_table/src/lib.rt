@@ -15,4 +15,4 @@ pub use faults::{TableFault, fault_text};
 pub use groups::{TablesFault, group_tables_are_volumes, tables_fault_text, tables_text};
 pub use parts::Member;
 pub use stretch::Stretch;
-pub use table::{table_text, tables_are_volumes};
+pub use table::{table_fault, table_text, tables_are_volumes};

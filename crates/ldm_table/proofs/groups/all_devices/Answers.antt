@@ -1,4 +1,3 @@
-use Rattle.std.proofs.Common.{◌≡◌, rules, None}
 use Rattle.ldm_table.specs.Groups.{laid_volumes}
 use Rattle.ldm_table.proofs.GroupLaws.{again_at, place_more}
 use Rattle.ldm_table.proofs.groups.all_devices.Goals as goal
@@ -9,6 +8,7 @@ push_record-requires-clause-again g c =
 
 pub loop-record-preserved : goal.loop-record-preserved
 loop-record-preserved g c =
-    let none : c.in_ok-fault.field-0 ≡ None = search rules in
-    place_more c.args.words.now c.args.found.now (laid_volumes c.args.found.now.db.records) _ c.loop-record.record-index c.record-item.result c.loop-record.devices c.push_record.new.devices c.in_ok-fault.field-0
-    c.as_slice-record-items.ensures.all c.loop-record-test.true c.record-item.is none c.in_ok-fault.ensures c.loop-record.invariant
+    let more =
+    place_more c.args.words.now c.args.found.now (laid_volumes c.args.found.now.db.records) _ c.loop-record.record-index c.record-item.result c.loop-record.devices c.push_record.new.devices c.loop-record.first c.in_ok-fault.fault
+    c.as_slice-record-items.ensures.all c.loop-record-test.true c.record-item.is c.in_ok-fault.ensures c.loop-record.invariant in
+    rw c.or-first.ensures more
