@@ -24,6 +24,8 @@ mod made;
 #[cfg(test)]
 mod rescue;
 #[cfg(test)]
+mod rescue_job;
+#[cfg(test)]
 mod rules;
 #[cfg(test)]
 mod sectors;

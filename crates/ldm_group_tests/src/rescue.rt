@@ -18,8 +18,8 @@ use std::test::Fail;
 
 // The ranges that are told.
 #[derive(Drop)]
-struct Told {
-    ranges: Vec<Loss>,
+pub(crate) struct Told {
+    pub(crate) ranges: Vec<Loss>,
 }
 
 impl Losses<MemoryHost> for Told {
@@ -37,10 +37,14 @@ impl Losses<MemoryHost> for Told {
 }
 
 // Sectors of an image: the image, the first and how many.
-type Sectors = (usize, u64, usize);
+pub(crate) type Sectors = (usize, u64, usize);
 
 // A host of these images, of which these sectors can't be read.
-fn host_of(alloc: Global, images: Vec<Vec<u8>>, bad: &[Sectors]) -> Result<MemoryHost, Fail> {
+pub(crate) fn host_of(
+    alloc: Global,
+    images: Vec<Vec<u8>>,
+    bad: &[Sectors],
+) -> Result<MemoryHost, Fail> {
     let mut ranges = Vec::new(alloc);
     for (disk, first, count) in bad {
         ranges.push(DiskRange {
@@ -108,14 +112,14 @@ fn rescue(
 }
 
 // Fills a sector of an image with this byte.
-fn fill(images: &mut [Vec<u8>], image: usize, sector: usize, byte: u8) {
+pub(crate) fn fill(images: &mut [Vec<u8>], image: usize, sector: usize, byte: u8) {
     if let Some(image) = images.get_mut(image) {
         put_at(image, sector.saturating_mul(512), &[byte; 512]);
     }
 }
 
 // Whether a sector of what was said has this byte alone.
-fn was_said(host: &MemoryHost, sector: usize, byte: u8) -> bool {
+pub(crate) fn was_said(host: &MemoryHost, sector: usize, byte: u8) -> bool {
     let from = sector.saturating_mul(512);
     match host.said().get(from..from.saturating_add(512)) {
         Some(bytes) => bytes == [byte; 512].as_slice(),
@@ -124,7 +128,7 @@ fn was_said(host: &MemoryHost, sector: usize, byte: u8) -> bool {
 }
 
 // Sectors 5 and 9 of both copies hold bytes of their own.
-fn mirror_images(alloc: Global) -> Result<Vec<Vec<u8>>, Fail> {
+pub(crate) fn mirror_images(alloc: Global) -> Result<Vec<Vec<u8>>, Fail> {
     let mut images = usual_images(alloc)?;
     for (image, first) in [(0, 1563usize), (2, 575)] {
         fill(images.as_mut_slice(), image, first + 5, 7);

@@ -3,10 +3,19 @@ use ldm_label::LabelFault;
 use ldm_text::label_fault_text;
 use std::test::Fail;
 
-const TEXTS: [(LabelFault, &str); 12] = [
+const TEXTS: [(LabelFault, &str); 21] = [
     (LabelFault::Short, "too short"),
     (LabelFault::NoSignature, "no signature"),
     (LabelFault::NoLdmEntry, "no 0x42 entry"),
+    (LabelFault::NoGpt, "no GPT header"),
+    (LabelFault::GptSize, "GPT header size"),
+    (LabelFault::GptChecksum, "GPT header checksum"),
+    (LabelFault::GptEntries, "GPT entries"),
+    (LabelFault::GptRange, "GPT range"),
+    (LabelFault::EntriesChecksum, "GPT entries checksum"),
+    (LabelFault::NoMetadata, "no LDM metadata partition"),
+    (LabelFault::MetadataSize, "LDM metadata partition size"),
+    (LabelFault::MetadataRange, "LDM metadata partition range"),
     (LabelFault::NoPrivhead, "no PRIVHEAD"),
     (LabelFault::Version, "PRIVHEAD version"),
     (LabelFault::DatabaseSize, "database size"),

@@ -4,3 +4,5 @@ pub mod RescueLaws
 pub mod DumpLaws
 pub mod LossLaws
 pub mod ToldLaws
+pub mod EndLaws
+pub mod OneLaws

@@ -1,28 +1,28 @@
 -- How ranges of lost sectors follow one another.
-use Rattle.std.proofs.Common.{◌≡◌, inl, inr, ℕ, ◌+◌, ◌<◌, ◌≤◌, Bool, true, false, List, [], ◌∷◌, ◌++◌, refl, sym, ◌∙◌, ap, subst, arith, append_assoc, Option, Some, None, if◌then◌else◌}
+use Rattle.std.proofs.Common.{◌≡◌, inl, inr, ℕ, ◌+◌, ◌<◌, ◌≤◌, Bool, true, false, List, [], ◌∷◌, ◌++◌, refl, sym, ◌∙◌, ap, subst, arith, Option, Some, None, if◌then◌else◌}
 use Rattle.std.specs.Option.{option_to_list}
 use Rattle.std.proofs.lemmas.List.{append-nil}
 use Rattle.std.proofs.lemmas.List.Sums.{sum_by-append}
 use Rattle.ldm_rescue.specs.declared.reading.Cause.{Cause}
 use Rattle.ldm_rescue.specs.declared.losses.Loss.{Loss}
-use Rattle.ldm_rescue.specs.Losses.{is_in_loss, cause_at, lost_in, GoesOn, IsEnded, AreRanges, longer, AddsPiece, Comes, lost_among}
+use Rattle.ldm_rescue.specs.Losses.{is_in_loss, cause_at, lost_in, GoesOn, IsEnded, AreRanges, longer, Comes, lost_among}
 
 -- ---- one range
 
-behind : (loss : Loss) (x : ℕ) → loss.first + loss.count ≤ x → is_in_loss loss x ≡ false
+pub behind : (loss : Loss) (x : ℕ) → loss.first + loss.count ≤ x → is_in_loss loss x ≡ false
 behind loss x le = grind arith
 
-before : (loss : Loss) (x : ℕ) → x < loss.first → is_in_loss loss x ≡ false
+pub before : (loss : Loss) (x : ℕ) → x < loss.first → is_in_loss loss x ≡ false
 before loss x lt = grind arith
 
-inside : (loss : Loss) (x : ℕ) → loss.first ≤ x → x < loss.first + loss.count → is_in_loss loss x ≡ true
+pub inside : (loss : Loss) (x : ℕ) → loss.first ≤ x → x < loss.first + loss.count → is_in_loss loss x ≡ true
 inside loss x low high = grind arith
 
 -- a sector that isn't in the first range
-cause_past : (loss : Loss) (more : List Loss) (x : ℕ) → is_in_loss loss x ≡ false → cause_at (loss ∷ more) x ≡ cause_at more x
+pub cause_past : (loss : Loss) (more : List Loss) (x : ℕ) → is_in_loss loss x ≡ false → cause_at (loss ∷ more) x ≡ cause_at more x
 cause_past loss more x out = ap (λ (b : Bool). if b then Some loss.cause else cause_at more x) out
 
-cause_in : (loss : Loss) (more : List Loss) (x : ℕ) → is_in_loss loss x ≡ true → cause_at (loss ∷ more) x ≡ Some loss.cause
+pub cause_in : (loss : Loss) (more : List Loss) (x : ℕ) → is_in_loss loss x ≡ true → cause_at (loss ∷ more) x ≡ Some loss.cause
 cause_in loss more x here = ap (λ (b : Bool). if b then Some loss.cause else cause_at more x) here
 
 -- what is equal of the ranges behind the first is equal of all

@@ -1,3 +1,5 @@
 pub mod Rescued
 pub mod Losses
 pub mod Told
+pub mod Rescue
+pub mod RescueWords

@@ -1,5 +1,5 @@
 -- What is said of sectors of a volume, with the ranges of lost ones that are told, sector by sector and so far.
-use Rattle.std.specs.Prelude.{◌≡◌, ℕ, ◌+◌, ◌<◌, ◌++◌, List, [], Option, None, IfSome}
+use Rattle.std.specs.Prelude.{◌≡◌, ℕ, ◌+◌, ◌<◌, ◌++◌, List, [], None, IfSome}
 use Rattle.std.specs.Option.{option_to_list}
 use Rattle.ldm_host.specs.declared.host.DiskRange.{DiskRange}
 use Rattle.ldm_places.specs.Layouts.{Layout}

@@ -8,10 +8,14 @@
 mod laws;
 mod losses;
 mod reading;
+mod rescuing;
 mod saying;
 mod sources;
+mod words;
 
 pub use laws::rescued_sectors_are_dumped;
 pub use losses::{Loss, Losses};
 pub use reading::{Cause, Rescued, rescue_some};
+pub use rescuing::{Rescue, Totals, run_rescue};
 pub use saying::rescue_sectors;
+pub use words::{RescueWords, rescue_words};

@@ -1,4 +1,4 @@
-use Rattle.std.proofs.Common.{inr, List, [], ◌∷◌, refl, sym, ◌∙◌, subst, Option, Some}
+use Rattle.std.proofs.Common.{inr, [], ◌∷◌, refl, sym, ◌∙◌, subst, Option, Some}
 use Rattle.ldm_rescue.specs.declared.losses.Loss.{Loss}
 use Rattle.ldm_rescue.specs.Losses.{GoesOn, AddsPiece}
 use Rattle.ldm_rescue.proofs.losses.add.Goals as goal

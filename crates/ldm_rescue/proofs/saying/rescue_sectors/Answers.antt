@@ -1,8 +1,7 @@
-use Rattle.std.proofs.Common.{◌≡◌, ℕ, ◌+◌, ◌*◌, ◌≤◌, ◌++◌, List, [], length, take, drop, refl, sym, ◌∙◌, ap, subst, arith, append_assoc, None}
+use Rattle.std.proofs.Common.{◌≡◌, ℕ, ◌+◌, ◌*◌, ◌++◌, List, [], length, refl, sym, ◌∙◌, ap, subst, arith, append_assoc}
 use Rattle.std.specs.Option.{option_to_list}
 use Rattle.std.proofs.lemmas.List.{append-nil, length-take}
-use Rattle.ldm_host.specs.Moves.{Begins, Still}
-use Rattle.ldm_host.specs.declared.host.DiskRange.{DiskRange}
+use Rattle.ldm_host.specs.Moves.{Begins}
 use Rattle.ldm_host.proofs.Relations.{still_itself, still_trans}
 use Rattle.ldm_dump.proofs.ByteLaws.{begins_of}
 use Rattle.ldm_rescue.specs.Rescued.{unread_since}
