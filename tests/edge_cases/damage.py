@@ -79,6 +79,13 @@ class PastDamage(Damaged):
         self.is_bytes(before.out, came.out)
         self.is_ending(came._replace(out=b""), 0, "", PAST)
 
+    @case("table past damage tells of volumes without one as well")
+    def tables(self):
+        """The group is that of the copies that are left."""
+        came = self.ran(self.ldm("table --past-damage on", *rooms.group("damaged", "ab")))
+        told = f"ldm: volume Stripe1 has no table: sector 128 is lost\n{PASSED_OVER}"
+        self.is_ending(came._replace(out=b""), 0, "", told)
+
     @case("a refusal past damage tells it too")
     def refuses(self):
         """What is damaged is told whatever the answer is."""

@@ -3,6 +3,7 @@ import functools
 import os
 import subprocess
 
+from .failing import can_compile
 from .harness import is_built
 
 
@@ -34,6 +35,11 @@ def strace_works():
 def strace(_):
     """A program can be traced."""
     return None if strace_works() else "strace does not work here"
+
+
+def a_compiler(_):
+    """A library can be compiled that makes reads fail."""
+    return None if can_compile() else "there is no compiler of C"
 
 
 @functools.lru_cache(maxsize=None)

@@ -97,7 +97,7 @@ class Explained(Edited):
         ),
         (
             "table: that a volume has none is explained on a terminal",
-            "table",
+            "table Stripe1",
             "ldm: sector 128 of Stripe1 lies on Disk3 (33333333-3333-3333-3333-333333333333), "
             "which is absent: name its image\n",
         ),

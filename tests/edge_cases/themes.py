@@ -2,7 +2,7 @@
 import unittest
 
 from . import damage, devices, edits, examples, groups, images
-from . import locks, reader, stops, streams, texts, volumes
+from . import locks, reader, rescue, stops, streams, texts, volumes
 from .harness import Case
 
 THEMES = (
@@ -13,6 +13,7 @@ THEMES = (
     reader,
     examples,
     volumes,
+    rescue,
     edits,
     groups,
     stops,

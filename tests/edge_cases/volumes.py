@@ -14,6 +14,17 @@ LONG_GUID = "99999999-0000-0000-0000-000000000003"
 CHUNK = 64 * rooms.SECTOR
 UNSAID_JOBS = ("dump Volume1", "scrub Mirror1")
 
+# The devices of the volumes, and at last that of the mirror without its first copy.
+DEVICES = (
+    "ldm_vol_Dg0_Volume1,LDM-55555555-5555-5555-5555-555555555555,,ro,0 1000 linear data/a.img 63",
+    "ldm_vol_Dg0_Volume2,LDM-66666666-6666-6666-6666-666666666666,,ro,"
+    "0 500 linear data/a.img 1063,500 1000 linear data/b.img 63",
+    "ldm_vol_Dg0_Stripe1,LDM-77777777-7777-7777-7777-777777777777,,ro,"
+    "0 1024 striped 2 128 data/b.img 1063 data/c.img 63",
+    "ldm_vol_Dg0_Mirror1,LDM-88888888-8888-8888-8888-888888888888,,ro,0 700 linear data/a.img 1563",
+    "ldm_vol_Dg0_Mirror1,LDM-88888888-8888-8888-8888-888888888888,,ro,0 700 linear data/c.img 575",
+)
+
 # Two columns of four chunks of 128 sectors, one in turn after the other.
 ROWS = [128 * it for it in range(4)]
 STRIPE = [part for it in ROWS for part in (("b", 1063 + it, 128), ("c", 63 + it, 128))]
@@ -84,6 +95,36 @@ class Dumps(Volumes):
         """The words are read before the image, which is a pipe, is opened."""
         why = "VOLUME is missing: the form is dump VOLUME on IMAGE..."
         self.misread(self.ldm("dump on pipe"), why)
+
+
+class Tables(Volumes):
+    """The devices of all volumes of which some have no table."""
+
+    @rows(
+        ("table: all volumes have one", "abc", (0, 1, 2, 3), ""),
+        (
+            "table: a volume that has none is told on standard error",
+            "ab",
+            (0, 1, 3),
+            "ldm: volume Stripe1 has no table: sector 128 is lost\n",
+        ),
+        (
+            "table: each volume that has none is told",
+            "bc",
+            (2, 4),
+            "ldm: volume Volume1 has no table: sector 0 is lost\n"
+            "ldm: volume Volume2 has no table: sector 0 is lost\n",
+        ),
+    )
+    def tells_others(self, names, devices, told):
+        """The text has the others, and the status is 0."""
+        said = ";".join(DEVICES[it] for it in devices) + "\n"
+        self.ends(self.ldm("table on", *rooms.group("data", names)), 0, said, told)
+
+    @case("table: a text that isn't said tells of no volume")
+    def unsaid_text(self):
+        """What its output failed by is all that is told."""
+        self.unsaid(self.ldm("table on", *rooms.group("data", "ab")), NO_SPACE, stdout=FULL)
 
 
 class UnsaidDumps(Volumes):

@@ -31,7 +31,7 @@ const JOBS: [(&str, &str); 21] = [
     ),
     (
         "dump",
-        "Standard output has the sectors of the volume and nothing else; they are all that were asked for where the status is\n0. FIRST is a sector of the volume, from 0 on. Where a dump ended early, the sectors from FIRST on are still to come,\nwhich is the length of what it said by 512. With --past-damage behind dump it reads on past damaged labels and copies\nof the database.\n\nexample: ldm dump 'Volume1' on disk1.img disk2.img > volume1",
+        "Standard output has the sectors of the volume and nothing else; they are all that were asked for where the status is\n0. FIRST is a sector of the volume, from 0 on. Where a dump ended early, the sectors from FIRST on are still to come,\nwhich is the length of what it said by 512. With --past-damage behind dump it reads on past damaged labels and copies\nof the database.\nWith --rescue there it goes on where a sector can't be read from any of its disks, or lies on disks that are absent: it\nsays zeros for what is lost, and tells on standard error which sectors those are and why, with status 1.\n\nexample: ldm dump 'Volume1' on disk1.img disk2.img > volume1\nexample: ldm dump --rescue 'Volume1' on disk1.img disk2.img > volume1 2> lost",
     ),
     (
         "scrub",
@@ -39,7 +39,7 @@ const JOBS: [(&str, &str); 21] = [
     ),
     (
         "table",
-        "Each image is named in the table by its word here, so an image that is a file needs a loop device first.\nWithout VOLUME all volumes are made by one text; it is refused where one of them has no table. With --past-damage\nbehind table it reads on past damaged labels and copies of the database.\n\nexample: dmsetup create --concise \"$(ldm table 'Volume1' on /dev/loop0 /dev/loop1)\"",
+        "Each image is named in the table by its word here, so an image that is a file needs a loop device first.\nWithout VOLUME all volumes that have a table are made by one text, and each other is named on standard error. With\n--past-damage behind table it reads on past damaged labels and copies of the database.\n\nexample: dmsetup create --concise \"$(ldm table 'Volume1' on /dev/loop0 /dev/loop1)\"",
     ),
     (
         "try",

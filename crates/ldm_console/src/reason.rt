@@ -175,9 +175,19 @@ fn init<'a>(alloc: Global, words: &'a [String], on: Option<usize>) -> Read<'a> {
     check(disks == images, UsageError::Unlike { disks, images })
 }
 
+// How many words stand behind the options in front.
+fn count_behind_options(words: &[String]) -> usize {
+    for (place, word) in words.iter().enumerate() {
+        if !word.as_str().starts_with("--") {
+            return words.len().saturating_sub(place);
+        }
+    }
+    0
+}
+
 // A job that the help says, or why the word is none.
 fn by_help<'a>(alloc: Global, word: &'a str, rest: &'a [String], on: Option<usize>) -> Read<'a> {
-    match form_of(word, rest.len()) {
+    match form_of(word, count_behind_options(rest)) {
         Some(form) => Ok(by_form(alloc, form, rest, on)?),
         None => Err(unknown_job(alloc, word)),
     }

@@ -158,12 +158,14 @@ fn no_more<'a>(
     }
 }
 
-// The options of a job, which stand behind its name; none where it has none.
+// The options of a job, which stand behind its name; none where it has none. Of two with `or`
+// between them one alone is taken.
 fn options_of(job: &str) -> &'static str {
     match job {
         "disk" | "records" | "scan" | "try" | "edit" => "--json",
         "show" | "check" | "map" | "scrub" => "--json and --past-damage",
-        "dump" | "table" => "--past-damage",
+        "table" => "--past-damage",
+        "dump" => "--past-damage or --rescue",
         _ => "",
     }
 }
@@ -187,6 +189,20 @@ fn behind_option<'a>(
     }
 }
 
+// The words of a job behind its options.
+fn behind_options<'a>(
+    job: &'static str,
+    words: &'a [String],
+) -> Result<&'a [String], FormError<'a>> {
+    let behind_first = behind_option(job, words)?;
+    let rest = behind_option(job, behind_first)?;
+    let options = options_of(job);
+    if options.contains(" or ") && rest.len().saturating_add(2) == words.len() {
+        return Err(FormError::OneOption { job, options });
+    }
+    Ok(rest)
+}
+
 /// The words behind that of a job, and its images, by the form that the help says.
 pub fn by_form<'a>(
     alloc: Global,
@@ -199,7 +215,7 @@ pub fn by_form<'a>(
         None => form,
     };
     let job = word_of(form);
-    let words = behind_option(job, behind_option(job, words)?)?;
+    let words = behind_options(job, words)?;
     let rest = parts(alloc, form, names, words)?;
     no_more(form, rest, on).and(images(form, on))
 }

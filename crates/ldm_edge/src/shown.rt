@@ -61,6 +61,11 @@ pub enum FormError<'a> {
         options: &'a str,
         word: Shown<'a>,
     },
+    #[error("{job} takes {options}, and not both")]
+    OneOption {
+        job: &'a str,
+        options: &'a str,
+    },
     #[error("\"on\" is missing between {job} and its images")]
     NoOn {
         job: &'a str,

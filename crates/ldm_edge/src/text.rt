@@ -22,13 +22,14 @@ These jobs read:
   dump VOLUME FIRST COUNT on IMAGE...    those of COUNT sectors of it, from FIRST on
   scrub VOLUME on IMAGE...               where the copies of a mirror, or the parity of a RAID-5, disagree
   table VOLUME on IMAGE...               what dmsetup create --concise takes, to mount a volume where it lies, read-only
-  table on IMAGE...                      the same of all volumes of the group
+  table on IMAGE...                      the same of all volumes of the group that have such a table
   try on IMAGE...                        what the lines of a script on standard input would make of a group
   sample SEED                            an edit of 200 lines that a number draws, of a group in memory
 
 With --json behind its name, disk, records, scan, show, check or map says one JSON value: ldm show --json on IMAGE...
 With it scrub, try, edit or a COMMAND says a JSON value for each line: ldm edit --json on IMAGE...
 With --past-damage there, show, check, map, dump, scrub or table reads on past damaged labels and copies of the database.
+With --rescue there, dump goes on where sectors are lost: it says zeros for them, and tells which on standard error.
 
 These write, to all images of the group. No other program may write to them meanwhile:
 

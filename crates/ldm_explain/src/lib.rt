@@ -28,4 +28,5 @@ pub use group::fault_line;
 pub use image::{Glimpse, copy_line, label_line};
 pub use line::say_unread;
 pub use sight::Sight;
+pub use tables::untabled_text;
 pub use words::words_of;

@@ -1,10 +1,12 @@
 //! Images of a usual group, and what is explained of a job on them.
 use crate::arrays::{clear_volumes, put_arrays};
-use ldm_explain::{Sight, explain};
+use ldm_explain::{Sight, explain, untabled_text};
+use ldm_found::find_group;
+use ldm_host::Host;
 use ldm_images::usual_images;
 use ldm_memory::MemoryHost;
 use ldm_text::Text;
-use ldm_words::read_words;
+use ldm_words::{Job, read_words};
 use std::alloc::Global;
 use std::test::Fail;
 
@@ -99,6 +101,14 @@ pub(crate) fn string_of(alloc: Global, text: &Text) -> Result<String, Fail> {
     }
 }
 
+fn words_in(alloc: Global, line: &str) -> Result<Vec<String>, Fail> {
+    let mut words = Vec::new(alloc);
+    for word in line.split(' ') {
+        words.push(String::from_str(alloc, word)?)?;
+    }
+    Ok(words)
+}
+
 /// What is explained of a job on the images that its words name, with this script.
 pub(crate) fn explained(
     alloc: Global,
@@ -106,10 +116,7 @@ pub(crate) fn explained(
     script: &str,
     change: Change,
 ) -> Result<String, Fail> {
-    let mut words = Vec::new(alloc);
-    for word in line.split(' ') {
-        words.push(String::from_str(alloc, word)?)?;
-    }
+    let words = words_in(alloc, line)?;
     let Ok((job, count)) = read_words(alloc, &words) else {
         return Err(Fail::from("no reading"));
     };
@@ -119,5 +126,26 @@ pub(crate) fn explained(
     match Sight::of(alloc, &mut host, names, &job) {
         Some(sight) => string_of(alloc, &explain(alloc, sight, &job, script.as_bytes())?),
         None => Ok(String::new(alloc)),
+    }
+}
+
+/// What is told of volumes that the text of all tables leaves out, of the images that the words of
+/// that job name.
+pub(crate) fn untabled(alloc: Global, line: &str) -> Result<String, Fail> {
+    let words = words_in(alloc, line)?;
+    let Ok((job, count)) = read_words(alloc, &words) else {
+        return Err(Fail::from("no reading"));
+    };
+    let images = named_images(alloc, &words[words.len() - count..], Change::None)?;
+    let Job::Tables { images: named } = job else {
+        return Err(Fail::from("another job"));
+    };
+    let mut host = MemoryHost::new(alloc, images, Vec::new(alloc))?;
+    if host.disks() == 0 {
+        return Err(Fail::from("no image"));
+    }
+    match find_group(alloc, &mut host) {
+        Ok(found) => string_of(alloc, &untabled_text(alloc, &host, &found, &named)?),
+        Err(_) => Err(Fail::from("no group")),
     }
 }

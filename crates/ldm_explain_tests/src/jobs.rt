@@ -1,5 +1,5 @@
 //! What is explained of jobs over images in memory.
-use crate::images::{Change, explained};
+use crate::images::{Change, explained, untabled};
 use std::alloc::Global;
 use std::process::Abort;
 use std::test::Fail;
@@ -33,7 +33,7 @@ const IMAGES: [Row; 5] = [
         "check on a.img b.img",
         "",
         Change::Gpt(1),
-        "ldm: b.img is a GPT disk; ldm reads MBR disks only\nldm: leave it out, where the others are enough to read\n",
+        "ldm: the MBR of b.img is that of a GPT disk, and sector 1 is no GPT header (EFI PART): was it overwritten?\nldm: leave it out, where the others are enough to read\n",
     ),
     (
         "records on a.img",
@@ -198,13 +198,15 @@ fn explains_why_a_section_is_not_dumped(rt: HostRuntime) -> Result<(), Fail> {
     check_rows(rt.alloc(), &rt, &SECTIONS)
 }
 
-const TABLES: [Row; 5] = [
+const TABLES: [Row; 6] = [
     (
-        "table on b.img a.img",
+        "table Stripe1 on b.img a.img",
         "",
         NONE,
         "ldm: sector 128 of Stripe1 lies on Disk3 (33333333-3333-3333-3333-333333333333), which is absent: name its image\n",
     ),
+    // Others have a table.
+    ("table on b.img a.img", "", NONE, ""),
     (
         "table on a.img b:.img c.img",
         "",
@@ -230,6 +232,32 @@ const TABLES: [Row; 5] = [
 #[test]
 fn explains_why_no_tables_are_had(rt: HostRuntime) -> Result<(), Fail> {
     check_rows(rt.alloc(), &rt, &TABLES)
+}
+
+// The words of the job, and what is told of the volumes that its text leaves out.
+const UNTABLED: [(&str, &str); 3] = [
+    ("table on a.img b.img c.img", ""),
+    (
+        "table on b.img a.img",
+        "ldm: volume Stripe1 has no table: sector 128 is lost\n",
+    ),
+    (
+        "table on c.img",
+        "\
+ldm: volume Volume1 has no table: sector 0 is lost
+ldm: volume Volume2 has no table: sector 0 is lost
+ldm: volume Stripe1 has no table: sector 0 is lost
+",
+    ),
+];
+
+#[test]
+fn tells_which_volumes_have_no_table(rt: HostRuntime) -> Result<(), Fail> {
+    for (words, text) in UNTABLED {
+        let said = untabled(rt.alloc(), words)?;
+        assert_eq!(&rt; said.as_str(), text);
+    }
+    Ok(())
 }
 
 const SCRIPT: &str = "\

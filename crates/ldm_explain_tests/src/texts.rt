@@ -42,7 +42,7 @@ fn names(alloc: Global) -> Result<Vec<String>, Fail> {
 // A fault of image 1, of so many sectors, and the type of the first entry of its MBR.
 type Row = (LabelFault, u64, u8, &'static str);
 
-const LABELS: [Row; 11] = [
+const LABELS: [Row; 12] = [
     (
         LabelFault::Short,
         6,
@@ -56,10 +56,10 @@ const LABELS: [Row; 11] = [
         "ldm: c.img is a basic disk: the first entry of its MBR has the type 0x07, and none has 0x42\n",
     ),
     (
-        LabelFault::NoLdmEntry,
+        LabelFault::NoMetadata,
         9,
         0xEE,
-        "ldm: c.img is a GPT disk; ldm reads MBR disks only\n",
+        "ldm: c.img is a basic GPT disk: its GPT has no LDM metadata partition\n",
     ),
     (
         LabelFault::NoLdmEntry,
@@ -72,6 +72,12 @@ const LABELS: [Row; 11] = [
         9,
         0,
         "ldm: sector 6 of c.img is no private header (PRIVHEAD): was it overwritten?\n",
+    ),
+    (
+        LabelFault::NoPrivhead,
+        9,
+        0xEE,
+        "ldm: the last sector of the LDM metadata partition of c.img is no private header (PRIVHEAD): was it overwritten?\n",
     ),
     (
         LabelFault::Version,

@@ -1,8 +1,9 @@
 //! Looks at the disks of a Windows dynamic disk group, and edits its volumes:
 //! `ldm JOB on IMAGE...`.
 //!
-//! The jobs are those of `run`, whose contract is the theorem of the program, and `repair` has one of
-//! its own; `main` and the `FileHost` that it makes are the trusted edge.
+//! The jobs are those of `run`, whose contract is the theorem of the program, and `repair` and
+//! `dump --rescue` have contracts of their own; `main` and the `FileHost` that it makes are the
+//! trusted edge.
 #![tactic(auto)]
 
 ghost use Rattle.std.specs.Prelude.{◌≡◌, ◌<◌, ◌≤◌, IfOk, IfSome, length, true, vec_len};
@@ -13,6 +14,7 @@ ghost use Rattle.ldm_past.specs.PastWords.{reads_past, is_read_as};
 
 mod kept;
 mod over;
+mod rescue;
 mod scan;
 
 use kept::Kept;
@@ -22,15 +24,17 @@ use ldm_damage::Damage;
 use ldm_edge::{
     HELP, Stop, VERSION, Written, ending, exit_code, open_images, stop_unopened, words_of,
 };
-use ldm_explain::{Sight, behind_text, damage_text, explain, repair_text};
+use ldm_explain::{Sight, behind_text, damage_text, explain, repair_text, untabled_text};
 use ldm_files::{Access, Failure, FileHost, ImageFile, take_closed_streams};
 use ldm_host::Host;
 use ldm_locks::{System, hold};
 use ldm_past::{past_words, run_past};
 use ldm_repair::{Ran, repair, repair_images};
+use ldm_rescue::rescue_words;
 use ldm_run::run;
 use ldm_words::{Job, Status, WordsError, read_words};
 use over::{group_of, has_option, opens_past};
+use rescue::rescue_files;
 use scan::scan_files;
 use std::alloc::Global;
 use std::io;
@@ -76,6 +80,13 @@ const REPAIR: Needs = Needs {
     writes: Some(Written::Copies),
     script: false,
     counted: None,
+};
+
+const RESCUE: Needs = Needs {
+    access: Access::Read,
+    writes: None,
+    script: false,
+    counted: Some(Counted::Said),
 };
 
 // Which of the standard streams are terminals.
@@ -311,6 +322,26 @@ fn tell_behind<H: Host>(rt: &HostRuntime, names: &[String], past: bool, told: bo
     host
 }
 
+// Tells which volumes the text of all tables leaves out, once it was said, and why. The host comes
+// back.
+fn tell_untabled<H: Host>(rt: &HostRuntime, job: &Job, past: bool, status: Status, host: H) -> H {
+    let images = match job {
+        Job::Tables { images } if status == Status::Done => images,
+        _ => return host,
+    };
+    let (host, found) = group_of(rt.alloc(), host, past);
+    if let Some(found) = found
+        && let Ok(text) = untabled_text(rt.alloc(), &host, &found, images)
+    {
+        let _ = rt.stderr().write_all(text.as_slice());
+    } else {
+        let _ = eprint!(rt;
+            "ldm: it isn't known which volumes have no table: the images weren't read again\n"
+        );
+    }
+    host
+}
+
 // Whether a job changes a group that is there.
 fn changes_group(job: &Job) -> bool {
     matches!(job, Job::Edit(_) | Job::One { .. })
@@ -408,6 +439,7 @@ where
     let ended = ending(status, names, host.failure(), written);
     let told = terminals.error && ended.is_ok() && reads_volumes(&job);
     let host = tell_behind(rt, names, past, told, host);
+    let host = tell_untabled(rt, &job, past, status, host);
     let refused = terminals.error && !past && status == Status::Refused;
     let damaged = refused_damage(alloc, words, &job, refused, host);
     tell_damage(rt, names, &job, status, damages);
@@ -457,7 +489,7 @@ where
     ended
 }
 
-// Runs words without the option over these streams: those of a repair or of a job.
+// Runs words without an option over these streams: those of a repair or of a job.
 fn run_plain<'a, I, O>(
     rt: &HostRuntime,
     words: &'a [String],
@@ -476,8 +508,8 @@ where
     }
 }
 
-// Runs the words of the command line over these streams.
-fn run_words<'a, I, O>(
+// Runs words that are none of a rescue over these streams: past damage or not.
+fn run_unrescued<'a, I, O>(
     rt: &HostRuntime,
     words: &'a [String],
     input: I,
@@ -492,6 +524,25 @@ where
         Err(NoMemory) => Err(Stop::NoMemory(Written::Never)),
         Ok(Some(rest)) => run_job(rt, words, &rest, true, input, output, terminals),
         Ok(None) => run_plain(rt, words, input, output, terminals),
+    }
+}
+
+// Runs the words of the command line over these streams.
+fn run_words<'a, I, O>(
+    rt: &HostRuntime,
+    words: &'a [String],
+    input: I,
+    output: O,
+    terminals: Terminals,
+) -> Result<Status, Stop<'a, UsageError<'a>>>
+where
+    I: Read + Drop,
+    O: Write + Drop,
+{
+    match rescue_words(rt.alloc(), words) {
+        Err(NoMemory) => Err(Stop::NoMemory(Written::Never)),
+        Ok(Some(asked)) => rescue_files(rt, words, asked, input, output, terminals),
+        Ok(None) => run_unrescued(rt, words, input, output, terminals),
     }
 }
 
@@ -528,5 +579,7 @@ fn main(rt: HostRuntime) -> ExitCode {
     }
 }
 
+#[cfg(test)]
+mod rescue_tests;
 #[cfg(test)]
 mod tests;

@@ -1,4 +1,7 @@
 //! What the images of a host hold after a job, past damage or not.
+ghost use Rattle.std.specs.Prelude.{IfSome};
+ghost use Rattle.ldm_found.specs.Facts.{IsSoundGroup, LieOn};
+
 use ldm_bytes::NoMemory;
 use ldm_damage::{Damage, find_damage};
 use ldm_found::{Found, find_group};
@@ -45,7 +48,10 @@ pub fn opens_past<H: Host>(alloc: Global, host: H) -> (H, bool) {
 }
 
 // The group that the images of a host hold past damage, where they hold one. The host comes back.
-fn group_past<H: Host>(alloc: Global, host: H) -> (H, Option<Found>) {
+fn group_past<H: Host>(alloc: Global, host: H) -> (H, Option<Found>)
+    ensures sound { IfSome result.1 IsSoundGroup }
+    ensures lies { IfSome result.1 (λ found. LieOn found.labels (H.seen result.0).sizes) }
+{
     let (under, found) = find_damage(alloc, host);
     if found.is_err() || under.host.disks() == 0 {
         return (host_of(under), None);
@@ -56,7 +62,10 @@ fn group_past<H: Host>(alloc: Global, host: H) -> (H, Option<Found>) {
 
 /// The group that the images of a host hold, past damage or not, where they hold one. The host comes
 /// back.
-pub fn group_of<H: Host>(alloc: Global, host: H, past: bool) -> (H, Option<Found>) {
+pub fn group_of<H: Host>(alloc: Global, host: H, past: bool) -> (H, Option<Found>)
+    ensures sound { IfSome result.1 IsSoundGroup }
+    ensures lies { IfSome result.1 (λ found. LieOn found.labels (H.seen result.0).sizes) }
+{
     if past {
         return group_past(alloc, host);
     }

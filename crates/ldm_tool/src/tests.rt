@@ -229,6 +229,74 @@ fn ends_with_a_talk_fault_where_nothing_can_be_said(rt: HostRuntime) -> Result<(
     Ok(())
 }
 
+// A span of two disks, and the bytes of its first half.
+const HALVES: &[u8] = b"create Data bbbbbbbb-bbbb-bbbb-bbbb-bbbbbbbbbbbb span Disk1=2 Disk2=3\n";
+
+const HALF: [u8; 1024] = [b'x'; 1024];
+
+// Puts these bytes into the data area of a file of an image, at its beginning.
+fn put_data(rt: &HostRuntime, path: &str, bytes: &[u8]) -> Result<(), Fail> {
+    let mut image = fs::read(rt, path)?;
+    let mut place: usize = 63 * 512;
+    for byte in bytes {
+        if let Some(old) = image.get_mut(place) {
+            *old = *byte;
+        }
+        place = place.saturating_add(1);
+    }
+    fs::write(rt, path, &image)?;
+    Ok(())
+}
+
+#[test]
+fn rescues_what_is_left_of_a_span(rt: HostRuntime) -> Result<(), Fail> {
+    let folder = sample_folder(&rt, "rescue")?;
+    let made = run_on(&rt, "edit", &folder, &NAMES, HALVES)?;
+    assert_eq!(rt; made.said.as_slice(), b"1 ok 8\n".as_slice());
+    put_data(&rt, path_in(&rt, &folder, "a.img")?.as_str(), &HALF)?;
+    for (job, first, zeros, status) in [
+        ("dump --rescue Data", 0, 1536, Status::Refused),
+        ("dump --rescue Data 1 2", 512, 512, Status::Refused),
+        ("dump --rescue Data 0 2", 0, 0, Status::Done),
+    ] {
+        let mut wanted = HALF[first..].to_vec(rt.alloc())?;
+        for _ in 0..zeros {
+            wanted.push(0)?;
+        }
+        let end = run_on(&rt, job, &folder, &["c.img", "a.img"], b"")?;
+        assert!(rt; end.said.as_slice() == wanted.as_slice(), "{job}");
+        assert_eq!(rt; end.status, status, "{job}");
+        assert_eq!(rt; end.error.as_str(), "", "{job}");
+    }
+    fs::remove_dir_all(&rt, &folder)?;
+    Ok(())
+}
+
+const NO_VOLUME: &[u8] = b"refused: no volume\n";
+
+#[test]
+fn refuses_a_rescue_as_a_dump(rt: HostRuntime) -> Result<(), Fail> {
+    let folder = sample_folder(&rt, "refused")?;
+    // Without another word behind it the option is the name of a volume.
+    for job in ["dump --rescue Data", "dump --rescue"] {
+        let end = run_on(&rt, job, &folder, &NAMES, b"")?;
+        assert_eq!(rt; end.said.as_slice(), NO_VOLUME, "{job}");
+        assert_eq!(rt; end.status, Status::Refused, "{job}");
+        assert_eq!(rt; end.error.as_str(), "", "{job}");
+    }
+    let end = run_on(
+        &rt,
+        "dump --rescue Data",
+        &folder,
+        &["a.img", "missing"],
+        b"",
+    )?;
+    assert_eq!(rt; end.status, Status::DiskFault);
+    assert_eq!(rt; end.said.len(), 0);
+    fs::remove_dir_all(&rt, &folder)?;
+    Ok(())
+}
+
 // What an image may not be, and why.
 const UNOPENED: [(&str, &str); 3] = [
     (
