@@ -1,5 +1,5 @@
 -- A host over files tells how long they are and what was counted, and nothing else.
-use Rattle.std.specs.Prelude.{◌≡◌, ℕ, ◌<◌, List, [], length, map, refl}
+use Rattle.std.specs.Prelude.{◌≡◌, ℕ, ◌<◌, List, [], false, length, map, refl}
 use Rattle.std.proofs.Common.{sym, ◌∙◌}
 use Rattle.std.proofs.lemmas.List.{length-map}
 use Rattle.ldm_host.specs.Seen.{Seen, Leaves}
@@ -12,7 +12,7 @@ file_seen sizes disk_faults talk_faults wrote = record {
   clock = 0;
   left_since = λ t images said. (length images ≡ length sizes) × ((disk : ℕ) → disk < length sizes → ⊥) × (said ≡ []);
   said = [];
-  heard = [];
+  heard = record { bytes = []; ended = false };
   input = [];
   disk_faults = disk_faults;
   talk_faults = talk_faults;

@@ -1,7 +1,7 @@
 //! Disks, an input and an output: what each call promises, also of stops.
 ghost use Rattle.std.specs.Prelude.{◌≡◌, ◌^◌, ◌+◌, ◌-◌, ◌*◌, ◌/◌, ◌<◌, ◌≤◌, ◌++◌, ◌∷◌, [], min, List, ℕ};
 ghost use Rattle.std.specs.Prelude.{length, take, set, slice_index, slice_range, IfOk, OnOk, OnErr};
-ghost use Rattle.std.specs.Prelude.{IsErr, is_ok, Bool, ⊤};
+ghost use Rattle.std.specs.Prelude.{IsErr, is_ok, Bool, ◌==◌, ◌||◌, ⊤};
 ghost use Rattle.ldm_bytes.specs.Numbers.{IsBytes};
 ghost use Rattle.ldm_bytes.specs.Places.{put};
 ghost use Rattle.ldm_host.specs.Seen.{Seen, Leaves, image};
@@ -99,8 +99,9 @@ pub trait Host {
         ensures count { IfOk result (λ n. n ≤ length buf.old) }
         ensures taken { tells_talk → IfOk result (λ n.
             ((seen self.old).input ≡ take n buf.new ++ (seen self.new).input)
-            × ((seen self.new).heard ≡ (seen self.old).heard ++ take n buf.new)
-            × (n ≡ 0 → length (seen self.old).input ≡ 0)) }
+            × ((seen self.new).heard.bytes ≡ (seen self.old).heard.bytes ++ take n buf.new)
+            × (n ≡ 0 → length (seen self.old).input ≡ 0)
+            × ((seen self.new).heard.ended ≡ (seen self.old).heard.ended || n == 0)) }
         ensures nothing { OnErr result (Quiet (seen self.old) (seen self.new)) }
         ensures silent { (seen self.new).said ≡ (seen self.old).said }
         ensures still { Still (seen self.old) (seen self.new) }

@@ -6,7 +6,7 @@ use Rattle.ldm_bytes.specs.Numbers.{IsBytes}
 use Rattle.ldm_bytes.specs.Places.{put}
 use Rattle.ldm_bytes.proofs.PlaceLaws.{length-put}
 use Rattle.ldm_bytes.proofs.ByteLaws.{put_before, put_in, put_behind, sides}
-use Rattle.ldm_memory.specs.Story.{Disk, Agrees, Outside, written_disk, StoryState, MayLeave, LeftSince, Counts, sizes_of, after, run, state_at, seen_from, disk_at, no_disk, synced_disk, contents}
+use Rattle.ldm_memory.specs.Story.{Disk, Agrees, Outside, written_disk, StoryState, MayLeave, LeftSince, Counts, sizes_of, after, run, state_at, seen_from, heard_in, disk_at, no_disk, synced_disk, contents}
 use Rattle.ldm_host.proofs.Relations.{begins_trans, torn_itself, torn_at_itself, torn_from, begins_both, begins_itself}
 use Rattle.ldm_memory.specs.declared.call.Call.{Call}
 use Rattle.ldm_memory.specs.declared.call.Call.TheVariants.{Write, Sync, Say, Nothing}
@@ -333,7 +333,7 @@ module _ (first : StoryState) (calls : List Call) (script : List ℕ) (old new :
     pub writes_push : slice_index new.wrote disk ≤ slice_index old.wrote disk + asked → ((other : ℕ) → other ≢ disk → slice_index new.wrote other ≡ slice_index old.wrote other) → Writes disk at asked before later_seen
     writes_push wrote wrote_others = record {
       later = later_here;
-      quiet = record { said = ap (λ (s : StoryState). s.said) pushed; heard = ap (λ (s : StoryState). take s.heard script) pushed; input = ap (λ (s : StoryState). drop s.heard script) pushed };
+      quiet = record { said = ap (λ (s : StoryState). s.said) pushed; heard = ap (λ (s : StoryState). heard_in s script) pushed; input = ap (λ (s : StoryState). drop s.heard script) pushed };
       content = content_torn;
       wrote = wrote;
       wrote_others = wrote_others;
@@ -362,7 +362,7 @@ module _ (first : StoryState) (calls : List Call) (script : List ℕ) (old new :
   pub writes_nothing : (disk at n : ℕ) → slice_index new.wrote disk ≤ slice_index old.wrote disk + n → ((other : ℕ) → other ≢ disk → slice_index new.wrote other ≡ slice_index old.wrote other) → Writes disk at n before (seen_from first (calls ++ Nothing ∷ []) script new)
   writes_nothing disk at n wrote wrote_others = record {
     later = later first calls Nothing script old new rise refl;
-    quiet = record { said = ap (λ (s : StoryState). s.said) same; heard = ap (λ (s : StoryState). take s.heard script) same; input = ap (λ (s : StoryState). drop s.heard script) same };
+    quiet = record { said = ap (λ (s : StoryState). s.said) same; heard = ap (λ (s : StoryState). heard_in s script) same; input = ap (λ (s : StoryState). drop s.heard script) same };
     content = subst (λ (s : StoryState). TornAt disk at n (contents now.disks) (contents s.disks)) (sym same) (torn_at_itself disk at n (contents now.disks));
     wrote = wrote;
     wrote_others = wrote_others;
@@ -382,7 +382,7 @@ module _ (first : StoryState) (calls : List Call) (script : List ℕ) (old new :
   nothing_push = record {
     content = ap (λ (s : StoryState). contents s.disks) same;
     left = λ disk c. (subst (λ (s : StoryState). Agrees (disk_at s.disks disk) c) same, subst (λ (s : StoryState). Agrees (disk_at s.disks disk) c) (sym same));
-    quiet = record { said = ap (λ (s : StoryState). s.said) same; heard = ap (λ (s : StoryState). take s.heard script) same; input = ap (λ (s : StoryState). drop s.heard script) same };
+    quiet = record { said = ap (λ (s : StoryState). s.said) same; heard = ap (λ (s : StoryState). heard_in s script) same; input = ap (λ (s : StoryState). drop s.heard script) same };
   }
     where
       same : run first (calls ++ Nothing ∷ []) ≡ now
@@ -434,7 +434,7 @@ module _ (first : StoryState) (calls : List Call) (script : List ℕ) (old new :
     pub syncs_push : Syncs disk before sync_seen
     syncs_push = record {
       later = later first calls (Sync disk) script old new rise (sizes_set now.disks disk (synced_disk (disk_at now.disks disk)) refl);
-      quiet = record { said = ap (λ (s : StoryState). s.said) sync_pushed; heard = ap (λ (s : StoryState). take s.heard script) sync_pushed; input = ap (λ (s : StoryState). drop s.heard script) sync_pushed };
+      quiet = record { said = ap (λ (s : StoryState). s.said) sync_pushed; heard = ap (λ (s : StoryState). heard_in s script) sync_pushed; input = ap (λ (s : StoryState). drop s.heard script) sync_pushed };
       content = sync_content;
       wrote = wrote;
       left = sync_left;

@@ -1,5 +1,5 @@
 -- What a call of a host in memory does and how it ends, from what its steps did.
-use Rattle.std.proofs.Common.{[], ◌≡◌, Bool, true, false, List, ◌∷◌, ◌++◌, if◌then◌else◌, refl, ◌≢◌, ℕ, ◌+◌, ◌-◌, ◌^◌, ◌<◌, ◌≤◌, min, length, get_or, set, slice_index, ◌∙◌, ap, arith, inl, inr, ◌/◌, ◌&&◌, take, drop, sym, subst, not, ◌||◌, ◌↔◌, IsTrue, IsFalse, is_ok, IfOk, IsErr, OnOk, OnErr, Result, Ok, Err, Vec}
+use Rattle.std.proofs.Common.{[], ◌≡◌, Bool, true, false, List, ◌∷◌, ◌++◌, if◌then◌else◌, refl, ◌≢◌, ℕ, ◌+◌, ◌-◌, ◌^◌, ◌<◌, ◌≤◌, ◌==◌, min, length, get_or, set, slice_index, ◌∙◌, ap, arith, inl, inr, ◌/◌, ◌&&◌, take, drop, sym, subst, not, ◌||◌, ◌↔◌, IsTrue, IsFalse, is_ok, IfOk, IsErr, OnOk, OnErr, Result, Ok, Err, Vec}
 use Rattle.std.specs.declared.alloc.Global.{Global}
 use Rattle.ldm_memory.specs.declared.call.Call.{Call}
 use Rattle.ldm_memory.specs.Steps.{AddsCall, IsNothing, IsWriteOf, IsWrite, IsSync, IsHear, IsSayOf, IsSay, EndsRead, is_whole}
@@ -12,7 +12,7 @@ use Rattle.ldm_host.specs.Acts.{Act}
 use Rattle.ldm_memory.specs.declared.call.Call.TheVariants.{Write, Say}
 use Rattle.ldm_memory.specs.declared.outcome.Outcome.{Outcome}
 use Rattle.ldm_memory.specs.declared.outcome.Outcome.TheVariants.{Whole, Half, Nothing}
-use Rattle.ldm_memory.specs.Story.{Story, StoryState, Counts, seen_of, fresh_state, run, after, disk_at, sizes_of}
+use Rattle.ldm_memory.specs.Story.{Story, StoryState, Counts, seen_of, heard_in, fresh_state, run, after, disk_at, sizes_of}
 use Rattle.ldm_memory.specs.Ending.{TakesNothing, TakesHalf, Pends, first_half, EndsCall, is_talk, is_to_fail, is_unreadable}
 use Rattle.ldm_memory.proofs.CallLaws.{CountsRise, run_push, still_counts, still_push, nothing_push, writes_counts, writes_nothing, writes_push, put_content, pending_push, syncs_counts, syncs_push, settled}
 use Rattle.ldm_host.specs.declared.host.DiskRange.{DiskRange}
@@ -199,6 +199,12 @@ module _ (story : Story) (old new : Counts) (rise : CountsRise old new) where
     hear_silent outcome found later g = by_calls (λ b l. (seen_by l).said ≡ before.said) found (IsHear outcome heard then_heard) story.calls later g
         (λ call is. ap (λ (s : StoryState). s.said) (run_push first story.calls call) ∙ (same_but_heard outcome call is).1) refl
 
+    -- the end was heard where it had been, or no byte came
+    pub hear_ended : (n : ℕ) (later : List Call) → AddsCall true (IsHear Whole heard then_heard) story.calls later → then_heard ≡ heard + n → (seen_by later).heard.ended ≡ before.heard.ended || n == 0
+    hear_ended n later g more =
+        ap (λ (l : List Call). (run first l).ended) g.2 ∙ ap (λ (s : StoryState). s.ended) (run_push first story.calls g.0)
+        ∙ ap (λ (x : Call). (after now x).ended) g.1.1 ∙ ap (λ (k : ℕ). now.ended || k == 0) (omega (arith, g.1.2, more))
+
     pub hear_took : (outcome : Outcome) (found : Bool) (later : List Call) → AddsCall found (IsHear outcome heard then_heard) story.calls later → Took Act.Hear outcome found before (seen_by later)
     hear_took outcome found later g = adds_took Act.Hear outcome found (IsHear outcome heard then_heard) later g (kept outcome)
       where
@@ -215,18 +221,18 @@ module _ (story : Story) (old new : Counts) (rise : CountsRise old new) where
         ap (λ (x : Call). (seen_with x).said) is.1 ∙ ap (λ (s : StoryState). s.said) (run_push first story.calls (Say is.0)) ∙ ap (λ (l : List ℕ). now.said ++ l) is.2
 
     -- a call that says leaves the disks and the script
-    same_but_said : (outcome : Outcome) (call : Call) → IsSay outcome bytes call → ((after now call).disks ≡ now.disks) × ((after now call).heard ≡ now.heard)
-    same_but_said Nothing call is = (ap (λ (x : Call). (after now x).disks) is, ap (λ (x : Call). (after now x).heard) is)
-    same_but_said outcome call is = (ap (λ (x : Call). (after now x).disks) is.1, ap (λ (x : Call). (after now x).heard) is.1)
+    same_but_said : (outcome : Outcome) (call : Call) → IsSay outcome bytes call
+        → ((after now call).disks ≡ now.disks) × (heard_in (after now call) story.script ≡ heard_in now story.script) × ((after now call).heard ≡ now.heard)
+    same_but_said Nothing call is = (ap (λ (x : Call). (after now x).disks) is, ap (λ (x : Call). heard_in (after now x) story.script) is, ap (λ (x : Call). (after now x).heard) is)
+    same_but_said outcome call is = (ap (λ (x : Call). (after now x).disks) is.1, ap (λ (x : Call). heard_in (after now x) story.script) is.1, ap (λ (x : Call). (after now x).heard) is.1)
 
     pub say_still : (outcome : Outcome) (found : Bool) (later : List Call) → new.wrote ≡ old.wrote → AddsCall found (IsSay outcome bytes) story.calls later → Still before (seen_by later)
     say_still outcome found later wrote g = adds_still found (IsSay outcome bytes) later wrote (λ call is. (same_but_said outcome call is).0) g
 
     pub say_hears : (outcome : Outcome) (found : Bool) (later : List Call) → AddsCall found (IsSay outcome bytes) story.calls later → ((seen_by later).heard ≡ before.heard) × ((seen_by later).input ≡ before.input)
     say_hears outcome found later g = by_calls (λ b l. ((seen_by l).heard ≡ before.heard) × ((seen_by l).input ≡ before.input)) found (IsSay outcome bytes) story.calls later g
-        (λ call is.
-        let same : (run first (story.calls ++ call ∷ [])).heard ≡ now.heard = ap (λ (s : StoryState). s.heard) (run_push first story.calls call) ∙ (same_but_said outcome call is).1 in
-        (ap (λ (n : ℕ). take n story.script) same, ap (λ (n : ℕ). drop n story.script) same))
+        (λ call is. let ran = run_push first story.calls call in let same = same_but_said outcome call is in
+        (ap (λ (s : StoryState). heard_in s story.script) ran ∙ same.1, ap (λ (n : ℕ). drop n story.script) (ap (λ (s : StoryState). s.heard) ran ∙ same.2)))
         (refl, refl)
 
     pub say_said : (outcome : Outcome) (found : Bool) (later : List Call) → AddsCall found (IsSay outcome bytes) story.calls later → is_whole outcome && found ≡ true → (seen_by later).said ≡ before.said ++ bytes

@@ -40,11 +40,12 @@ IsHear Whole heard later call = (count : ℕ) × (call ≡ Hear count) × (later
 IsHear Half heard later call = IsNothing call × (later ≡ heard)
 IsHear Nothing heard later call = IsNothing call × (later ≡ heard)
 
--- n bytes of the script were moved to the front of the buffer
+-- n bytes of the script, the next, were moved to the front of the buffer
 abbrev pub Moved : List ℕ → ℕ → ℕ → ℕ → List ℕ → Type 0
 Moved script heard later n buf = (drop heard script ≡ take n buf ++ drop later script)
     × (take later script ≡ take heard script ++ take n buf)
     × (n ≡ 0 → length (drop heard script) ≡ 0)
+    × (later ≡ heard + n)
 
 -- these bytes were said
 abbrev pub IsSayOf : List ℕ → Call → Type 0

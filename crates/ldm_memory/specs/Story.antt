@@ -1,6 +1,6 @@
 -- What a host in memory is after a list of calls.
-use Rattle.std.specs.Prelude.{◌≡◌, ◌⊎◌, ℕ, ◌+◌, ◌/◌, ◌<◌, ◌≤◌, List, [], ◌∷◌, ◌++◌, length, get_or, set, map, take, drop, slice_index}
-use Rattle.ldm_host.specs.Seen.{Seen, image}
+use Rattle.std.specs.Prelude.{◌≡◌, ◌⊎◌, ◌||◌, ◌==◌, Bool, false, ℕ, ◌+◌, ◌/◌, ◌<◌, ◌≤◌, List, [], ◌∷◌, ◌++◌, length, get_or, set, map, take, drop, slice_index}
+use Rattle.ldm_host.specs.Seen.{Seen, Heard, image}
 use Rattle.ldm_bytes.specs.Numbers.{IsBytes}
 use Rattle.ldm_bytes.specs.Places.{put}
 use Rattle.ldm_host.specs.Moves.{Begins}
@@ -15,11 +15,12 @@ pub record Disk : Type 0 where
   pub synced : List ℕ
   pub pending : List (ℕ × ℕ)
 
--- the disks, what was said, and how many bytes of the script were heard
+-- the disks, what was said, how many bytes of the script were heard, and whether its end was
 pub record StoryState : Type 0 where
   pub disks : List Disk
   pub said : List ℕ
   pub heard : ℕ
+  pub ended : Bool
 
 abbrev pub no_disk : Disk
 no_disk = record { content = []; synced = []; pending = [] }
@@ -48,10 +49,10 @@ synced_disk disk = record { content = disk.content; synced = disk.content; pendi
 
 -- after one call more
 abbrev pub after : StoryState → Call → StoryState
-after s (Write disk at bytes asked) = record { disks = set s.disks disk (written_disk (disk_at s.disks disk) at bytes.items asked); said = s.said; heard = s.heard }
-after s (Sync disk) = record { disks = set s.disks disk (synced_disk (disk_at s.disks disk)); said = s.said; heard = s.heard }
-after s (Hear count) = record { disks = s.disks; said = s.said; heard = s.heard + count }
-after s (Say bytes) = record { disks = s.disks; said = s.said ++ bytes.items; heard = s.heard }
+after s (Write disk at bytes asked) = record { disks = set s.disks disk (written_disk (disk_at s.disks disk) at bytes.items asked); said = s.said; heard = s.heard; ended = s.ended }
+after s (Sync disk) = record { disks = set s.disks disk (synced_disk (disk_at s.disks disk)); said = s.said; heard = s.heard; ended = s.ended }
+after s (Hear count) = record { disks = s.disks; said = s.said; heard = s.heard + count; ended = s.ended || count == 0 }
+after s (Say bytes) = record { disks = s.disks; said = s.said ++ bytes.items; heard = s.heard; ended = s.ended }
 after s Nothing = s
 
 -- after these calls
@@ -94,6 +95,10 @@ pub record Counts : Type 0 where
   pub wrote : List ℕ
   pub failed : List DiskRange
 
+-- what was heard of a script in this state
+abbrev pub heard_in : StoryState → List ℕ → Heard
+heard_in s script = record { bytes = take s.heard script; ended = s.ended }
+
 -- What is seen after these calls. What a stop may leave is all that agrees with the content outside what is pending.
 abbrev pub seen_from : StoryState → List Call → List ℕ → Counts → Seen
 seen_from first calls script counts = record {
@@ -103,7 +108,7 @@ seen_from first calls script counts = record {
   clock = length calls;
   left_since = LeftSince first calls;
   said = (run first calls).said;
-  heard = take (run first calls).heard script;
+  heard = heard_in (run first calls) script;
   input = drop (run first calls).heard script;
   disk_faults = counts.disk_faults;
   talk_faults = counts.talk_faults;
@@ -113,7 +118,7 @@ seen_from first calls script counts = record {
 
 -- these images, with nothing pending, said or heard
 abbrev pub fresh_state : List (List ℕ) → StoryState
-fresh_state images = record { disks = map (λ bytes. record { content = bytes; synced = bytes; pending = [] }) images; said = []; heard = 0 }
+fresh_state images = record { disks = map (λ bytes. record { content = bytes; synced = bytes; pending = [] }) images; said = []; heard = 0; ended = false }
 
 -- the images and the input at the start, and the calls since
 pub record Story : Type 0 where

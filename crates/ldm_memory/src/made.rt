@@ -1,7 +1,7 @@
 //! Images of zeros, and copies of images.
 // How a host in memory is made and looked at.
 ghost use Rattle.std.specs.Prelude.{◌≡◌, ◌<◌, ◌++◌, ◌∷◌, [], ℕ, length, replicate, slice_index};
-ghost use Rattle.std.specs.Prelude.{IfOk, OnOk, Ok, Vec};
+ghost use Rattle.std.specs.Prelude.{IfOk, OnOk, Ok, Vec, false};
 ghost use Rattle.std.specs.declared.alloc.Global.{Global};
 ghost use Rattle.ldm_bytes.specs.Numbers.{IsBytes};
 ghost use Rattle.ldm_host.specs.Images.{items_of};
@@ -60,7 +60,8 @@ impl MemoryHost {
         ensures content { IfOk result (λ host. (memory_seen host).content ≡ items_of images.items) }
         ensures settled { IfOk result (λ host. (disk : ℕ) → Settled (memory_seen host) disk) }
         ensures said { IfOk result (λ host. (memory_seen host).said ≡ []) }
-        ensures heard { IfOk result (λ host. (memory_seen host).heard ≡ []) }
+        ensures heard { IfOk result (λ host. (memory_seen host).heard.bytes ≡ []) }
+        ensures unended { IfOk result (λ host. (memory_seen host).heard.ended ≡ false) }
         ensures input { IfOk result (λ host. (memory_seen host).input ≡ script.items) }
         ensures clock { IfOk result (λ host. (memory_seen host).clock ≡ 0) }
         ensures disk_faults { IfOk result (λ host. (host_counts host).disk_faults ≡ 0) }

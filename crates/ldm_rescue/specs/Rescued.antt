@@ -2,7 +2,6 @@
 use Rattle.std.specs.Prelude.{◌≡◌, ◌⊎◌, ℕ, ◌+◌, ◌-◌, ◌*◌, ◌<◌, ◌≤◌, Bool, true, false, not, nat_lt, List, [], ◌∷◌, ◌++◌, length, replicate, drop, Contains, Option, Some, None, option_and_then, slice_get, take, ⊤, Result, Ok, Err, if◌then◌else◌}
 use Rattle.std.specs.List.{filter_map, range_with_len}
 use Rattle.std.specs.Option.{option_map}
-use Rattle.ldm_host.specs.Seen.{Seen}
 use Rattle.ldm_host.specs.declared.host.DiskRange.{DiskRange}
 use Rattle.ldm_places.specs.Layouts.{Layout, copies_of, place_in}
 use Rattle.ldm_places.specs.Columns.{own_column, column_in, moved}
@@ -76,10 +75,6 @@ pub record AreTogether (l : Layout) (x n : ℕ) : Type 0 where
   pub columns : (i column : ℕ) → i < n → l.shape ≡ Raid5 → column_in l (x + i) column ≡ option_map (moved i) (column_in l x column)
 
 -- ---- reads that failed
-
--- the reads that failed since the old state
-abbrev pub unread_since : Seen → Seen → List DiskRange
-unread_since old new = drop (length old.failed) new.failed
 
 -- a range of bytes from the start of a sector of an image on
 abbrev pub range_of : Spot → ℕ → DiskRange

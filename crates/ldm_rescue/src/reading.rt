@@ -13,7 +13,8 @@ ghost use Rattle.ldm_dump.specs.Bytes.{byte_at, joined_byte, joined_sector};
 ghost use Rattle.ldm_dump.specs.Runs.{HasBytes, LiesOn};
 ghost use Rattle.ldm_rescue.specs.declared.sources.Source.TheVariants.{Others};
 ghost use Rattle.ldm_rescue.specs.Rescued.{source_in, turn_count, sources_in_order, source_spots};
-ghost use Rattle.ldm_rescue.specs.Rescued.{AreTogether, unread_since, range_of, IsRescued};
+ghost use Rattle.ldm_rescue.specs.Rescued.{AreTogether, range_of, IsRescued};
+ghost use Rattle.ldm_host.specs.Failed.{failed_since};
 ghost use Rattle.ldm_rescue.specs.Rescued.{AreRescued, nth_sector, IsCause, HaveCause, FailedOn};
 ghost use Rattle.ldm_rescue.specs.Rescued.{IsOutcome};
 
@@ -202,7 +203,7 @@ fn try_turn<H: Host>(
     requires lies { LiesOn found.now plan.now (H.seen host.old).sizes }
     requires same { length scratch.old ≡ length out.old }
     ensures tried { H.tells_disks → IsOutcome (H.seen host.old).content
-        (unread_since (H.seen host.old) (H.seen host.new))
+        (failed_since (H.seen host.old) (H.seen host.new))
         (option_to_list (source_in found.now plan.now sector turn)) out.new result }
     ensures looks { Looks (H.seen host.old) (H.seen host.new) ⊥ }
 {
@@ -229,7 +230,7 @@ fn try_turns<H: Host>(
     requires lies { LiesOn found.now plan.now (H.seen host.old).sizes }
     requires same { length scratch.old ≡ length out.old }
     ensures tried { H.tells_disks → IsOutcome (H.seen host.old).content
-        (unread_since (H.seen host.old) (H.seen host.new))
+        (failed_since (H.seen host.old) (H.seen host.new))
         (sources_in_order found.now plan.now sector) out.new result }
     ensures looks { Looks (H.seen host.old) (H.seen host.new) ⊥ }
 {
@@ -267,10 +268,10 @@ fn rescue_sector<H: Host>(
     requires lies { LiesOn found.now plan.now (H.seen host.old).sizes }
     requires same { length scratch.old ≡ length out.old }
     ensures bytes { H.tells_disks → IsRescued (H.seen host.old).content
-        (unread_since (H.seen host.old) (H.seen host.new))
+        (failed_since (H.seen host.old) (H.seen host.new))
         (sources_in_order found.now plan.now sector) out.new (is_some result) }
     ensures cause { H.tells_disks → IfSome result (IsCause found.now plan.now
-        (unread_since (H.seen host.old) (H.seen host.new)) sector) }
+        (failed_since (H.seen host.old) (H.seen host.new)) sector) }
     ensures looks { Looks (H.seen host.old) (H.seen host.new) ⊥ }
 {
     match try_turns(host, found, plan, sector, out, scratch) {
@@ -303,11 +304,11 @@ fn rescue_into<H: Host>(
     requires small { length scratch.old ≡ 512 }
     ensures front { take (512 * number) out.new ≡ take (512 * number) out.old }
     ensures bytes { H.tells_disks → IsRescued (H.seen host.old).content
-        (unread_since (H.seen host.old) (H.seen host.new))
+        (failed_since (H.seen host.old) (H.seen host.new))
         (sources_in_order found.now plan.now sector) (nth_sector out.new number)
         (is_some result) }
     ensures cause { H.tells_disks → IfSome result (IsCause found.now plan.now
-        (unread_since (H.seen host.old) (H.seen host.new)) sector) }
+        (failed_since (H.seen host.old) (H.seen host.new)) sector) }
     ensures looks { Looks (H.seen host.old) (H.seen host.new) ⊥ }
 {
     let at = 512 * number as usize;
@@ -331,10 +332,10 @@ fn rescue_singly<H: Host>(
     ensures some { 0 < result.count }
     ensures room { 512 * result.count ≤ length out.old }
     ensures bytes { H.tells_disks → AreRescued (H.seen host.old).content
-        (unread_since (H.seen host.old) (H.seen host.new)) found.now plan.now sector result.count
+        (failed_since (H.seen host.old) (H.seen host.new)) found.now plan.now sector result.count
         (λ x. is_some result.lost) (take (512 * result.count) out.new) }
     ensures cause { H.tells_disks → IfSome result.lost (HaveCause found.now plan.now
-        (unread_since (H.seen host.old) (H.seen host.new)) sector result.count) }
+        (failed_since (H.seen host.old) (H.seen host.new)) sector result.count) }
     ensures looks { Looks (H.seen host.old) (H.seen host.new) ⊥ }
 {
     prove!(sector < plan.size());
@@ -371,10 +372,10 @@ fn rescue_run<H: Host>(
     ensures some { 0 < result.count }
     ensures room { 512 * result.count ≤ length out.old }
     ensures bytes { H.tells_disks → AreRescued (H.seen host.old).content
-        (unread_since (H.seen host.old) (H.seen host.new)) found.now plan.now sector result.count
+        (failed_since (H.seen host.old) (H.seen host.new)) found.now plan.now sector result.count
         (λ x. is_some result.lost) (take (512 * result.count) out.new) }
     ensures cause { H.tells_disks → IfSome result.lost (HaveCause found.now plan.now
-        (unread_since (H.seen host.old) (H.seen host.new)) sector result.count) }
+        (failed_since (H.seen host.old) (H.seen host.new)) sector result.count) }
     ensures looks { Looks (H.seen host.old) (H.seen host.new) ⊥ }
 {
     match read_source(host, found, plan, sector, source, out, scratch) {
@@ -408,10 +409,10 @@ pub fn rescue_some<H: Host>(
     ensures fits { sector + result.count ≤ end }
     ensures room { 512 * result.count ≤ length buffer.old }
     ensures bytes { H.tells_disks → AreRescued (H.seen host.old).content
-        (unread_since (H.seen host.old) (H.seen host.new)) found.now plan.now sector result.count
+        (failed_since (H.seen host.old) (H.seen host.new)) found.now plan.now sector result.count
         (λ x. is_some result.lost) (take (512 * result.count) buffer.new) }
     ensures cause { H.tells_disks → IfSome result.lost (HaveCause found.now plan.now
-        (unread_since (H.seen host.old) (H.seen host.new)) sector result.count) }
+        (failed_since (H.seen host.old) (H.seen host.new)) sector result.count) }
     ensures looks { Looks (H.seen host.old) (H.seen host.new) ⊥ }
 {
     let most = together(plan, sector)

@@ -2,7 +2,7 @@
 ghost use Rattle.std.specs.Prelude.{◌≡◌, ◌+◌, ◌<◌, ◌≤◌, [], length, IfSome, Ok, None};
 ghost use Rattle.ldm_dump.specs.Runs.{LiesOn};
 ghost use Rattle.ldm_found.specs.Facts.{IsSoundGroup, LieOn};
-ghost use Rattle.ldm_rescue.specs.Rescued.{unread_since};
+ghost use Rattle.ldm_host.specs.Failed.{failed_since};
 ghost use Rattle.ldm_rescue.specs.Rescue.{end_of, asked_section, IsSaid, IsBegun, OfAsked};
 ghost use Rattle.ldm_rescue.specs.Rescue.{OfGroup, IsRescueAnswer, IsRescueFront, Rescues};
 ghost use Rattle.ldm_rescue.specs.Rescue.{Outcome};
@@ -93,9 +93,9 @@ fn rescue_section<H: Host, L: Losses<H>>(
     requires lies { LiesOn found.now plan.now (H.seen host.old).sizes }
     ensures { Rescues H.tells_disks L.tells (H.seen host.old) (H.seen host.new)
         (L.lost losses.old) (L.lost losses.new)
-        (IsSaid (H.seen host.old).content (unread_since (H.seen host.old) (H.seen host.new))
+        (IsSaid (H.seen host.old).content (failed_since (H.seen host.old) (H.seen host.new))
         found.now plan.now section)
-        (IsBegun (H.seen host.old).content (unread_since (H.seen host.old) (H.seen host.new))
+        (IsBegun (H.seen host.old).content (failed_since (H.seen host.old) (H.seen host.new))
         found.now plan.now section) result }
 {
     let Ok(mut buffer) = vec![in alloc; 0u8; PIECE] else {
@@ -132,9 +132,9 @@ fn rescue_plan<H: Host, L: Losses<H>>(
     requires { LiesOn found.now plan.now (H.seen host.old).sizes }
     ensures { Rescues H.tells_disks L.tells (H.seen host.old) (H.seen host.new)
         (L.lost losses.old) (L.lost losses.new)
-        (OfAsked (IsSaid (H.seen host.old).content (unread_since (H.seen host.old)
+        (OfAsked (IsSaid (H.seen host.old).content (failed_since (H.seen host.old)
         (H.seen host.new)) found.now plan.now) (asked_section plan.now.size section))
-        (OfAsked (IsBegun (H.seen host.old).content (unread_since (H.seen host.old)
+        (OfAsked (IsBegun (H.seen host.old).content (failed_since (H.seen host.old)
         (H.seen host.new)) found.now plan.now) (asked_section plan.now.size section)) result }
 {
     match asked_section(plan.size(), section) {
@@ -159,9 +159,9 @@ fn rescue_found<H: Host, L: Losses<H>>(
     requires lies { LieOn found.now.labels (H.seen host.old).sizes }
     ensures { Rescues H.tells_disks L.tells (H.seen host.old) (H.seen host.new)
         (L.lost losses.old) (L.lost losses.new)
-        (OfGroup (IsSaid (H.seen host.old).content (unread_since (H.seen host.old)
+        (OfGroup (IsSaid (H.seen host.old).content (failed_since (H.seen host.old)
         (H.seen host.new))) name.now section (Ok found.now))
-        (OfGroup (IsBegun (H.seen host.old).content (unread_since (H.seen host.old)
+        (OfGroup (IsBegun (H.seen host.old).content (failed_since (H.seen host.old)
         (H.seen host.new))) name.now section (Ok found.now)) result }
 {
     let Some(volume) = found.db.volume_named(name) else {
@@ -190,9 +190,9 @@ pub fn run_rescue<H: Host, L: Losses<H>>(
     ensures rescues { Rescues H.tells_disks L.tells (H.seen host.old) (H.seen host.new)
         (L.lost losses.old) (L.lost losses.new)
         (IsRescueAnswer name.now section (H.seen host.old).content
-        (unread_since (H.seen host.old) (H.seen host.new)))
+        (failed_since (H.seen host.old) (H.seen host.new)))
         (IsRescueFront name.now section (H.seen host.old).content
-        (unread_since (H.seen host.old) (H.seen host.new))) result }
+        (failed_since (H.seen host.old) (H.seen host.new))) result }
     // Where none failed, there is one answer.
     ensures one { (a b : Outcome)
         → IsRescueAnswer name.now section (H.seen host.old).content [] a

@@ -5,7 +5,7 @@ ghost use Rattle.ldm_host.specs.Moves.{Looks, Still, SameInput, Begins, TalkFail
 ghost use Rattle.ldm_dump.specs.Runs.{LiesOn};
 ghost use Rattle.ldm_rescue.specs.declared.losses.Loss.{Loss as Range};
 ghost use Rattle.ldm_rescue.specs.Losses.{lost_in, AreRanges};
-ghost use Rattle.ldm_rescue.specs.Rescued.{unread_since};
+ghost use Rattle.ldm_host.specs.Failed.{failed_since};
 ghost use Rattle.ldm_rescue.specs.Told.{AreTold, SoFar};
 
 use crate::losses::{Losing, Losses, add_read, end_last};
@@ -37,7 +37,7 @@ fn rescue_piece<H: Host, L: Losses<H>>(
         → SoFar H.tells_disks L.tells (H.seen host.old).content failed before (L.lost losses.old)
         losing.old found.now plan.now first n bytes
         → SoFar H.tells_disks L.tells (H.seen host.old).content
-        (failed ++ unread_since (H.seen host.old) (H.seen host.new)) before (L.lost losses.new)
+        (failed ++ failed_since (H.seen host.old) (H.seen host.new)) before (L.lost losses.new)
         losing.new found.now plan.now first (n + count) (bytes ++ buffer.new) }
     ensures looks { Looks (H.seen host.old) (H.seen host.new) ⊥ }
 {
@@ -80,14 +80,14 @@ pub fn rescue_sectors<H: Host, L: Losses<H>>(
     ensures said { H.tells_disks → IfOk result (λ lost. (bytes : List ℕ) × (losses_told : List Range)
         × ((H.seen host.new).said ≡ (H.seen host.old).said ++ bytes)
         × (L.tells → L.lost losses.new ≡ L.lost losses.old ++ losses_told)
-        × AreTold (H.seen host.old).content (unread_since (H.seen host.old) (H.seen host.new))
+        × AreTold (H.seen host.old).content (failed_since (H.seen host.old) (H.seen host.new))
         found.now plan.now first count bytes losses_told
         × AreRanges first (first + count) losses_told
         × (lost ≡ lost_in losses_told)) }
     ensures front { H.tells_disks → IsErr result → (n : ℕ) × (bytes : List ℕ)
         × (losses_told : List Range) × (n ≤ count)
         × Begins (H.seen host.new).said ((H.seen host.old).said ++ bytes)
-        × AreTold (H.seen host.old).content (unread_since (H.seen host.old) (H.seen host.new))
+        × AreTold (H.seen host.old).content (failed_since (H.seen host.old) (H.seen host.new))
         found.now plan.now first n bytes losses_told }
     ensures talk { IsErr result → TalkFailed (H.seen host.old) (H.seen host.new) }
     ensures still { Still (H.seen host.old) (H.seen host.new) }

@@ -10,7 +10,7 @@ use Rattle.ldm_host.specs.Seen.{Seen}
 use Rattle.ldm_host.specs.Moves.{Still, Grows, Rose}
 use Rattle.ldm_host.specs.declared.host.DiskRange.{DiskRange}
 use Rattle.ldm_host.proofs.Relations.{still_trans}
-use Rattle.ldm_scan.specs.Failed.{failed_since, fails_on}
+use Rattle.ldm_host.specs.Failed.{failed_since, fails_on}
 
 pub same_sizes : (a b : Seen) → ∥ Still a b ∥₁ → b.sizes ≡ a.sizes
 same_sizes a b still = ∥∥₁_elim still (hlevel props) (λ (s : Still a b). s.later.sizes)

@@ -14,7 +14,7 @@ use Rattle.ldm_words.specs.declared.job.Format.{Format}
 use Rattle.ldm_words.specs.declared.status.Status.TheVariants.{Done}
 use Rattle.ldm_scan.specs.declared.finding.Finding.{Finding}
 use Rattle.ldm_scan.specs.declared.finding.Finding.TheVariants.{Unopened, Unread, Known}
-use Rattle.ldm_scan.specs.Failed.{failed_since, fails_on}
+use Rattle.ldm_host.specs.Failed.{failed_since, fails_on}
 use Rattle.ldm_scan.specs.Findings.{disks_of, IsDiskFinding, IsFinding, AreFindings, IsFindingsAnswer, said_findings}
 use Rattle.ldm_scan.proofs.FailLaws.{fails_then, or_false, same_content}
 

@@ -12,7 +12,7 @@ use Rattle.ldm_look.specs.Said.{Answer}
 use Rattle.ldm_look.specs.Runs.{Answers, Causes, Completes, Ends, OnlyReads}
 use Rattle.ldm_look.proofs.EndLaws.{answers_as}
 use Rattle.ldm_scan.specs.declared.finding.Finding.{Finding}
-use Rattle.ldm_scan.specs.Failed.{failed_since}
+use Rattle.ldm_host.specs.Failed.{failed_since}
 use Rattle.ldm_scan.specs.Findings.{AreFindings, IsFindingsAnswer, said_findings}
 use Rattle.ldm_scan.proofs.FailLaws.{no_less_talk}
 

@@ -11,7 +11,7 @@ use Rattle.ldm_words.specs.declared.status.Status.TheVariants.{Done}
 use Rattle.ldm_look.specs.declared.scanned.Scanned.{Scanned}
 use Rattle.ldm_look.specs.Said.{Answer}
 use Rattle.ldm_look.specs.Scan.{IsScanned, line_of_scanned, state_json, scanned_json}
-use Rattle.ldm_scan.specs.Failed.{fails_on}
+use Rattle.ldm_host.specs.Failed.{fails_on}
 use Rattle.ldm_scan.specs.declared.finding.Finding.{Finding}
 use Rattle.ldm_scan.specs.declared.finding.Finding.TheVariants.{Unopened, Unread, Known}
 

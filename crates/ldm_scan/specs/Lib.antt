@@ -1,4 +1,3 @@
-pub mod Failed
 pub mod Findings
 pub mod LoneSeen
 pub mod Start

@@ -1,5 +1,5 @@
 -- What was seen of a host before one of its disks was read alone, where nothing is known of it.
-use Rattle.std.specs.Prelude.{[]}
+use Rattle.std.specs.Prelude.{[], false}
 use Rattle.ldm_host.specs.Seen.{Seen}
 
 abbrev pub nothing_known : Seen
@@ -10,7 +10,7 @@ nothing_known = record {
   clock = 0;
   left_since = λ t images said. ⊥;
   said = [];
-  heard = [];
+  heard = record { bytes = []; ended = false };
   input = [];
   disk_faults = 0;
   talk_faults = 0;

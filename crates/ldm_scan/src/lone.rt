@@ -2,7 +2,7 @@
 ghost use Rattle.std.specs.Prelude.{◌≡◌, ◌+◌, ◌-◌, ◌^◌, ◌<◌, ◌==◌, ◌&&◌, ℕ, length, min, nat_lt};
 ghost use Rattle.ldm_host.specs.Seen.{Seen};
 ghost use Rattle.ldm_host.specs.Moves.{Still};
-ghost use Rattle.ldm_scan.specs.Failed.{failed_since, fails_on};
+ghost use Rattle.ldm_host.specs.Failed.{failed_since, fails_on};
 
 use ldm_host::{Failed, Host};
 use std::marker::{Brand, PhantomData};

@@ -4,7 +4,7 @@ ghost use Rattle.ldm_host.specs.declared.host.DiskRange.{DiskRange};
 ghost use Rattle.ldm_host.specs.Moves.{Rose, SameInput, Still};
 ghost use Rattle.ldm_look.specs.Said.{Answer, SaysNothing};
 ghost use Rattle.ldm_look.specs.Runs.{Answers, Causes, Completes, OnlyReads};
-ghost use Rattle.ldm_scan.specs.Failed.{failed_since};
+ghost use Rattle.ldm_host.specs.Failed.{failed_since};
 ghost use Rattle.ldm_scan.specs.Findings.{opened_count, said_findings};
 ghost use Rattle.ldm_scan.specs.Findings.{IsFindingsAnswer};
 

@@ -7,7 +7,7 @@ ghost use Rattle.ldm_look.specs.Scan.{IsScanned};
 ghost use Rattle.ldm_look.specs.declared.scanning.ScanError.TheVariants as ScanError;
 ghost use Rattle.ldm_scan.specs.declared.finding.Finding.{Finding};
 ghost use Rattle.ldm_scan.specs.declared.finding.Finding.TheVariants as finds;
-ghost use Rattle.ldm_scan.specs.Failed.{failed_since, fails_on};
+ghost use Rattle.ldm_host.specs.Failed.{failed_since, fails_on};
 ghost use Rattle.ldm_scan.specs.Findings.{disks_of, opened_count, IsDiskFinding, IsFinding, AreFindings};
 
 use crate::finding::Finding;

@@ -1,5 +1,5 @@
 -- What was seen of a host at the start of a view, where nothing is known of it.
-use Rattle.std.specs.Prelude.{[]}
+use Rattle.std.specs.Prelude.{[], false}
 use Rattle.ldm_host.specs.Seen.{Seen}
 
 abbrev pub nothing_seen : Seen
@@ -10,7 +10,7 @@ nothing_seen = record {
   clock = 0;
   left_since = λ t images said. ⊥;
   said = [];
-  heard = [];
+  heard = record { bytes = []; ended = false };
   input = [];
   disk_faults = 0;
   talk_faults = 0;

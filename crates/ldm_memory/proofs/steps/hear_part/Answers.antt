@@ -14,4 +14,5 @@ returns-clause-taken c whole =
       left_is script c.args.buf.now moved heard n is fits,
       heard_is script c.args.buf.now moved heard n is fits,
       λ none. omega (arith, none, length-drop heard script, c.requires, c.args.script.now.ok.0),
+      search rules,
     )

@@ -7,7 +7,7 @@ use Rattle.ldm_found.specs.declared.fault.OpenError.{OpenError}
 use Rattle.ldm_found.specs.Answers.{FindsIn}
 use Rattle.ldm_words.specs.declared.status.Status.TheVariants.{Refused, NoMemory, DiskFault}
 use Rattle.ldm_look.specs.Opening.{text_of_open_fault}
-use Rattle.ldm_rescue.specs.Rescued.{unread_since}
+use Rattle.ldm_host.specs.Failed.{failed_since}
 use Rattle.ldm_rescue.specs.Rescue.{IsSaid, IsBegun}
 use Rattle.ldm_rescue.proofs.ListLaws.{since_sooner}
 use Rattle.ldm_rescue.proofs.OneLaws.{one_outcome}
@@ -49,14 +49,14 @@ returns-in-Ok-clause-rescues g c =
     (λ told o is. (
       Ok c.in-Ok.found,
       found.found told,
-      group_as (IsSaid mid.content (unread_since mid new)) (IsSaid old.content (unread_since old new))
-          (λ f l s p one. said_more old.content mid.content (unread_since mid new) (unread_since old new) f l s p found.looks.still.content wider one) c.args.name.now c.args.section o (Ok c.in-Ok.found) is,
+      group_as (IsSaid mid.content (failed_since mid new)) (IsSaid old.content (failed_since old new))
+          (λ f l s p one. said_more old.content mid.content (failed_since mid new) (failed_since old new) f l s p found.looks.still.content wider one) c.args.name.now c.args.section o (Ok c.in-Ok.found) is,
     ))
     (λ told o is. (
       Ok c.in-Ok.found,
       found.found told,
-      group_as (IsBegun mid.content (unread_since mid new)) (IsBegun old.content (unread_since old new))
-          (λ f l s p one. begun_more old.content mid.content (unread_since mid new) (unread_since old new) f l s p found.looks.still.content wider one) c.args.name.now c.args.section o (Ok c.in-Ok.found) is,
+      group_as (IsBegun mid.content (failed_since mid new)) (IsBegun old.content (failed_since old new))
+          (λ f l s p one. begun_more old.content mid.content (failed_since mid new) (failed_since old new) f l s p found.looks.still.content wider one) c.args.name.now c.args.section o (Ok c.in-Ok.found) is,
     ))
     c.rescue_found.ensures
 

@@ -2,7 +2,7 @@ use Rattle.std.proofs.Common.{◌≡◌, ℕ, ◌+◌, ◌-◌, ◌*◌, ◌≤�
 use Rattle.ldm_host.specs.Moves.{Looks}
 use Rattle.ldm_host.specs.declared.host.DiskRange.{DiskRange}
 use Rattle.ldm_rescue.specs.declared.losses.Loss.{Loss}
-use Rattle.ldm_rescue.specs.Rescued.{unread_since}
+use Rattle.ldm_host.specs.Failed.{failed_since}
 use Rattle.ldm_rescue.specs.Told.{SoFar}
 use Rattle.ldm_rescue.proofs.saying.rescue_piece.Given as goal
 
@@ -13,7 +13,7 @@ invariant-steps g l = record {
   lost : l.losing.lost ≤ l.sector + l.done;
   so_far : (failed : List DiskRange) (before : List Loss) (first n : ℕ) (bytes : List ℕ) → l.sector ≡ first + n
       → SoFar g.H.Host.tells_disks g.L.Losses.tells (g.H.Host.seen l.fn.host).content failed before (g.L.Losses.lost l.fn.losses) l.fn.losing l.found l.plan first n bytes
-      → SoFar g.H.Host.tells_disks g.L.Losses.tells (g.H.Host.seen l.fn.host).content (failed ++ unread_since (g.H.Host.seen l.fn.host) (g.H.Host.seen l.host)) before (g.L.Losses.lost l.losses) l.losing l.found l.plan first (n + l.done) (bytes ++ take (512 * l.done) l.buffer);
+      → SoFar g.H.Host.tells_disks g.L.Losses.tells (g.H.Host.seen l.fn.host).content (failed ++ failed_since (g.H.Host.seen l.fn.host) (g.H.Host.seen l.host)) before (g.L.Losses.lost l.losses) l.losing l.found l.plan first (n + l.done) (bytes ++ take (512 * l.done) l.buffer);
 }
 
 abbrev pub decreases-steps : goal.decreases-steps

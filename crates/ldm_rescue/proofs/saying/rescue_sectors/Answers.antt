@@ -4,7 +4,7 @@ use Rattle.std.proofs.lemmas.List.{append-nil, length-take}
 use Rattle.ldm_host.specs.Moves.{Begins}
 use Rattle.ldm_host.proofs.Relations.{still_itself, still_trans}
 use Rattle.ldm_dump.proofs.ByteLaws.{begins_of}
-use Rattle.ldm_rescue.specs.Rescued.{unread_since}
+use Rattle.ldm_host.specs.Failed.{failed_since}
 use Rattle.ldm_rescue.specs.declared.losses.Loss.{Loss}
 use Rattle.ldm_rescue.specs.Losses.{AreRanges}
 use Rattle.ldm_rescue.specs.Told.{AreTold}
@@ -46,10 +46,10 @@ pieces-preserved g c =
           ∙ (ap (λ (t : List ℕ). read.said ++ t) (front_bytes n part _ size)
           ∙ (ap (λ (t : List ℕ). t ++ part) (piece.looks.quiet.said ∙ inv.said tells)
           ∙ append_assoc old.said inv.bytes part));
-      so_far = so_far_as _ _ _ (unread_since old mid ++ unread_since mid read) _ _ _ _ _ _ _ (c.pieces.done + n) _ (inv.bytes ++ part) _
+      so_far = so_far_as _ _ _ (failed_since old mid ++ failed_since mid read) _ _ _ _ _ _ _ (c.pieces.done + n) _ (inv.bytes ++ part) _
           (since_same old.failed read.failed new.failed say.account ∙ since_then old.failed mid.failed read.failed inv.still.later.failed piece.looks.still.later.failed) refl refl
           (at_content g.H.Host.tells_disks g.L.Losses.tells old.content mid.content _ _ _ _ _ _ _ _ _ inv.still.content
-          (piece.so_far (unread_since old mid) (g.L.Losses.lost c.args.losses.now) c.args.first c.pieces.done inv.bytes refl
+          (piece.so_far (failed_since old mid) (g.L.Losses.lost c.args.losses.now) c.args.first c.pieces.done inv.bytes refl
           (at_content g.H.Host.tells_disks g.L.Losses.tells mid.content old.content _ _ _ _ _ _ _ _ _ (sym inv.still.content) inv.so_far)));
     }
 
@@ -65,18 +65,18 @@ returns-in_err-say-clause-front g c tells failed =
     let part : List ℕ = c.rescue_piece.new.buffer in
     let n = c.min-next.result in
     let size : length part ≡ 512 * n = omega (arith, c.rescue_piece.auto.buffer, length-take {A = ℕ}) in
-    let next = piece.so_far (unread_since old mid) (g.L.Losses.lost c.args.losses.now) c.args.first c.pieces.done inv.bytes refl
+    let next = piece.so_far (failed_since old mid) (g.L.Losses.lost c.args.losses.now) c.args.first c.pieces.done inv.bytes refl
     (at_content g.H.Host.tells_disks g.L.Losses.tells mid.content old.content _ _ _ _ _ _ _ _ _ (sym inv.still.content) inv.so_far) in
     let before : read.said ++ part ≡ old.said ++ (inv.bytes ++ part) =
     ap (λ (t : List ℕ). t ++ part) (piece.looks.quiet.said ∙ inv.said tells) ∙ append_assoc old.said inv.bytes part in
-    let account : unread_since old new ≡ unread_since old mid ++ unread_since mid read =
+    let account : failed_since old new ≡ failed_since old mid ++ failed_since mid read =
     since_same old.failed read.failed new.failed say.account ∙ since_then old.failed mid.failed read.failed inv.still.later.failed piece.looks.still.later.failed in (
       c.pieces.done + n,
       inv.bytes ++ part,
       next.told ++ option_to_list c.rescue_piece.new.losing.last,
       omega arith,
       subst (λ (t : List ℕ). Begins new.said t) before (begins_of read.said part _ new.said (front_bytes n part _ size) say.front),
-      told_at old.content mid.content (unread_since old mid ++ unread_since mid read) (unread_since old new) c.args.found.now c.args.plan.now c.args.first (c.pieces.done + n) (inv.bytes ++ part) (next.told ++ option_to_list c.rescue_piece.new.losing.last) inv.still.content account (next.are tells),
+      told_at old.content mid.content (failed_since old mid ++ failed_since mid read) (failed_since old new) c.args.found.now c.args.plan.now c.args.first (c.pieces.done + n) (inv.bytes ++ part) (next.told ++ option_to_list c.rescue_piece.new.losing.last) inv.still.content account (next.are tells),
     )
 
 pub returns-in_err-say-clause-still : goal.returns-in_err-say-clause-still
@@ -96,7 +96,7 @@ returns-clause-said g c tells =
       λ hears. c.end_last.ensures hears
           ∙ (ap (λ (l : List Loss). l ++ option_to_list c.pieces.losing.last) (so.heard hears)
           ∙ append_assoc (g.L.Losses.lost c.args.losses.now) so.told (option_to_list c.pieces.losing.last)),
-      subst (λ (k : ℕ). AreTold old.content (unread_since old now) c.args.found.now c.args.plan.now c.args.first k inv.bytes losses) all (so.are tells),
+      subst (λ (k : ℕ). AreTold old.content (failed_since old now) c.args.found.now c.args.plan.now c.args.first k inv.bytes losses) all (so.are tells),
       subst (λ (k : ℕ). AreRanges c.args.first (c.args.first + k) losses) all so.ranges,
       so.lost,
     )

@@ -2,7 +2,7 @@ use Rattle.std.proofs.Common.{◌≡◌, ◌∙◌, List, sym, subst}
 use Rattle.ldm_look.specs.Runs.{Answers, OnlyReads}
 use Rattle.ldm_words.specs.declared.status.Status.TheVariants.{Done}
 use Rattle.ldm_scan.specs.declared.finding.Finding.{Finding}
-use Rattle.ldm_scan.specs.Failed.{failed_since}
+use Rattle.ldm_host.specs.Failed.{failed_since}
 use Rattle.ldm_scan.specs.Findings.{said_findings, AreFindings, IsFindingsAnswer}
 use Rattle.ldm_scan.proofs.FailLaws.{both_still, same_wrote}
 use Rattle.ldm_scan.proofs.FindingLaws.{ok_at, one_answer}

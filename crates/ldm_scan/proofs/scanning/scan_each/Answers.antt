@@ -2,7 +2,7 @@ use Rattle.std.proofs.Common.{◌≡◌, ◌∙◌, ◌+◌, ◌-◌, ◌≤◌,
 use Rattle.ldm_host.specs.Seen.{Seen}
 use Rattle.ldm_host.proofs.Relations.{still_itself, quiet_trans}
 use Rattle.ldm_scan.specs.declared.finding.Finding.{Finding}
-use Rattle.ldm_scan.specs.Failed.{failed_since}
+use Rattle.ldm_host.specs.Failed.{failed_since}
 use Rattle.ldm_scan.specs.Findings.{disks_of, opened_count, IsFinding, AreFindings}
 use Rattle.ldm_scan.proofs.FailLaws.{both_still, none_failed, same_sizes}
 use Rattle.ldm_scan.proofs.FindingLaws.{Continues, continues_host, findings_whole, none_ahead, none_left, ok_at, rest_is}

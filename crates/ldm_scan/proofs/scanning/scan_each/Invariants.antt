@@ -1,6 +1,6 @@
 use Rattle.std.proofs.Common.{◌≡◌, ◌-◌, ◌≤◌, ℕ, drop, false}
 use Rattle.ldm_host.specs.Moves.{Quiet, Still}
-use Rattle.ldm_scan.specs.Failed.{failed_since, fails_on}
+use Rattle.ldm_host.specs.Failed.{failed_since, fails_on}
 use Rattle.ldm_scan.specs.Findings.{opened_count}
 use Rattle.ldm_scan.proofs.FindingLaws.{Continues}
 use Rattle.ldm_scan.proofs.scanning.scan_each.Given as goal

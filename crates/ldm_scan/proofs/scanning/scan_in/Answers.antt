@@ -1,6 +1,6 @@
 use Rattle.std.proofs.Common.{◌≡◌, ◌∙◌, ℕ, List, Bool, IfOk, sym, ap, subst, nat_lt, slice_index}
 use Rattle.ldm_host.specs.Seen.{image}
-use Rattle.ldm_scan.specs.Failed.{failed_since, fails_on}
+use Rattle.ldm_host.specs.Failed.{failed_since, fails_on}
 use Rattle.ldm_scan.specs.Findings.{IsDiskFinding}
 use Rattle.ldm_scan.proofs.FailLaws.{other_none, this_one, unread_is}
 use Rattle.ldm_scan.proofs.scanning.scan_in.Goals as goal

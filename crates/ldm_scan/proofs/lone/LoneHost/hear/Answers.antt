@@ -1,5 +1,5 @@
 use Rattle.std.proofs.Common.{◌<◌, ◌∙◌, ℕ, List, length, drop, sym, ap, subst}
-use Rattle.ldm_scan.specs.Failed.{fails_on}
+use Rattle.ldm_host.specs.Failed.{fails_on}
 use Rattle.ldm_scan.proofs.LoneLaws.{still_carries}
 use Rattle.ldm_host.specs.declared.host.DiskRange.{DiskRange}
 use Rattle.ldm_scan.proofs.lone.LoneHost.hear.Goals as goal

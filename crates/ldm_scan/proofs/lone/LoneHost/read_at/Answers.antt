@@ -1,6 +1,6 @@
 use Rattle.std.proofs.Common.{◌<◌, ◌+◌, ◌∙◌, ℕ, List, length, drop, sym, ap, subst, arith}
 use Rattle.ldm_host.specs.declared.host.DiskRange.{DiskRange}
-use Rattle.ldm_scan.specs.Failed.{fails_on}
+use Rattle.ldm_host.specs.Failed.{fails_on}
 use Rattle.ldm_scan.proofs.LoneLaws.{lone_looks, still_carries}
 use Rattle.ldm_scan.proofs.FailLaws.{fails_more, more_rose, note_more}
 use Rattle.ldm_scan.proofs.lone.LoneHost.read_at.Goals as goal
