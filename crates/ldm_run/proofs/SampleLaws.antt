@@ -262,7 +262,7 @@ module _ {seed : ℕ} {start : MemoryHost} (host : MemoryHost) {status : Status}
   heard_all : (memory_seen host).input ≡ []
   heard_all = ⊎_elim (λ none. none) (λ long. absurd (let few = starts.input in omega (arith, long, short, ap length starts.input))) ((does.talk.input tt).whole has)
 
-  heard_is : (memory_seen host).heard ≡ script_of seed
+  heard_is : (memory_seen host).heard.bytes ≡ script_of seed
   heard_is =
       let takes = (does.talk.input tt).takes in
       let taken = (does.talk.input tt).taken in
@@ -303,7 +303,7 @@ module _ {seed : ℕ} {start : MemoryHost} (host : MemoryHost) {status : Status}
 
 -- a host that was made of the sample images and the sample script
 pub started : {seed : ℕ} {host : MemoryHost} (images : List (List ℕ)) (found : Found) → AreSampleImages 3 512 images → IsGroupIn images (Ok found) → IsSampleGroup 3 512 found → (memory_seen host).content ≡ images
-    → ((disk : ℕ) → Settled (memory_seen host) disk) → (memory_seen host).clock ≡ 0 → (memory_seen host).said ≡ [] → (memory_seen host).heard ≡ [] → (memory_seen host).input ≡ script_of seed → IsSampleStart seed found host
+    → ((disk : ℕ) → Settled (memory_seen host) disk) → (memory_seen host).clock ≡ 0 → (memory_seen host).said ≡ [] → (memory_seen host).heard.bytes ≡ [] → (memory_seen host).input ≡ script_of seed → IsSampleStart seed found host
 started {seed} {host} images found made holds group content settled clock said heard input = record {
   images = subst (λ (l : List (List ℕ)). AreSampleImages 3 512 l) (sym content) made;
   holds = subst (λ (l : List (List ℕ)). IsGroupIn l (Ok found)) (sym content) holds;

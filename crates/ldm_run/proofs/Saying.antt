@@ -1,7 +1,7 @@
 -- What was heard and said, and how a run goes on.
-use Rattle.std.proofs.Common.{[], ◌≡◌, ◌≢◌, inr, ℕ, List, ◌++◌, take, refl, sym, ◌∙◌, ap, subst, append_assoc, Bool, true, false, ◌||◌, if◌then◌else◌, ◌⊎◌, ◌+◌, ◌<◌, ◌≤◌, length, arith}
+use Rattle.std.proofs.Common.{[], ◌≡◌, ◌≢◌, inr, ℕ, List, ◌++◌, take, refl, sym, ◌∙◌, ap, subst, append_assoc, Bool, true, false, ◌||◌, ◌==◌, if◌then◌else◌, ◌⊎◌, ◌+◌, ◌<◌, ◌≤◌, length, arith}
 use Rattle.std.proofs.lemmas.List.{append-nil, nil_from_length, length-append, length-take-le}
-use Rattle.ldm_host.specs.Seen.{Seen}
+use Rattle.ldm_host.specs.Seen.{Seen, Heard}
 use Rattle.ldm_host.specs.Moves.{Begins, Later, Still, Quiet, SameInput}
 use Rattle.ldm_host.proofs.Relations.{begins_itself, rose_sooner, still_trans}
 use Rattle.ldm_edits.specs.declared.reply.Reply.{Reply}
@@ -124,17 +124,17 @@ stopped {old = old} {new = new} {status = status} failed front still input = (le
 -- ---- What is heard piece by piece.
 
 -- n bytes more were heard
-pub takes_more : (old mid new : Seen) (taken bytes : List ℕ) (n : ℕ) → Takes old mid taken → n ≤ length bytes → mid.input ≡ take n bytes ++ new.input → new.heard ≡ mid.heard ++ take n bytes
+pub takes_more : (old mid new : Seen) (taken bytes : List ℕ) (n : ℕ) → Takes old mid taken → n ≤ length bytes → mid.input ≡ take n bytes ++ new.input → new.heard.bytes ≡ mid.heard.bytes ++ take n bytes
     → length taken + n ≤ 1048577 → Takes old new (taken ++ take n bytes)
 takes_more old mid new taken bytes n first within input heard few = record {
   input = first.input ∙ ap (λ (l : List ℕ). taken ++ l) input ∙ sym (append_assoc taken (take n bytes) new.input);
-  heard = heard ∙ ap (λ (l : List ℕ). l ++ take n bytes) first.heard ∙ append_assoc old.heard taken (take n bytes);
+  heard = heard ∙ ap (λ (l : List ℕ). l ++ take n bytes) first.heard ∙ append_assoc old.heard.bytes taken (take n bytes);
   few = omega (arith, few, length-append taken (take n bytes), length-take-le n bytes within);
 }
 
 -- they were heard by a call of the host
 pub hears_more : {talks : Type 0} {old mid new : Seen} {taken : List ℕ} (bytes : List ℕ) (n : ℕ) → Hears talks old mid taken → n ≤ length bytes → length taken + n ≤ 1048577
-    → (talks → (mid.input ≡ take n bytes ++ new.input) × (new.heard ≡ mid.heard ++ take n bytes) × (n ≡ 0 → length mid.input ≡ 0)) → new.said ≡ mid.said → Still mid new → Hears talks old new (taken ++ take n bytes)
+    → (talks → (mid.input ≡ take n bytes ++ new.input) × (new.heard.bytes ≡ mid.heard.bytes ++ take n bytes) × (n ≡ 0 → length mid.input ≡ 0) × (new.heard.ended ≡ mid.heard.ended || n == 0)) → new.said ≡ mid.said → Still mid new → Hears talks old new (taken ++ take n bytes)
 hears_more {talks} {old} {mid} {new} {taken} bytes n first within few heard silent still = record {
   takes = λ told. takes_more old mid new taken bytes n (first.takes told) within (heard told).0 (heard told).1 few;
   silent = silent ∙ first.silent;
@@ -145,7 +145,7 @@ hears_more {talks} {old} {mid} {new} {taken} bytes n first within few heard sile
 pub takes_on : {old mid new : Seen} {taken : List ℕ} → Takes old mid taken → SameInput mid new → Takes old new taken
 takes_on {taken = taken} first same = record {
   input = first.input ∙ ap (λ (l : List ℕ). taken ++ l) (sym same.input);
-  heard = same.heard ∙ first.heard;
+  heard = ap (λ (h : Heard). h.bytes) same.heard ∙ first.heard;
   few = first.few;
 }
 
@@ -167,13 +167,28 @@ at_end old mid new script piece takes input none = (
   nil_from_length new.input (omega (arith, none, ap length input, length-append piece new.input)),
 )
 
+-- the end of the input was heard, since a call heard no byte of it
+pub heard_end : (n : ℕ) (before after : Bool) → after ≡ before || n == 0 → n ≡ 0 → after ≡ true
+heard_end n before after is none = is ∙ ap (λ (k : ℕ). before || k == 0) none ∙ or_true before
+  where
+    or_true : (b : Bool) → (b || true) ≡ true
+    or_true true = refl
+    or_true false = refl
+
 -- ---- all of it
 
 -- after the script was heard nothing more is
 pub heard_script : {old mid new : Seen} {taken : List ℕ} {status : Status} → Takes old mid taken → SameInput mid new → (HasAnswer status → (new.input ≡ []) ⊎ (1048576 < length old.input))
-    → (1048576 < length old.input → status ≢ DiskFault) → ((1048576 < length old.input) ⊎ (new.input ≢ []) → new.wrote ≡ old.wrote) → HearsScript old new status
-heard_script {taken = taken} takes same whole no_disk unwritten = record { taken = taken; takes = takes_on takes same; whole = whole; no_disk = no_disk; unwritten = unwritten }
+    → (1048576 < length old.input → status ≢ DiskFault) → ((1048576 < length old.input) ⊎ (new.input ≢ []) → new.wrote ≡ old.wrote) → (mid.heard.ended ≡ false → new.wrote ≡ old.wrote) → HearsScript old new status
+heard_script {taken = taken} takes same whole no_disk unwritten too_soon = record {
+  taken = taken;
+  takes = takes_on takes same;
+  whole = whole;
+  no_disk = no_disk;
+  unwritten = unwritten;
+  too_soon = λ not_ended. too_soon (sym (ap (λ (h : Heard). h.ended) same.heard) ∙ not_ended);
+}
 
 -- it was not heard whole
 pub unheard_script : {old new : Seen} {taken : List ℕ} {status : Status} → Takes old new taken → (HasAnswer status → ⊥) → status ≢ DiskFault → new.wrote ≡ old.wrote → HearsScript old new status
-unheard_script {taken = taken} takes none no_disk wrote = record { taken = taken; takes = takes; whole = λ has. absurd (none has); no_disk = λ long. no_disk; unwritten = λ some. wrote }
+unheard_script {taken = taken} takes none no_disk wrote = record { taken = taken; takes = takes; whole = λ has. absurd (none has); no_disk = λ long. no_disk; unwritten = λ some. wrote; too_soon = λ not_ended. wrote }

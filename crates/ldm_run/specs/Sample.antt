@@ -61,7 +61,7 @@ pub record IsSampleStart (seed : ℕ) (found : Found) (host : MemoryHost) : Type
   pub settled : NothingPending (memory_seen host)
   pub clock : (memory_seen host).clock ≡ 0
   pub said : (memory_seen host).said ≡ []
-  pub heard : (memory_seen host).heard ≡ []
+  pub heard : (memory_seen host).heard.bytes ≡ []
   pub input : (memory_seen host).input ≡ script_of seed
 
 -- Such a host after the edit: the script is heard, and just the replies are said. Each copy is open with the group after all
@@ -72,7 +72,7 @@ pub record IsSampleHost (seed : ℕ) (host : MemoryHost) : Type 0 where
   pub found : Found
   pub starts : IsSampleStart seed found start
   pub sizes : (memory_seen host).sizes ≡ (memory_seen start).sizes
-  pub heard : (memory_seen host).heard ≡ script_of seed
+  pub heard : (memory_seen host).heard.bytes ≡ script_of seed
   pub input : (memory_seen host).input ≡ []
   pub said : (memory_seen host).said ≡ said_replies Lines 1 (replies_to found.labels found.db (sample_lines seed))
   pub dry : (host_counts host).dry ≡ 0

@@ -2,14 +2,14 @@ use Rattle.std.proofs.Common.{rules, ◌≡◌, ◌≤◌, List, ℕ, length, �
 use Rattle.std.proofs.lemmas.List.{take-append-le, length-append, length-take-le}
 use Rattle.ldm_host.proofs.Relations.{rose_sooner}
 use Rattle.ldm_run.specs.Heard.{Hears}
-use Rattle.ldm_run.proofs.Saying.{at_end, hears_more, hears_on, too_long}
+use Rattle.ldm_run.proofs.Saying.{at_end, heard_end, hears_more, hears_on, too_long}
 use Rattle.ldm_run.proofs.script.hear_script.Goals as goal
 
 pub returns-then-count-eq0-clause-script : goal.returns-then-count-eq0-clause-script
 returns-then-count-eq0-clause-script g c tells =
     let taken = c.in-Ok.ensures.taken tells in
     let end = at_end (g.H.Host.seen c.args.host.now) (g.H.Host.seen c.hearing.host) (g.H.Host.seen c.hear.new.self) c.hearing.script.items _ (c.hearing.invariant.hears.takes tells) taken.0 (taken.2 c.if-count-eq0.true) in
-    (c.from_vec.ensures ∙ end.0, end.1)
+    (c.from_vec.ensures ∙ end.0, end.1, heard_end c.in-Ok.count _ _ taken.3 c.if-count-eq0.true)
 
 pub returns-then-count-eq0-clause-hears : goal.returns-then-count-eq0-clause-hears
 returns-then-count-eq0-clause-hears g c =
