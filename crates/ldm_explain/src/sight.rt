@@ -308,6 +308,10 @@ fn fault_of_disks<H: Host>(
             let said = "% has % sectors, and a disk of a new group has 2112 at least";
             path_line(alloc, names, image, said, [host.sectors(image), 0, 0]).ok()
         }
+        InitFault::TooLarge(image) if image < host.disks() => {
+            let said = "% has % sectors, and a disk with an MBR has fewer than 4294967296";
+            path_line(alloc, names, image, said, [host.sectors(image), 0, 0]).ok()
+        }
         InitFault::NotEmpty(image) => {
             let said = "% isn't empty: its first 63 sectors and its last 2048 have to be zero";
             path_line(alloc, names, image, said, [0, 0, 0]).ok()

@@ -34,6 +34,7 @@ fn fault_text(alloc: Global, fault: InitFault) -> Result<Bytes, NoMemory>
     match fault {
         InitFault::SameGuid(first, second) => same_text(alloc, first, second),
         InitFault::TooSmall(image) => image_fault_text(alloc, image, b"too small"),
+        InitFault::TooLarge(image) => image_fault_text(alloc, image, b"too large for MBR"),
         InitFault::NotEmpty(image) => image_fault_text(alloc, image, b"not empty"),
     }
 }

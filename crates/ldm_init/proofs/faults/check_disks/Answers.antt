@@ -1,6 +1,6 @@
 use Rattle.std.proofs.Common.{ℕ, Option, Some, None, subst}
 use Rattle.ldm_found.specs.Gathers.{IsFirst}
-use Rattle.ldm_init.specs.Faults.{IsSmall, IsFull}
+use Rattle.ldm_init.specs.Faults.{IsSmall, IsTooLarge, IsFull}
 use Rattle.ldm_init.proofs.InitLaws.{twins_of, all_large}
 use Rattle.ldm_init.proofs.faults.check_disks.Goals as goal
 
@@ -15,6 +15,14 @@ returns-in-Some-first_small-clause-fault g c tells guids same =
       subst (λ (o : Option ℕ). IsFirst IsSmall sizes o) c.in-Some-first_small.is c.first_small.ensures,
     )
 
+pub returns-in-Some-first_large-clause-fault : goal.returns-in-Some-first_large-clause-fault
+returns-in-Some-first_large-clause-fault g c tells guids same =
+    let sizes = (g.H.Host.seen c.args.host.now).sizes in (
+      twins_of c.args.labels.now sizes guids c.twins.result None c.twins.ensures c.in_default.is same,
+      subst (λ (o : Option ℕ). IsFirst IsSmall sizes o) c.in_default-first_small.is c.first_small.ensures,
+      subst (λ (o : Option ℕ). IsFirst IsTooLarge sizes o) c.in-Some-first_large.is c.first_large.ensures,
+    )
+
 pub first_full-requires-clause-large : goal.first_full-requires-clause-large
 first_full-requires-clause-large g c =
     let sizes = (g.H.Host.seen c.args.host.now).sizes in
@@ -25,6 +33,7 @@ returns-in-Some-2-clause-fault g c tells guids same =
     let start = g.H.Host.seen c.args.host.now in (
       twins_of c.args.labels.now start.sizes guids c.twins.result None c.twins.ensures c.in_default.is same,
       subst (λ (o : Option ℕ). IsFirst IsSmall start.sizes o) c.in_default-first_small.is c.first_small.ensures,
+      subst (λ (o : Option ℕ). IsFirst IsTooLarge start.sizes o) c.in_default-first_large.is c.first_large.ensures,
       subst (λ (o : Option ℕ). IsFirst IsFull start.content o) c.in-Some-2.is (c.in_ok-image.ensures.is tells),
     )
 
@@ -33,6 +42,7 @@ returns-in-None-clause-fault g c tells guids same =
     let start = g.H.Host.seen c.args.host.now in (
       twins_of c.args.labels.now start.sizes guids c.twins.result None c.twins.ensures c.in_default.is same,
       subst (λ (o : Option ℕ). IsFirst IsSmall start.sizes o) c.in_default-first_small.is c.first_small.ensures,
+      subst (λ (o : Option ℕ). IsFirst IsTooLarge start.sizes o) c.in_default-first_large.is c.first_large.ensures,
       subst (λ (o : Option ℕ). IsFirst IsFull start.content o) c.in-None.is (c.in_ok-image.ensures.is tells),
     )
 
