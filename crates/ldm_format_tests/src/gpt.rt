@@ -3,8 +3,8 @@ use crate::label::{answers, host_of, put};
 use crate::made::{bytes_of, check};
 use ldm_crc32::Crc32;
 use ldm_label::LabelFault::*;
-use ldm_label::{Label, LabelError, LabelFault, Style, label_sectors};
-use std::alloc::Global;
+use ldm_label::{Label, LabelError, LabelFault, Style, label_sectors, write_gpt_label};
+use std::alloc::{AllocError, Global};
 use std::process::Abort;
 
 // The label of a disk as Windows writes it, of 4096 sectors.
@@ -153,4 +153,94 @@ fn first_faults(rt: HostRuntime) {
             (before, after),
         );
     }
+}
+
+// A label of a GPT disk of 4164 sectors.
+const WRITTEN: Label = Label {
+    style: Style::Gpt,
+    disk_guid: 0x1111_1111_2222_3333_4444_5555_5555_5555,
+    minor: 12,
+    data_start: 4130,
+    data_size: 1,
+    config_start: 34,
+    area_start: 17,
+    area_sectors: 1481,
+    log_start: 1498,
+    log_sectors: 224,
+};
+
+const PROTECTIVE: &str = "1c0=0200eeffffff010000004310 1fe=55aa";
+
+// The headers of both GPTs. Python made the checksums, with zlib.
+const PRIMARY: &str = "
+0=4546492050415254000001005c000000a0141e09 18=01 20=4310 28=22 30=2210
+38=1111111122223323444455555555555502 50=8000000080000000ae08fae7";
+
+const BACKUP: &str = "
+0=4546492050415254000001005c0000009e7ee335 18=4310 20=01 28=22 30=2210
+38=111111112222332344445555555555552310 50=8000000080000000ae08fae7";
+
+// The entries with their names: LDM metadata partition, Microsoft reserved partition, LDM data
+// partition.
+const ENTRIES: &str = "
+0=aac808588f7ee04285d2e1e90434cfb31111111122223313444455555555555522 28=2108
+38=4c0044004d0020006d006500740061006400610074006100200070006100720074006900
+5c=740069006f006e
+80=16e3c9e35c0bb84d817df92df00215ae111111112222330344445555555555552208 a8=2110
+b8=4d006900630072006f0073006f0066007400200072006500730065007200760065006400
+dc=200070006100720074006900740069006f006e
+100=a0609baf3114624fbc683311714a69ad111111112222337344445555555555552210 128=2210
+138=4c0044004d0020006400610074006100200070006100720074006900740069006f006e";
+
+const PRIVATE: &str = "
+0=5052495648454144 d=02000c
+30=31313131313131312d323232322d333333332d343434342d353535353535353535353535
+121=1022 12a=01 132=22 139=08";
+
+const CONTENTS: &str = "
+0=544f43424c4f434b 24=636f6e666967 35=11 3c=05c9 46=6c6f67 56=05da 5f=e0";
+
+// All that is written of the label: the sector, and the bytes there.
+const PARTS: [(usize, &str); 11] = [
+    (0, PROTECTIVE),
+    (1, PRIMARY),
+    (2, ENTRIES),
+    (35, CONTENTS),
+    (36, CONTENTS),
+    (1890, PRIVATE),
+    (2079, CONTENTS),
+    (2080, CONTENTS),
+    (2081, PRIVATE),
+    (4131, ENTRIES),
+    (4163, BACKUP),
+];
+
+// Puts bytes OFFSET=BYTES behind the start of a sector.
+fn put_part(rt: &impl Abort, alloc: Global, image: &mut [u8], sector: usize, part: &str) {
+    for text in part.split_whitespace() {
+        let (offset, digits) = text.split_once('=').expect(rt, "an offset");
+        let offset = usize::from_str_radix(offset, 16).expect(rt, "a number");
+        put(
+            image,
+            sector.saturating_mul(512).saturating_add(offset),
+            &bytes_of(rt, alloc, digits),
+        );
+    }
+}
+
+// An image of zeros but for that label.
+fn written(alloc: Global) -> Result<Vec<u8>, AllocError> {
+    let mut image = vec![in alloc; 0u8; 4164 * 512]?;
+    write_gpt_label(&mut image, &WRITTEN);
+    Ok(image)
+}
+
+#[test]
+fn written_disk(rt: HostRuntime) {
+    let mut want = vec![in rt.alloc(); 0u8; 4164 * 512].expect(&rt, "memory");
+    for (sector, part) in PARTS {
+        put_part(&rt, rt.alloc(), &mut want, sector, part);
+    }
+    let image = written(rt.alloc()).expect(&rt, "memory");
+    assert!(rt; image == want);
 }

@@ -10,7 +10,7 @@ use Rattle.ldm_label.specs.declared.table.Table.{Table}
 use Rattle.ldm_label.specs.declared.toc.Toc.{Toc}
 use Rattle.ldm_label.specs.declared.Label.{Label}
 use Rattle.ldm_label.specs.Answer.{answer}
-use Rattle.ldm_label.specs.Fields.{sectors_of, sector, has_signature, has_ldm_entry, is_out_of_mbr, is_privhead, has_version, config_size, disk_guid, header_of, same_header, parses, toc_of, is_out_of_database}
+use Rattle.ldm_label.specs.Fields.{sectors_of, sector, has_signature, has_ldm_entry, is_out_of_mbr, is_out_of_range, is_privhead, has_version, config_size, disk_guid, header_of, same_header, parses, toc_of, is_out_of_database}
 use Rattle.ldm_label.specs.LabelOf.{label_of, label_from, mbr_faults, style_of, table_faults, disk_table, header_faults, differs, copy_faults, tocs_in, some_differ, first_toc, toc_faults, Fits, SameOutsideArea}
 use Rattle.ldm_label.specs.GoodCopies.{header_values}
 use Rattle.ldm_label.specs.Written.{header_fields, toc_fields, written_mbr, written_header, written_toc, HasLabel, IsKnownMinor, IsWritable, written_sectors, IsOutsideLabel, SameOutsideLabel}
@@ -92,7 +92,23 @@ header_guid label small =
     let whole : slice_range (written_header label) 0x30 0x54 ≡ own_guid label.disk_guid = ap (λ (n : ℕ). slice_range (written_header label) 0x30 (0x30 + n)) (sym (own_guid-len label.disk_guid)) ∙ there in
     ap guid_of whole ∙ guid_again label.disk_guid small
 
-module _ (label : Label) (n : ℕ) (fits : Fits label n) (writable : IsWritable label) where
+-- the fields of the sectors have room for the numbers of the label
+pub record HasRoom (label : Label) : Type 0 where
+  pub minor : IsKnownMinor label.minor
+  pub guid : label.disk_guid < 2 ^ 128
+  pub start : label.data_start < 2 ^ 64
+  pub size : label.data_size < 2 ^ 64
+  pub config : label.config_start < 2 ^ 64
+
+has_room : (label : Label) (n : ℕ) → Fits label n → IsWritable label → HasRoom label
+has_room label n fits writable = let before = fits.before writable.style in let config = writable.start in
+    record { minor = writable.minor; guid = writable.guid; start = omega arith; size = omega arith; config = config }
+
+mbr_range : (label : Label) (n : ℕ) → Fits label n → IsWritable label → is_out_of_mbr (header_values label) n ≡ false
+unfolding is_out_of_mbr
+mbr_range label n fits writable = let before = fits.before writable.style in grind (arith, nat_tests)
+
+module _ (label : Label) (n : ℕ) (table : Table) (fits : Fits label n) (writable : HasRoom label) (range : is_out_of_range (header_values label) table n ≡ false) where
   small_minor : label.minor < 256 ^ 2
   small_minor = elim writable.minor [ inl is ↦ omega arith | inr is ↦ omega arith ]
 
@@ -102,9 +118,9 @@ module _ (label : Label) (n : ℕ) (fits : Fits label n) (writable : IsWritable 
   header_is : header_of (written_header label) ≡ header_values label
   header_is =
       let guid = header_guid label writable.guid in
-      let start : u64_at (written_header label) 0x11B ≡ label.data_start = number_there (written_header label) 0x11B 8 label.data_start (omega arith) (header_field label 4 (omega arith)) in
-      let size : u64_at (written_header label) 0x123 ≡ label.data_size = number_there (written_header label) 0x123 8 label.data_size (omega arith) (header_field label 5 (omega arith)) in
-      let config : u64_at (written_header label) 0x12B ≡ label.config_start = number_there (written_header label) 0x12B 8 label.config_start (omega arith) (header_field label 6 (omega arith)) in
+      let start : u64_at (written_header label) 0x11B ≡ label.data_start = number_there (written_header label) 0x11B 8 label.data_start (omega (arith, writable.start)) (header_field label 4 (omega arith)) in
+      let size : u64_at (written_header label) 0x123 ≡ label.data_size = number_there (written_header label) 0x123 8 label.data_size (omega (arith, writable.size)) (header_field label 5 (omega arith)) in
+      let config : u64_at (written_header label) 0x12B ≡ label.config_start = number_there (written_header label) 0x12B 8 label.config_start (omega (arith, writable.config)) (header_field label 6 (omega arith)) in
       rw (guid, header_minor, start, size, config) refl
 
   known : (minor : ℕ) → IsKnownMinor minor → (nat_eq minor 11 || nat_eq minor 12) ≡ true
@@ -114,13 +130,9 @@ module _ (label : Label) (n : ℕ) (fits : Fits label n) (writable : IsWritable 
   unfolding has_version
   header_version = rw (header_major label, header_minor) (known label.minor writable.minor)
 
-  in_range : is_out_of_mbr (header_values label) n ≡ false
-  unfolding is_out_of_mbr
-  in_range = let before = fits.before writable.style in grind (arith, nat_tests)
-
-  header_good : answer (header_faults (written_header label) Table.Mbr n) (header_of (written_header label)) ≡ Ok (header_values label)
+  pub header_good : answer (header_faults (written_header label) table n) (header_of (written_header label)) ≡ Ok (header_values label)
   unfolding header_faults
-  header_good = rw (header_magic label, header_version, header_size label, header_is, in_range, header_guid label writable.guid) refl
+  header_good = rw (header_magic label, header_version, header_size label, header_is, range, header_guid label writable.guid) refl
 
   -- ---- its copies
 
@@ -128,7 +140,7 @@ module _ (label : Label) (n : ℕ) (fits : Fits label n) (writable : IsWritable 
   unfolding same_header
   same_values = grind (arith, nat_tests)
 
-  copy_agrees : differs (header_values label) (written_header label) Table.Mbr n ≡ false
+  pub copy_agrees : differs (header_values label) (written_header label) table n ≡ false
   unfolding differs
   copy_agrees = rw (header_good, header_is, same_values) refl
 
@@ -143,7 +155,7 @@ module _ (label : Label) (n : ℕ) (fits : Fits label n) (writable : IsWritable 
   unfolding parses
   toc_parses = rw (toc_field 0 (omega arith), toc_field 1 (omega arith), toc_field 4 (omega arith)) refl
 
-  toc_is : toc_of (written_toc label) ≡ Some (toc_values label)
+  pub toc_is : toc_of (written_toc label) ≡ Some (toc_values label)
   toc_is =
       let start : u64_at (written_toc label) 0x2E ≡ label.area_start = number_there (written_toc label) 0x2E 8 label.area_start (omega arith) (toc_field 2 (omega arith)) in
       let size : u64_at (written_toc label) 0x36 ≡ label.area_sectors = number_there (written_toc label) 0x36 8 label.area_sectors (omega arith) (toc_field 3 (omega arith)) in
@@ -155,20 +167,26 @@ module _ (label : Label) (n : ℕ) (fits : Fits label n) (writable : IsWritable 
   unfolding is_out_of_database
   in_database = grind (arith, nat_tests)
 
-  four : List Toc
+  unfoldable pub four : List Toc
   four = toc_values label ∷ toc_values label ∷ toc_values label ∷ toc_values label ∷ []
 
   four_agree : some_differ four ≡ false
   unfolding some_differ four
   four_agree = rw (same_itself (toc_values label)) refl
 
-  four_good : answer (toc_faults four) (first_toc four) ≡ Ok (toc_values label)
+  pub four_good : answer (toc_faults four) (first_toc four) ≡ Ok (toc_values label)
   unfolding toc_faults four
   four_good = let agree = four_agree in rw (agree, in_database) refl
 
 -- ---- an image
 
 module _ (label : Label) (image : List ℕ) (has : HasLabel label image) (fits : Fits label (sectors_of image)) (writable : IsWritable label) where
+  room : HasRoom label
+  room = has_room label (sectors_of image) fits writable
+
+  range : is_out_of_range (header_values label) Table.Mbr (sectors_of image) ≡ false
+  range = mbr_range label (sectors_of image) fits writable
+
   long : 7 ≤ sectors_of image
   long = omega (arith, fits.inside)
 
@@ -177,18 +195,18 @@ module _ (label : Label) (image : List ℕ) (has : HasLabel label image) (fits :
   table = rw (has.mbr, mbr_style) (front_ok (mbr_faults written_mbr) [] tt tt Table.Mbr mbr_good, refl)
 
   good : answer (header_faults (sector image 6) Table.Mbr (sectors_of image)) (header_of (sector image 6)) ≡ Ok (header_values label)
-  good = rw has.header (header_good label (sectors_of image) fits writable)
+  good = rw has.header (header_good label (sectors_of image) Table.Mbr fits room range)
 
   agree : answer {A = Unit {0}} (copy_faults (header_values label) Table.Mbr image) tt ≡ Ok tt
   unfolding copy_faults
-  agree = rw (has.header_2, has.header_3, copy_agrees label (sectors_of image) fits writable) refl
+  agree = rw (has.header_2, has.header_3, copy_agrees label (sectors_of image) Table.Mbr fits room range) refl
 
-  tocs : tocs_in label.config_start image ≡ four label (sectors_of image) fits writable
+  tocs : tocs_in label.config_start image ≡ four label (sectors_of image) Table.Mbr fits room range
   unfolding tocs_in four
-  tocs = rw (has.toc_1, has.toc_2, has.toc_3, has.toc_4, toc_is label (sectors_of image) fits writable) refl
+  tocs = rw (has.toc_1, has.toc_2, has.toc_3, has.toc_4, toc_is label (sectors_of image) Table.Mbr fits room range) refl
 
   contents : answer (toc_faults (tocs_in label.config_start image)) (first_toc (tocs_in label.config_start image)) ≡ Ok (toc_values label)
-  contents = rw (tocs) (four_good label (sectors_of image) fits writable)
+  contents = rw (tocs) (four_good label (sectors_of image) Table.Mbr fits room range)
 
   pub label_reads : label_of image ≡ Ok label
   label_reads = label_is image long Table.Mbr table.0 (header_values label) good agree (toc_values label) contents

@@ -5,6 +5,7 @@ use Rattle.ldm_label.specs.declared.Label.{Label}
 use Rattle.ldm_label.specs.Fields.{sectors_of}
 use Rattle.ldm_label.specs.LabelOf.{label_of, Fits, SameOutsideArea}
 use Rattle.ldm_label.specs.Written.{HasLabel, IsWritable}
+use Rattle.ldm_label.specs.WrittenGpt.{gpt_parts, HasParts, IsGptWritable}
 
 -- No sector of the label lies in the config area: the area is behind the tables of contents in sectors 1 and 2 of the
 -- database, and in front of copy 2 of the private header in sector 1856.
@@ -33,3 +34,9 @@ abbrev pub WrittenLabelsStay : Type 0
 WrittenLabelsStay =
     (label : Label) (old new : List ℕ) → HasLabel label old → 7 ≤ label.config_start → IsClearOfLabel label
     → SameOutsideArea label old new → HasLabel label new
+
+-- an image that has what is written of the label of a GPT disk, which fits it, reads as that label
+abbrev pub WrittenGptsRead : Type 0
+WrittenGptsRead =
+    (label : Label) (image : List ℕ) → HasParts (gpt_parts label (sectors_of image)) image → Fits label (sectors_of image)
+    → IsGptWritable label (sectors_of image) → label_of image ≡ Ok label

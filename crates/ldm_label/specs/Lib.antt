@@ -5,5 +5,6 @@ pub mod LabelOf
 pub mod Parts
 pub mod Laws
 pub mod Written
+pub mod WrittenGpt
 pub mod Present
 pub mod GoodCopies

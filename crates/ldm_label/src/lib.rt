@@ -3,7 +3,7 @@
 //!
 //! Sectors have 512 bytes. The format's fields are in `specs/Fields.antt` and `specs/Gpt.antt`, the
 //! faults in their order in `specs/LabelOf.antt`, the sectors that are written in
-//! `specs/Written.antt`.
+//! `specs/Written.antt` and `specs/WrittenGpt.antt`.
 #![tactic(auto)]
 
 ghost use Rattle.std.specs.Prelude.{◌≡◌};
@@ -22,16 +22,18 @@ mod sectors;
 mod table;
 mod toc;
 mod writing;
+mod writing_gpt;
 
 pub use counting::{GoodCopies, count_good};
 pub use labels::Labels;
-pub use laws::{label_is_outside_its_area, written_label_reads_back};
+pub use laws::{label_is_outside_its_area, written_gpt_reads_back, written_label_reads_back};
 use ldm_host::Failed;
 pub use mbr::is_protective;
 pub use present::{image_with, label_with};
 pub use reading::read_label;
 pub use sectors::read_sector;
 pub use writing::{LabelSectors, label_sectors, write_label};
+pub use writing_gpt::{GptSectors, gpt_sectors, write_gpt_label};
 
 /// How a disk is divided into partitions: by an MBR or by a GPT.
 #[derive(Clone, Copy, PartialEq, Eq)]
