@@ -1,3 +1,4 @@
 pub mod LayLaws
 pub mod PatchedLaws
 pub mod ViewLaws
+pub mod CoverLaws

@@ -29,6 +29,15 @@ shown patches images = patched_from patches 0 images
 abbrev pub FitAll : List Patch → ℕ → ℕ → Type 0
 FitAll patches disk size = (k : ℕ) (p : Patch) → slice_get patches k ≡ Some p → p.disk ≡ disk → p.at + length p.bytes.items ≤ size
 
+-- one of the patches gives all bytes of a piece of a disk
+pub record Covers (patches : List Patch) (disk from n : ℕ) : Type 0 where
+  pub number : ℕ
+  pub patch : Patch
+  pub there : slice_get patches number ≡ Some patch
+  pub here : patch.disk ≡ disk
+  pub first : patch.at ≤ from
+  pub last : from + n ≤ patch.at + length patch.bytes.items
+
 -- a patch lies on one of the disks with so many sectors each
 pub record IsOnDisk (sizes : List ℕ) (p : Patch) : Type 0 where
   pub disk : p.disk < length sizes

@@ -39,6 +39,9 @@ impl<H: Host> Patched<H> {
             ≡ slice_range (image (H.seen self.old.host).content disk) at (at + length buf.old)) }
         ensures patches { self.new.patches.items ≡ self.old.patches.items }
         ensures looks { Looks (H.seen self.old.host) (H.seen self.new.host) (IsErr result) }
+        ensures failed { H.tells_disks → OnErr result ((H.seen self.new.host).failed
+            ≡ (H.seen self.old.host).failed
+            ++ record { disk = disk; at = at; length = length buf.old } ∷ []) }
     {
         self.host.read_at(disk, at, buf)
     }

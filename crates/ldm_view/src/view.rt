@@ -6,9 +6,9 @@ ghost use Rattle.ldm_view.specs.declared.patch.Patch.{Patch};
 ghost use Rattle.ldm_view.specs.Patches.{IsOnDisk};
 ghost use Rattle.ldm_host.specs.Moves.{Still};
 
-use crate::patch::{Patch, lay_all};
+use crate::patch::{Patch, covers, lay_all};
 use crate::patched::Patched;
-use ldm_host::{Failed, Host};
+use ldm_host::{DiskRange, Failed, Host};
 use std::alloc::Global;
 use std::marker::{Brand, PhantomData};
 
@@ -27,6 +27,7 @@ pub struct View<H: Host, S: Start> {
     patches: Vec<Patch>,
     wrote: Vec<u64>,
     refused: u64,
+    missed: Option<DiskRange>,
     of: PhantomData<S>,
     ghost counted: { length wrote.items ≡ length (H.seen host).sizes },
     ghost lie: { (k : ℕ) (p : Patch) → slice_get patches.items k ≡ Some p → IsOnDisk (H.seen host).sizes p },
@@ -72,6 +73,7 @@ impl<H: Host, S: Start> View<H, S> {
                     patches,
                     wrote,
                     refused: 0,
+                    missed: None,
                     of: PhantomData,
                 })
             }
@@ -92,9 +94,15 @@ impl<H: Host, S: Start> View<H, S> {
             patches,
             wrote: _,
             refused: _,
+            missed: _,
             of: _,
         } = self;
         Patched { host, patches }
+    }
+
+    /// What was to be read by the last read of this view that failed.
+    pub fn missed(&self) -> Option<DiskRange> {
+        self.missed
     }
 }
 
@@ -143,7 +151,15 @@ impl<H: Host, S: Start> Host for View<H, S> {
         let sectors = self.host.sectors(disk);
         // What is read lies on the disk, so its places fit their type.
         prove!(at <= 512 * sectors);
-        self.host.read_at(disk, at, buf)?;
+        let length = buf.len();
+        if covers(&self.patches, disk, at, length as u64) {
+            lay_all(&self.patches, disk, at, buf);
+            return Ok(());
+        }
+        if let Err(failed) = self.host.read_at(disk, at, buf) {
+            self.missed = Some(DiskRange { disk, at, length });
+            return Err(failed);
+        }
         lay_all(&self.patches, disk, at, buf);
         Ok(())
     }
