@@ -14,7 +14,7 @@ MOST_WRITTEN = 1100 * 1024
 
 
 class NewGroups(Case):
-    """New groups, of two disks of a tebibyte, or of 4 MiB."""
+    """New groups, of two disks of a tebibyte, of 4 MiB, or of two tebibytes."""
 
     needs = (needs.a_program,)
 
@@ -58,6 +58,16 @@ class NewGroups(Case):
         """A disk of a group isn't empty."""
         self.make(LARGE)
         self.ends(self.ldm(INIT, *LARGE), 1, "refused: image 0: not empty\n")
+
+    @case("init: a disk that an MBR can't count")
+    def too_large(self):
+        """A disk of 2^32 sectors is refused, and nothing is written; one of a sector less isn't too large."""
+        for sectors, status, said in ((1 << 32, 1, "refused: image 1: too large for MBR\n"), ((1 << 32) - 1, 0, "ok 1\n")):
+            path = self.room / "made/5.img"
+            rooms.make_sparse(path, 0)
+            os.truncate(path, sectors * rooms.SECTOR)
+            self.ends(self.ldm(INIT, SMALL[0], "made/5.img"), status, said)
+            self.assertEqual((self.room / SMALL[0]).stat().st_blocks == 0, status == 1)
 
     @case("init: an image that may not be written")
     def may_not_be_written(self):
