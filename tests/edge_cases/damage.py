@@ -79,12 +79,16 @@ class PastDamage(Damaged):
         self.is_bytes(before.out, came.out)
         self.is_ending(came._replace(out=b""), 0, "", PAST)
 
-    @case("table past damage tells of volumes without one as well")
+    @case("table past damage: one volume")
+    def one_table(self):
+        """The table of a volume, of the copies that are left."""
+        said = "ldm_vol_Dg0_Mirror1,LDM-88888888-8888-8888-8888-888888888888,,ro,0 700 linear damaged/a.img 1563\n"
+        self.ends(self.ldm("table --past-damage Mirror1 on", *rooms.group("damaged", "ab")), 0, said, PASSED_OVER)
+
+    @case("table past damage: all volumes")
     def tables(self):
-        """The group is that of the copies that are left."""
-        came = self.ran(self.ldm("table --past-damage on", *rooms.group("damaged", "ab")))
-        told = f"ldm: volume Stripe1 has no table: sector 128 is lost\n{PASSED_OVER}"
-        self.is_ending(came._replace(out=b""), 0, "", told)
+        """Where no volume is named, the word is the name of one, as it is of a dump."""
+        self.ends(self.ldm("table --past-damage on", *rooms.group("damaged", "ab")), 1, "refused: image 1: block 7: no VBLK\n")
 
     @case("a refusal past damage tells it too")
     def refuses(self):
